@@ -1,0 +1,4 @@
+pub mod FieldLemmas
+pub mod LimitLemmas
+pub mod RowLemmas
+mod Worked

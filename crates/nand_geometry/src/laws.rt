@@ -1,0 +1,29 @@
+//! What always holds of geometries and rows: each function here does nothing, and its contract is a law.
+
+ghost use Rattle.nand_geometry.specs.Limits.{WidthsAreLeast, FaultlessAreInLimits};
+ghost use Rattle.nand_geometry.specs.Row.{RowsReadBack, PartsGiveTheRow, IndicesAreDistinct};
+
+/// A field for n numbers, n up to 65,536, has the least width w with 2^w >= n.
+pub fn widths_are_least()
+    ensures { WidthsAreLeast }
+{}
+
+/// Numbers without a fault are exactly those inside the limits.
+pub fn faultless_are_in_limits()
+    ensures { FaultlessAreInLimits }
+{}
+
+/// The three bytes of an index, read back, give its LUN, block and page, which are inside the geometry.
+pub fn rows_read_back()
+    ensures { RowsReadBack }
+{}
+
+/// The LUN, block and page that a row names have that row as their number, so no two rows name the same.
+pub fn parts_give_the_row()
+    ensures { PartsGiveTheRow }
+{}
+
+/// No two places have the same three bytes, a place being a LUN, an index and a plane.
+pub fn indices_are_distinct()
+    ensures { IndicesAreDistinct }
+{}

@@ -1,0 +1,257 @@
+//! The geometry of a NAND channel: how many LUNs, blocks, pages and bytes a target has, and the rows that address them.
+#![tactic(auto)]
+
+ghost use Rattle.std.specs.Prelude.{◌≡◌, ◌+◌, ◌*◌, ◌^◌, ◌<◌, Some, None, MatchResult, slice_index};
+
+use field::{three_fields, width};
+use std::marker::Model;
+use thiserror::Error;
+
+mod field;
+pub mod laws;
+#[cfg(test)]
+mod tests;
+
+/// The numbers of a geometry, as a parameter page declares them (ONFI 4.x, Parameter Page Data Structure Definition).
+/// The ranges are our own choice.
+#[derive(Clone, Copy, Debug, PartialEq, Eq)]
+pub struct Parts {
+    /// Data bytes of a page, without the spare bytes: 512 to 16,384.
+    pub page_bytes: u32,
+    /// Spare bytes of a page: 0 to 4,096.
+    pub spare_bytes: u32,
+    /// Pages of a block: 1 to 4,096.
+    pub pages: u32,
+    /// Blocks of a LUN: 1 to 65,536, and at least one for each plane.
+    pub blocks: u32,
+    /// LUNs of a target: 1 to 4.
+    pub luns: u8,
+    /// How many of a block's lowest bits are its plane: 0 to 2.
+    pub plane_bits: u8,
+    /// Read Status Enhanced (78h) is there; several LUNs need it.
+    pub enhanced: bool,
+    /// Multi-plane program and erase are there.
+    pub multi_plane: bool,
+    /// Read cache is there.
+    pub cache: bool,
+}
+
+/// Where a row lies. The LUN that three bytes name may be far above any that is there, so it has 32 bits here.
+#[derive(Clone, Copy, Debug, PartialEq, Eq)]
+pub struct RowParts {
+    /// The LUN, from 0.
+    pub lun: u32,
+    /// The block of the LUN, from 0.
+    pub block: u32,
+    /// The page of the block, from 0.
+    pub page: u32,
+}
+
+/// Why a parameter page, or the numbers that it declares, are refused. The lowest that stands is told.
+#[derive(Clone, Copy, Debug, PartialEq, Eq, Error)]
+pub enum PageFault {
+    /// There are fewer than 256 bytes, so no whole copy of a parameter page.
+    #[error("fewer than the 256 bytes of a parameter page")]
+    P1,
+    /// No whole copy begins with the signature `ONFI`.
+    #[error("no copy of the parameter page has the signature")]
+    P2,
+    /// Some copy has the signature, and none of those has the right checksum.
+    #[error("no copy of the parameter page with the signature has the right checksum")]
+    P3,
+    /// A bus of 16 bits is declared; the channel has 8.
+    #[error("a 16-bit bus is declared")]
+    P4,
+    /// Address cycles other than two of the column and three of the row are declared.
+    #[error("address cycles other than two for the column and three for the row are declared")]
+    P5,
+    /// A size is out of range: data bytes, spare bytes, pages or blocks.
+    #[error("a size is out of range: data bytes, spare bytes, pages or blocks")]
+    P6,
+    /// There are no LUNs or more than four, or a row needs more than 24 bits.
+    #[error("the LUNs aren't 1 to 4, or a row needs more than 24 bits")]
+    P7,
+    /// There are more than two plane bits, or fewer blocks than planes.
+    #[error("more than two plane bits, or fewer blocks than planes")]
+    P8,
+    /// There are several LUNs, but no Read Status Enhanced or no multiple LUN operations are declared.
+    #[error("several LUNs, but the commands that several LUNs need aren't declared")]
+    P9,
+}
+
+/// A geometry: numbers inside the limits, with the widths of their row fields.
+#[derive(Clone, Copy, Debug, PartialEq, Eq)]
+pub struct Geometry {
+    parts: Parts,
+    block_width: u32,
+    page_width: u32,
+}
+
+impl Model for Geometry {
+    ghost use Rattle.std.proofs.Common.{sym};
+    ghost use Rattle.nand_geometry.specs.declared.Parts.{Parts};
+
+    ghost Value = { Parts };
+
+    ghost use Rattle.nand_geometry.specs.Limits.{KeepsWidths, block_bits, page_bits};
+
+    ghost view = { λ g. g.parts };
+
+    ghost invariant = { λ g. KeepsWidths g.parts g.block_width g.page_width };
+
+    ghost inverse = { λ p. record { parts = p; block_width = block_bits p; page_width = page_bits p } };
+
+    ghost inverse_ok = { λ g h i. record g { block_width = sym h.block i; page_width = sym h.page i } };
+}
+
+impl Geometry {
+    ghost use Rattle.nand_geometry.specs.Limits.{InLimits, fault_of, page_len, planes, indices};
+    ghost use Rattle.nand_geometry.specs.Row.{row_number, row_of, row_bytes_of, parts_of, is_inside, row_parts_of};
+
+    /// The geometry of these numbers.
+    ///
+    /// Errors, the first that stands, in this order: `P6` a size is out of range; `P7` the LUNs are out of range, or the
+    /// row fields need more than 24 bits; `P8` more than 2 plane bits, or fewer blocks than planes; `P9` several LUNs
+    /// without Read Status Enhanced. Any other numbers are a geometry. The limits are our own choice.
+    pub fn of(parts: Parts) -> Result<Geometry, PageFault>
+        ensures { MatchResult result (λ g. (fault_of parts ≡ None) × (g ≡ parts)) (λ e. fault_of parts ≡ Some e) }
+    {
+        if parts.page_bytes < 512
+            || parts.page_bytes > 16384
+            || parts.spare_bytes > 4096
+            || parts.pages < 1
+            || parts.pages > 4096
+            || parts.blocks < 1
+            || parts.blocks > 65536
+        {
+            return Err(PageFault::P6);
+        }
+        if parts.luns < 1 || parts.luns > 4 {
+            return Err(PageFault::P7);
+        }
+        let block_width = width(parts.blocks);
+        let page_width = width(parts.pages);
+        if width(u32::from(parts.luns)) + block_width + page_width > 24 {
+            return Err(PageFault::P7);
+        }
+        if parts.plane_bits > 2 || parts.blocks < 1 << parts.plane_bits {
+            return Err(PageFault::P8);
+        }
+        if parts.luns > 1 && !parts.enhanced {
+            return Err(PageFault::P9);
+        }
+        Ok(Geometry {
+            parts,
+            block_width,
+            page_width,
+        })
+    }
+
+    /// The numbers of the geometry, which are inside the limits.
+    pub fn parts(&self) -> Parts
+        ensures value { result ≡ self.now }
+        ensures limits { InLimits self.now }
+    {
+        self.parts
+    }
+
+    /// How many bytes a page has: data bytes and spare bytes.
+    pub fn page_len(&self) -> u32
+        ensures { result ≡ page_len self.now }
+    {
+        let parts = self.parts;
+        parts.page_bytes + parts.spare_bytes
+    }
+
+    /// How many planes a LUN has: 1, 2 or 4.
+    pub fn planes(&self) -> u32
+        ensures { result ≡ planes self.now }
+    {
+        1 << self.parts.plane_bits
+    }
+
+    /// How many page indices a LUN has: the pages of a block for each whole group of one block a plane.
+    pub fn indices(&self) -> u32
+        ensures { result ≡ indices self.now }
+    {
+        let parts = self.parts;
+        parts.pages * (parts.blocks / self.planes())
+    }
+
+    /// The number of a row inside the geometry: the page in the lowest bits, above it the block and then the LUN, each
+    /// field as wide as its numbers need (ONFI 4.x, Memory Organization, Addressing). `is_inside` is the test.
+    pub fn row_number(&self, row: RowParts) -> u32
+        requires lun { row.lun < self.now.luns }
+        requires block { row.block < self.now.blocks }
+        requires page { row.page < self.now.pages }
+        ensures value { result ≡ row_number self.now row }
+        ensures small { result < 2 ^ 24 }
+    {
+        three_fields(
+            row.lun,
+            row.block,
+            row.page,
+            self.block_width,
+            self.page_width,
+        )
+    }
+
+    /// The three row bytes of a page index in a plane of a LUN, the least significant first.
+    ///
+    /// Index i is page i mod `pages` of group i / `pages`; the group's block in the plane is group * `planes` + plane.
+    /// None exactly where the LUN, the index or the plane is outside the geometry. That the plane is the lowest bits of
+    /// the block is ONFI 4.x, Multi-plane Addressing; what an index stands for is our own choice.
+    pub fn row_bytes(&self, lun: u8, index: u32, plane: u8) -> Option<[u8; 3]>
+        ensures { result ≡ row_bytes_of self.now lun index plane }
+    {
+        let planes = self.planes();
+        if lun >= self.parts.luns || index >= self.indices() || u32::from(plane) >= planes {
+            return None;
+        }
+        let row = self.row_number(RowParts {
+            lun: u32::from(lun),
+            block: index / self.parts.pages * planes + u32::from(plane),
+            page: index % self.parts.pages,
+        });
+        Some([
+            (row % 256) as u8,
+            (row / 256 % 256) as u8,
+            (row / 65536 % 256) as u8,
+        ])
+    }
+
+    /// What the number of a row names, inside the geometry or not: the LUN is all bits above the block field.
+    pub fn parts_of(&self, row: u32) -> RowParts
+        ensures { result ≡ parts_of self.now row }
+    {
+        RowParts {
+            lun: row >> (self.block_width + self.page_width),
+            block: (row >> self.page_width) % (1 << self.block_width),
+            page: row % (1 << self.page_width),
+        }
+    }
+
+    /// The LUN, the block and the page are each inside the geometry.
+    pub fn is_inside(&self, row: RowParts) -> bool
+        ensures { result ≡ is_inside self.now row }
+    {
+        row.lun < u32::from(self.parts.luns)
+            && row.block < self.parts.blocks
+            && row.page < self.parts.pages
+    }
+
+    /// What three row bytes name, the least significant byte first. None exactly where that is outside the geometry; a
+    /// block that no index reaches is inside.
+    pub fn row_parts(&self, bytes: [u8; 3]) -> Option<RowParts>
+        ensures { let row = row_of (slice_index bytes 0) (slice_index bytes 1) (slice_index bytes 2)
+            in result ≡ row_parts_of self.now row }
+    {
+        let row = u32::from(bytes[0]) + 256 * u32::from(bytes[1]) + 65536 * u32::from(bytes[2]);
+        let parts = self.parts_of(row);
+        if self.is_inside(parts) {
+            Some(parts)
+        } else {
+            None
+        }
+    }
+}
