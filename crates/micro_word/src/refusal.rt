@@ -1,0 +1,54 @@
+//! Why a text or a file is refused.
+
+ghost use Rattle.std.specs.Prelude.{◌≡◌};
+ghost use Rattle.micro_word.specs.declared.refusal.WordRefusal.TheVariants.{OutOfMemory};
+
+use std::alloc::{AllocError, AllocFailed};
+use thiserror::Error;
+
+/// What is wrong with a text or a file. A file is judged from its front: M1, M2 and M3, then M6 of the
+/// header; after that M4, M5 and M6 at each word in turn; and M7 when all words have passed.
+#[derive(Clone, Copy, Debug, PartialEq, Eq, Error)]
+pub enum WordFault {
+    #[error("the file is too short for a header of 16 bytes")]
+    M1,
+    #[error("the file is neither NMP1 nor NMP2")]
+    M2,
+    #[error("the header tells of more words than 1024 or than the file has")]
+    M3,
+    #[error("no word has this code")]
+    M4,
+    #[error("a field without a meaning for this word is set")]
+    M5,
+    #[error("a number is out of its range")]
+    M6,
+    #[error("the file goes on behind its words")]
+    M7,
+}
+
+/// Why there is no text.
+#[derive(Clone, Copy, Debug, PartialEq, Eq, Error)]
+pub enum WordRefusal {
+    /// The first fault, and the number of its word, counted from 0. A fault that is of no word tells 0.
+    #[error("{code:?} at word {word}: {code}")]
+    Fault { code: WordFault, word: usize },
+    /// Memory was refused to a text without a fault.
+    #[error("out of memory")]
+    OutOfMemory,
+}
+
+impl From<AllocError> for WordRefusal {
+    ghost from_gives = { λ _ e. e ≡ OutOfMemory };
+
+    fn from(_e: AllocError) -> WordRefusal {
+        WordRefusal::OutOfMemory
+    }
+}
+
+impl<T: Drop> From<AllocFailed<T>> for WordRefusal {
+    ghost from_gives = { λ _ e. e ≡ OutOfMemory };
+
+    fn from(_e: AllocFailed<T>) -> WordRefusal {
+        WordRefusal::OutOfMemory
+    }
+}
