@@ -1,0 +1,161 @@
+-- A permitted output has a byte.
+use Rattle.std.proofs.Common.{◌≡◌, ℕ, suc, ◌<◌, ◌==◌, Bool, true, false, ◌&&◌, ◌||◌, cond, List, [], ◌∷◌, Option, Some, None, refl, sym, ap, ◌∙◌, subst, arith, length, get_or, leb-false, eqb-true, eq-eqb, length-set, replicate}
+use Rattle.std.proofs.lemmas.List.{length-replicate}
+use Rattle.std.proofs.lemmas.Option.{slice_get-get_or}
+use Rattle.nand_geometry.specs.declared.Parts.{Parts}
+use Rattle.nand_geometry.specs.Limits.{page_len}
+use Rattle.onfi_cycle.specs.declared.Lun.{Lun}
+use Rattle.onfi_cycle.specs.declared.Cycle.{Cycle}
+use Rattle.onfi_cycle.specs.declared.Item.{Item}
+use Rattle.onfi_cycle.specs.declared.Kind.TheVariants.{Dout}
+use Rattle.onfi_cycle.specs.declared.Latch.{Latch}
+use Rattle.onfi_cycle.specs.declared.Latch.TheVariants.{Off, Status, Data}
+use Rattle.onfi_cycle.specs.declared.TargetCycle.{TargetCycle}
+use Rattle.onfi_cycle.specs.declared.TargetCycle.TheVariants.{CommandCycle, AddressCycle, InputCycle, OutputCycle}
+use Rattle.onfi_cycle.specs.declared.PageAddress.{PageAddress}
+use Rattle.onfi_cycle.specs.declared.Register.{Register}
+use Rattle.onfi_cycle.specs.declared.Register.TheVariants.{Empty, Page, ParameterPage, Identifier}
+use Rattle.onfi_cycle.specs.declared.Effect.{Effect}
+use Rattle.onfi_cycle.specs.declared.Effect.TheVariants.{ReadStarted, EraseStarted, ProgramStarted, ResetStarted, BecameReady, ParameterPageReadStarted, CacheReadContinued, CacheReadEnded}
+use Rattle.onfi_cycle.specs.Sequence.{tail, facts_of, filled, input_column, is_open, with_cycle}
+use Rattle.onfi_cycle.specs.LunView.{LunView}
+use Rattle.onfi_cycle.specs.Effect.{is_off, is_data}
+use Rattle.onfi_cycle.specs.Lun.{latch, effect_on, drivers, is_only, is_busy, register, read_column, output_column, lun_view}
+use Rattle.onfi_cycle.specs.Content.{ArrayWork, ErasesBlock, ProgramsPage, and_bytes, left_by, left_by_all, same_page, queued_work, queued_work_after, pending_work, pending_work_after, content, content_after, status, register_bytes, byte_at, shown, shown_by}
+use Rattle.onfi_cycle.specs.Rules.{breaks_F13, breaks_F14, is_some_and, has_no_byte, is_past_register, is_past, lacks, is_empty, register_len}
+use Rattle.onfi_cycle.specs.Permitted.{broken}
+use Rattle.onfi_cycle.specs.Channel.{Channel, IsChannel, cycle, bus_byte, byte_of_driver, is_open_on}
+use Rattle.onfi_cycle.proofs.Drivers.{driver_of_target}
+use Rattle.onfi_cycle.proofs.Meaning.{driver_on}
+use Rattle.onfi_cycle.proofs.Passed.{permitted_keeps}
+
+-- a work carries as many bytes as a page has
+abbrev IsWhole : ℕ → ArrayWork → Type 0
+IsWhole len (ErasesBlock at) = Unit {0}
+IsWhole len (ProgramsPage at bytes) = length bytes ≡ len
+
+abbrev AllWhole : ℕ → List ArrayWork → Type 0
+AllWhole len [] = Unit {0}
+AllWhole len (c ∷ cs) = IsWhole len c × AllWhole len cs
+
+filled_len : (len : ℕ) (t : List TargetCycle) → length (filled len t) ≡ len
+filled_len len [] = length-replicate len 0xff
+filled_len len (CommandCycle c ∷ t) = filled_len len t
+filled_len len (AddressCycle byte ∷ t) = filled_len len t
+filled_len len (InputCycle byte ∷ t) = length-set (filled len t) (input_column (facts_of t)) byte ∙ filled_len len t
+filled_len len (OutputCycle ∷ t) = filled_len len t
+
+queued_after_whole : (len : ℕ) (e : Effect) (bytes : List ℕ) (q : List ArrayWork) → length bytes ≡ len → AllWhole len q → AllWhole len (queued_work_after e bytes q)
+queued_after_whole len (EraseStarted true at) bytes q h w = (tt, w)
+queued_after_whole len (EraseStarted false at) bytes q h w = tt
+queued_after_whole len (ProgramStarted true at) bytes q h w = (h, w)
+queued_after_whole len (ProgramStarted false at) bytes q h w = tt
+queued_after_whole len ResetStarted bytes q h w = tt
+queued_after_whole len _ bytes q h w = w
+
+pending_after_whole : (len : ℕ) (e : Effect) (bytes : List ℕ) (q p : List ArrayWork) → length bytes ≡ len → AllWhole len q → AllWhole len p → AllWhole len (pending_work_after e bytes q p)
+pending_after_whole len (EraseStarted true at) bytes q p h w v = tt
+pending_after_whole len (EraseStarted false at) bytes q p h w v = (tt, w)
+pending_after_whole len (ProgramStarted true at) bytes q p h w v = tt
+pending_after_whole len (ProgramStarted false at) bytes q p h w v = (h, w)
+pending_after_whole len (ReadStarted at from) bytes q p h w v = tt
+pending_after_whole len ParameterPageReadStarted bytes q p h w v = tt
+pending_after_whole len CacheReadContinued bytes q p h w v = tt
+pending_after_whole len CacheReadEnded bytes q p h w v = tt
+pending_after_whole len ResetStarted bytes q p h w v = tt
+pending_after_whole len (BecameReady fail) bytes q p h w v = tt
+pending_after_whole len _ bytes q p h w v = v
+
+queued_whole : (g : Parts) (past : List Item) (l : Lun) → AllWhole (page_len g) (queued_work g past l)
+queued_whole g [] l = tt
+queued_whole g (i ∷ past) l = queued_after_whole (page_len g) (effect_on g past i l) _ _ (filled_len (page_len g) (tail past l.ce)) (queued_whole g past l)
+
+pending_whole : (g : Parts) (past : List Item) (l : Lun) → AllWhole (page_len g) (pending_work g past l)
+pending_whole g [] l = tt
+pending_whole g (i ∷ past) l = pending_after_whole (page_len g) (effect_on g past i l) _ _ _ (filled_len (page_len g) (tail past l.ce)) (queued_whole g past l) (pending_whole g past l)
+
+and_len : (a b : List ℕ) → length a ≡ length b → length (and_bytes a b) ≡ length a
+and_len [] b h = refl
+and_len (x ∷ a) [] h = cc
+and_len (x ∷ a) (y ∷ b) h = let e : length a ≡ length b = omega arith in ap suc (and_len a b e)
+
+left_by_len : (len : ℕ) (c : ArrayWork) (p : PageAddress) (old : List ℕ) → IsWhole len c → length old ≡ len → length (left_by len c p old) ≡ len
+left_by_len len (ErasesBlock at) p old w h = pick (p.block == at.block)
+  where
+    pick : (b : Bool) → length (cond b (replicate len 0xff) old) ≡ len
+    pick true = length-replicate len 0xff
+    pick false = h
+left_by_len len (ProgramsPage at bytes) p old w h = pick (same_page p at)
+  where
+    pick : (b : Bool) → length (cond b (and_bytes old bytes) old) ≡ len
+    pick true = and_len old bytes (h ∙ sym w) ∙ h
+    pick false = h
+
+left_by_all_len : (len : ℕ) (cs : List ArrayWork) (p : PageAddress) (old : List ℕ) → AllWhole len cs → length old ≡ len → length (left_by_all len cs p old) ≡ len
+left_by_all_len len [] p old w h = h
+left_by_all_len len (c ∷ cs) p old w h = left_by_len len c p (left_by_all len cs p old) w.0 (left_by_all_len len cs p old w.1 h)
+
+content_after_len : (g : Parts) (e : Effect) (cs : List ArrayWork) (p : PageAddress) (old : List ℕ) → AllWhole (page_len g) cs → length old ≡ page_len g → length (content_after g e cs p old) ≡ page_len g
+content_after_len g (BecameReady true) cs p old w h = h
+content_after_len g (BecameReady false) cs p old w h = left_by_all_len (page_len g) cs p old w h
+content_after_len g _ cs p old w h = h
+
+-- the content of a page keeps its length
+pub content_len : (g : Parts) (opening : Lun → PageAddress → List ℕ) → ((l : Lun) (p : PageAddress) → length (opening l p) ≡ page_len g) → (past : List Item) (l : Lun) (p : PageAddress) → length (content g opening past l p) ≡ page_len g
+content_len g opening h [] l p = h l p
+content_len g opening h (i ∷ past) l p = content_after_len g (effect_on g past i l) (pending_work g past l) p (content g opening past l p) (pending_whole g past l) (content_len g opening h past l p)
+
+register_bytes_len : (g : Parts) (parameters : List ℕ) (pages : PageAddress → List ℕ) (r : Register) → length parameters ≡ 768 → ((p : PageAddress) → length (pages p) ≡ page_len g) → length (register_bytes parameters pages r) ≡ register_len g r
+register_bytes_len g parameters pages Empty h k = refl
+register_bytes_len g parameters pages (Page p) h k = k p
+register_bytes_len g parameters pages ParameterPage h k = h
+register_bytes_len g parameters pages Identifier h k = refl
+
+-- what shows, shows a byte
+shown_there : (latch : Latch) (st : ℕ) (bytes : List ℕ) (place : Option ℕ) (len : ℕ) → length bytes ≡ len → is_off latch ≡ false → (is_data latch && lacks place) ≡ false → (is_data latch && is_past place len) ≡ false → (b : ℕ) × (shown_by latch st (byte_at bytes place) ≡ Some b)
+shown_there Off st bytes place len e on has within = cc
+shown_there Status st bytes place len e on has within = (st, refl)
+shown_there Data st bytes None len e on has within = cc
+shown_there Data st bytes (Some k) len e on has within =
+    let inside : k < length bytes = let below : k < len = leb-false len k within in omega arith in
+    (get_or bytes k 0, slice_get-get_or bytes k 0 inside)
+
+pub byte_of_only : (s : Channel) (past : List Item) (l : Lun) (ds : List ℕ) → is_only ds l.lun ≡ true → byte_of_driver s past l.ce ds ≡ shown s.geometry s.parameters s.opening past l
+byte_of_only s past l [] h = cc
+byte_of_only s past l (d ∷ []) h = ap (λ (n : ℕ). shown s.geometry s.parameters s.opening past (record { ce = l.ce; lun = n })) (eqb-true d l.lun h)
+byte_of_only s past l (d ∷ (e ∷ ds)) h = cc
+
+no_byte_place : (on busy empty lacking : Bool) → (on && (busy || empty || lacking)) ≡ false → (on && lacking) ≡ false
+no_byte_place false b e k h = refl
+no_byte_place true true e k h = cc
+no_byte_place true false true k h = cc
+no_byte_place true false false k h = h
+
+-- a permitted output, whose one driver is this LUN, has a byte
+pub output_shows : (s : Channel) → IsChannel s → (past : List Item) (l : Lun) (byte : ℕ) → broken s.geometry s.targets past (cycle l.ce Dout byte) ≡ None → is_only (drivers s.geometry past l.ce) l.lun ≡ true → (b : ℕ) × (bus_byte s past l.ce ≡ Some b)
+unfolding breaks_F13 breaks_F14
+output_shows s is past l byte h one =
+    let g = s.geometry in
+    let c : Cycle = record { ce = l.ce; kind = Dout; byte = byte } in
+    let kept = permitted_keeps g s.targets past c h in
+    let there = driver_of_target g past l.ce l.lun one in
+    let v = lun_view g past l in
+    let has : is_some_and has_no_byte (Some v) ≡ false = subst (λ (o : Option LunView). is_some_and has_no_byte o ≡ false) there kept.f13 in
+    let within : is_some_and (is_past_register g) (Some v) ≡ false = subst (λ (o : Option LunView). is_some_and (is_past_register g) o ≡ false) there kept.f14 in
+    let len = register_bytes_len g s.parameters (content g s.opening past l) (register g past l) is.parameters (content_len g s.opening is.pages past l) in
+    let b = shown_there (latch g past l) (status g past l) (register_bytes s.parameters (content g s.opening past l) (register g past l)) (output_column (read_column g past l)) (register_len g (register g past l)) len
+    (driver_on (λ m. latch g past (record { ce = l.ce; lun = m })) g.luns 0 l.lun one)
+    (no_byte_place (is_data (latch g past l)) (is_busy g past l) (is_empty (register g past l)) (lacks (output_column (read_column g past l))) has)
+    within in
+    (b.0, byte_of_only s past l (drivers g past l.ce) one ∙ b.1)
+
+-- an output leaves nothing open
+pub output_closes : (past : List Item) (ce byte : ℕ) → is_open_on (cycle ce Dout byte ∷ past) ce ≡ false
+output_closes past ce byte = rw same (at (tail past ce))
+  where
+    same : (ce == ce) ≡ true
+    same = eq-eqb ce ce refl
+
+    at : (t : List TargetCycle) → is_open (facts_of (with_cycle OutputCycle t)) ≡ false
+    at [] = refl
+    at (c ∷ t) = refl

@@ -1,0 +1,218 @@
+-- The latch of a LUN on legal traces.
+use Rattle.std.proofs.Common.{◌≡◌, ℕ, zero, suc, ◌+◌, ◌<◌, ◌≤◌, ◌==◌, Bool, true, false, ◌&&◌, cond, not, List, [], ◌∷◌, Option, Some, None, refl, sym, ap, ◌∙◌, subst, arith, unwrap_or, eqb-true, eq-eqb}
+use Rattle.std.proofs.lemmas.Bool.Decides.{nat_tests}
+use Rattle.nand_geometry.specs.declared.Parts.{Parts}
+use Rattle.onfi_cycle.specs.declared.Command.{Command}
+use Rattle.onfi_cycle.specs.declared.Command.TheVariants.{Read, ReadConfirm, ChangeReadColumnConfirm, BlockEraseConfirm, BlockErasePlane, ReadStatus, ReadStatusEnhanced, ProgramConfirm, ProgramPlane, ReadId, ReadParameterPage, Reset, ReadCacheSequential, ReadCacheEnd}
+use Rattle.onfi_cycle.specs.declared.Lun.{Lun}
+use Rattle.onfi_cycle.specs.declared.Latch.{Latch}
+use Rattle.onfi_cycle.specs.declared.Latch.TheVariants.{Off, Status, Data}
+use Rattle.onfi_cycle.specs.declared.Cycle.{Cycle}
+use Rattle.onfi_cycle.specs.declared.Item.{Item}
+use Rattle.onfi_cycle.specs.declared.Item.TheVariants.{Cyc, Rdy, Ard}
+use Rattle.onfi_cycle.specs.declared.Opening.{Opening}
+use Rattle.onfi_cycle.specs.declared.TargetCycle.{TargetCycle}
+use Rattle.onfi_cycle.specs.declared.TargetCycle.TheVariants.{CommandCycle, AddressCycle, InputCycle, OutputCycle}
+use Rattle.onfi_cycle.specs.declared.Effect.{Effect}
+use Rattle.onfi_cycle.specs.declared.Effect.TheVariants.{Unaffected, DataOutputEnabled, SelectedForStatus, Deselected, IdRead, ParameterPageReadStarted, CacheReadContinued, CacheReadEnded, BecameReady, ArrayBecameReady, ReadColumnChanged, DataOutput}
+use Rattle.onfi_cycle.specs.LunView.{LunView}
+use Rattle.onfi_cycle.specs.Sequence.{target_cycle, row, row_with, wants_command, wants_address}
+use Rattle.onfi_cycle.specs.Effect.{is_off, is_data, names_lun, command_effect, address_effect, opening_address_effect, cycle_effect}
+use Rattle.onfi_cycle.specs.Lun.{latch, latch_after, latch_alone, effect_on, drivers_from, is_only, lun_view, views_from, luns_of}
+use Rattle.onfi_cycle.specs.Rules.{driving, are_none, only, driver, is_some_and, driver_is, breaks_F15, continues_cache, ends_cache}
+use Rattle.onfi_cycle.specs.Permitted.{broken, is_permitted, is_legal}
+use Rattle.onfi_cycle.specs.Decides.{or_before, last_decided, tail_of, drives_alone, identity_closer, closing_address, closed_latch, read_latch, selected_latch, third_of_status, selecting_latch, latch_cycle, latch_decided}
+use Rattle.onfi_cycle.proofs.Others.{permitted_none, both_true}
+use Rattle.onfi_cycle.proofs.Meaning.{driver_on, alone_off}
+use Rattle.onfi_cycle.proofs.Passed.{permitted_keeps}
+
+-- where no driver is among so many LUNs, each of them is off
+none_off : (latches : ℕ → Latch) (count n l : ℕ) → drivers_from latches count n ≡ [] → n ≤ l → l < n + count → is_off (latches l) ≡ true
+none_off latches zero n l h low high = absurd (omega arith)
+none_off latches (suc count) n l h low high = at (λ e k. none_off latches count (n + 1) l e k (omega arith)) (is_off (latches n)) refl (l == n) refl h
+  where
+    at : (drivers_from latches count (n + 1) ≡ [] → n + 1 ≤ l → is_off (latches l) ≡ true) → (b : Bool) → is_off (latches n) ≡ b → (same : Bool) → (l == n) ≡ same → cond b (drivers_from latches count (n + 1)) (n ∷ drivers_from latches count (n + 1)) ≡ [] → is_off (latches l) ≡ true
+    at ih true off true same h = subst (λ k. is_off (latches k) ≡ true) (sym (eqb-true l n same)) off
+    at ih true off false same h = ih h (grind (arith, nat_tests, same, low))
+    at ih false off same e h = cc
+
+-- where there is one driver, the others are off
+sole_off : (latches : ℕ → Latch) (count n m l : ℕ) → drivers_from latches count n ≡ m ∷ [] → n ≤ l → l < n + count → is_off (latches l) ≡ not (m == l)
+sole_off latches zero n m l h low high = cc
+sole_off latches (suc count) n m l h low high = at (λ e k. sole_off latches count (n + 1) m l e k (omega arith)) (is_off (latches n)) refl (l == n) refl h
+  where
+    only_of : (ds : List ℕ) → ds ≡ m ∷ [] → is_only ds m ≡ true
+    only_of ds e = ap (λ d. is_only d m) e ∙ eq-eqb m m refl
+
+    differs : is_off (latches m) ≡ false → is_off (latches n) ≡ true → l ≡ n → (m == l) ≡ false
+    differs on off is = other (m == l) refl
+      where
+        other : (b : Bool) → (m == l) ≡ b → b ≡ false
+        other true e = let same : m ≡ n = eqb-true m l e ∙ is in let clash : is_off (latches m) ≡ true = ap (λ k. is_off (latches k)) same ∙ off in cc
+        other false e = refl
+
+    unequal : (b : Bool) → m ≡ n → (l == n) ≡ false → (m == l) ≡ b → b ≡ false
+    unequal true e ne h = let same : l ≡ n = sym (eqb-true m l h) ∙ e in let clash : (l == n) ≡ true = eq-eqb l n same in cc
+    unequal false e ne h = refl
+
+    at : (drivers_from latches count (n + 1) ≡ m ∷ [] → n + 1 ≤ l → is_off (latches l) ≡ not (m == l)) → (b : Bool) → is_off (latches n) ≡ b → (same : Bool) → (l == n) ≡ same → cond b (drivers_from latches count (n + 1)) (n ∷ drivers_from latches count (n + 1)) ≡ m ∷ [] → is_off (latches l) ≡ not (m == l)
+    at ih true off true same h =
+        let is : l ≡ n = eqb-true l n same in
+        ap (λ k. is_off (latches k)) is ∙ (off ∙ ap not (sym (differs (driver_on latches count (n + 1) m (only_of (drivers_from latches count (n + 1)) h)) off is)))
+    at ih true off false same h = ih h (grind (arith, nat_tests, same, low))
+    at ih false off true same h =
+        let is : l ≡ n = eqb-true l n same in
+        let m_is : n ≡ m = cc in
+        ap (λ k. is_off (latches k)) is ∙ (off ∙ ap not (sym (eq-eqb m l (sym m_is ∙ sym is))))
+    at ih false off false same h =
+        let m_is : n ≡ m = cc in
+        let rest : drivers_from latches count (n + 1) ≡ [] = cc in
+        none_off latches count (n + 1) l rest (grind (arith, nat_tests, same, low)) (omega arith) ∙ ap not (sym (unequal (m == l) (sym m_is) same refl))
+
+-- where no view is on, no number is
+none_by_views : (g : Parts) (past : List Item) (ce count n : ℕ) → are_none (driving (views_from g past ce count n)) ≡ true → drivers_from (λ m. latch g past (record { ce = ce; lun = m })) count n ≡ []
+none_by_views g past ce zero n h = refl
+none_by_views g past ce (suc count) n h = at (none_by_views g past ce count (n + 1)) (is_off (latch g past (record { ce = ce; lun = n }))) h
+  where
+    at : (are_none (driving (views_from g past ce count (n + 1))) ≡ true → drivers_from (λ m. latch g past (record { ce = ce; lun = m })) count (n + 1) ≡ []) → (b : Bool) → are_none (cond b (driving (views_from g past ce count (n + 1))) (lun_view g past (record { ce = ce; lun = n }) ∷ driving (views_from g past ce count (n + 1)))) ≡ true → cond b (drivers_from (λ m. latch g past (record { ce = ce; lun = m })) count (n + 1)) (n ∷ drivers_from (λ m. latch g past (record { ce = ce; lun = m })) count (n + 1)) ≡ []
+    at ih true h = ih h
+    at ih false h = cc
+
+-- the list is of one number
+record IsOne (ds : List ℕ) : Type 0 where
+  m : ℕ
+  is : ds ≡ m ∷ []
+
+-- where one view is on, one number is
+one_by_views : (g : Parts) (past : List Item) (ce count n : ℕ) (v : LunView) → only (driving (views_from g past ce count n)) ≡ Some v → IsOne (drivers_from (λ m. latch g past (record { ce = ce; lun = m })) count n)
+one_by_views g past ce zero n v h = cc
+one_by_views g past ce (suc count) n v h = at (one_by_views g past ce count (n + 1) v) (is_off (latch g past (record { ce = ce; lun = n }))) h
+  where
+    first : (b : Bool) → cond b (Some (lun_view g past (record { ce = ce; lun = n }))) None ≡ Some v → b ≡ true
+    first true h = refl
+    first false h = cc
+
+    at : (only (driving (views_from g past ce count (n + 1))) ≡ Some v → IsOne (drivers_from (λ m. latch g past (record { ce = ce; lun = m })) count (n + 1))) → (b : Bool) → only (cond b (driving (views_from g past ce count (n + 1))) (lun_view g past (record { ce = ce; lun = n }) ∷ driving (views_from g past ce count (n + 1)))) ≡ Some v → IsOne (cond b (drivers_from (λ m. latch g past (record { ce = ce; lun = m })) count (n + 1)) (n ∷ drivers_from (λ m. latch g past (record { ce = ce; lun = m })) count (n + 1)))
+    at ih true h = ih h
+    at ih false h = record { m = n; is = ap (λ ds. n ∷ ds) (none_by_views g past ce count (n + 1) (first (are_none (driving (views_from g past ce count (n + 1)))) h)) }
+
+-- where a target has one driver, each of its LUNs is off exactly where it isn't that one
+off_or_driver : (g : Parts) (past : List Item) (l : Lun) (o : Option LunView) (test : LunView → Bool) → driver (luns_of g past l.ce) ≡ o → is_some_and test o ≡ true → l.lun < g.luns → is_off (latch g past l) ≡ not (drives_alone g past l)
+off_or_driver g past l None test e h low = cc
+off_or_driver g past l (Some v) test e h low =
+    let one = one_by_views g past l.ce g.luns 0 v e in
+    sole_off (λ m. latch g past (record { ce = l.ce; lun = m })) g.luns 0 one.m l.lun one.is (omega arith) (omega arith) ∙ ap (λ ds. not (is_only ds l.lun)) (sym one.is)
+
+not_false : (b : Bool) → not b ≡ false → b ≡ true
+not_false true h = refl
+not_false false h = cc
+
+abbrev pub is_cache_cycle : TargetCycle → Bool
+is_cache_cycle (CommandCycle ReadCacheSequential) = true
+is_cache_cycle (CommandCycle ReadCacheEnd) = true
+is_cache_cycle _ = false
+
+-- a cache read that is permitted finds one driver
+pub cache_finds_driver : (g : Parts) (n : ℕ) (past : List Item) (c : Cycle) (l : Lun) → broken g n past (Cyc c) ≡ None → c.ce ≡ l.ce → l.lun < g.luns → is_cache_cycle (target_cycle c.kind c.byte) ≡ true → is_off (latch g past l) ≡ not (drives_alone g past l)
+unfolding breaks_F15
+cache_finds_driver g n past c l h here low is = at (target_cycle c.kind c.byte) is (subst (λ ce. breaks_F15 g (tail_of past (record { ce = ce; lun = l.lun })) (luns_of g past ce) (target_cycle c.kind c.byte) ≡ false) here (permitted_keeps g n past c h).f15)
+  where
+    at : (x : TargetCycle) → is_cache_cycle x ≡ true → breaks_F15 g (tail_of past l) (luns_of g past l.ce) x ≡ false → is_off (latch g past l) ≡ not (drives_alone g past l)
+    at (CommandCycle ReadCacheSequential) is f15 = off_or_driver g past l (driver (luns_of g past l.ce)) (continues_cache g) refl (not_false (driver_is (continues_cache g) (luns_of g past l.ce)) f15) low
+    at (CommandCycle ReadCacheEnd) is f15 = off_or_driver g past l (driver (luns_of g past l.ce)) ends_cache refl (not_false (driver_is ends_cache (luns_of g past l.ce)) f15) low
+    at _ is f15 = cc
+
+-- what a cycle leaves of the latch
+read_step : (before : Latch) → latch_after DataOutputEnabled before ≡ unwrap_or (read_latch before) before
+read_step Off = refl
+read_step Status = refl
+read_step Data = refl
+
+cache_step : (b o : Bool) (before : Latch) (e : Effect) (c : Command) → latch_after e before ≡ Data → closed_latch (Some c) ≡ Some Data → o ≡ not b → latch_after (cond o Unaffected e) before ≡ unwrap_or (closed_latch (cond b (Some c) None)) before
+cache_step true o before e c after closed h = rw (h, closed) after
+cache_step false o before e c after closed h = rw h refl
+
+row_step : (b : Bool) (before : Latch) (e : Effect) (x : Option Command) → latch_after e before ≡ unwrap_or (closed_latch x) before → latch_after (cond b e Unaffected) before ≡ unwrap_or (closed_latch (cond b x None)) before
+row_step true before e x h = h
+row_step false before e x h = refl
+
+same_either_way : (b : Bool) (before : Latch) (e : Effect) → latch_after e before ≡ before → latch_after (cond b e Unaffected) before ≡ before
+same_either_way true before e h = h
+same_either_way false before e h = refl
+
+-- la is what the LUN shows, or shows alone
+command_step : (g : Parts) (past : List Item) (l : Lun) (la : Latch) (c : Command) → (is_cache_cycle (CommandCycle c) ≡ true → is_off la ≡ not (drives_alone g past l)) → latch_after (command_effect g (tail_of past l) la c l.lun) (latch g past l) ≡ unwrap_or (latch_cycle g past l (CommandCycle c)) (latch g past l)
+command_step g past l la Read cache = read_step (latch g past l)
+command_step g past l la ReadStatus cache = refl
+command_step g past l la ReadStatusEnhanced cache = refl
+command_step g past l la Reset cache = refl
+command_step g past l la ReadCacheSequential cache = cache_step (drives_alone g past l) (is_off la) (latch g past l) CacheReadContinued ReadCacheSequential refl refl (cache refl)
+command_step g past l la ReadCacheEnd cache = cache_step (drives_alone g past l) (is_off la) (latch g past l) CacheReadEnded ReadCacheEnd refl refl (cache refl)
+command_step g past l la ChangeReadColumnConfirm cache = same_either_way (wants_command (tail_of past l) ChangeReadColumnConfirm && not (is_off la)) (latch g past l) (ReadColumnChanged (tail_of past l).column) refl
+command_step g past l la ReadConfirm cache = row_step (wants_command (tail_of past l) ReadConfirm && names_lun g (row (tail_of past l)) l.lun) (latch g past l) _ (Some ReadConfirm) refl
+command_step g past l la BlockEraseConfirm cache = row_step (wants_command (tail_of past l) BlockEraseConfirm && names_lun g (row (tail_of past l)) l.lun) (latch g past l) _ (Some BlockEraseConfirm) refl
+command_step g past l la BlockErasePlane cache = row_step (wants_command (tail_of past l) BlockErasePlane && names_lun g (row (tail_of past l)) l.lun) (latch g past l) _ (Some BlockErasePlane) refl
+command_step g past l la ProgramConfirm cache = row_step (wants_command (tail_of past l) ProgramConfirm && names_lun g (row (tail_of past l)) l.lun) (latch g past l) _ (Some ProgramConfirm) refl
+command_step g past l la ProgramPlane cache = row_step (wants_command (tail_of past l) ProgramPlane && names_lun g (row (tail_of past l)) l.lun) (latch g past l) _ (Some ProgramPlane) refl
+command_step g past l la c cache = same_either_way (wants_command (tail_of past l) c && names_lun g (row (tail_of past l)) l.lun) (latch g past l) Unaffected refl
+
+identity_step : (b : Bool) (before : Latch) (e : Effect) (c : Command) → latch_after e before ≡ Data → closed_latch (Some c) ≡ Some Data → latch_after (cond b e Unaffected) before ≡ unwrap_or (closed_latch (cond b (Some c) None)) before
+identity_step true before e c after closed = rw closed after
+identity_step false before e c after closed = refl
+
+address_step : (g : Parts) (past : List Item) (l : Lun) (byte : ℕ) (x : Option Opening) → latch_after (opening_address_effect g (tail_of past l) byte x l.lun) (latch g past l) ≡ unwrap_or (or_before (selecting_latch g past l byte x) (closed_latch (closing_address (tail_of past l) byte x))) (latch g past l)
+address_step g past l byte None = refl
+address_step g past l byte (Some o) = at o.opener o.addresses
+  where
+    selects : (b n : Bool) → latch_after (cond b (cond n SelectedForStatus Deselected) Unaffected) (latch g past l) ≡ unwrap_or (or_before (cond b (selected_latch n) None) None) (latch g past l)
+    selects true true = refl
+    selects true false = refl
+    selects false n = refl
+
+    at : (c : Command) (n : ℕ) → latch_after (address_effect g (tail_of past l) byte c n l.lun) (latch g past l) ≡ unwrap_or (or_before (third_of_status c n (names_lun g (row_with (tail_of past l) byte) l.lun)) (closed_latch (identity_closer (wants_address (tail_of past l) byte) c))) (latch g past l)
+    at ReadStatusEnhanced n = selects (n == 2) (names_lun g (row_with (tail_of past l) byte) l.lun)
+    at ReadId n = identity_step (wants_address (tail_of past l) byte) (latch g past l) IdRead ReadId refl refl
+    at ReadParameterPage n = identity_step (wants_address (tail_of past l) byte) (latch g past l) ParameterPageReadStarted ReadParameterPage refl refl
+    at _ n = refl
+
+cycle_step : (g : Parts) (past : List Item) (l : Lun) (la : Latch) (x : TargetCycle) → (is_cache_cycle x ≡ true → is_off la ≡ not (drives_alone g past l)) → latch_after (cycle_effect g (tail_of past l) la x l.lun) (latch g past l) ≡ unwrap_or (latch_cycle g past l x) (latch g past l)
+cycle_step g past l la (CommandCycle c) cache = command_step g past l la c cache
+cycle_step g past l la (AddressCycle byte) cache = address_step g past l byte (tail_of past l).opening
+cycle_step g past l la (InputCycle byte) cache = refl
+cycle_step g past l la OutputCycle cache = same_either_way (is_data la) (latch g past l) DataOutput refl
+
+-- what a permitted item leaves of the latch
+latch_step : (g : Parts) (n : ℕ) (past : List Item) (i : Item) (l : Lun) → broken g n past i ≡ None → l.lun < g.luns → latch g (i ∷ past) l ≡ unwrap_or (latch_decided g l past i) (latch g past l)
+latch_step g n past (Cyc c) l h low = at (c.ce == l.ce) refl (cache_finds_driver g n past c l h)
+  where
+    at : (b : Bool) → (c.ce == l.ce) ≡ b → (c.ce ≡ l.ce → l.lun < g.luns → is_cache_cycle (target_cycle c.kind c.byte) ≡ true → is_off (latch g past l) ≡ not (drives_alone g past l)) → latch_after (cond b (cycle_effect g (tail_of past l) (latch g past l) (target_cycle c.kind c.byte) l.lun) Unaffected) (latch g past l) ≡ unwrap_or (cond b (latch_cycle g past l (target_cycle c.kind c.byte)) None) (latch g past l)
+    at true e cache = cycle_step g past l (latch g past l) (target_cycle c.kind c.byte) (cache (eqb-true c.ce l.ce e) low)
+    at false e cache = refl
+latch_step g n past (Rdy ce lun fail) l h low = same_either_way (ce == l.ce && lun == l.lun) (latch g past l) (BecameReady fail) refl
+latch_step g n past (Ard ce lun) l h low = same_either_way (ce == l.ce && lun == l.lun) (latch g past l) ArrayBecameReady refl
+
+unwrap_before : (x y : Option Latch) → unwrap_or (or_before x y) Off ≡ unwrap_or x (unwrap_or y Off)
+unwrap_before (Some a) y = refl
+unwrap_before None y = refl
+
+pub latch_is_decided : (g : Parts) (n : ℕ) (past : List Item) (l : Lun) → is_legal g n past ≡ true → l.lun < g.luns → latch g past l ≡ unwrap_or (last_decided (latch_decided g l) past) Off
+latch_is_decided g n [] l legal low = refl
+latch_is_decided g n (i ∷ past) l legal low =
+    let both = both_true (is_permitted g n past i) (is_legal g n past) legal in
+    latch_step g n past i l (permitted_none g n past i both.0) low ∙
+    (ap (unwrap_or (latch_decided g l past i)) (latch_is_decided g n past l both.1 low) ∙ sym (unwrap_before (latch_decided g l past i) (last_decided (latch_decided g l) past)))
+
+-- what any item leaves of the latch by what the LUN shows alone
+alone_step : (g : Parts) (past : List Item) (i : Item) (l : Lun) → latch_after (effect_on g past i l) (latch g past l) ≡ unwrap_or (latch_decided g l past i) (latch g past l)
+unfolding effect_on
+alone_step g past (Cyc c) l = at (c.ce == l.ce)
+  where
+    at : (b : Bool) → latch_after (cond b (cycle_effect g (tail_of past l) (latch_alone g past l) (target_cycle c.kind c.byte) l.lun) Unaffected) (latch g past l) ≡ unwrap_or (cond b (latch_cycle g past l (target_cycle c.kind c.byte)) None) (latch g past l)
+    at true = cycle_step g past l (latch_alone g past l) (target_cycle c.kind c.byte) (λ cache. alone_off g past l)
+    at false = refl
+alone_step g past (Rdy ce lun fail) l = same_either_way (ce == l.ce && lun == l.lun) (latch g past l) (BecameReady fail) refl
+alone_step g past (Ard ce lun) l = same_either_way (ce == l.ce && lun == l.lun) (latch g past l) ArrayBecameReady refl
+
+-- the latch goes on by the effect of a permitted item, as every other fact does
+pub latch_by_effect : (g : Parts) (n : ℕ) (past : List Item) (i : Item) (l : Lun) → broken g n past i ≡ None → l.lun < g.luns → latch g (i ∷ past) l ≡ latch_after (effect_on g past i l) (latch g past l)
+latch_by_effect g n past i l h low = latch_step g n past i l h low ∙ sym (alone_step g past i l)

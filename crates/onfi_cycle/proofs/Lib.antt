@@ -1,0 +1,14 @@
+pub mod Quiet
+pub mod Others
+pub mod Steps
+pub mod Drivers
+pub mod TableLemmas
+pub mod NamingLemmas
+pub mod Meaning
+pub mod Decided
+pub mod Passed
+pub mod Latches
+pub mod Bytes
+pub mod Keeping
+pub mod Worked
+pub mod CommandBytes

@@ -1,0 +1,234 @@
+-- What each effect means, in the words of the trace.
+use Rattle.std.proofs.Common.{◌≡◌, ℕ, zero, suc, ◌+◌, ◌==◌, Bool, true, false, ◌&&◌, cond, not, List, [], ◌∷◌, Option, Some, None, refl, sym, ap, ◌∙◌, subst, eqb-true}
+use Rattle.nand_geometry.specs.declared.Parts.{Parts}
+use Rattle.onfi_cycle.specs.declared.Command.{Command}
+use Rattle.onfi_cycle.specs.declared.Command.TheVariants.{Read, ReadConfirm, ChangeReadColumnConfirm, BlockEraseConfirm, BlockErasePlane, ReadStatus, ReadStatusEnhanced, ProgramConfirm, ProgramPlane, ReadId, ReadParameterPage, Reset, ReadCacheSequential, ReadCacheEnd}
+use Rattle.onfi_cycle.specs.declared.Lun.{Lun}
+use Rattle.onfi_cycle.specs.declared.Latch.{Latch}
+use Rattle.onfi_cycle.specs.declared.Latch.TheVariants.{Off}
+use Rattle.onfi_cycle.specs.declared.Item.{Item}
+use Rattle.onfi_cycle.specs.declared.Item.TheVariants.{Cyc, Rdy, Ard}
+use Rattle.onfi_cycle.specs.declared.Opening.{Opening}
+use Rattle.onfi_cycle.specs.declared.TargetCycle.{TargetCycle}
+use Rattle.onfi_cycle.specs.declared.TargetCycle.TheVariants.{CommandCycle, AddressCycle, InputCycle, OutputCycle}
+use Rattle.onfi_cycle.specs.declared.Effect.{Effect}
+use Rattle.onfi_cycle.specs.declared.Effect.TheVariants.{Unaffected, StatusSelected, StatusRowAwaited, SelectedForStatus, Deselected, IdRead, ParameterPageReadStarted, CacheReadContinued, CacheReadEnded, DataOutput, ResetStarted, BecameReady, ArrayBecameReady, ReadStarted, EraseStarted, ProgramStarted, ReadColumnChanged}
+use Rattle.onfi_cycle.specs.declared.TailFacts.{TailFacts}
+use Rattle.onfi_cycle.specs.Sequence.{target_cycle, row, row_with, wants_command, wants_address}
+use Rattle.onfi_cycle.specs.Effect.{is_off, is_data, page_address, names_lun, command_effect, address_effect, opening_address_effect, cycle_effect}
+use Rattle.onfi_cycle.specs.Lun.{latch, latch_alone, drivers_from, is_only, effect_on}
+use Rattle.onfi_cycle.specs.Decides.{tail_of, drives_alone, row_closer, identity_closer, closing_address, closing_cycle, closing, readies, readies_array, is_cycle_of, is_output, is_status_command, is_column_confirm, changes_column, outputs_data}
+
+-- the closer that an effect comes of
+abbrev pub closer_of : Effect → Option Command
+closer_of (ReadStarted page column) = Some ReadConfirm
+closer_of (EraseStarted queued row) = cond queued (Some BlockErasePlane) (Some BlockEraseConfirm)
+closer_of (ProgramStarted queued page) = cond queued (Some ProgramPlane) (Some ProgramConfirm)
+closer_of IdRead = Some ReadId
+closer_of ParameterPageReadStarted = Some ReadParameterPage
+closer_of CacheReadContinued = Some ReadCacheSequential
+closer_of CacheReadEnded = Some ReadCacheEnd
+closer_of ResetStarted = Some Reset
+closer_of _ = None
+
+abbrev pub is_ready : Effect → Bool
+is_ready (BecameReady failed) = true
+is_ready _ = false
+
+abbrev pub is_array_ready : Effect → Bool
+is_array_ready ArrayBecameReady = true
+is_array_ready _ = false
+
+abbrev pub is_column_change : Effect → Bool
+is_column_change (ReadColumnChanged column) = true
+is_column_change _ = false
+
+abbrev pub is_data_output : Effect → Bool
+is_data_output DataOutput = true
+is_data_output _ = false
+
+abbrev pub is_status : Effect → Bool
+is_status StatusSelected = true
+is_status StatusRowAwaited = true
+is_status _ = false
+
+-- the row and the column that an effect carries are those of the tail
+abbrev pub Carries : Parts → TailFacts → Effect → Type 0
+Carries g t (ReadStarted page column) = (page ≡ page_address g (row t)) × (column ≡ t.column)
+Carries g t (EraseStarted queued at) = at ≡ page_address g (row t)
+Carries g t (ProgramStarted queued page) = page ≡ page_address g (row t)
+Carries g t (ReadColumnChanged column) = column ≡ t.column
+Carries g t _ = Unit {0}
+
+-- what an item is to a LUN, said by its effect
+pub record Means (g : Parts) (past : List Item) (i : Item) (l : Lun) (e : Effect) : Type 0 where
+  pub closes : closing g l past i ≡ closer_of e
+  pub ready : readies l i ≡ is_ready e
+  pub array_ready : readies_array l i ≡ is_array_ready e
+  pub changes : changes_column g l past i ≡ is_column_change e
+  pub outputs : outputs_data g l past i ≡ is_data_output e
+  pub status : is_cycle_of is_status_command l i ≡ is_status e
+  pub carries : Carries g (tail_of past l) e
+
+-- a driver is on
+pub driver_on : (latches : ℕ → Latch) (count n m : ℕ) → is_only (drivers_from latches count n) m ≡ true → is_off (latches m) ≡ false
+driver_on latches zero n m h = cc
+driver_on latches (suc count) n m h = at (is_off (latches n)) refl (driver_on latches count (n + 1) m) h
+  where
+    at : (b : Bool) → is_off (latches n) ≡ b → (is_only (drivers_from latches count (n + 1)) m ≡ true → is_off (latches m) ≡ false) → is_only (cond b (drivers_from latches count (n + 1)) (n ∷ drivers_from latches count (n + 1))) m ≡ true → is_off (latches m) ≡ false
+    at true e ih h = ih h
+    at false e ih h = subst (λ (k : ℕ). is_off (latches k) ≡ false) (one_alone n (drivers_from latches count (n + 1)) h) e
+      where
+        one_alone : (x : ℕ) (ds : List ℕ) → is_only (x ∷ ds) m ≡ true → x ≡ m
+        one_alone x [] h = eqb-true x m h
+        one_alone x (d ∷ ds) h = cc
+
+-- the latch of a LUN alone is off exactly where the LUN isn't the one driver
+pub alone_off : (g : Parts) (past : List Item) (l : Lun) → is_off (latch_alone g past l) ≡ not (drives_alone g past l)
+alone_off g past l = at (drives_alone g past l) (driver_on (λ m. latch g past (record { ce = l.ce; lun = m })) g.luns 0 l.lun)
+  where
+    at : (b : Bool) → (b ≡ true → is_off (latch g past l) ≡ false) → is_off (cond b (latch g past l) Off) ≡ not b
+    at true on = on refl
+    at false on = refl
+
+pub alone_data : (g : Parts) (past : List Item) (l : Lun) → is_data (latch_alone g past l) ≡ (drives_alone g past l && is_data (latch g past l))
+alone_data g past l = at (drives_alone g past l)
+  where
+    at : (b : Bool) → is_data (cond b (latch g past l) Off) ≡ (b && is_data (latch g past l))
+    at true = refl
+    at false = refl
+
+-- what a cycle of its target is to a LUN
+record MeansCycle (g : Parts) (past : List Item) (l : Lun) (cycle : TargetCycle) (e : Effect) : Type 0 where
+  closes : closing_cycle g past l cycle ≡ closer_of e
+  changes : (is_column_confirm cycle && (wants_command (tail_of past l) ChangeReadColumnConfirm && drives_alone g past l)) ≡ is_column_change e
+  outputs : (is_output cycle && (drives_alone g past l && is_data (latch g past l))) ≡ is_data_output e
+  status : is_status_command cycle ≡ is_status e
+  no_ready : is_ready e ≡ false
+  no_array_ready : is_array_ready e ≡ false
+  carries : Carries g (tail_of past l) e
+
+-- of a choice of two effects
+either_means : (g : Parts) (past : List Item) (l : Lun) (cycle : TargetCycle) (b : Bool) (x y : Effect) → (b ≡ true → MeansCycle g past l cycle x) → (b ≡ false → MeansCycle g past l cycle y) → MeansCycle g past l cycle (cond b x y)
+either_means g past l cycle true x y hx hy = hx refl
+either_means g past l cycle false x y hx hy = hy refl
+
+-- a cache read, which works on the one driver
+cache_means : (g : Parts) (past : List Item) (l : Lun) (c : Command) (e : Effect) → is_off (latch_alone g past l) ≡ not (drives_alone g past l) → (drives_alone g past l ≡ false → MeansCycle g past l (CommandCycle c) Unaffected) → (drives_alone g past l ≡ true → MeansCycle g past l (CommandCycle c) e) → MeansCycle g past l (CommandCycle c) (cond (is_off (latch_alone g past l)) Unaffected e)
+cache_means g past l c e off none one =
+    either_means g past l (CommandCycle c) (is_off (latch_alone g past l)) Unaffected e (λ h. none (not_true (drives_alone g past l) (sym off ∙ h))) (λ h. one (not_false (drives_alone g past l) (sym off ∙ h)))
+  where
+    not_true : (b : Bool) → not b ≡ true → b ≡ false
+    not_true true h = cc
+    not_true false h = refl
+
+    not_false : (b : Bool) → not b ≡ false → b ≡ true
+    not_false true h = refl
+    not_false false h = cc
+
+-- a command that neither closes a row nor is another effect
+nothing_means : (g : Parts) (past : List Item) (l : Lun) (cycle : TargetCycle) → closing_cycle g past l cycle ≡ None → is_column_confirm cycle ≡ false → is_output cycle ≡ false → is_status_command cycle ≡ false → MeansCycle g past l cycle Unaffected
+nothing_means g past l cycle none change output status =
+    record { closes = none; changes = rw change refl; outputs = rw output refl; status = status; no_ready = refl; no_array_ready = refl; carries = tt }
+
+command_means : (g : Parts) (past : List Item) (l : Lun) (c : Command) → MeansCycle g past l (CommandCycle c) (command_effect g (tail_of past l) (latch_alone g past l) c l.lun)
+command_means g past l Read = record { closes = refl; changes = refl; outputs = refl; status = refl; no_ready = refl; no_array_ready = refl; carries = tt }
+command_means g past l ReadStatus = record { closes = refl; changes = refl; outputs = refl; status = refl; no_ready = refl; no_array_ready = refl; carries = tt }
+command_means g past l ReadStatusEnhanced = record { closes = refl; changes = refl; outputs = refl; status = refl; no_ready = refl; no_array_ready = refl; carries = tt }
+command_means g past l Reset = record { closes = refl; changes = refl; outputs = refl; status = refl; no_ready = refl; no_array_ready = refl; carries = tt }
+command_means g past l ReadCacheSequential =
+    cache_means g past l ReadCacheSequential CacheReadContinued (alone_off g past l)
+    (λ h. nothing_means g past l (CommandCycle ReadCacheSequential) (rw h refl) refl refl refl)
+    (λ h. record { closes = rw h refl; changes = refl; outputs = refl; status = refl; no_ready = refl; no_array_ready = refl; carries = tt })
+command_means g past l ReadCacheEnd =
+    cache_means g past l ReadCacheEnd CacheReadEnded (alone_off g past l)
+    (λ h. nothing_means g past l (CommandCycle ReadCacheEnd) (rw h refl) refl refl refl)
+    (λ h. record { closes = rw h refl; changes = refl; outputs = refl; status = refl; no_ready = refl; no_array_ready = refl; carries = tt })
+command_means g past l ChangeReadColumnConfirm =
+    either_means g past l (CommandCycle ChangeReadColumnConfirm) (wants_command (tail_of past l) ChangeReadColumnConfirm && not (is_off (latch_alone g past l))) (ReadColumnChanged (tail_of past l).column) Unaffected
+    (λ h. record { closes = at (wants_command (tail_of past l) ChangeReadColumnConfirm && names_lun g (row (tail_of past l)) l.lun); changes = same ∙ h; outputs = refl; status = refl; no_ready = refl; no_array_ready = refl; carries = refl })
+    (λ h. record { closes = at (wants_command (tail_of past l) ChangeReadColumnConfirm && names_lun g (row (tail_of past l)) l.lun); changes = same ∙ h; outputs = refl; status = refl; no_ready = refl; no_array_ready = refl; carries = tt })
+  where
+    at : (b : Bool) → row_closer b ChangeReadColumnConfirm ≡ None
+    at b = refl
+
+    not_not : (b : Bool) → b ≡ not (not b)
+    not_not true = refl
+    not_not false = refl
+
+    same : (wants_command (tail_of past l) ChangeReadColumnConfirm && drives_alone g past l) ≡ (wants_command (tail_of past l) ChangeReadColumnConfirm && not (is_off (latch_alone g past l)))
+    same = ap (λ b. wants_command (tail_of past l) ChangeReadColumnConfirm && b) (not_not (drives_alone g past l) ∙ ap not (sym (alone_off g past l)))
+command_means g past l ReadConfirm =
+    either_means g past l (CommandCycle ReadConfirm) (wants_command (tail_of past l) ReadConfirm && names_lun g (row (tail_of past l)) l.lun) _ Unaffected
+    (λ h. record { closes = rw h refl; changes = refl; outputs = refl; status = refl; no_ready = refl; no_array_ready = refl; carries = (refl, refl) })
+    (λ h. nothing_means g past l (CommandCycle ReadConfirm) (rw h refl) refl refl refl)
+command_means g past l BlockEraseConfirm =
+    either_means g past l (CommandCycle BlockEraseConfirm) (wants_command (tail_of past l) BlockEraseConfirm && names_lun g (row (tail_of past l)) l.lun) _ Unaffected
+    (λ h. record { closes = rw h refl; changes = refl; outputs = refl; status = refl; no_ready = refl; no_array_ready = refl; carries = refl })
+    (λ h. nothing_means g past l (CommandCycle BlockEraseConfirm) (rw h refl) refl refl refl)
+command_means g past l BlockErasePlane =
+    either_means g past l (CommandCycle BlockErasePlane) (wants_command (tail_of past l) BlockErasePlane && names_lun g (row (tail_of past l)) l.lun) _ Unaffected
+    (λ h. record { closes = rw h refl; changes = refl; outputs = refl; status = refl; no_ready = refl; no_array_ready = refl; carries = refl })
+    (λ h. nothing_means g past l (CommandCycle BlockErasePlane) (rw h refl) refl refl refl)
+command_means g past l ProgramConfirm =
+    either_means g past l (CommandCycle ProgramConfirm) (wants_command (tail_of past l) ProgramConfirm && names_lun g (row (tail_of past l)) l.lun) _ Unaffected
+    (λ h. record { closes = rw h refl; changes = refl; outputs = refl; status = refl; no_ready = refl; no_array_ready = refl; carries = refl })
+    (λ h. nothing_means g past l (CommandCycle ProgramConfirm) (rw h refl) refl refl refl)
+command_means g past l ProgramPlane =
+    either_means g past l (CommandCycle ProgramPlane) (wants_command (tail_of past l) ProgramPlane && names_lun g (row (tail_of past l)) l.lun) _ Unaffected
+    (λ h. record { closes = rw h refl; changes = refl; outputs = refl; status = refl; no_ready = refl; no_array_ready = refl; carries = refl })
+    (λ h. nothing_means g past l (CommandCycle ProgramPlane) (rw h refl) refl refl refl)
+command_means g past l c =
+    either_means g past l (CommandCycle c) (wants_command (tail_of past l) c && names_lun g (row (tail_of past l)) l.lun) Unaffected Unaffected
+    (λ h. nothing_means g past l (CommandCycle c) refl refl refl refl)
+    (λ h. nothing_means g past l (CommandCycle c) refl refl refl refl)
+
+-- an address closes what its opener is, and is nothing else that counts
+address_nothing : (g : Parts) (past : List Item) (l : Lun) (byte : ℕ) (e : Effect) → closing_cycle g past l (AddressCycle byte) ≡ closer_of e → is_column_change e ≡ false → is_data_output e ≡ false → is_status e ≡ false → is_ready e ≡ false → is_array_ready e ≡ false → Carries g (tail_of past l) e → MeansCycle g past l (AddressCycle byte) e
+address_nothing g past l byte e closes change output status ready array carries =
+    record { closes = closes; changes = sym change; outputs = sym output; status = sym status; no_ready = ready; no_array_ready = array; carries = carries }
+
+identity_means : (g : Parts) (past : List Item) (l : Lun) (byte : ℕ) (b : Bool) (c : Command) (e : Effect) → closing_cycle g past l (AddressCycle byte) ≡ cond b (Some c) None → closer_of e ≡ Some c → is_column_change e ≡ false → is_data_output e ≡ false → is_status e ≡ false → is_ready e ≡ false → is_array_ready e ≡ false → Carries g (tail_of past l) e → MeansCycle g past l (AddressCycle byte) (cond b e Unaffected)
+identity_means g past l byte true c e closes of change output status ready array carries = address_nothing g past l byte e (closes ∙ sym of) change output status ready array carries
+identity_means g past l byte false c e closes of change output status ready array carries = address_nothing g past l byte Unaffected closes refl refl refl refl refl tt
+
+address_means : (g : Parts) (past : List Item) (l : Lun) (byte : ℕ) (x : Option Opening) → (tail_of past l).opening ≡ x → MeansCycle g past l (AddressCycle byte) (opening_address_effect g (tail_of past l) byte x l.lun)
+address_means g past l byte None h = address_nothing g past l byte Unaffected (ap (closing_address (tail_of past l) byte) h) refl refl refl refl refl tt
+address_means g past l byte (Some o) h = at o.opener o.addresses (ap (closing_address (tail_of past l) byte) h)
+  where
+    at : (c : Command) (n : ℕ) → closing_cycle g past l (AddressCycle byte) ≡ identity_closer (wants_address (tail_of past l) byte) c → MeansCycle g past l (AddressCycle byte) (address_effect g (tail_of past l) byte c n l.lun)
+    at ReadStatusEnhanced n h =
+        either_means g past l (AddressCycle byte) (n == 2) _ Unaffected
+        (λ k. either_means g past l (AddressCycle byte) (names_lun g (row_with (tail_of past l) byte) l.lun) SelectedForStatus Deselected (λ m. address_nothing g past l byte SelectedForStatus h refl refl refl refl refl tt) (λ m. address_nothing g past l byte Deselected h refl refl refl refl refl tt))
+        (λ k. address_nothing g past l byte Unaffected h refl refl refl refl refl tt)
+    at ReadId n h = identity_means g past l byte (wants_address (tail_of past l) byte) ReadId IdRead h refl refl refl refl refl refl tt
+    at ReadParameterPage n h = identity_means g past l byte (wants_address (tail_of past l) byte) ReadParameterPage ParameterPageReadStarted h refl refl refl refl refl refl tt
+    at _ n h = address_nothing g past l byte Unaffected h refl refl refl refl refl tt
+
+cycle_means : (g : Parts) (past : List Item) (l : Lun) (cycle : TargetCycle) → MeansCycle g past l cycle (cycle_effect g (tail_of past l) (latch_alone g past l) cycle l.lun)
+cycle_means g past l (CommandCycle c) = command_means g past l c
+cycle_means g past l (AddressCycle byte) = address_means g past l byte (tail_of past l).opening refl
+cycle_means g past l (InputCycle byte) = nothing_means g past l (InputCycle byte) refl refl refl refl
+cycle_means g past l OutputCycle =
+    either_means g past l OutputCycle (is_data (latch_alone g past l)) DataOutput Unaffected
+    (λ h. record { closes = refl; changes = refl; outputs = sym (alone_data g past l) ∙ h; status = refl; no_ready = refl; no_array_ready = refl; carries = tt })
+    (λ h. record { closes = refl; changes = refl; outputs = sym (alone_data g past l) ∙ h; status = refl; no_ready = refl; no_array_ready = refl; carries = tt })
+
+-- the effect of an item says what the item is to the LUN
+pub means : (g : Parts) (past : List Item) (i : Item) (l : Lun) → Means g past i l (effect_on g past i l)
+unfolding effect_on
+means g past (Cyc c) l = at (c.ce == l.ce) refl (cycle_means g past l (target_cycle c.kind c.byte))
+  where
+    at : (b : Bool) → (c.ce == l.ce) ≡ b → MeansCycle g past l (target_cycle c.kind c.byte) (cycle_effect g (tail_of past l) (latch_alone g past l) (target_cycle c.kind c.byte) l.lun) → Means g past (Cyc c) l (cond b (cycle_effect g (tail_of past l) (latch_alone g past l) (target_cycle c.kind c.byte) l.lun) Unaffected)
+    at true h m = record { closes = rw h m.closes; ready = sym m.no_ready; array_ready = sym m.no_array_ready; changes = rw h m.changes; outputs = rw h m.outputs; status = rw h m.status; carries = m.carries }
+    at false h m = record { closes = rw h refl; ready = refl; array_ready = refl; changes = rw h refl; outputs = rw h refl; status = rw h refl; carries = tt }
+means g past (Rdy ce lun fail) l = at (ce == l.ce && lun == l.lun) refl
+  where
+    at : (b : Bool) → (ce == l.ce && lun == l.lun) ≡ b → Means g past (Rdy ce lun fail) l (cond b (BecameReady fail) Unaffected)
+    at true h = record { closes = refl; ready = h; array_ready = refl; changes = refl; outputs = refl; status = refl; carries = tt }
+    at false h = record { closes = refl; ready = h; array_ready = refl; changes = refl; outputs = refl; status = refl; carries = tt }
+means g past (Ard ce lun) l = at (ce == l.ce && lun == l.lun) refl
+  where
+    at : (b : Bool) → (ce == l.ce && lun == l.lun) ≡ b → Means g past (Ard ce lun) l (cond b ArrayBecameReady Unaffected)
+    at true h = record { closes = refl; ready = refl; array_ready = h; changes = refl; outputs = refl; status = refl; carries = tt }
+    at false h = record { closes = refl; ready = refl; array_ready = h; changes = refl; outputs = refl; status = refl; carries = tt }

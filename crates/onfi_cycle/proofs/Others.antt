@@ -1,0 +1,241 @@
+-- The items of another LUN, or of another target, are quiet.
+use Rattle.std.proofs.Common.{is_none, ◌≡◌, ◌≢◌, ℕ, ◌<◌, ◌==◌, Bool, true, false, ◌&&◌, cond, not, List, [], ◌∷◌, Option, Some, None, refl, ap, arith, ltb}
+use Rattle.std.proofs.lemmas.Bool.Decides.{nat_tests}
+use Rattle.nand_geometry.specs.declared.Parts.{Parts}
+use Rattle.onfi_cycle.specs.declared.Lun.{Lun}
+use Rattle.onfi_cycle.specs.declared.Item.{Item}
+use Rattle.onfi_cycle.specs.declared.Item.TheVariants.{Cyc, Rdy, Ard}
+use Rattle.onfi_cycle.specs.declared.Latch.{Latch}
+use Rattle.onfi_cycle.specs.declared.Latch.TheVariants.{Off}
+use Rattle.onfi_cycle.specs.declared.Command.{Command}
+use Rattle.onfi_cycle.specs.declared.Command.TheVariants.{Read, ProgramConfirm, ProgramPlane, ReadConfirm, ReadCacheSequential, ReadCacheEnd, ReadStatus, ReadStatusEnhanced, ReadId, BlockEraseConfirm, BlockErasePlane, ChangeReadColumnConfirm, ReadParameterPage, Reset}
+use Rattle.onfi_cycle.specs.Command.{at_last_row, reads_identity, wants_one_lun}
+use Rattle.onfi_cycle.specs.declared.TargetCycle.{TargetCycle}
+use Rattle.onfi_cycle.specs.declared.TargetCycle.TheVariants.{CommandCycle, AddressCycle, InputCycle, OutputCycle}
+use Rattle.onfi_cycle.specs.declared.Effect.{Effect}
+use Rattle.onfi_cycle.specs.declared.Effect.TheVariants.{Unaffected, SelectedForStatus, Deselected, BecameReady, ArrayBecameReady}
+use Rattle.onfi_cycle.specs.declared.Opening.{Opening}
+use Rattle.onfi_cycle.specs.declared.TailFacts.{TailFacts}
+use Rattle.onfi_cycle.specs.Sequence.{target_of, facts_of, row_with, target_cycle, with_cycle, one_address_more, tail, opening, opened, wants_command, row}
+use Rattle.onfi_cycle.specs.Effect.{names_lun, command_effect, address_effect, opening_address_effect, cycle_effect, effect_given}
+use Rattle.onfi_cycle.specs.Lun.{effect_on, latch_alone, drivers, is_only, latch, latch_after, read_column, read_column_after, luns_of}
+use Rattle.onfi_cycle.specs.declared.Cycle.{Cycle}
+use Rattle.onfi_cycle.specs.declared.Forbidden.{Forbidden}
+use Rattle.onfi_cycle.specs.Rules.{breaks_F1, breaks_F2, breaks_F3, breaks_F4}
+use Rattle.onfi_cycle.specs.Permitted.{broken, judge_cycle, is_permitted, is_legal}
+use Rattle.onfi_cycle.specs.OtherLun.{keeps_to, is_of, closes_row, needs_driver, OthersKeep, TargetsKeep}
+use Rattle.onfi_cycle.proofs.Quiet.{is_quiet, keeps_quiet}
+
+-- two numbers that a third equals are one
+not_both : (x l m : ℕ) → l ≢ m → (x == m) ≡ true → (x == l) ≡ false
+not_both x l m ne h = grind (arith, nat_tests)
+
+-- a choice between two effects that are quiet
+quiet_choice : (b : Bool) (x y : Effect) → is_quiet x ≡ true → is_quiet y ≡ true → is_quiet (cond b x y) ≡ true
+quiet_choice true x y hx hy = hx
+quiet_choice false x y hx hy = hy
+
+-- where the names differ, a closer does nothing
+quiet_named : (w b : Bool) (x : Effect) → b ≡ false → is_quiet (cond (w && b) x Unaffected) ≡ true
+quiet_named true true x h = cc
+quiet_named true false x h = refl
+quiet_named false b x h = refl
+
+-- a command that is permitted on a target with several LUNs, and that works on another LUN
+quiet_command : (g : Parts) (t : TailFacts) (s : Latch) (c : Command) (l m : ℕ) → l ≢ m → wants_one_lun c ≡ false → (closes_row c ≡ true → names_lun g (row t) m ≡ true) → (needs_driver c ≡ true → s ≡ Off) → is_quiet (command_effect g t s c l) ≡ true
+quiet_command g t s Read l m ne one named driver = refl
+quiet_command g t s ReadStatus l m ne one named driver = cc
+quiet_command g t s ReadStatusEnhanced l m ne one named driver = refl
+quiet_command g t s Reset l m ne one named driver = cc
+quiet_command g t s ReadCacheSequential l m ne one named driver = rw (driver refl) refl
+quiet_command g t s ReadCacheEnd l m ne one named driver = rw (driver refl) refl
+quiet_command g t s ChangeReadColumnConfirm l m ne one named driver = rw (driver refl) (quiet_named (wants_command t ChangeReadColumnConfirm) false _ refl)
+quiet_command g t s ReadConfirm l m ne one named driver = quiet_named (wants_command t ReadConfirm) (names_lun g (row t) l) _ (not_both _ l m ne (named refl))
+quiet_command g t s BlockEraseConfirm l m ne one named driver = quiet_named (wants_command t BlockEraseConfirm) (names_lun g (row t) l) _ (not_both _ l m ne (named refl))
+quiet_command g t s BlockErasePlane l m ne one named driver = quiet_named (wants_command t BlockErasePlane) (names_lun g (row t) l) _ (not_both _ l m ne (named refl))
+quiet_command g t s ProgramConfirm l m ne one named driver = quiet_named (wants_command t ProgramConfirm) (names_lun g (row t) l) _ (not_both _ l m ne (named refl))
+quiet_command g t s ProgramPlane l m ne one named driver = quiet_named (wants_command t ProgramPlane) (names_lun g (row t) l) _ (not_both _ l m ne (named refl))
+quiet_command g t s c l m ne one named driver = quiet_choice (wants_command t c && names_lun g (row t) l) Unaffected Unaffected refl refl
+
+-- an address of another LUN
+quiet_address : (g : Parts) (t : TailFacts) (byte : ℕ) (c : Command) (n l m : ℕ) → l ≢ m → reads_identity c ≡ false → ((c ≡ ReadStatusEnhanced) → n ≡ 2 → names_lun g (row_with t byte) m ≡ true) → is_quiet (address_effect g t byte c n l) ≡ true
+quiet_address g t byte ReadStatusEnhanced n l m ne id row = at (n == 2) refl
+  where
+    at : (b : Bool) → (n == 2) ≡ b → is_quiet (cond b (cond (names_lun g (row_with t byte) l) SelectedForStatus Deselected) Unaffected) ≡ true
+    at true e = rw (not_both _ l m ne (row refl (grind (arith, nat_tests)))) refl
+    at false e = refl
+quiet_address g t byte ReadId n l m ne id row = cc
+quiet_address g t byte ReadParameterPage n l m ne id row = cc
+quiet_address g t byte c n l m ne id row = refl
+
+-- a chain of rules that answers none has passed its first rule
+pub first_passed : (b : Bool) (f : Forbidden) (x : Option Forbidden) → cond b (Some f) x ≡ None → (b ≡ false) × (x ≡ None)
+first_passed true f x h = cc
+first_passed false f x h = (refl, h)
+
+pub permitted_none : (g : Parts) (n : ℕ) (past : List Item) (i : Item) → is_permitted g n past i ≡ true → broken g n past i ≡ None
+permitted_none g n past i h = at (broken g n past i) h
+  where
+    at : (r : Option Forbidden) → is_none r ≡ true → r ≡ None
+    at None h = refl
+    at (Some f) h = cc
+
+-- a permitted cycle keeps F4
+pub keeps_F4 : (g : Parts) (n : ℕ) (past : List Item) (c : Cycle) → broken g n past (Cyc c) ≡ None → breaks_F4 g (target_cycle c.kind c.byte) ≡ false
+keeps_F4 g n past c h =
+    let cycle = target_cycle c.kind c.byte in
+    let t = facts_of (tail past c.ce) in
+    let luns = luns_of g past c.ce in
+    let after_1 = first_passed (breaks_F1 n luns (Cyc c)) Forbidden.F1 (judge_cycle g t luns cycle) h in
+    let after_2 = first_passed (breaks_F2 g cycle) Forbidden.F2 _ after_1.1 in
+    let after_3 = first_passed (breaks_F3 t cycle) Forbidden.F3 _ after_2.1 in
+    (first_passed (breaks_F4 g cycle) Forbidden.F4 _ after_3.1).0
+
+-- an opener other than 90 and EC
+abbrev is_other_opening : Option Opening → Bool
+is_other_opening o = not (opened (λ c n. reads_identity c) o)
+
+other_with_more : (o : Option Opening) → is_other_opening o ≡ true → is_other_opening (one_address_more o) ≡ true
+other_with_more None h = refl
+other_with_more (Some o) h = h
+
+true_and_false : (b : Bool) → b ≡ true → b ≡ false → ⊥
+true_and_false b x y = cc
+
+-- on a target with several LUNs no tail begins with 90 or EC
+other_with_cycle : (g : Parts) (cycle : TargetCycle) (t : List TargetCycle) → ltb 1 g.luns ≡ true → breaks_F4 g cycle ≡ false → is_other_opening (opening t) ≡ true → is_other_opening (opening (with_cycle cycle t)) ≡ true
+unfolding breaks_F4
+other_with_cycle g (CommandCycle c) t several f4 h = at c t f4
+  where
+    at : (c : Command) (t : List TargetCycle) → (wants_one_lun c && ltb 1 g.luns) ≡ false → is_other_opening (opening (with_cycle (CommandCycle c) t)) ≡ true
+    at ReadId t f4 = absurd (true_and_false _ several f4)
+    at ReadParameterPage t f4 = absurd (true_and_false _ several f4)
+    at c [] f4 = refl
+    at c (d ∷ t) f4 = refl
+other_with_cycle g (AddressCycle byte) [] several f4 h = refl
+other_with_cycle g (AddressCycle byte) (d ∷ t) several f4 h = other_with_more (opening (d ∷ t)) h
+other_with_cycle g (InputCycle byte) [] several f4 h = refl
+other_with_cycle g (InputCycle byte) (d ∷ t) several f4 h = refl
+other_with_cycle g OutputCycle [] several f4 h = refl
+other_with_cycle g OutputCycle (d ∷ t) several f4 h = refl
+
+pub both_true : (a b : Bool) → (a && b) ≡ true → (a ≡ true) × (b ≡ true)
+both_true true b h = (refl, h)
+both_true false b h = cc
+
+pub other_openings : (g : Parts) (n : ℕ) (past : List Item) (ce : ℕ) → ltb 1 g.luns ≡ true → is_legal g n past ≡ true → is_other_opening (opening (tail past ce)) ≡ true
+other_openings g n [] ce several h = refl
+other_openings g n (Cyc c ∷ past) ce several h =
+    let legal = both_true (is_permitted g n past (Cyc c)) (is_legal g n past) h in
+    let before = other_openings g n past ce several legal.1 in
+    let f4 = keeps_F4 g n past c (permitted_none g n past (Cyc c) legal.0) in
+    at (c.ce == ce) before f4
+  where
+    at : (b : Bool) → is_other_opening (opening (tail past ce)) ≡ true → breaks_F4 g (target_cycle c.kind c.byte) ≡ false → is_other_opening (opening (cond b (with_cycle (target_cycle c.kind c.byte) (tail past ce)) (tail past ce))) ≡ true
+    at true before f4 = other_with_cycle g (target_cycle c.kind c.byte) (tail past ce) several f4 before
+    at false before f4 = before
+other_openings g n (Rdy a b f ∷ past) ce several h = other_openings g n past ce several (both_true (is_permitted g n past (Rdy a b f)) (is_legal g n past) h).1
+other_openings g n (Ard a b ∷ past) ce several h = other_openings g n past ce several (both_true (is_permitted g n past (Ard a b)) (is_legal g n past) h).1
+
+-- the one driver is one
+only_one : (ds : List ℕ) (l m : ℕ) → l ≢ m → is_only ds m ≡ true → is_only ds l ≡ false
+only_one [] l m ne h = cc
+only_one (x ∷ []) l m ne h = not_both x l m ne h
+only_one (x ∷ (y ∷ ds)) l m ne h = cc
+
+-- another LUN than the one driver shows nothing
+shows_nothing : (g : Parts) (past : List Item) (l m : Lun) → l.ce ≡ m.ce → l.lun ≢ m.lun → is_only (drivers g past m.ce) m.lun ≡ true → latch_alone g past l ≡ Off
+shows_nothing g past l m ce ne h =
+    let only : is_only (drivers g past l.ce) m.lun ≡ true = rw ce h in
+    rw (only_one (drivers g past l.ce) l.lun m.lun ne only) refl
+
+and_false_left : (a b : Bool) → b ≡ true → (a && b) ≡ false → a ≡ false
+and_false_left true b h e = cc
+and_false_left false b h e = refl
+
+chosen_true : (b x y : Bool) → cond b x y ≡ true → b ≡ true → x ≡ true
+chosen_true true x y h e = h
+chosen_true false x y h e = cc
+
+chosen_false : (b x y : Bool) → cond b x y ≡ true → b ≡ false → y ≡ true
+chosen_false true x y h e = cc
+chosen_false false x y h e = h
+
+-- a command that needs the driver closes no row
+driver_no_row : (c : Command) → needs_driver c ≡ true → closes_row c ≡ false
+driver_no_row ChangeReadColumnConfirm h = refl
+driver_no_row ReadCacheSequential h = refl
+driver_no_row ReadCacheEnd h = refl
+driver_no_row _ h = cc
+
+-- a cycle of another LUN
+quiet_cycle : (g : Parts) (past : List Item) (ce l m : ℕ) (cycle : TargetCycle) → l ≢ m → ltb 1 g.luns ≡ true → breaks_F4 g cycle ≡ false → is_other_opening (opening (tail past ce)) ≡ true → keeps_to g past (record { ce = ce; lun = m }) cycle ≡ true → is_quiet (cycle_effect g (facts_of (tail past ce)) (latch_alone g past (record { ce = ce; lun = l })) cycle l) ≡ true
+unfolding breaks_F4
+quiet_cycle g past ce l m (CommandCycle c) ne several f4 other keep =
+    quiet_command g (facts_of (tail past ce)) (latch_alone g past (record { ce = ce; lun = l })) c l m ne
+    (and_false_left (wants_one_lun c) (ltb 1 g.luns) several f4)
+    (chosen_true (closes_row c) _ _ keep)
+    (λ h. shows_nothing g past (record { ce = ce; lun = l }) (record { ce = ce; lun = m }) refl ne
+    (chosen_true (needs_driver c) _ _ (chosen_false (closes_row c) _ _ keep (driver_no_row c h)) h))
+quiet_cycle g past ce l m (AddressCycle byte) ne several f4 other keep = at (opening (tail past ce)) other keep
+  where
+    at : (o : Option Opening) → is_other_opening o ≡ true → cond (opened (λ c n. true && at_last_row c n) o) (names_lun g (row_with (facts_of (tail past ce)) byte) m) true ≡ true → is_quiet (opening_address_effect g (facts_of (tail past ce)) byte o l) ≡ true
+    at None other keep = refl
+    at (Some o) other keep =
+        quiet_address g (facts_of (tail past ce)) byte o.opener o.addresses l m ne (not_true (reads_identity o.opener) other)
+        (λ e f. chosen_true (at_last_row o.opener o.addresses) _ _ keep (rw (e, f) refl))
+      where
+        not_true : (b : Bool) → not b ≡ true → b ≡ false
+        not_true true h = cc
+        not_true false h = refl
+quiet_cycle g past ce l m (InputCycle byte) ne several f4 other keep = refl
+quiet_cycle g past ce l m OutputCycle ne several f4 other keep =
+    rw (shows_nothing g past (record { ce = ce; lun = l }) (record { ce = ce; lun = m }) refl ne keep) refl
+
+-- a ready of another LUN
+quiet_ready : (a b c : Bool) (x : Effect) → (a && b) ≡ true → (b ≡ true → c ≡ false) → is_quiet (cond (a && c) x Unaffected) ≡ true
+quiet_ready a b c x h differs = quiet_named a c x (differs (both_true a b h).1)
+
+-- an item of another LUN of the target
+quiet_item : (g : Parts) (n : ℕ) (past : List Item) (i : Item) (ce l m : ℕ) → is_legal g n past ≡ true → broken g n past i ≡ None → is_of g past (record { ce = ce; lun = m }) i ≡ true → l ≢ m → ltb 1 g.luns ≡ true → is_quiet (effect_on g past i (record { ce = ce; lun = l })) ≡ true
+unfolding effect_on
+quiet_item g n past (Cyc c) ce l m legal h of ne several =
+    quiet_choice (c.ce == ce) _ Unaffected
+    (quiet_cycle g past ce l m (target_cycle c.kind c.byte) ne several (keeps_F4 g n past c h) (other_openings g n past ce several legal) (both_true (c.ce == ce) _ of).1)
+    refl
+quiet_item g n past (Rdy a b f) ce l m legal h of ne several = quiet_ready (a == ce) (b == m) (b == l) (BecameReady f) of (not_both b l m ne)
+quiet_item g n past (Ard a b) ce l m legal h of ne several = quiet_ready (a == ce) (b == m) (b == l) ArrayBecameReady of (not_both b l m ne)
+
+-- two LUNs are several
+several_of : (a b n : ℕ) → a ≢ b → a < n → b < n → ltb 1 n ≡ true
+several_of a b n ne ha hb = grind (arith, nat_tests)
+
+pub others_keep : OthersKeep
+others_keep g n past i l m legal h of ce ne lin min =
+    let of_here : is_of g past (record { ce = l.ce; lun = m.lun }) i ≡ true = rw ce of in
+    keeps_quiet g past i l
+    (quiet_item g n past i l.ce l.lun m.lun legal h of_here ne (several_of l.lun m.lun g.luns ne lin min))
+
+eq_false : (a b : ℕ) → a ≢ b → (a == b) ≡ false
+eq_false a b ne = grind (arith, nat_tests)
+
+-- elsewhere an item does nothing
+pub rests_elsewhere : (g : Parts) (past : List Item) (s : Latch) (i : Item) (l : Lun) → target_of i ≢ l.ce → effect_given g past s i l ≡ Unaffected
+rests_elsewhere g past s (Cyc c) l ne = rw (eq_false c.ce l.ce ne) refl
+rests_elsewhere g past s (Rdy a b f) l ne = rw (eq_false a l.ce ne) refl
+rests_elsewhere g past s (Ard a b) l ne = rw (eq_false a l.ce ne) refl
+
+tail_elsewhere : (past : List Item) (i : Item) (ce : ℕ) → target_of i ≢ ce → tail (i ∷ past) ce ≡ tail past ce
+tail_elsewhere past (Cyc c) ce ne = rw (eq_false c.ce ce ne) refl
+tail_elsewhere past (Rdy a b f) ce ne = refl
+tail_elsewhere past (Ard a b) ce ne = refl
+
+pub targets_keep : TargetsKeep
+unfolding effect_on
+targets_keep g past i ce ne =
+    record {
+      tail = tail_elsewhere past i ce ne;
+      latch = λ lun. ap (λ (a : Effect). latch_after a (latch g past (record { ce = ce; lun = lun }))) (rests_elsewhere g past _ i (record { ce = ce; lun = lun }) ne);
+      column = λ lun. ap (λ (a : Effect). read_column_after a (read_column g past (record { ce = ce; lun = lun }))) (rests_elsewhere g past _ i (record { ce = ce; lun = lun }) ne);
+      luns = λ lun. keeps_quiet g past i (record { ce = ce; lun = lun }) (rw (rests_elsewhere g past (latch_alone g past (record { ce = ce; lun = lun })) i (record { ce = ce; lun = lun }) ne) refl);
+    }

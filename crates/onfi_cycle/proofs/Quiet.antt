@@ -1,0 +1,74 @@
+-- Effects that leave all of a LUN but its latch and column.
+use Rattle.std.proofs.Common.{◌≡◌, ℕ, Bool, true, false, ◌||◌, List, Option, refl, ap, inl, inr, ltb}
+use Rattle.nand_geometry.specs.declared.Parts.{Parts}
+use Rattle.onfi_cycle.specs.declared.Lun.{Lun}
+use Rattle.onfi_cycle.specs.declared.Item.{Item}
+use Rattle.onfi_cycle.specs.declared.PageAddress.{PageAddress}
+use Rattle.onfi_cycle.specs.declared.Queued.{Queued}
+use Rattle.onfi_cycle.specs.declared.Register.{Register}
+use Rattle.onfi_cycle.specs.declared.ReadColumn.{ReadColumn}
+use Rattle.onfi_cycle.specs.declared.Effect.{Effect}
+use Rattle.onfi_cycle.specs.declared.Effect.TheVariants.{Unaffected, DataOutputEnabled, StatusRowAwaited, Deselected}
+use Rattle.onfi_cycle.specs.Lun.{effect_on, read_column_after, busy_after, closer_after, array_busy_after, array_page_after, register_after, queue_after}
+use Rattle.onfi_cycle.specs.declared.Command.{Command}
+use Rattle.onfi_cycle.specs.Content.{ArrayWork, queued_work_after, pending_work_after, failed_after, content_after}
+use Rattle.onfi_cycle.specs.OtherLun.{KeepsLun, IsSameOrLost}
+
+-- an effect that leaves all but the latch, and may lose the column
+abbrev pub is_quiet : Effect → Bool
+is_quiet Unaffected = true
+is_quiet DataOutputEnabled = true
+is_quiet StatusRowAwaited = true
+is_quiet Deselected = true
+is_quiet _ = false
+
+-- what a quiet effect leaves
+pub record LeftBy (a : Effect) : Type 0 where
+  pub busy : (b : Bool) → busy_after a b ≡ b
+  pub closer : (c : Option Command) → closer_after a c ≡ c
+  pub array_busy : (b c d : Bool) → array_busy_after a b c d ≡ d
+  pub array_page : (p : PageAddress) → array_page_after a p ≡ p
+  pub register : (p : PageAddress) (r : Register) → register_after a p r ≡ r
+  pub queue : (q : List Queued) → queue_after a q ≡ q
+  pub queued_work : (b : List ℕ) (q : List ArrayWork) → queued_work_after a b q ≡ q
+  pub pending_work : (b : List ℕ) (q p : List ArrayWork) → pending_work_after a b q p ≡ p
+  pub failed : (p : List ArrayWork) (b : Bool) → failed_after a p b ≡ b
+  pub content : (g : Parts) (q : List ArrayWork) (p : PageAddress) (old : List ℕ) → content_after g a q p old ≡ old
+  pub column : (k : ReadColumn) → IsSameOrLost k (read_column_after a k)
+
+lost_or_same : (k : ReadColumn) (b : Bool) → IsSameOrLost k (record k { lost = k.lost || b })
+lost_or_same k true = inr (ap (λ (l : Bool). record k { lost = l }) (or_true k.lost))
+  where
+    or_true : (x : Bool) → (x || true) ≡ true
+    or_true true = refl
+    or_true false = refl
+lost_or_same k false = inl (ap (λ (l : Bool). record k { lost = l }) (or_false k.lost))
+  where
+    or_false : (x : Bool) → (x || false) ≡ x
+    or_false true = refl
+    or_false false = refl
+
+pub left_by_quiet : (a : Effect) → is_quiet a ≡ true → LeftBy a
+left_by_quiet Unaffected h = record { busy = λ b. refl; closer = λ c. refl; array_busy = λ b c d. refl; array_page = λ p. refl; register = λ p r. refl; queue = λ q. refl; queued_work = λ b q. refl; pending_work = λ b q p. refl; failed = λ p b. refl; content = λ g q p old. refl; column = λ k. inl refl }
+left_by_quiet DataOutputEnabled h = record { busy = λ b. refl; closer = λ c. refl; array_busy = λ b c d. refl; array_page = λ p. refl; register = λ p r. refl; queue = λ q. refl; queued_work = λ b q. refl; pending_work = λ b q p. refl; failed = λ p b. refl; content = λ g q p old. refl; column = λ k. inl refl }
+left_by_quiet StatusRowAwaited h = record { busy = λ b. refl; closer = λ c. refl; array_busy = λ b c d. refl; array_page = λ p. refl; register = λ p r. refl; queue = λ q. refl; queued_work = λ b q. refl; pending_work = λ b q p. refl; failed = λ p b. refl; content = λ g q p old. refl; column = λ k. lost_or_same k (ltb 0 k.outputs) }
+left_by_quiet Deselected h = record { busy = λ b. refl; closer = λ c. refl; array_busy = λ b c d. refl; array_page = λ p. refl; register = λ p r. refl; queue = λ q. refl; queued_work = λ b q. refl; pending_work = λ b q p. refl; failed = λ p b. refl; content = λ g q p old. refl; column = λ k. inl refl }
+left_by_quiet _ h = cc
+
+-- a quiet item keeps the LUN
+pub keeps_quiet : (g : Parts) (past : List Item) (i : Item) (l : Lun) → is_quiet (effect_on g past i l) ≡ true → KeepsLun g past i l
+keeps_quiet g past i l h =
+    let left : LeftBy (effect_on g past i l) = left_by_quiet (effect_on g past i l) h in
+    record {
+      busy = left.busy _;
+      closer = left.closer _;
+      array_busy = left.array_busy _ _ _;
+      array_page = left.array_page _;
+      register = left.register _ _;
+      queue = left.queue _;
+      queued_work = left.queued_work _ _;
+      pending_work = left.pending_work _ _ _;
+      failed = left.failed _ _;
+      content = λ opening p. left.content g _ _ _;
+      column = left.column _;
+    }

@@ -1,0 +1,155 @@
+-- The commands of the profile: their bytes, and what each asks of its sequence.
+use Rattle.std.specs.Prelude.{◌≡◌, ◌≢◌, ℕ, ◌==◌, Bool, true, false, ◌||◌, if◌then◌else◌, Option, Some, None}
+use Rattle.onfi_cycle.specs.declared.Command.{Command}
+use Rattle.onfi_cycle.specs.declared.Command.TheVariants.{Read, ReadConfirm, ChangeReadColumn, ChangeReadColumnConfirm, BlockErase, BlockEraseConfirm, BlockErasePlane, ReadStatus, ReadStatusEnhanced, PageProgram, ChangeWriteColumn, ProgramConfirm, ProgramPlane, ReadId, ReadParameterPage, Reset, ReadCacheSequential, ReadCacheEnd, Unknown}
+
+-- the command of a byte
+unfoldable pub command : ℕ → Command
+command byte =
+    if byte == 0x00 then Read
+    else (if byte == 0x30 then ReadConfirm
+    else (if byte == 0x05 then ChangeReadColumn
+    else (if byte == 0xe0 then ChangeReadColumnConfirm
+    else (if byte == 0x60 then BlockErase
+    else (if byte == 0xd0 then BlockEraseConfirm
+    else (if byte == 0xd1 then BlockErasePlane
+    else (if byte == 0x70 then ReadStatus
+    else (if byte == 0x78 then ReadStatusEnhanced
+    else (if byte == 0x80 then PageProgram
+    else (if byte == 0x85 then ChangeWriteColumn
+    else (if byte == 0x10 then ProgramConfirm
+    else (if byte == 0x11 then ProgramPlane
+    else (if byte == 0x90 then ReadId
+    else (if byte == 0xec then ReadParameterPage
+    else (if byte == 0xff then Reset
+    else (if byte == 0x31 then ReadCacheSequential
+    else (if byte == 0x3f then ReadCacheEnd
+    else Unknown)))))))))))))))))
+
+-- the byte of a command
+abbrev pub opcode : Command → Option ℕ
+opcode Read = Some 0x00
+opcode ReadConfirm = Some 0x30
+opcode ChangeReadColumn = Some 0x05
+opcode ChangeReadColumnConfirm = Some 0xe0
+opcode BlockErase = Some 0x60
+opcode BlockEraseConfirm = Some 0xd0
+opcode BlockErasePlane = Some 0xd1
+opcode ReadStatus = Some 0x70
+opcode ReadStatusEnhanced = Some 0x78
+opcode PageProgram = Some 0x80
+opcode ChangeWriteColumn = Some 0x85
+opcode ProgramConfirm = Some 0x10
+opcode ProgramPlane = Some 0x11
+opcode ReadId = Some 0x90
+opcode ReadParameterPage = Some 0xec
+opcode Reset = Some 0xff
+opcode ReadCacheSequential = Some 0x31
+opcode ReadCacheEnd = Some 0x3f
+opcode Unknown = None
+
+-- each command but Unknown has one byte, and each byte that isn't Unknown is that of its command
+pub record CommandsHaveBytes : Type 0 where
+  pub command_of_byte : (c : Command) (byte : ℕ) → opcode c ≡ Some byte → command byte ≡ c
+  pub byte_of_command : (byte : ℕ) → command byte ≢ Unknown → opcode (command byte) ≡ Some byte
+
+-- the commands that the bus takes today: the product grows by this list alone
+abbrev pub is_known : Command → Bool
+is_known BlockErase = true
+is_known BlockEraseConfirm = true
+is_known ReadStatus = true
+is_known ReadStatusEnhanced = true
+is_known _ = false
+
+-- the commands that begin a sequence
+abbrev pub is_opener : Command → Bool
+is_opener ReadConfirm = false
+is_opener ChangeReadColumnConfirm = false
+is_opener BlockEraseConfirm = false
+is_opener BlockErasePlane = false
+is_opener ChangeWriteColumn = false
+is_opener ProgramConfirm = false
+is_opener ProgramPlane = false
+is_opener Unknown = false
+is_opener _ = true
+
+-- how many address cycles follow an opener
+abbrev pub address_cycles : Command → ℕ
+address_cycles Read = 5
+address_cycles ChangeReadColumn = 2
+address_cycles BlockErase = 3
+address_cycles ReadStatusEnhanced = 3
+address_cycles PageProgram = 5
+address_cycles ReadId = 1
+address_cycles ReadParameterPage = 1
+address_cycles _ = 0
+
+-- the opener's sequence goes on after its addresses
+abbrev pub wants_closer : Command → Bool
+wants_closer Read = true
+wants_closer ChangeReadColumn = true
+wants_closer BlockErase = true
+wants_closer PageProgram = true
+wants_closer _ = false
+
+-- the second command closes what the first opened, straight after its addresses
+abbrev pub closes : Command → Command → Bool
+closes Read ReadConfirm = true
+closes ChangeReadColumn ChangeReadColumnConfirm = true
+closes BlockErase BlockEraseConfirm = true
+closes BlockErase BlockErasePlane = true
+closes _ _ = false
+
+-- the one address byte of Read ID, and that of Read Parameter Page
+abbrev pub takes_address : Command → ℕ → Bool
+takes_address ReadId byte = byte == 0x20
+takes_address ReadParameterPage byte = byte == 0x00
+takes_address _ byte = true
+
+-- after this many address cycles the next one is the last of a row
+abbrev pub at_last_row : Command → ℕ → Bool
+at_last_row Read n = n == 4
+at_last_row BlockErase n = n == 2
+at_last_row ReadStatusEnhanced n = n == 2
+at_last_row PageProgram n = n == 4
+at_last_row _ n = false
+
+abbrev pub is_change_read_column : Command → Bool
+is_change_read_column ChangeReadColumn = true
+is_change_read_column _ = false
+
+abbrev pub is_page_program : Command → Bool
+is_page_program PageProgram = true
+is_page_program _ = false
+
+-- the openers whose row is of the array
+abbrev pub addresses_the_array : Command → Bool
+addresses_the_array Read = true
+addresses_the_array BlockErase = true
+addresses_the_array PageProgram = true
+addresses_the_array _ = false
+
+-- the openers whose column is of a page
+abbrev pub addresses_a_page : Command → Bool
+addresses_a_page Read = true
+addresses_a_page PageProgram = true
+addresses_a_page _ = false
+
+-- the openers that read what stands beside the array
+abbrev pub reads_identity : Command → Bool
+reads_identity ReadId = true
+reads_identity ReadParameterPage = true
+reads_identity _ = false
+
+-- the openers that want a ready LUN on their target
+abbrev pub wants_ready : Command → Bool
+wants_ready ChangeReadColumn = true
+wants_ready c = addresses_the_array c || reads_identity c
+
+-- the openers that work on a target with one LUN alone
+abbrev pub wants_one_lun : Command → Bool
+wants_one_lun ReadStatus = true
+wants_one_lun ReadId = true
+wants_one_lun ReadParameterPage = true
+wants_one_lun Reset = true
+wants_one_lun _ = false

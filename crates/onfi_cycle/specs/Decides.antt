@@ -1,0 +1,308 @@
+-- What decides each fact of a LUN, in the words of the trace: the newest item that says something of it.
+use Rattle.std.specs.Prelude.{◌≡◌, ℕ, ◌+◌, ◌<◌, ◌==◌, Bool, true, false, ◌||◌, ◌&&◌, nat_lt, if◌then◌else◌, List, [], ◌∷◌, Option, Some, None, unwrap_or}
+use Rattle.nand_geometry.specs.declared.Parts.{Parts}
+use Rattle.onfi_cycle.specs.declared.Command.{Command}
+use Rattle.onfi_cycle.specs.declared.Command.TheVariants.{Read, ReadConfirm, ChangeReadColumnConfirm, BlockEraseConfirm, BlockErasePlane, ReadStatus, ReadStatusEnhanced, ProgramConfirm, ProgramPlane, ReadId, ReadParameterPage, Reset, ReadCacheSequential, ReadCacheEnd}
+use Rattle.onfi_cycle.specs.declared.Lun.{Lun}
+use Rattle.onfi_cycle.specs.declared.Latch.{Latch}
+use Rattle.onfi_cycle.specs.declared.Latch.TheVariants.{Off, Status, Data}
+use Rattle.onfi_cycle.specs.declared.Item.{Item}
+use Rattle.onfi_cycle.specs.declared.Item.TheVariants.{Cyc, Rdy, Ard}
+use Rattle.onfi_cycle.specs.declared.Opening.{Opening}
+use Rattle.onfi_cycle.specs.declared.TargetCycle.{TargetCycle}
+use Rattle.onfi_cycle.specs.declared.TargetCycle.TheVariants.{CommandCycle, AddressCycle, InputCycle, OutputCycle}
+use Rattle.onfi_cycle.specs.declared.PageAddress.{PageAddress}
+use Rattle.onfi_cycle.specs.declared.Queued.{Queued}
+use Rattle.onfi_cycle.specs.declared.Queued.TheVariants.{Erase, Program}
+use Rattle.onfi_cycle.specs.declared.Register.{Register}
+use Rattle.onfi_cycle.specs.declared.Register.TheVariants.{Empty, Page, ParameterPage, Identifier}
+use Rattle.onfi_cycle.specs.declared.TailFacts.{TailFacts}
+use Rattle.onfi_cycle.specs.Sequence.{target_cycle, tail, facts_of, row, row_with, wants_command, wants_address}
+use Rattle.onfi_cycle.specs.Effect.{is_data, page_address, names_lun}
+use Rattle.onfi_cycle.specs.Lun.{latch, drivers, is_only, is_busy, is_caching, closer, is_array_busy, array_page, register, read_column, queue}
+use Rattle.onfi_cycle.specs.Permitted.{is_legal}
+
+-- 1. the newest item that decides, and what stands since
+
+-- what an item decides, and else what was decided before it
+abbrev pub or_before : {A : Type 0} → Option A → Option A → Option A
+or_before (Some decided) before = Some decided
+or_before None before = before
+
+-- what the newest item decides that decides something; each item is asked together with the past before it
+abbrev pub last_decided : {A : Type 0} → (List Item → Item → Option A) → List Item → Option A
+last_decided decides [] = None
+last_decided decides (i ∷ past) = or_before (decides past i) (last_decided decides past)
+
+-- how many items count that stand after the newest one that begins anew
+abbrev pub count_since : (begins counts : List Item → Item → Bool) → List Item → ℕ
+count_since begins counts [] = 0
+count_since begins counts (i ∷ past) =
+    if begins past i then 0 else (if counts past i then count_since begins counts past + 1 else count_since begins counts past)
+
+-- some item counts that stands after the newest one that begins anew
+abbrev pub some_since : (begins counts : List Item → Item → Bool) → List Item → Bool
+some_since begins counts [] = false
+some_since begins counts (i ∷ past) = if begins past i then false else (some_since begins counts past || counts past i)
+
+abbrev pub with_some : {A : Type 0} → Option A → List A → List A
+with_some None rest = rest
+with_some (Some x) rest = x ∷ rest
+
+-- what the items give that stand after the newest one that begins anew, the newest first
+abbrev pub all_since : {A : Type 0} → (List Item → Item → Bool) → (List Item → Item → Option A) → List Item → List A
+all_since begins gives [] = []
+all_since begins gives (i ∷ past) = if begins past i then [] else with_some (gives past i) (all_since begins gives past)
+
+-- 2. what an item is to a LUN
+
+-- the facts of the tail of the LUN's target
+abbrev pub tail_of : List Item → Lun → TailFacts
+tail_of past l = facts_of (tail past l.ce)
+
+-- the LUN is the one driver of its target
+abbrev pub drives_alone : Parts → List Item → Lun → Bool
+drives_alone g past l = is_only (drivers g past l.ce) l.lun
+
+-- the closers of a row: the tail wants them, and its row names their LUN
+abbrev pub row_closer : Bool → Command → Option Command
+row_closer named ReadConfirm = if named then Some ReadConfirm else None
+row_closer named BlockEraseConfirm = if named then Some BlockEraseConfirm else None
+row_closer named BlockErasePlane = if named then Some BlockErasePlane else None
+row_closer named ProgramConfirm = if named then Some ProgramConfirm else None
+row_closer named ProgramPlane = if named then Some ProgramPlane else None
+row_closer named _ = None
+
+-- a command that closes something on the LUN: a closer of a row that names it, Reset, and the cache reads of the one driver
+abbrev pub closing_command : Parts → List Item → Lun → Command → Option Command
+closing_command g past l Reset = Some Reset
+closing_command g past l ReadCacheSequential = if drives_alone g past l then Some ReadCacheSequential else None
+closing_command g past l ReadCacheEnd = if drives_alone g past l then Some ReadCacheEnd else None
+closing_command g past l c = row_closer (wants_command (tail_of past l) c && names_lun g (row (tail_of past l)) l.lun) c
+
+-- the address of Read ID, and that of Read Parameter Page, close these
+abbrev pub identity_closer : Bool → Command → Option Command
+identity_closer wanted ReadId = if wanted then Some ReadId else None
+identity_closer wanted ReadParameterPage = if wanted then Some ReadParameterPage else None
+identity_closer wanted _ = None
+
+abbrev pub closing_address : TailFacts → ℕ → Option Opening → Option Command
+closing_address t byte None = None
+closing_address t byte (Some o) = identity_closer (wants_address t byte) o.opener
+
+abbrev pub closing_cycle : Parts → List Item → Lun → TargetCycle → Option Command
+closing_cycle g past l (CommandCycle c) = closing_command g past l c
+closing_cycle g past l (AddressCycle byte) = closing_address (tail_of past l) byte (tail_of past l).opening
+closing_cycle g past l (InputCycle byte) = None
+closing_cycle g past l OutputCycle = None
+
+-- the command that closes something on the LUN, if the item does
+abbrev pub closing : Parts → Lun → List Item → Item → Option Command
+closing g l past (Cyc c) = if c.ce == l.ce then closing_cycle g past l (target_cycle c.kind c.byte) else None
+closing g l past (Rdy ce lun fail) = None
+closing g l past (Ard ce lun) = None
+
+-- the item makes the LUN ready, or its array
+abbrev pub readies : Lun → Item → Bool
+readies l (Cyc c) = false
+readies l (Rdy ce lun fail) = ce == l.ce && lun == l.lun
+readies l (Ard ce lun) = false
+
+abbrev pub readies_array : Lun → Item → Bool
+readies_array l (Cyc c) = false
+readies_array l (Rdy ce lun fail) = false
+readies_array l (Ard ce lun) = ce == l.ce && lun == l.lun
+
+-- a cycle on the LUN's target that passes
+abbrev pub is_cycle_of : (TargetCycle → Bool) → Lun → Item → Bool
+is_cycle_of test l (Cyc c) = c.ce == l.ce && test (target_cycle c.kind c.byte)
+is_cycle_of test l (Rdy ce lun fail) = false
+is_cycle_of test l (Ard ce lun) = false
+
+abbrev pub is_output : TargetCycle → Bool
+is_output OutputCycle = true
+is_output _ = false
+
+abbrev pub is_status_command : TargetCycle → Bool
+is_status_command (CommandCycle ReadStatus) = true
+is_status_command (CommandCycle ReadStatusEnhanced) = true
+is_status_command _ = false
+
+abbrev pub is_column_confirm : TargetCycle → Bool
+is_column_confirm (CommandCycle ChangeReadColumnConfirm) = true
+is_column_confirm _ = false
+
+-- 3. busy
+
+abbrev pub starts_work : Command → Option Bool
+starts_work ReadId = None
+starts_work c = Some true
+
+abbrev pub work_of : Option Command → Option Bool
+work_of None = None
+work_of (Some c) = starts_work c
+
+-- each closer but Read ID makes the LUN busy, and a ready ends that
+abbrev pub busy_decided : Parts → Lun → List Item → Item → Option Bool
+busy_decided g l past i = if readies l i then Some false else work_of (closing g l past i)
+
+abbrev pub ends_array_work : Option Command → Option Bool
+ends_array_work None = None
+ends_array_work (Some c) = Some false
+
+-- the ready of a Read Cache Sequential leaves the array busy; its own ready ends that, and so does each closer
+abbrev pub array_busy_decided : Parts → Lun → List Item → Item → Option Bool
+array_busy_decided g l past i =
+    if readies_array l i then Some false
+    else (if readies l i then (if is_busy g past l && is_caching g past l then Some true else None)
+    else ends_array_work (closing g l past i))
+
+-- 4. the register and the page of the array
+
+abbrev pub reads_page : Option Command → Bool
+reads_page (Some ReadConfirm) = true
+reads_page _ = false
+
+abbrev pub reads_on : Option Command → Bool
+reads_on (Some ReadCacheSequential) = true
+reads_on _ = false
+
+-- the page of the last Read
+abbrev pub page_read : Parts → Lun → List Item → Item → Option PageAddress
+page_read g l past i = if reads_page (closing g l past i) then Some (page_address g (row (tail_of past l))) else None
+
+-- so many pages on in its block
+abbrev pub pages_on : PageAddress → ℕ → PageAddress
+pages_on p k = record { block = p.block; page = p.page + k }
+
+abbrev pub first_page : PageAddress
+first_page = record { block = 0; page = 0 }
+
+-- the page of the last Read, and one more for each Read Cache Sequential since
+abbrev pub page_of_array : Parts → Lun → List Item → PageAddress
+page_of_array g l past =
+    pages_on (unwrap_or (last_decided (page_read g l) past) first_page)
+    (count_since (λ past i. reads_page (closing g l past i)) (λ past i. reads_on (closing g l past i)) past)
+
+-- what a closer leaves in the register: a page, the parameter page, the identifier or nothing
+abbrev pub register_of : Parts → List Item → Lun → Option Command → Option Register
+register_of g past l None = None
+register_of g past l (Some ReadConfirm) = Some (Page (page_address g (row (tail_of past l))))
+register_of g past l (Some ReadParameterPage) = Some ParameterPage
+register_of g past l (Some ReadId) = Some Identifier
+register_of g past l (Some ReadCacheSequential) = Some (Page (array_page g past l))
+register_of g past l (Some ReadCacheEnd) = Some (Page (array_page g past l))
+register_of g past l (Some c) = Some Empty
+
+abbrev pub register_decided : Parts → Lun → List Item → Item → Option Register
+register_decided g l past i = register_of g past l (closing g l past i)
+
+-- 5. the read column
+
+-- the one driver changes its column by a Change Read Column that the tail wants to confirm
+abbrev pub changes_column : Parts → Lun → List Item → Item → Bool
+changes_column g l past i =
+    is_cycle_of is_column_confirm l i && (wants_command (tail_of past l) ChangeReadColumnConfirm && drives_alone g past l)
+
+abbrev pub column_of : List Item → Lun → Option Command → Option ℕ
+column_of past l None = None
+column_of past l (Some ReadConfirm) = Some (tail_of past l).column
+column_of past l (Some ReadParameterPage) = Some 0
+column_of past l (Some ReadId) = Some 0
+column_of past l (Some ReadCacheSequential) = Some 0
+column_of past l (Some ReadCacheEnd) = Some 0
+column_of past l (Some c) = None
+
+-- the column that an item gives: by a Read, by a Change Read Column, or 0
+abbrev pub column_decided : Parts → Lun → List Item → Item → Option ℕ
+column_decided g l past i = if changes_column g l past i then Some (tail_of past l).column else column_of past l (closing g l past i)
+
+abbrev pub is_given : Option ℕ → Bool
+is_given None = false
+is_given (Some k) = true
+
+abbrev pub gives_column : Parts → Lun → List Item → Item → Bool
+gives_column g l past i = is_given (column_decided g l past i)
+
+-- an output of the one driver, which shows data
+abbrev pub outputs_data : Parts → Lun → List Item → Item → Bool
+outputs_data g l past i = is_cycle_of is_output l i && (drives_alone g past l && is_data (latch g past l))
+
+abbrev pub outputs_since : Parts → Lun → List Item → ℕ
+outputs_since g l past = count_since (gives_column g l) (outputs_data g l) past
+
+-- a status command behind a data output, both since the column was last given
+abbrev pub loses_column : Parts → Lun → List Item → Item → Bool
+loses_column g l past i = is_cycle_of is_status_command l i && nat_lt 0 (outputs_since g l past)
+
+-- 6. the queue
+
+abbrev pub is_queueing : Option Command → Bool
+is_queueing (Some BlockErasePlane) = true
+is_queueing (Some ProgramPlane) = true
+is_queueing _ = false
+
+abbrev pub empties_queue : Option Command → Bool
+empties_queue (Some BlockEraseConfirm) = true
+empties_queue (Some ProgramConfirm) = true
+empties_queue (Some Reset) = true
+empties_queue _ = false
+
+abbrev pub queued_row : PageAddress → Option Command → Option Queued
+queued_row p (Some BlockErasePlane) = Some (Erase p)
+queued_row p (Some ProgramPlane) = Some (Program p)
+queued_row p _ = None
+
+-- 7. the latch
+
+abbrev pub closed_latch : Option Command → Option Latch
+closed_latch None = None
+closed_latch (Some Reset) = Some Off
+closed_latch (Some ReadConfirm) = Some Data
+closed_latch (Some ReadParameterPage) = Some Data
+closed_latch (Some ReadId) = Some Data
+closed_latch (Some ReadCacheSequential) = Some Data
+closed_latch (Some ReadCacheEnd) = Some Data
+closed_latch (Some c) = None
+
+-- a Read turns a LUN that shows status to data
+abbrev pub read_latch : Latch → Option Latch
+read_latch Status = Some Data
+read_latch _ = None
+
+-- the last row cycle of a Read Status Enhanced selects the LUN that it names, and the others not
+abbrev pub selected_latch : Bool → Option Latch
+selected_latch named = if named then Some Status else Some Off
+
+abbrev pub third_of_status : Command → ℕ → Bool → Option Latch
+third_of_status ReadStatusEnhanced n named = if n == 2 then selected_latch named else None
+third_of_status _ n named = None
+
+abbrev pub selecting_latch : Parts → List Item → Lun → ℕ → Option Opening → Option Latch
+selecting_latch g past l byte None = None
+selecting_latch g past l byte (Some o) = third_of_status o.opener o.addresses (names_lun g (row_with (tail_of past l) byte) l.lun)
+
+abbrev pub latch_cycle : Parts → List Item → Lun → TargetCycle → Option Latch
+latch_cycle g past l (CommandCycle ReadStatus) = Some Status
+latch_cycle g past l (CommandCycle Read) = read_latch (latch g past l)
+latch_cycle g past l (CommandCycle c) = closed_latch (closing_command g past l c)
+latch_cycle g past l (AddressCycle byte) =
+    or_before (selecting_latch g past l byte (tail_of past l).opening) (closed_latch (closing_address (tail_of past l) byte (tail_of past l).opening))
+latch_cycle g past l (InputCycle byte) = None
+latch_cycle g past l OutputCycle = None
+
+abbrev pub latch_decided : Parts → Lun → List Item → Item → Option Latch
+latch_decided g l past (Cyc c) = if c.ce == l.ce then latch_cycle g past l (target_cycle c.kind c.byte) else None
+latch_decided g l past (Rdy ce lun fail) = None
+latch_decided g l past (Ard ce lun) = None
+
+-- 8. each fact of a LUN is what the newest item says that says something of it
+pub record FactsAreDecided : Type 0 where
+  pub busy : (g : Parts) (past : List Item) (l : Lun) → is_busy g past l ≡ unwrap_or (last_decided (busy_decided g l) past) false
+  pub closer : (g : Parts) (past : List Item) (l : Lun) → closer g past l ≡ last_decided (closing g l) past
+  pub array_busy : (g : Parts) (past : List Item) (l : Lun) → is_array_busy g past l ≡ unwrap_or (last_decided (array_busy_decided g l) past) false
+  pub array_page : (g : Parts) (past : List Item) (l : Lun) → array_page g past l ≡ page_of_array g l past
+  pub register : (g : Parts) (past : List Item) (l : Lun) → register g past l ≡ unwrap_or (last_decided (register_decided g l) past) Empty
+  pub column : (g : Parts) (past : List Item) (l : Lun) → read_column g past l ≡ record { given = last_decided (column_decided g l) past; outputs = outputs_since g l past; lost = some_since (gives_column g l) (loses_column g l) past }
+  pub queue : (g : Parts) (past : List Item) (l : Lun) → queue g past l ≡ all_since (λ past i. empties_queue (closing g l past i)) (λ past i. queued_row (page_address g (row (tail_of past l))) (closing g l past i)) past
+  pub latch : (g : Parts) (targets : ℕ) (past : List Item) (l : Lun) → is_legal g targets past ≡ true → l.lun < g.luns → latch g past l ≡ unwrap_or (last_decided (latch_decided g l) past) Off

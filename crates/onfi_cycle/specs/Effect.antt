@@ -1,0 +1,90 @@
+-- What an item does to a LUN.
+use Rattle.std.specs.Prelude.{ℕ, ◌==◌, Bool, true, false, ◌&&◌, not, if◌then◌else◌, List, Option, Some, None, ◌<◌, ◌^◌}
+use Rattle.nand_geometry.specs.declared.Parts.{Parts}
+use Rattle.nand_geometry.specs.Row.{parts_of}
+use Rattle.onfi_cycle.specs.declared.Command.{Command}
+use Rattle.onfi_cycle.specs.declared.Command.TheVariants.{Read, ProgramConfirm, ProgramPlane, ReadConfirm, ReadCacheSequential, ReadCacheEnd, ReadStatus, ReadStatusEnhanced, ReadId, BlockEraseConfirm, BlockErasePlane, ChangeReadColumnConfirm, ReadParameterPage, Reset}
+use Rattle.onfi_cycle.specs.declared.Lun.{Lun}
+use Rattle.onfi_cycle.specs.declared.Latch.{Latch}
+use Rattle.onfi_cycle.specs.declared.Latch.TheVariants.{Off, Status, Data}
+use Rattle.onfi_cycle.specs.declared.Item.{Item}
+use Rattle.onfi_cycle.specs.declared.Item.TheVariants.{Cyc, Rdy, Ard}
+use Rattle.onfi_cycle.specs.declared.TargetCycle.{TargetCycle}
+use Rattle.onfi_cycle.specs.declared.TargetCycle.TheVariants.{CommandCycle, AddressCycle, InputCycle, OutputCycle}
+use Rattle.onfi_cycle.specs.declared.PageAddress.{PageAddress}
+use Rattle.onfi_cycle.specs.declared.Effect.{Effect}
+use Rattle.onfi_cycle.specs.declared.Effect.TheVariants.{Unaffected, DataOutputEnabled, StatusSelected, StatusRowAwaited, SelectedForStatus, Deselected, IdRead, ParameterPageReadStarted, CacheReadContinued, CacheReadEnded, DataOutput, ResetStarted, BecameReady, ArrayBecameReady, ReadStarted, EraseStarted, ProgramStarted, ReadColumnChanged}
+use Rattle.onfi_cycle.specs.declared.Opening.{Opening}
+use Rattle.onfi_cycle.specs.declared.TailFacts.{TailFacts}
+use Rattle.onfi_cycle.specs.Sequence.{target_cycle, tail, facts_of, wants_command, wants_address, row, row_with}
+
+abbrev pub is_off : Latch → Bool
+is_off Off = true
+is_off Status = false
+is_off Data = false
+
+abbrev pub is_data : Latch → Bool
+is_data Off = false
+is_data Status = false
+is_data Data = true
+
+-- the block and page of a row
+abbrev pub page_address : Parts → ℕ → PageAddress
+page_address g row = let at = parts_of g row in record { block = at.block; page = at.page }
+
+-- what the closer of a row does to the LUN that its tail names
+abbrev pub confirm_effect : Parts → TailFacts → Command → Effect
+confirm_effect g t ReadConfirm = ReadStarted (page_address g (row t)) t.column
+confirm_effect g t BlockEraseConfirm = EraseStarted false (page_address g (row t))
+confirm_effect g t BlockErasePlane = EraseStarted true (page_address g (row t))
+confirm_effect g t ProgramConfirm = ProgramStarted false (page_address g (row t))
+confirm_effect g t ProgramPlane = ProgramStarted true (page_address g (row t))
+confirm_effect g t _ = Unaffected
+
+-- a row names this LUN
+abbrev pub names_lun : Parts → ℕ → ℕ → Bool
+names_lun g row lun = (parts_of g row).lun == lun
+
+-- what a command does to a LUN; latch_alone is its latch if it is the one driver of its target, and else Off
+abbrev pub command_effect : Parts → TailFacts → Latch → Command → ℕ → Effect
+command_effect g t latch_alone Read lun = DataOutputEnabled
+command_effect g t latch_alone ReadStatus lun = StatusSelected
+command_effect g t latch_alone ReadStatusEnhanced lun = StatusRowAwaited
+command_effect g t latch_alone Reset lun = ResetStarted
+command_effect g t latch_alone ReadCacheSequential lun = if is_off latch_alone then Unaffected else CacheReadContinued
+command_effect g t latch_alone ReadCacheEnd lun = if is_off latch_alone then Unaffected else CacheReadEnded
+command_effect g t latch_alone ChangeReadColumnConfirm lun = if wants_command t ChangeReadColumnConfirm && not (is_off latch_alone) then ReadColumnChanged t.column else Unaffected
+command_effect g t latch_alone c lun = if wants_command t c && names_lun g (row t) lun then confirm_effect g t c else Unaffected
+
+-- what an address does that comes after this opener and so many others
+abbrev pub address_effect : Parts → TailFacts → ℕ → Command → ℕ → ℕ → Effect
+address_effect g t byte ReadStatusEnhanced n lun = if n == 2 then (if names_lun g (row_with t byte) lun then SelectedForStatus else Deselected) else Unaffected
+address_effect g t byte ReadId n lun = if wants_address t byte then IdRead else Unaffected
+address_effect g t byte ReadParameterPage n lun = if wants_address t byte then ParameterPageReadStarted else Unaffected
+address_effect g t byte _ n lun = Unaffected
+
+abbrev pub opening_address_effect : Parts → TailFacts → ℕ → Option Opening → ℕ → Effect
+opening_address_effect g t byte None lun = Unaffected
+opening_address_effect g t byte (Some o) lun = address_effect g t byte o.opener o.addresses lun
+
+-- what a cycle does to a LUN of its target, after this tail
+abbrev pub cycle_effect : Parts → TailFacts → Latch → TargetCycle → ℕ → Effect
+cycle_effect g t latch_alone (CommandCycle c) lun = command_effect g t latch_alone c lun
+cycle_effect g t latch_alone (AddressCycle byte) lun = opening_address_effect g t byte t.opening lun
+cycle_effect g t latch_alone (InputCycle byte) lun = Unaffected
+cycle_effect g t latch_alone OutputCycle lun = if is_data latch_alone then DataOutput else Unaffected
+
+-- what an item does to a LUN, by the facts of its target's tail
+abbrev pub item_effect : Parts → TailFacts → Latch → Item → Lun → Effect
+item_effect g t latch_alone (Cyc c) l = if c.ce == l.ce then cycle_effect g t latch_alone (target_cycle c.kind c.byte) l.lun else Unaffected
+item_effect g t latch_alone (Rdy ce lun fail) l = if ce == l.ce && lun == l.lun then BecameReady fail else Unaffected
+item_effect g t latch_alone (Ard ce lun) l = if ce == l.ce && lun == l.lun then ArrayBecameReady else Unaffected
+
+-- what an item does to a LUN after this past
+abbrev pub effect_given : Parts → List Item → Latch → Item → Lun → Effect
+effect_given g past latch_alone i l = item_effect g (facts_of (tail past l.ce)) latch_alone i l
+
+-- the page of a started read, for numbers of fixed width
+abbrev pub IsSmallEffect : Effect → Type 0
+IsSmallEffect (ReadStarted page column) = page.page < 2 ^ 32
+IsSmallEffect _ = Unit {0}

@@ -1,0 +1,14 @@
+pub mod Command
+pub mod Sequence
+pub mod Table
+pub mod Naming
+pub mod LunView
+pub mod Effect
+pub mod Lun
+pub mod Content
+pub mod Rules
+pub mod Permitted
+pub mod OtherLun
+pub mod Decides
+pub mod Channel
+pub mod Steps

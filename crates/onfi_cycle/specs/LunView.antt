@@ -1,0 +1,18 @@
+-- What the rules see of a LUN.
+use Rattle.std.specs.Prelude.{Bool, Option, List}
+use Rattle.onfi_cycle.specs.declared.Command.{Command}
+use Rattle.onfi_cycle.specs.declared.Latch.{Latch}
+use Rattle.onfi_cycle.specs.declared.PageAddress.{PageAddress}
+use Rattle.onfi_cycle.specs.declared.Register.{Register}
+use Rattle.onfi_cycle.specs.declared.ReadColumn.{ReadColumn}
+use Rattle.onfi_cycle.specs.declared.Queued.{Queued}
+
+pub record LunView : Type 0 where
+  pub latch : Latch
+  pub busy : Bool
+  pub closer : Option Command
+  pub array_busy : Bool
+  pub array_page : PageAddress
+  pub register : Register
+  pub column : ReadColumn
+  pub queue : List Queued

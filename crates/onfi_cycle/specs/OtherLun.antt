@@ -1,0 +1,84 @@
+-- What the work of one LUN leaves of the other LUNs.
+use Rattle.std.specs.Prelude.{◌≡◌, ◌≢◌, ◌⊎◌, ℕ, ◌<◌, ◌==◌, Bool, true, false, ◌&&◌, if◌then◌else◌, List, ◌∷◌, None}
+use Rattle.nand_geometry.specs.declared.Parts.{Parts}
+use Rattle.onfi_cycle.specs.declared.Command.{Command}
+use Rattle.onfi_cycle.specs.declared.Command.TheVariants.{ProgramConfirm, ProgramPlane, ReadConfirm, ReadCacheSequential, ReadCacheEnd, BlockEraseConfirm, BlockErasePlane, ChangeReadColumnConfirm}
+use Rattle.onfi_cycle.specs.declared.Lun.{Lun}
+use Rattle.onfi_cycle.specs.declared.Item.{Item}
+use Rattle.onfi_cycle.specs.declared.Item.TheVariants.{Cyc, Rdy, Ard}
+use Rattle.onfi_cycle.specs.declared.TargetCycle.{TargetCycle}
+use Rattle.onfi_cycle.specs.declared.TargetCycle.TheVariants.{CommandCycle, AddressCycle, InputCycle, OutputCycle}
+use Rattle.onfi_cycle.specs.declared.PageAddress.{PageAddress}
+use Rattle.onfi_cycle.specs.declared.ReadColumn.{ReadColumn}
+use Rattle.onfi_cycle.specs.Sequence.{target_of, target_cycle, tail, facts_of, row, row_with}
+use Rattle.onfi_cycle.specs.Effect.{names_lun}
+use Rattle.onfi_cycle.specs.Lun.{latch, drivers, is_only, is_busy, closer, is_array_busy, array_page, register, read_column, queue}
+use Rattle.onfi_cycle.specs.Rules.{ends_row}
+use Rattle.onfi_cycle.specs.Permitted.{broken, is_legal}
+use Rattle.onfi_cycle.specs.Content.{queued_work, pending_work, has_failed, content}
+
+-- the closers that work on the row of their tail
+abbrev pub closes_row : Command → Bool
+closes_row ReadConfirm = true
+closes_row BlockEraseConfirm = true
+closes_row BlockErasePlane = true
+closes_row ProgramConfirm = true
+closes_row ProgramPlane = true
+closes_row _ = false
+
+-- the commands that work on the one driver
+abbrev pub needs_driver : Command → Bool
+needs_driver ChangeReadColumnConfirm = true
+needs_driver ReadCacheSequential = true
+needs_driver ReadCacheEnd = true
+needs_driver _ = false
+
+-- a cycle's row, if it completes one or closes its sequence, and its driver, if it needs one, are this LUN's
+abbrev pub keeps_to : Parts → List Item → Lun → TargetCycle → Bool
+keeps_to g past m (CommandCycle c) =
+    if closes_row c then names_lun g (row (facts_of (tail past m.ce))) m.lun
+    else (if needs_driver c then is_only (drivers g past m.ce) m.lun else true)
+keeps_to g past m (AddressCycle byte) =
+    if ends_row (λ c. true) (facts_of (tail past m.ce)) then names_lun g (row_with (facts_of (tail past m.ce)) byte) m.lun else true
+keeps_to g past m (InputCycle byte) = true
+keeps_to g past m OutputCycle = is_only (drivers g past m.ce) m.lun
+
+-- the item is one of this LUN
+abbrev pub is_of : Parts → List Item → Lun → Item → Bool
+is_of g past m (Cyc c) = c.ce == m.ce && keeps_to g past m (target_cycle c.kind c.byte)
+is_of g past m (Rdy ce lun fail) = ce == m.ce && lun == m.lun
+is_of g past m (Ard ce lun) = ce == m.ce && lun == m.lun
+
+-- the column is as it was, or is now lost
+abbrev pub IsSameOrLost : ReadColumn → ReadColumn → Type 0
+IsSameOrLost old new = (new ≡ old) ⊎ (new ≡ record old { lost = true })
+
+-- the item changes of this LUN its tail, its latch and its column alone, and the column only to lost
+pub record KeepsLun (g : Parts) (past : List Item) (i : Item) (l : Lun) : Type 0 where
+  pub busy : is_busy g (i ∷ past) l ≡ is_busy g past l
+  pub closer : closer g (i ∷ past) l ≡ closer g past l
+  pub array_busy : is_array_busy g (i ∷ past) l ≡ is_array_busy g past l
+  pub array_page : array_page g (i ∷ past) l ≡ array_page g past l
+  pub register : register g (i ∷ past) l ≡ register g past l
+  pub queue : queue g (i ∷ past) l ≡ queue g past l
+  pub queued_work : queued_work g (i ∷ past) l ≡ queued_work g past l
+  pub pending_work : pending_work g (i ∷ past) l ≡ pending_work g past l
+  pub failed : has_failed g (i ∷ past) l ≡ has_failed g past l
+  pub content : (opening : Lun → PageAddress → List ℕ) (p : PageAddress) → content g opening (i ∷ past) l p ≡ content g opening past l p
+  pub column : IsSameOrLost (read_column g past l) (read_column g (i ∷ past) l)
+
+-- an item of another LUN of the same target, permitted after a legal past, keeps this LUN
+abbrev pub OthersKeep : Type 0
+OthersKeep =
+    (g : Parts) (targets : ℕ) (past : List Item) (i : Item) (l m : Lun) → is_legal g targets past ≡ true → broken g targets past i ≡ None → is_of g past m i ≡ true → l.ce ≡ m.ce → l.lun ≢ m.lun → l.lun < g.luns → m.lun < g.luns → KeepsLun g past i l
+
+-- an item of another target changes nothing of this one
+pub record KeepsTarget (g : Parts) (past : List Item) (i : Item) (ce : ℕ) : Type 0 where
+  pub tail : tail (i ∷ past) ce ≡ tail past ce
+  pub latch : (lun : ℕ) → latch g (i ∷ past) (record { ce = ce; lun = lun }) ≡ latch g past (record { ce = ce; lun = lun })
+  pub column : (lun : ℕ) → read_column g (i ∷ past) (record { ce = ce; lun = lun }) ≡ read_column g past (record { ce = ce; lun = lun })
+  pub luns : (lun : ℕ) → KeepsLun g past i (record { ce = ce; lun = lun })
+
+abbrev pub TargetsKeep : Type 0
+TargetsKeep =
+    (g : Parts) (past : List Item) (i : Item) (ce : ℕ) → target_of i ≢ ce → KeepsTarget g past i ce

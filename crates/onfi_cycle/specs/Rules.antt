@@ -1,0 +1,243 @@
+-- The rules F1 to F15: what each forbids, by the facts of the tail and of the LUNs of one target.
+use Rattle.std.specs.Prelude.{ℕ, ◌+◌, ◌/◌, ◌%◌, ◌==◌, Bool, true, false, ◌||◌, ◌&&◌, not, nat_lt, nat_le, if◌then◌else◌, List, [], ◌∷◌, Option, Some, None, slice_get}
+use Rattle.nand_geometry.specs.declared.Parts.{Parts}
+use Rattle.nand_geometry.specs.Limits.{page_len, planes}
+use Rattle.nand_geometry.specs.Row.{parts_of, is_inside}
+use Rattle.onfi_cycle.specs.declared.Command.{Command}
+use Rattle.onfi_cycle.specs.declared.Command.TheVariants.{Read, ChangeReadColumn, BlockErase, BlockErasePlane, ReadStatusEnhanced, PageProgram, ProgramPlane, ReadCacheSequential, ReadCacheEnd}
+use Rattle.onfi_cycle.specs.declared.Item.{Item}
+use Rattle.onfi_cycle.specs.declared.Item.TheVariants.{Cyc, Rdy, Ard}
+use Rattle.onfi_cycle.specs.Command.{is_known, is_opener, at_last_row, is_change_read_column, addresses_the_array, addresses_a_page, reads_identity, wants_ready, wants_one_lun}
+use Rattle.onfi_cycle.specs.declared.TargetCycle.{TargetCycle}
+use Rattle.onfi_cycle.specs.declared.TargetCycle.TheVariants.{CommandCycle, AddressCycle, InputCycle, OutputCycle}
+use Rattle.onfi_cycle.specs.declared.PageAddress.{PageAddress}
+use Rattle.onfi_cycle.specs.declared.Queued.{Queued}
+use Rattle.onfi_cycle.specs.declared.Queued.TheVariants.{Erase, Program}
+use Rattle.onfi_cycle.specs.declared.Register.{Register}
+use Rattle.onfi_cycle.specs.declared.Register.TheVariants.{Empty, Page, ParameterPage, Identifier}
+use Rattle.onfi_cycle.specs.declared.Opening.{Opening}
+use Rattle.onfi_cycle.specs.declared.TailFacts.{TailFacts}
+use Rattle.onfi_cycle.specs.Sequence.{opened, takes_inputs, wants_second_column, wants_command, wants_address, is_open, row_with, column_with, input_column}
+use Rattle.onfi_cycle.specs.Effect.{is_off, is_data, page_address}
+use Rattle.onfi_cycle.specs.LunView.{LunView}
+use Rattle.onfi_cycle.specs.Lun.{is_cache_read, is_page_read, output_column}
+
+-- the LUNs of a target that aren't off
+abbrev pub driving : List LunView → List LunView
+driving [] = []
+driving (v ∷ vs) = if is_off v.latch then driving vs else v ∷ driving vs
+
+abbrev pub are_none : List LunView → Bool
+are_none [] = true
+are_none (v ∷ vs) = false
+
+-- the only member of a list
+abbrev pub only : List LunView → Option LunView
+only [] = None
+only (v ∷ vs) = if are_none vs then Some v else None
+
+-- the one LUN that isn't off
+abbrev pub driver : List LunView → Option LunView
+driver luns = only (driving luns)
+
+abbrev pub is_some_and : (LunView → Bool) → Option LunView → Bool
+is_some_and test None = false
+is_some_and test (Some v) = test v
+
+-- a test of the one driver; false where there is none, or more
+abbrev pub driver_is : (LunView → Bool) → List LunView → Bool
+driver_is test luns = is_some_and test (driver luns)
+
+-- some LUN passes
+abbrev pub some_lun_is : (LunView → Bool) → List LunView → Bool
+some_lun_is test [] = false
+some_lun_is test (v ∷ vs) = test v || some_lun_is test vs
+
+-- the LUN of this number is there and passes
+abbrev pub lun_is : (LunView → Bool) → List LunView → ℕ → Bool
+lun_is test luns n = is_some_and test (slice_get luns n)
+
+-- the LUN that a row names passes
+abbrev pub named_lun_is : Parts → ℕ → (LunView → Bool) → List LunView → Bool
+named_lun_is g row test luns = lun_is test luns (parts_of g row).lun
+
+-- this address is the last row cycle of the opener, if one of these
+abbrev pub ends_row : (Command → Bool) → TailFacts → Bool
+ends_row among t = opened (λ c n. among c && at_last_row c n) t.opening
+
+-- the command needs what the parameter page doesn't declare
+abbrev pub is_undeclared : Parts → Command → Bool
+is_undeclared g ReadStatusEnhanced = not g.enhanced
+is_undeclared g BlockErasePlane = not g.multi_plane
+is_undeclared g ProgramPlane = not g.multi_plane
+is_undeclared g ReadCacheSequential = not g.cache
+is_undeclared g ReadCacheEnd = not g.cache
+is_undeclared g _ = false
+
+-- how many bytes a register has
+abbrev pub register_len : Parts → Register → ℕ
+register_len g Empty = 0
+register_len g (Page p) = page_len g
+register_len g ParameterPage = 768
+register_len g Identifier = 4
+
+abbrev pub is_page_or_parameters : Register → Bool
+is_page_or_parameters (Page p) = true
+is_page_or_parameters ParameterPage = true
+is_page_or_parameters _ = false
+
+abbrev pub is_empty : Register → Bool
+is_empty Empty = true
+is_empty _ = false
+
+abbrev pub lacks : Option ℕ → Bool
+lacks None = true
+lacks (Some k) = false
+
+abbrev pub is_past : Option ℕ → ℕ → Bool
+is_past None len = false
+is_past (Some k) len = nat_le len k
+
+-- two pages of one queue don't go together: the same plane, another page or other block bits above the plane
+abbrev pub planes_clash : Parts → PageAddress → PageAddress → Bool
+planes_clash g p q =
+    p.block % planes g == q.block % planes g || not (p.page == q.page) || not (p.block / planes g == q.block / planes g)
+
+-- a queued row doesn't go together with an erase of this page, or with a program of it
+abbrev pub queued_clashes : Parts → (erase : Bool) → PageAddress → Queued → Bool
+queued_clashes g erase p (Erase q) = not erase || planes_clash g p q
+queued_clashes g erase p (Program q) = erase || planes_clash g p q
+
+abbrev pub some_queued_clashes : Parts → (erase : Bool) → PageAddress → List Queued → Bool
+some_queued_clashes g erase p [] = false
+some_queued_clashes g erase p (c ∷ cs) = queued_clashes g erase p c || some_queued_clashes g erase p cs
+
+abbrev pub has_some : List Queued → Bool
+has_some [] = false
+has_some (c ∷ cs) = true
+
+-- F1: the chip enable or LUN isn't there; a ready of a LUN that isn't busy, an array ready of one whose array isn't
+unfoldable pub breaks_F1 : ℕ → List LunView → Item → Bool
+breaks_F1 targets luns (Cyc c) = nat_le targets c.ce
+breaks_F1 targets luns (Rdy ce lun fail) = nat_le targets ce || not (lun_is (λ v. v.busy) luns lun)
+breaks_F1 targets luns (Ard ce lun) = nat_le targets ce || not (lun_is (λ v. v.array_busy) luns lun)
+
+-- F2: a byte that is no command, or one that needs what isn't declared
+unfoldable pub breaks_F2 : Parts → TargetCycle → Bool
+breaks_F2 g (CommandCycle c) = not (is_known c) || is_undeclared g c
+breaks_F2 g _ = false
+
+-- F3: an opener while a sequence is open
+unfoldable pub breaks_F3 : TailFacts → TargetCycle → Bool
+breaks_F3 t (CommandCycle c) = is_opener c && is_open t
+breaks_F3 t _ = false
+
+-- F4: 70, 90, EC or FF on a target with several LUNs
+unfoldable pub breaks_F4 : Parts → TargetCycle → Bool
+breaks_F4 g (CommandCycle c) = wants_one_lun c && nat_lt 1 g.luns
+breaks_F4 g _ = false
+
+-- the LUN shows data, isn't busy and has a page or the parameter page
+abbrev pub may_change_column : LunView → Bool
+may_change_column v = is_data v.latch && (not v.busy && is_page_or_parameters v.register)
+
+-- F5: 05 without one driver that shows data, isn't busy and has a page or the parameter page
+unfoldable pub breaks_F5 : List LunView → TargetCycle → Bool
+breaks_F5 luns (CommandCycle ChangeReadColumn) = not (driver_is may_change_column luns)
+breaks_F5 luns _ = false
+
+-- F6: a command that is no opener and that the tail doesn't want
+unfoldable pub breaks_F6 : TailFacts → TargetCycle → Bool
+breaks_F6 t (CommandCycle c) = not (is_opener c) && not (wants_command t c)
+breaks_F6 t _ = false
+
+-- F7: an address that the tail doesn't want
+unfoldable pub breaks_F7 : TailFacts → TargetCycle → Bool
+breaks_F7 t (AddressCycle byte) = not (wants_address t byte)
+breaks_F7 t _ = false
+
+-- F8: the last row cycle of a row outside the geometry
+unfoldable pub breaks_F8 : Parts → TailFacts → TargetCycle → Bool
+breaks_F8 g t (AddressCycle byte) = ends_row (λ c. true) t && not (is_inside g (parts_of g (row_with t byte)))
+breaks_F8 g t _ = false
+
+-- F9: an opener that wants a ready LUN where there is none; the last row cycle of 00, 60 or 80 names a busy LUN
+unfoldable pub breaks_F9 : Parts → TailFacts → List LunView → TargetCycle → Bool
+breaks_F9 g t luns (CommandCycle c) = wants_ready c && not (some_lun_is (λ v. not v.busy) luns)
+breaks_F9 g t luns (AddressCycle byte) = ends_row addresses_the_array t && named_lun_is g (row_with t byte) (λ v. v.busy) luns
+breaks_F9 g t luns _ = false
+
+-- a queue refuses the last row cycle of this opener, with this page
+abbrev pub refused_by : Parts → Command → PageAddress → List Queued → Bool
+refused_by g Read p q = has_some q
+refused_by g BlockErase p q = some_queued_clashes g true p q
+refused_by g PageProgram p q = some_queued_clashes g false p q
+refused_by g _ p q = false
+
+abbrev pub is_refused_by : Parts → Option Opening → PageAddress → List Queued → Bool
+is_refused_by g o p q = opened (λ c n. at_last_row c n && refused_by g c p q) o
+
+-- F10: 90, EC or the last row cycle of 00 on a LUN with a queue; the last row cycle of 60 or 80 that doesn't go together with it
+unfoldable pub breaks_F10 : Parts → TailFacts → List LunView → TargetCycle → Bool
+breaks_F10 g t luns (CommandCycle c) = reads_identity c && some_lun_is (λ v. has_some v.queue) luns
+breaks_F10 g t luns (AddressCycle byte) =
+    named_lun_is g (row_with t byte) (λ v. is_refused_by g t.opening (page_address g (row_with t byte)) v.queue) luns
+breaks_F10 g t luns _ = false
+
+-- F11: an input elsewhere than in a program with its last address whole
+unfoldable pub breaks_F11 : TailFacts → TargetCycle → Bool
+breaks_F11 t (InputCycle byte) = not (takes_inputs t.phase)
+breaks_F11 t _ = false
+
+-- F12: an output while a sequence is open, or with other than one driver
+unfoldable pub breaks_F12 : TailFacts → List LunView → TargetCycle → Bool
+breaks_F12 t luns OutputCycle = is_open t || not (driver_is (λ v. true) luns)
+breaks_F12 t luns _ = false
+
+-- the LUN shows data, and is busy, has no register or has lost its column
+abbrev pub has_no_byte : LunView → Bool
+has_no_byte v = is_data v.latch && (v.busy || is_empty v.register || lacks (output_column v.column))
+
+-- F13: an output of a LUN that shows data and is busy, has no register or has lost its column
+unfoldable pub breaks_F13 : List LunView → TargetCycle → Bool
+breaks_F13 luns OutputCycle = driver_is has_no_byte luns
+breaks_F13 luns _ = false
+
+-- the LUN shows data, and its column is past its register
+abbrev pub is_past_register : Parts → LunView → Bool
+is_past_register g v = is_data v.latch && is_past (output_column v.column) (register_len g v.register)
+
+-- this address is the second column cycle of the opener, if one of these
+abbrev pub second_column : (Command → Bool) → TailFacts → Bool
+second_column among t = opened (λ c n. among c && n == 1) t.opening
+
+-- this address is the second column cycle of 00, 80 or 85
+abbrev pub second_of_page : TailFacts → Bool
+second_of_page t = second_column addresses_a_page t || wants_second_column t.phase
+
+-- F14: a second column cycle of a column outside the page, or the register for 05; an input past the page; a data output past the register
+unfoldable pub breaks_F14 : Parts → TailFacts → List LunView → TargetCycle → Bool
+breaks_F14 g t luns (AddressCycle byte) =
+    (second_of_page t && nat_le (page_len g) (column_with t byte)) || (second_column is_change_read_column t && driver_is (λ v. nat_le (register_len g v.register) (column_with t byte)) luns)
+breaks_F14 g t luns (InputCycle byte) = nat_le (page_len g) (input_column t)
+breaks_F14 g t luns OutputCycle = driver_is (is_past_register g) luns
+breaks_F14 g t luns (CommandCycle c) = false
+
+-- a cache read goes on
+abbrev pub caching : LunView → Bool
+caching v = is_cache_read v.closer
+
+abbrev pub continues_cache : Parts → LunView → Bool
+continues_cache g v = not v.busy && (is_page_read v.closer && nat_lt (v.array_page.page + 1) g.pages)
+
+abbrev pub ends_cache : LunView → Bool
+ends_cache v = not v.busy && caching v
+
+-- F15: 31 or 3F without one driver that isn't busy; 31 after another closer than 30 or 31, or with no page left in the block;
+-- 3F without a cache read; the last row cycle of 00, 60 or 80, or 90 or EC, while one goes on
+unfoldable pub breaks_F15 : Parts → TailFacts → List LunView → TargetCycle → Bool
+breaks_F15 g t luns (CommandCycle ReadCacheSequential) = not (driver_is (continues_cache g) luns)
+breaks_F15 g t luns (CommandCycle ReadCacheEnd) = not (driver_is ends_cache luns)
+breaks_F15 g t luns (CommandCycle c) = reads_identity c && some_lun_is caching luns
+breaks_F15 g t luns (AddressCycle byte) = ends_row addresses_the_array t && named_lun_is g (row_with t byte) caching luns
+breaks_F15 g t luns _ = false

@@ -1,0 +1,51 @@
+-- The sequences of the profile, written out, each in the order of time; and what a tail is to them.
+use Rattle.std.specs.Prelude.{◌≡◌, ◌≢◌, ◌↔◌, ℕ, true, false, List, [], ◌∷◌, ◌++◌, reverse}
+use Rattle.onfi_cycle.specs.declared.Command.{Command}
+use Rattle.onfi_cycle.specs.declared.Command.TheVariants.{Read, ReadConfirm, ChangeReadColumn, ChangeReadColumnConfirm, BlockErase, BlockEraseConfirm, BlockErasePlane, ReadStatus, ReadStatusEnhanced, PageProgram, ChangeWriteColumn, ProgramConfirm, ProgramPlane, ReadId, ReadParameterPage, Reset, ReadCacheSequential, ReadCacheEnd}
+use Rattle.onfi_cycle.specs.declared.TargetCycle.{TargetCycle}
+use Rattle.onfi_cycle.specs.declared.TargetCycle.TheVariants.{CommandCycle, AddressCycle, InputCycle}
+use Rattle.onfi_cycle.specs.Sequence.{begins_sequence, facts_of, wants, is_open}
+
+-- the data of a program: inputs, and any number of changes of the column with inputs behind them
+pub data IsProgramData : List TargetCycle → Type 0 where
+  nothing : IsProgramData []
+  input : (byte : ℕ) (more : List TargetCycle) → IsProgramData more → IsProgramData (InputCycle byte ∷ more)
+  column : (c1 c2 : ℕ) (more : List TargetCycle) → IsProgramData more → IsProgramData (CommandCycle ChangeWriteColumn ∷ (AddressCycle c1 ∷ (AddressCycle c2 ∷ more)))
+
+-- the commands that close a program
+pub data IsProgramCloser : Command → Type 0 where
+  whole : IsProgramCloser ProgramConfirm
+  plane : IsProgramCloser ProgramPlane
+
+-- the table: an opener, its addresses, the inputs of a program, and its closer
+pub data IsSequence : List TargetCycle → Type 0 where
+  read : (c1 c2 r1 r2 r3 : ℕ) → IsSequence (CommandCycle Read ∷ (AddressCycle c1 ∷ (AddressCycle c2 ∷ (AddressCycle r1 ∷ (AddressCycle r2 ∷ (AddressCycle r3 ∷ (CommandCycle ReadConfirm ∷ [])))))))
+  change_read_column : (c1 c2 : ℕ) → IsSequence (CommandCycle ChangeReadColumn ∷ (AddressCycle c1 ∷ (AddressCycle c2 ∷ (CommandCycle ChangeReadColumnConfirm ∷ []))))
+  erase : (r1 r2 r3 : ℕ) → IsSequence (CommandCycle BlockErase ∷ (AddressCycle r1 ∷ (AddressCycle r2 ∷ (AddressCycle r3 ∷ (CommandCycle BlockEraseConfirm ∷ [])))))
+  erase_plane : (r1 r2 r3 : ℕ) → IsSequence (CommandCycle BlockErase ∷ (AddressCycle r1 ∷ (AddressCycle r2 ∷ (AddressCycle r3 ∷ (CommandCycle BlockErasePlane ∷ [])))))
+  read_status : IsSequence (CommandCycle ReadStatus ∷ [])
+  read_status_enhanced : (r1 r2 r3 : ℕ) → IsSequence (CommandCycle ReadStatusEnhanced ∷ (AddressCycle r1 ∷ (AddressCycle r2 ∷ (AddressCycle r3 ∷ []))))
+  program : (c1 c2 r1 r2 r3 : ℕ) (bytes : List TargetCycle) (closer : Command) → IsProgramData bytes → IsProgramCloser closer → IsSequence (CommandCycle PageProgram ∷ (AddressCycle c1 ∷ (AddressCycle c2 ∷ (AddressCycle r1 ∷ (AddressCycle r2 ∷ (AddressCycle r3 ∷ (bytes ++ (CommandCycle closer ∷ []))))))))
+  read_id : IsSequence (CommandCycle ReadId ∷ (AddressCycle 0x20 ∷ []))
+  read_parameter_page : IsSequence (CommandCycle ReadParameterPage ∷ (AddressCycle 0x00 ∷ []))
+  reset : IsSequence (CommandCycle Reset ∷ [])
+  read_cache_sequential : IsSequence (CommandCycle ReadCacheSequential ∷ [])
+  read_cache_end : IsSequence (CommandCycle ReadCacheEnd ∷ [])
+
+-- cycles in the order of time are a beginning of a sequence
+abbrev pub IsBeginning : List TargetCycle → Type 0
+IsBeginning cycles = (more : List TargetCycle) × IsSequence (cycles ++ more)
+
+-- a proper one: at least one cycle is still to come
+abbrev pub IsProperBeginning : List TargetCycle → Type 0
+IsProperBeginning cycles = (next : TargetCycle) × IsBeginning (cycles ++ (next ∷ []))
+
+-- what the rules compute of a tail, by the table: a tail goes on with a cycle exactly where the tail with that cycle is
+-- a beginning of a sequence (of an opener it is said where some tail is there), and a sequence is open exactly where the
+-- tail is a proper beginning of one and not the command 00 alone
+pub record TailsFollowTheTable : Type 0 where
+  pub goes_on : (t : List TargetCycle) (c : TargetCycle) → begins_sequence c ≡ false → (wants (facts_of t) c ≡ true) ↔ IsBeginning (reverse (c ∷ t))
+  pub no_opener_inside : (b : TargetCycle) (t : List TargetCycle) (c : TargetCycle) → begins_sequence c ≡ true → (wants (facts_of (b ∷ t)) c ≡ true) ↔ IsBeginning (reverse (c ∷ (b ∷ t)))
+  pub opens : (t : List TargetCycle) → t ≢ [] → t ≢ CommandCycle Read ∷ [] → (is_open (facts_of t) ≡ true) ↔ IsProperBeginning (reverse t)
+  pub lone_read : is_open (facts_of (CommandCycle Read ∷ [])) ≡ false
+  pub no_tail : is_open (facts_of []) ≡ false
