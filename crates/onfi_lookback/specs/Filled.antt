@@ -1,0 +1,14 @@
+-- The bytes of a program, cycle by cycle.
+use Rattle.std.specs.Prelude.{ℕ, if◌then◌else◌, List, replicate, slice_set}
+use Rattle.onfi_cycle.specs.declared.TailFacts.{TailFacts}
+use Rattle.onfi_cycle.specs.declared.TargetCycle.{TargetCycle}
+use Rattle.onfi_cycle.specs.declared.TargetCycle.TheVariants.{CommandCycle, AddressCycle, InputCycle, OutputCycle}
+use Rattle.onfi_cycle.specs.Command.{is_opener}
+use Rattle.onfi_cycle.specs.Sequence.{input_column}
+
+-- what a cycle after a tail makes of the bytes given so far: an opener begins with FF alone, an input puts its byte at its column
+abbrev pub filled_after : ℕ → TargetCycle → TailFacts → List ℕ → List ℕ
+filled_after len (CommandCycle c) t bytes = if is_opener c then replicate len 0xff else bytes
+filled_after len (AddressCycle byte) t bytes = bytes
+filled_after len (InputCycle byte) t bytes = if t.is_empty then bytes else slice_set bytes (input_column t) byte
+filled_after len OutputCycle t bytes = bytes

@@ -1,0 +1,364 @@
+//! The facts of a target and of its LUNs, by looking back over a past, the newest item first.
+ghost use Rattle.std.specs.Prelude.{[], ◌≡◌, ◌+◌, ◌^◌, ◌<◌, ◌≤◌, ◌∷◌, IfOk, length};
+ghost use Rattle.onfi_cycle.specs.declared.Lun.{Lun};
+ghost use Rattle.onfi_cycle.specs.Effect.{IsSmallEffect};
+ghost use Rattle.onfi_cycle.specs.Sequence.{AreSmall, tail, facts_of};
+ghost use Rattle.onfi_cycle.specs.Lun.{latch, drivers, drivers_from, is_only, latch_alone, effect_on, is_busy, closer, is_caching, is_array_busy, array_page, register, read_column, queue, queue_after, lun_view, views_from, luns_of};
+
+use nand_geometry::Geometry;
+use onfi_cycle::effects::{
+    array_busy_after, array_page_after, busy_after, closer_after, is_cache_read, is_off,
+    item_effect, latch_after, read_column_after, register_after,
+};
+use onfi_cycle::sequences::{facts_after, no_tail, target_cycle};
+use onfi_cycle::{
+    Command, Effect, Item, Latch, Lun, LunFacts, PageAddress, Queued, ReadColumn, Register,
+    TailFacts,
+};
+use std::alloc::{AllocError, Global};
+
+/// The facts of a target's tail.
+pub fn tail_facts(past: &[Item], ce: u8) -> TailFacts
+    ensures value { result ≡ facts_of (tail past.now ce) }
+    ensures small { AreSmall (length past.now) result }
+{
+    match past {
+        [] => no_tail(),
+        [first, rest @ ..] => {
+            let t = tail_facts(rest, ce);
+            match first {
+                Item::Cyc(c) => {
+                    if c.ce == ce {
+                        facts_after(target_cycle(c.kind, c.byte), t)
+                    } else {
+                        t
+                    }
+                }
+                Item::Rdy { .. } => t,
+                Item::Ard { .. } => t,
+            }
+        }
+    }
+}
+
+/// What a LUN shows when it is read.
+pub fn latch(alloc: Global, geometry: &Geometry, past: &[Item], l: Lun) -> Result<Latch, AllocError>
+    ensures { IfOk result (λ a. a ≡ latch geometry.now past.now l) }
+{
+    match past {
+        [] => Ok(Latch::Off),
+        [item, rest @ ..] => {
+            let before = latch(alloc, geometry, rest, l)?;
+            let effect = item_effect(geometry, tail_facts(rest, l.ce), before, *item, l);
+            Ok(latch_after(effect, before))
+        }
+    }
+}
+
+/// Of so many LUNs of a target, from number `n` on, those that drive the bus.
+fn drivers_from(
+    alloc: Global,
+    geometry: &Geometry,
+    past: &[Item],
+    ce: u8,
+    count: u8,
+    n: u8,
+) -> Result<Vec<u8>, AllocError>
+    requires { count + n < 256 }
+    ensures { IfOk result (λ v. v.items ≡ drivers_from (λ m. latch geometry.now past.now (record { ce = ce; lun = m })) count n) }
+{
+    if count == 0 {
+        return Ok(Vec::new(alloc));
+    }
+    let rest = drivers_from(alloc, geometry, past, ce, count - 1, n + 1)?;
+    if is_off(latch(alloc, geometry, past, Lun { ce, lun: n })?) {
+        return Ok(rest);
+    }
+    let mut numbers = vec![in alloc; n]?;
+    numbers.extend_from_slice(&rest)?;
+    Ok(numbers)
+}
+
+/// The LUNs of a target that drive the bus when it is read.
+pub fn drivers(
+    alloc: Global,
+    geometry: &Geometry,
+    past: &[Item],
+    ce: u8,
+) -> Result<Vec<u8>, AllocError>
+    ensures { IfOk result (λ v. v.items ≡ drivers geometry.now past.now ce) }
+{
+    drivers_from(alloc, geometry, past, ce, geometry.parts().luns, 0)
+}
+
+fn is_only(numbers: &[u8], n: u8) -> bool
+    ensures { result ≡ is_only numbers.now n }
+{
+    match numbers {
+        [] => false,
+        [first, rest @ ..] => rest.is_empty() && *first == n,
+    }
+}
+
+/// What a LUN shows if it is the one driver of its target, and else `Off`.
+pub fn latch_alone(
+    alloc: Global,
+    geometry: &Geometry,
+    past: &[Item],
+    l: Lun,
+) -> Result<Latch, AllocError>
+    ensures { IfOk result (λ a. a ≡ latch_alone geometry.now past.now l) }
+{
+    let numbers = drivers(alloc, geometry, past, l.ce)?;
+    if is_only(&numbers, l.lun) {
+        latch(alloc, geometry, past, l)
+    } else {
+        Ok(Latch::Off)
+    }
+}
+
+/// What an item does to a LUN after this past.
+#[tactic(auto, unfolding(onfi_cycle::specs::Lun::effect_on))]
+pub fn effect_on(
+    alloc: Global,
+    geometry: &Geometry,
+    past: &[Item],
+    item: Item,
+    l: Lun,
+) -> Result<Effect, AllocError>
+    ensures value { IfOk result (λ a. a ≡ effect_on geometry.now past.now item l) }
+    ensures small { IfOk result IsSmallEffect }
+{
+    let latch = latch_alone(alloc, geometry, past, l)?;
+    Ok(item_effect(geometry, tail_facts(past, l.ce), latch, item, l))
+}
+
+/// Work was started on the LUN, and no ready of it came since.
+pub fn is_busy(
+    alloc: Global,
+    geometry: &Geometry,
+    past: &[Item],
+    l: Lun,
+) -> Result<bool, AllocError>
+    ensures { IfOk result (λ a. a ≡ is_busy geometry.now past.now l) }
+{
+    match past {
+        [] => Ok(false),
+        [item, rest @ ..] => {
+            let before = is_busy(alloc, geometry, rest, l)?;
+            Ok(busy_after(effect_on(alloc, geometry, rest, *item, l)?, before))
+        }
+    }
+}
+
+/// The last closer of the LUN.
+pub fn closer(
+    alloc: Global,
+    geometry: &Geometry,
+    past: &[Item],
+    l: Lun,
+) -> Result<Option<Command>, AllocError>
+    ensures { IfOk result (λ a. a ≡ closer geometry.now past.now l) }
+{
+    match past {
+        [] => Ok(None),
+        [item, rest @ ..] => {
+            let before = closer(alloc, geometry, rest, l)?;
+            Ok(closer_after(effect_on(alloc, geometry, rest, *item, l)?, before))
+        }
+    }
+}
+
+/// A cache read goes on.
+pub fn is_caching(
+    alloc: Global,
+    geometry: &Geometry,
+    past: &[Item],
+    l: Lun,
+) -> Result<bool, AllocError>
+    ensures { IfOk result (λ a. a ≡ is_caching geometry.now past.now l) }
+{
+    let last = closer(alloc, geometry, past, l)?;
+    Ok(is_cache_read(last))
+}
+
+/// The last Read Cache Sequential of the LUN has had its ready, and its array has had none since.
+pub fn is_array_busy(
+    alloc: Global,
+    geometry: &Geometry,
+    past: &[Item],
+    l: Lun,
+) -> Result<bool, AllocError>
+    ensures { IfOk result (λ a. a ≡ is_array_busy geometry.now past.now l) }
+{
+    match past {
+        [] => Ok(false),
+        [item, rest @ ..] => {
+            let before = is_array_busy(alloc, geometry, rest, l)?;
+            let busy = is_busy(alloc, geometry, rest, l)?;
+            let caching = is_caching(alloc, geometry, rest, l)?;
+            let effect = effect_on(alloc, geometry, rest, *item, l)?;
+            Ok(array_busy_after(effect, busy, caching, before))
+        }
+    }
+}
+
+/// The read column: what was last given, the data outputs since, and whether it is lost.
+pub fn read_column(
+    alloc: Global,
+    geometry: &Geometry,
+    past: &[Item],
+    l: Lun,
+) -> Result<ReadColumn, AllocError>
+    ensures value { IfOk result (λ a. a ≡ read_column geometry.now past.now l) }
+    ensures small { IfOk result (λ a. a.outputs ≤ length past.now) }
+{
+    match past {
+        [] => Ok(ReadColumn {
+            given: None,
+            outputs: 0,
+            lost: false,
+        }),
+        [item, rest @ ..] => {
+            let before = read_column(alloc, geometry, rest, l)?;
+            Ok(read_column_after(effect_on(alloc, geometry, rest, *item, l)?, before))
+        }
+    }
+}
+
+fn queue_after(
+    alloc: Global,
+    effect: Effect,
+    before: Vec<Queued>,
+) -> Result<Vec<Queued>, AllocError>
+    ensures { IfOk result (λ v. v.items ≡ queue_after effect before.items) }
+{
+    let more = match effect {
+        Effect::EraseStarted { queued: true, row } => Queued::Erase(row),
+        Effect::ProgramStarted { queued: true, page } => Queued::Program(page),
+        Effect::EraseStarted { .. } | Effect::ProgramStarted { .. } | Effect::ResetStarted => {
+            return Ok(Vec::new(alloc));
+        }
+        _ => return Ok(before),
+    };
+    let mut queue = vec![in alloc; more]?;
+    queue.extend_from_slice(&before)?;
+    Ok(queue)
+}
+
+/// The rows of the LUN that wait in its queue, the newest first.
+pub fn queue(
+    alloc: Global,
+    geometry: &Geometry,
+    past: &[Item],
+    l: Lun,
+) -> Result<Vec<Queued>, AllocError>
+    ensures { IfOk result (λ v. v.items ≡ queue geometry.now past.now l) }
+{
+    match past {
+        [] => Ok(Vec::new(alloc)),
+        [item, rest @ ..] => {
+            let before = queue(alloc, geometry, rest, l)?;
+            queue_after(alloc, effect_on(alloc, geometry, rest, *item, l)?, before)
+        }
+    }
+}
+
+/// The page that the array was last told to read.
+pub fn array_page(
+    alloc: Global,
+    geometry: &Geometry,
+    past: &[Item],
+    l: Lun,
+) -> Result<PageAddress, AllocError>
+    ensures value { IfOk result (λ a. a ≡ array_page geometry.now past.now l) }
+    ensures small { IfOk result (λ a. a.page ≤ 2 ^ 32 + length past.now) }
+{
+    match past {
+        [] => Ok(PageAddress { block: 0, page: 0 }),
+        [item, rest @ ..] => {
+            let before = array_page(alloc, geometry, rest, l)?;
+            Ok(array_page_after(effect_on(alloc, geometry, rest, *item, l)?, before))
+        }
+    }
+}
+
+/// What the register holds, by the last closer.
+pub fn register(
+    alloc: Global,
+    geometry: &Geometry,
+    past: &[Item],
+    l: Lun,
+) -> Result<Register, AllocError>
+    ensures { IfOk result (λ a. a ≡ register geometry.now past.now l) }
+{
+    match past {
+        [] => Ok(Register::Empty),
+        [item, rest @ ..] => {
+            let before = register(alloc, geometry, rest, l)?;
+            let page = array_page(alloc, geometry, rest, l)?;
+            Ok(register_after(effect_on(alloc, geometry, rest, *item, l)?, page, before))
+        }
+    }
+}
+
+/// What the rules see of a LUN.
+pub fn lun_facts(
+    alloc: Global,
+    geometry: &Geometry,
+    past: &[Item],
+    l: Lun,
+) -> Result<LunFacts<Vec<Queued>>, AllocError>
+    ensures { IfOk result (λ v. v ≡ lun_view geometry.now past.now l) }
+{
+    let latch = latch(alloc, geometry, past, l)?;
+    let busy = is_busy(alloc, geometry, past, l)?;
+    let closer = closer(alloc, geometry, past, l)?;
+    let array_busy = is_array_busy(alloc, geometry, past, l)?;
+    let array_page = array_page(alloc, geometry, past, l)?;
+    let register = register(alloc, geometry, past, l)?;
+    let column = read_column(alloc, geometry, past, l)?;
+    let queue = queue(alloc, geometry, past, l)?;
+    Ok(LunFacts {
+        latch,
+        busy,
+        closer,
+        array_busy,
+        array_page,
+        register,
+        column,
+        queue,
+    })
+}
+
+fn facts_from(
+    alloc: Global,
+    geometry: &Geometry,
+    past: &[Item],
+    ce: u8,
+    count: u8,
+    n: u8,
+) -> Result<Vec<LunFacts<Vec<Queued>>>, AllocError>
+    requires { count + n < 256 }
+    ensures { IfOk result (λ v. v.items ≡ views_from geometry.now past.now ce count n) }
+{
+    if count == 0 {
+        return Ok(Vec::new(alloc));
+    }
+    let mut rest = facts_from(alloc, geometry, past, ce, count - 1, n + 1)?;
+    let first = lun_facts(alloc, geometry, past, Lun { ce, lun: n })?;
+    rest.insert(0, first)?;
+    Ok(rest)
+}
+
+/// What the rules see of the LUNs of a target, in order.
+pub fn luns_of(
+    alloc: Global,
+    geometry: &Geometry,
+    past: &[Item],
+    ce: u8,
+) -> Result<Vec<LunFacts<Vec<Queued>>>, AllocError>
+    ensures { IfOk result (λ v. v.items ≡ luns_of geometry.now past.now ce) }
+{
+    facts_from(alloc, geometry, past, ce, geometry.parts().luns, 0)
+}

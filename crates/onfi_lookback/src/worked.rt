@@ -1,0 +1,163 @@
+//! What the worked traces share: two geometries, a short way to write traces, and a walk that judges them.
+use crate::past::{luns_of, tail_facts};
+use nand_geometry::{Geometry, Parts};
+use onfi_cycle::sequences::{target_cycle, target_of};
+use onfi_cycle::{Cycle, Forbidden, Item, Kind, judge, judge_known_cycle};
+use std::alloc::{AllocError, Global};
+use std::process::Abort;
+use std::test::Fail;
+
+/// One LUN of 8 blocks of 4 pages of 512 + 16 bytes, in one plane.
+pub const ONE_LUN: Parts = Parts {
+    page_bytes: 512,
+    spare_bytes: 16,
+    pages: 4,
+    blocks: 8,
+    luns: 1,
+    plane_bits: 0,
+    enhanced: false,
+    multi_plane: false,
+    cache: false,
+};
+
+/// Two such LUNs, each in two planes.
+pub const TWO_LUNS: Parts = Parts {
+    luns: 2,
+    plane_bits: 1,
+    enhanced: true,
+    multi_plane: true,
+    ..ONE_LUN
+};
+
+/// One such LUN with the cache read.
+pub const CACHED: Parts = Parts {
+    cache: true,
+    ..ONE_LUN
+};
+
+/// Two LUNs with the cache read.
+pub const TWO_CACHED: Parts = Parts {
+    cache: true,
+    ..TWO_LUNS
+};
+
+/// One LUN in two planes.
+pub const TWO_PLANES: Parts = Parts {
+    luns: 1,
+    ..TWO_LUNS
+};
+
+/// Two LUNs of 6 blocks of 3 pages: fields of 3 and 2 bits have room for more.
+pub const UNEVEN: Parts = Parts {
+    pages: 3,
+    blocks: 6,
+    plane_bits: 0,
+    ..TWO_LUNS
+};
+
+fn digit(letter: u8) -> u8 {
+    match letter {
+        b'0'..=b'9' => letter - b'0',
+        b'a'..=b'f' => letter - b'a' + 10,
+        _ => 0,
+    }
+}
+
+fn cycle(kind: Kind, high: u8, low: u8) -> Item {
+    Item::Cyc(Cycle {
+        ce: 0,
+        kind,
+        byte: digit(high) % 16 * 16 + digit(low) % 16,
+    })
+}
+
+fn ready(lun: u8, fail: bool) -> Item {
+    Item::Rdy {
+        ce: 0,
+        lun: digit(lun),
+        fail,
+    }
+}
+
+/// `C60` is a command, `A04` an address, `Ia5` an input, `Oe0` an output, `R0` a ready of LUN 0, `F0` one with
+/// failure, and `Y0` one of its array.
+fn item(word: &[u8]) -> Item {
+    match word {
+        [b'C', high, low] => cycle(Kind::Cmd, *high, *low),
+        [b'A', high, low] => cycle(Kind::Adr, *high, *low),
+        [b'I', high, low] => cycle(Kind::Din, *high, *low),
+        [b'O', high, low] => cycle(Kind::Dout, *high, *low),
+        [b'R', lun] => ready(*lun, false),
+        [b'F', lun] => ready(*lun, true),
+        [b'Y', lun] => Item::Ard {
+            ce: 0,
+            lun: digit(*lun),
+        },
+        _ => Item::Ard { ce: 9, lun: 9 },
+    }
+}
+
+/// A word and how often it stands: `A00x5` is five times `A00`.
+fn counted(word: &[u8]) -> (&[u8], u8) {
+    match word {
+        [once @ .., b'x', times] => (once, digit(*times)),
+        _ => (word, 1),
+    }
+}
+
+/// The items of a text, in the order of time.
+pub fn trace(alloc: Global, text: &str) -> Result<Vec<Item>, AllocError> {
+    let mut items = Vec::new(alloc);
+    for word in text.split_whitespace() {
+        let (once, times) = counted(word.as_bytes());
+        for _ in 0..times {
+            items.push(item(once))?;
+        }
+    }
+    Ok(items)
+}
+
+/// The first rule that an item breaks after a past, the newest item first; of a cycle the first of F3 to F15.
+fn known_broken(
+    alloc: Global,
+    geometry: &Geometry,
+    past: &[Item],
+    item: Item,
+) -> Result<Option<Forbidden>, AllocError> {
+    let ce = target_of(item);
+    let t = tail_facts(past, ce);
+    let luns = luns_of(alloc, geometry, past, ce)?;
+    Ok(match item {
+        Item::Cyc(c) => judge_known_cycle(geometry, t, &luns, target_cycle(c.kind, c.byte)),
+        _ => judge(geometry, 1, t, &luns, item),
+    })
+}
+
+/// The first item of a trace that breaks a rule, whatever commands the bus takes, and its place.
+pub fn first_broken(
+    alloc: Global,
+    geometry: &Geometry,
+    items: &[Item],
+) -> Result<Option<(usize, Forbidden)>, AllocError> {
+    let mut past: Vec<Item> = Vec::new(alloc);
+    for (i, item) in items.iter().enumerate() {
+        if let Some(rule) = known_broken(alloc, geometry, &past, *item)? {
+            return Ok(Some((i, rule)));
+        }
+        past.insert(0, *item)?;
+    }
+    Ok(None)
+}
+
+/// The items of a permitted trace, the newest first.
+pub fn past_of(
+    rt: &impl Abort,
+    alloc: Global,
+    geometry: &Geometry,
+    text: &str,
+) -> Result<Vec<Item>, Fail> {
+    let mut items = trace(alloc, text)?;
+    assert_eq!(rt; first_broken(alloc, geometry, &items)?, None, "{text}");
+    items.reverse();
+    Ok(items)
+}

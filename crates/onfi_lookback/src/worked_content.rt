@@ -1,0 +1,325 @@
+//! Worked contents: what pages hold after works, and the byte that a LUN gives next.
+use crate::WrittenPage;
+use crate::content::{content, driven_byte, shown, status};
+use crate::worked::{CACHED, ONE_LUN, TWO_LUNS, past_of};
+use nand_geometry::{Geometry, Parts};
+use onfi_cycle::{Lun, PageAddress};
+use std::alloc::{AllocError, Global};
+use std::process::Abort;
+use std::test::Fail;
+
+const LUN_0: Lun = Lun { ce: 0, lun: 0 };
+
+/// A page of this byte alone.
+fn page_of(alloc: Global, block: u32, page: u64, byte: u8) -> Result<WrittenPage, AllocError> {
+    Ok(WrittenPage {
+        lun: LUN_0,
+        at: PageAddress { block, page },
+        bytes: vec![in alloc; byte; 528]?,
+    })
+}
+
+/// A page of LUN 0 begins with these bytes, and all behind them is FF.
+fn expect_pages(
+    rt: &impl Abort,
+    alloc: Global,
+    opening: &[WrittenPage],
+    cases: &[(Parts, &str, u32, u64, &[u8])],
+) -> Result<(), Fail> {
+    for (parts, text, block, page, start) in cases {
+        let geometry = Geometry::of(*parts)?;
+        let past = past_of(rt, alloc, &geometry, text)?;
+        let at = PageAddress {
+            block: *block,
+            page: *page,
+        };
+        let bytes = content(alloc, &geometry, opening, &past, LUN_0, at)?;
+        assert_eq!(rt; bytes.len(), 528, "{text}");
+        assert!(rt; bytes.starts_with(start), "{text}: {bytes:?}");
+        assert!(rt;
+            bytes.iter().skip(start.len()).all(|b| *b == 0xff),
+            "{text}: {bytes:?}"
+        );
+    }
+    Ok(())
+}
+
+/// Programs of row 0, and what they leave of its page on an erased LUN.
+#[test]
+fn programs(rt: HostRuntime) -> Result<(), Fail> {
+    expect_pages(
+        &rt,
+        rt.alloc(),
+        &[],
+        &[
+            (ONE_LUN, "", 0, 0, &[]),
+            (ONE_LUN, "C80 A00x5 Ia5 I3c C10", 0, 0, &[]),
+            (ONE_LUN, "C80 A00x5 Ia5 I3c C10 R0", 0, 0, &[0xa5, 0x3c]),
+            (ONE_LUN, "C80 A00x5 Ia5 I3c C10 R0", 0, 1, &[]),
+            (ONE_LUN, "C80 A00x5 Ia5 I3c C10 R0", 1, 0, &[]),
+            (ONE_LUN, "C80 A00x2 A1f A00x2 Ia5 C10 R0", 7, 3, &[0xa5]),
+            (ONE_LUN, "C80 A01 A00x4 Ia5 C10 R0", 0, 0, &[0xff, 0xa5]),
+            (
+                ONE_LUN,
+                "C80 A00x5 Ia5 I3c C85 A00x2 I0f C10 R0",
+                0,
+                0,
+                &[0x0f, 0x3c],
+            ),
+            (ONE_LUN, "C80 A00x5 Ia5 I3c C10 F0", 0, 0, &[]),
+            (ONE_LUN, "C80 A00x5 Ia5 I3c C10 Cff R0", 0, 0, &[]),
+            (
+                ONE_LUN,
+                "C80 A00x5 Ia5 I3c C10 R0 C80 A00x5 I0fx2 C10 R0",
+                0,
+                0,
+                &[0x05, 0x0c],
+            ),
+            (
+                ONE_LUN,
+                "C80 A00x5 Ia5 I3c C10 R0 C80 A00x5 I0fx2 C10 F0",
+                0,
+                0,
+                &[0xa5, 0x3c],
+            ),
+            (ONE_LUN, "C80 A00x5 Ia5 C10 R0 C60 A00x3 Cd0 R0", 0, 0, &[]),
+            (
+                ONE_LUN,
+                "C80 A00x5 Ia5 C10 R0 C60 A00x3 Cd0 R0 C80 A00x5 I3c C10 R0",
+                0,
+                0,
+                &[0x3c],
+            ),
+        ],
+    )
+}
+
+/// An erase makes its whole block FF, and leaves others; this LUN opens with pages of 00.
+#[test]
+fn erases(rt: HostRuntime) -> Result<(), Fail> {
+    let opening = [
+        page_of(rt.alloc(), 0, 1, 0)?,
+        page_of(rt.alloc(), 0, 3, 0)?,
+        page_of(rt.alloc(), 1, 0, 0)?,
+    ];
+    let zeros: [u8; 528] = [0; 528];
+    expect_pages(
+        &rt,
+        rt.alloc(),
+        &opening,
+        &[
+            (ONE_LUN, "", 0, 0, &[]),
+            (ONE_LUN, "", 0, 1, &zeros),
+            (ONE_LUN, "C60 A00x3 Cd0", 0, 1, &zeros),
+            (ONE_LUN, "C60 A00x3 Cd0 R0", 0, 1, &[]),
+            (ONE_LUN, "C60 A00x3 Cd0 R0", 0, 3, &[]),
+            (ONE_LUN, "C60 A03 A00x2 Cd0 R0", 0, 1, &[]),
+            (ONE_LUN, "C60 A00x3 Cd0 R0", 1, 0, &zeros),
+            (ONE_LUN, "C60 A00x3 Cd0 F0", 0, 1, &zeros),
+            (ONE_LUN, "C60 A00x3 Cd0 Cff R0", 0, 1, &zeros),
+            (TWO_LUNS, "C60 A20 A00x2 Cd0 R1", 0, 1, &zeros),
+            (TWO_LUNS, "C60 A00x3 Cd1 R0", 0, 1, &zeros),
+            (TWO_LUNS, "C60 A00x3 Cd1 R0 C60 A04 A00x2 Cd0", 0, 1, &zeros),
+            (TWO_LUNS, "C60 A00x3 Cd1 R0 C60 A04 A00x2 Cd0 R0", 0, 1, &[]),
+            (TWO_LUNS, "C60 A00x3 Cd1 R0 C60 A04 A00x2 Cd0 R0", 1, 0, &[]),
+            (
+                TWO_LUNS,
+                "C60 A00x3 Cd1 R0 C60 A04 A00x2 Cd0 F0",
+                0,
+                1,
+                &zeros,
+            ),
+            (
+                TWO_LUNS,
+                "C60 A00x3 Cd1 R0 C60 A04 A00x2 Cd0 F0",
+                1,
+                0,
+                &zeros,
+            ),
+            (TWO_LUNS, "C60 A00x3 Cd1 F0 C60 A04 A00x2 Cd0 R0", 0, 1, &[]),
+        ],
+    )
+}
+
+/// Programs of two planes take effect together, with the ready of the last.
+#[test]
+fn queued_programs(rt: HostRuntime) -> Result<(), Fail> {
+    expect_pages(
+        &rt,
+        rt.alloc(),
+        &[],
+        &[
+            (TWO_LUNS, "C80 A00x5 Ia5 C11 R0", 0, 0, &[]),
+            (
+                TWO_LUNS,
+                "C80 A00x5 Ia5 C11 R0 C80 A00x2 A04 A00x2 I3c C10",
+                0,
+                0,
+                &[],
+            ),
+            (
+                TWO_LUNS,
+                "C80 A00x5 Ia5 C11 R0 C80 A00x2 A04 A00x2 I3c C10 R0",
+                0,
+                0,
+                &[0xa5],
+            ),
+            (
+                TWO_LUNS,
+                "C80 A00x5 Ia5 C11 R0 C80 A00x2 A04 A00x2 I3c C10 R0",
+                1,
+                0,
+                &[0x3c],
+            ),
+            (
+                TWO_LUNS,
+                "C80 A00x5 Ia5 C11 R0 C80 A00x2 A04 A00x2 I3c C10 F0",
+                0,
+                0,
+                &[],
+            ),
+            (
+                TWO_LUNS,
+                "C80 A00x5 Ia5 C11 R0 C80 A00x2 A04 A00x2 I3c C10 F0",
+                1,
+                0,
+                &[],
+            ),
+        ],
+    )
+}
+
+/// The status of LUN 0.
+#[test]
+fn statuses(rt: HostRuntime) -> Result<(), Fail> {
+    let cases: [(Parts, &str, u8); 20] = [
+        (ONE_LUN, "", 0xe0),
+        (ONE_LUN, "C60 A00x3 Cd0", 0x80),
+        (ONE_LUN, "C60 A00x3 Cd0 R0", 0xe0),
+        (ONE_LUN, "C60 A00x3 Cd0 F0", 0xe1),
+        (ONE_LUN, "C60 A00x3 Cd0 F0 C90 A20", 0xe1),
+        (ONE_LUN, "C60 A00x3 Cd0 F0 C00 A00x5 C30", 0x80),
+        (ONE_LUN, "C60 A00x3 Cd0 F0 C00 A00x5 C30 R0", 0xe0),
+        (ONE_LUN, "C80 A00x5 Ia5 C10 F0", 0xe1),
+        (ONE_LUN, "C80 A00x5 Ia5 C10 Cff", 0x80),
+        (ONE_LUN, "C80 A00x5 Ia5 C10 Cff R0", 0xe0),
+        (ONE_LUN, "C80 A00x5 Ia5 C10 Cff F0", 0xe0),
+        (ONE_LUN, "C00 A00x5 C30 F0", 0xe0),
+        (TWO_LUNS, "C60 A20 A00x2 Cd0", 0xe0),
+        (TWO_LUNS, "C60 A00x3 Cd1 F0", 0xe0),
+        (TWO_LUNS, "C60 A00x3 Cd1 R0 C60 A04 A00x2 Cd0 F0", 0xe1),
+        (CACHED, "C00 A00x5 C30 R0 C31", 0x80),
+        (CACHED, "C00 A00x5 C30 R0 C31 R0", 0xc0),
+        (CACHED, "C00 A00x5 C30 R0 C31 F0", 0xc0),
+        (CACHED, "C00 A00x5 C30 R0 C31 R0 Y0", 0xe0),
+        (CACHED, "C00 A00x5 C30 R0 C31 R0 Cff R0", 0xe0),
+    ];
+    for (parts, text, expected) in cases {
+        let geometry = Geometry::of(parts)?;
+        let past = past_of(&rt, rt.alloc(), &geometry, text)?;
+        assert_eq!(rt;
+            status(rt.alloc(), &geometry, &past, LUN_0)?.0,
+            expected,
+            "{text}"
+        );
+    }
+    Ok(())
+}
+
+/// The byte that LUN 0 gives next, which on one LUN is the byte that its target gives. It opens with a page of
+/// A5 and one of 3C behind it.
+#[test]
+fn shown_bytes(rt: HostRuntime) -> Result<(), Fail> {
+    let opening = [
+        page_of(rt.alloc(), 0, 0, 0xa5)?,
+        page_of(rt.alloc(), 0, 1, 0x3c)?,
+    ];
+    let parameters = [0x4f, 0x4e, 0x46];
+    let cases: [(Parts, &str, Option<u8>); 29] = [
+        (ONE_LUN, "", None),
+        (ONE_LUN, "C70", Some(0xe0)),
+        (ONE_LUN, "C60 A00x3 Cd0 C70", Some(0x80)),
+        (ONE_LUN, "C60 A00x3 Cd0 C70 O80 F0", Some(0xe1)),
+        (ONE_LUN, "C70 Cff R0", None),
+        (ONE_LUN, "C90 A20", Some(0x4f)),
+        (ONE_LUN, "C90 A20 O00", Some(0x4e)),
+        (ONE_LUN, "C90 A20 O00x2", Some(0x46)),
+        (ONE_LUN, "C90 A20 O00x3", Some(0x49)),
+        (ONE_LUN, "C90 A20 O00x4", None),
+        (ONE_LUN, "C00 A00x5 C30 R0", Some(0xa5)),
+        (ONE_LUN, "C00 A00x2 A01 A00x2 C30 R0", Some(0x3c)),
+        (ONE_LUN, "C00 A00x2 A02 A00x2 C30 R0", Some(0xff)),
+        (ONE_LUN, "C00 A0f A02 A00x3 C30 R0", Some(0xa5)),
+        (ONE_LUN, "C00 A0f A02 A00x3 C30 R0 Oa5", None),
+        (ONE_LUN, "C00 A00x5 C30 R0 C70", Some(0xe0)),
+        (ONE_LUN, "C00 A00x5 C30 R0 C70 C00", Some(0xa5)),
+        (ONE_LUN, "C00 A00x5 C30 R0 Oa5 C70 C00", None),
+        (
+            ONE_LUN,
+            "C80 A00x5 Iff I0f C10 R0 C00 A00x5 C30 R0",
+            Some(0xa5),
+        ),
+        (
+            ONE_LUN,
+            "C80 A00x5 Iff I0f C10 R0 C00 A00x5 C30 R0 Oa5",
+            Some(0x05),
+        ),
+        (
+            ONE_LUN,
+            "C80 A00x5 Iff I0f C10 R0 C00 A01 A00x4 C30 R0",
+            Some(0x05),
+        ),
+        (
+            ONE_LUN,
+            "C80 A00x5 Iff I0f C10 R0 C00 A00x5 C30 R0 C05 A01 A00 Ce0",
+            Some(0x05),
+        ),
+        (ONE_LUN, "Cec A00 R0", Some(0x4f)),
+        (ONE_LUN, "Cec A00 R0 C05 A02 A00 Ce0", Some(0x46)),
+        (ONE_LUN, "Cec A00 R0 C05 A03 A00 Ce0", None),
+        (CACHED, "C00 A00x5 C30 R0 C31 R0", Some(0xa5)),
+        (CACHED, "C00 A00x5 C30 R0 C31 R0 C31 R0", Some(0x3c)),
+        (CACHED, "C00 A00x5 C30 R0 C31 R0 Oa5x3 C3f R0", Some(0x3c)),
+        (CACHED, "C00 A00x5 C30 R0 C31 R0 C70", Some(0xc0)),
+    ];
+    for (parts, text, expected) in cases {
+        let geometry = Geometry::of(parts)?;
+        let past = past_of(&rt, rt.alloc(), &geometry, text)?;
+        let byte = shown(rt.alloc(), &geometry, &parameters, &opening, &past, LUN_0)?;
+        assert_eq!(rt; byte, expected, "{text}");
+        let driven = driven_byte(rt.alloc(), &geometry, &parameters, &opening, &past, 0)?;
+        assert_eq!(rt; driven, expected, "{text}");
+    }
+    Ok(())
+}
+
+/// Of two LUNs the one whose row a status command names drives alone, and two that drive give no byte.
+#[test]
+fn driven_bytes(rt: HostRuntime) -> Result<(), Fail> {
+    let two = Geometry::of(TWO_LUNS)?;
+    let cases: [(&str, Option<u8>, Option<u8>, Option<u8>); 5] = [
+        ("C78 A20 A00x2", None, Some(0xe0), Some(0xe0)),
+        ("C60 A00x3 Cd0 C78 A00x3", Some(0x80), None, Some(0x80)),
+        ("C60 A00x3 Cd0 C78 A20 A00x2", None, Some(0xe0), Some(0xe0)),
+        (
+            "C78 A00x3 C00 A00x2 A20 A00x2 C30 R1",
+            None,
+            Some(0xff),
+            None,
+        ),
+        ("C60 A00x3 Cd0 C60 A20 A00x2 Cd0", None, None, None),
+    ];
+    for (text, first, second, driven) in cases {
+        let past = past_of(&rt, rt.alloc(), &two, text)?;
+        for (lun, expected) in [(0, first), (1, second)] {
+            let byte = shown(rt.alloc(), &two, &[], &[], &past, Lun { ce: 0, lun })?;
+            assert_eq!(rt; byte, expected, "LUN {lun}, {text}");
+        }
+        assert_eq!(rt;
+            driven_byte(rt.alloc(), &two, &[], &[], &past, 0)?,
+            driven,
+            "{text}"
+        );
+    }
+    Ok(())
+}
