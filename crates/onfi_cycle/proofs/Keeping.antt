@@ -33,10 +33,10 @@ and_true false b h k = cc
 
 -- 1. the facts go on
 
-view_goes_on : (g : Parts) (n : ℕ) (past : List Item) (i : Item) (l : Lun) → broken g n past i ≡ None → l.lun < g.luns → lun_view g (i ∷ past) l ≡ view_after (effect_on g past i l) (lun_view g past l)
+pub view_goes_on : (g : Parts) (n : ℕ) (past : List Item) (i : Item) (l : Lun) → broken g n past i ≡ None → l.lun < g.luns → lun_view g (i ∷ past) l ≡ view_after (effect_on g past i l) (lun_view g past l)
 view_goes_on g n past i l h low = ap (λ (x : Latch). record (view_after (effect_on g past i l) (lun_view g past l)) { latch = x }) (latch_by_effect g n past i l h low)
 
-views_length : (g : Parts) (past : List Item) (ce count n : ℕ) → length (views_from g past ce count n) ≡ count
+pub views_length : (g : Parts) (past : List Item) (ce count n : ℕ) → length (views_from g past ce count n) ≡ count
 views_length g past ce zero n = refl
 views_length g past ce (suc count) n = ap suc (views_length g past ce count (n + 1))
 
@@ -73,7 +73,7 @@ ready_tail past (Rdy a b f) ce h = refl
 ready_tail past (Ard a b) ce h = refl
 
 -- the view after an item whose effect is this, whatever the LUN shows
-view_with : (g : Parts) (past : List Item) (i : Item) (l : Lun) (e : Effect) → effect_on g past i l ≡ e → effect_given g past (latch g past l) i l ≡ e → latch_after e (latch g past l) ≡ latch g past l → lun_view g (i ∷ past) l ≡ record (view_after e (lun_view g past l)) { latch = latch g past l }
+pub view_with : (g : Parts) (past : List Item) (i : Item) (l : Lun) (e : Effect) → effect_on g past i l ≡ e → effect_given g past (latch g past l) i l ≡ e → latch_after e (latch g past l) ≡ latch g past l → lun_view g (i ∷ past) l ≡ record (view_after e (lun_view g past l)) { latch = latch g past l }
 view_with g past i l e on given same =
     ap (λ (x : Effect). record (view_after x (lun_view g past l)) { latch = latch_after (effect_given g past (latch g past l) i l) (latch g past l) }) on ∙
     ap (λ (x : Latch). record (view_after e (lun_view g past l)) { latch = x }) (ap (λ (x : Effect). latch_after x (latch g past l)) given ∙ same)

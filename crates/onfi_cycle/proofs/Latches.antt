@@ -37,7 +37,7 @@ none_off latches (suc count) n l h low high = at (λ e k. none_off latches count
     at ih false off same e h = cc
 
 -- where there is one driver, the others are off
-sole_off : (latches : ℕ → Latch) (count n m l : ℕ) → drivers_from latches count n ≡ m ∷ [] → n ≤ l → l < n + count → is_off (latches l) ≡ not (m == l)
+pub sole_off : (latches : ℕ → Latch) (count n m l : ℕ) → drivers_from latches count n ≡ m ∷ [] → n ≤ l → l < n + count → is_off (latches l) ≡ not (m == l)
 sole_off latches zero n m l h low high = cc
 sole_off latches (suc count) n m l h low high = at (λ e k. sole_off latches count (n + 1) m l e k (omega arith)) (is_off (latches n)) refl (l == n) refl h
   where
@@ -79,12 +79,12 @@ none_by_views g past ce (suc count) n h = at (none_by_views g past ce count (n +
     at ih false h = cc
 
 -- the list is of one number
-record IsOne (ds : List ℕ) : Type 0 where
-  m : ℕ
-  is : ds ≡ m ∷ []
+pub record IsOne (ds : List ℕ) : Type 0 where
+  pub m : ℕ
+  pub is : ds ≡ m ∷ []
 
 -- where one view is on, one number is
-one_by_views : (g : Parts) (past : List Item) (ce count n : ℕ) (v : LunView) → only (driving (views_from g past ce count n)) ≡ Some v → IsOne (drivers_from (λ m. latch g past (record { ce = ce; lun = m })) count n)
+pub one_by_views : (g : Parts) (past : List Item) (ce count n : ℕ) (v : LunView) → only (driving (views_from g past ce count n)) ≡ Some v → IsOne (drivers_from (λ m. latch g past (record { ce = ce; lun = m })) count n)
 one_by_views g past ce zero n v h = cc
 one_by_views g past ce (suc count) n v h = at (one_by_views g past ce count (n + 1) v) (is_off (latch g past (record { ce = ce; lun = n }))) h
   where

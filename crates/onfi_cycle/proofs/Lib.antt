@@ -12,3 +12,8 @@ pub mod Bytes
 pub mod Keeping
 pub mod Worked
 pub mod CommandBytes
+pub mod TailBounds
+pub mod LunBounds
+pub mod EffectBounds
+pub mod RowBounds
+pub mod Following

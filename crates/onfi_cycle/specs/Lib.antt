@@ -12,3 +12,6 @@ pub mod OtherLun
 pub mod Decides
 pub mod Channel
 pub mod Steps
+pub mod State
+pub mod Bounds
+pub mod Look

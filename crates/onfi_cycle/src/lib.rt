@@ -4,6 +4,7 @@
 //! the facts of its target alone: the facts of the tail ([`TailFacts`]) and those of each LUN ([`LunFacts`]).
 #![tactic(auto)]
 
+pub mod bus_state;
 pub mod commands;
 pub mod effects;
 pub mod laws;
@@ -13,6 +14,7 @@ pub mod status_byte;
 
 ghost use Rattle.std.specs.Prelude.{◌≡◌, List};
 
+pub use bus_state::{BusState, LunState};
 pub use commands::{command_of, opcode};
 pub use rules::{judge, judge_known_cycle};
 pub use status_byte::Status;

@@ -7,9 +7,13 @@
 
 pub mod content;
 pub mod past;
+#[cfg(test)]
+mod state_agrees;
 pub mod trace;
 #[cfg(test)]
 mod worked;
+#[cfg(test)]
+mod worked_audit;
 #[cfg(test)]
 mod worked_content;
 #[cfg(test)]

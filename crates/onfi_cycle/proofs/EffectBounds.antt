@@ -1,0 +1,223 @@
+-- The effects of a permitted item keep what fits.
+use Rattle.std.proofs.Common.{◌≡◌, ℕ, zero, suc, ◌+◌, ◌%◌, ◌^◌, ◌<◌, ◌≤◌, ◌==◌, Bool, true, false, ◌&&◌, ◌||◌, cond, not, List, [], ◌∷◌, Option, Some, None, refl, sym, ap, ◌∙◌, arith}
+use Rattle.std.proofs.Math.Nat.{mod-lt, pow-le-pow_right}
+use Rattle.std.proofs.lemmas.Nat.{pow_pos}
+use Rattle.std.proofs.lemmas.Bool.Decides.{nat_tests}
+use Rattle.std.specs.List.{slice_get}
+use Rattle.nand_geometry.specs.declared.Parts.{Parts}
+use Rattle.nand_geometry.specs.Limits.{InLimits, page_bits}
+use Rattle.onfi_cycle.specs.declared.Command.{Command}
+use Rattle.onfi_cycle.specs.declared.Command.TheVariants.{Read, ReadConfirm, ChangeReadColumnConfirm, BlockErase, BlockEraseConfirm, BlockErasePlane, ReadStatus, ReadStatusEnhanced, ProgramConfirm, ProgramPlane, ReadId, ReadParameterPage, Reset, ReadCacheSequential, ReadCacheEnd}
+use Rattle.onfi_cycle.specs.declared.Item.{Item}
+use Rattle.onfi_cycle.specs.declared.Item.TheVariants.{Cyc, Rdy, Ard}
+use Rattle.onfi_cycle.specs.declared.Forbidden.TheVariants.{F1}
+use Rattle.onfi_cycle.specs.declared.Latch.{Latch}
+use Rattle.onfi_cycle.specs.declared.Latch.TheVariants.{Off, Status, Data}
+use Rattle.onfi_cycle.specs.declared.Opening.{Opening}
+use Rattle.onfi_cycle.specs.declared.Register.{Register}
+use Rattle.onfi_cycle.specs.declared.Register.TheVariants.{Empty, Page, ParameterPage, Identifier}
+use Rattle.onfi_cycle.specs.declared.ReadColumn.{ReadColumn}
+use Rattle.onfi_cycle.specs.declared.TailFacts.{TailFacts}
+use Rattle.onfi_cycle.specs.declared.TargetCycle.{TargetCycle}
+use Rattle.onfi_cycle.specs.declared.TargetCycle.TheVariants.{CommandCycle, AddressCycle, InputCycle, OutputCycle}
+use Rattle.onfi_cycle.specs.declared.Effect.{Effect}
+use Rattle.onfi_cycle.specs.declared.Effect.TheVariants.{Unaffected, SelectedForStatus, Deselected, IdRead, ParameterPageReadStarted, CacheReadContinued, CacheReadEnded, ReadColumnChanged, DataOutput, BecameReady, ArrayBecameReady}
+use Rattle.onfi_cycle.specs.LunView.{LunView}
+use Rattle.onfi_cycle.specs.Command.{closes, address_cycles}
+use Rattle.onfi_cycle.specs.Sequence.{target_cycle, opened, takes_inputs, wants_column, wants_command, wants_address, row, row_with}
+use Rattle.onfi_cycle.specs.Effect.{is_off, is_data, names_lun, page_address, confirm_effect, command_effect, address_effect, opening_address_effect, cycle_effect}
+use Rattle.onfi_cycle.specs.Lun.{is_page_read, output_column, option_plus}
+use Rattle.onfi_cycle.specs.Rules.{driving, are_none, only, driver, is_some_and, driver_is, lacks, is_past, is_empty, register_len, has_no_byte, is_past_register, continues_cache, breaks_F1, breaks_F13, breaks_F14, breaks_F15}
+use Rattle.onfi_cycle.specs.Permitted.{judge, judge_cycle}
+use Rattle.onfi_cycle.specs.State.{effect_alone, has_driver}
+use Rattle.onfi_cycle.specs.Bounds.{TailFits, RowFits, EffectFits, is_block_erase}
+use Rattle.onfi_cycle.proofs.Others.{first_passed}
+use Rattle.onfi_cycle.proofs.Passed.{KeepsRules, keeps_rules}
+
+-- a LUN that is on is among those that drive
+on_drives : (vs : List LunView) (n : ℕ) (v : LunView) → slice_get vs n ≡ Some v → is_off v.latch ≡ false → are_none (driving vs) ≡ false
+on_drives [] n v found on = cc
+on_drives (x ∷ vs) zero v found on = let same : x ≡ v = cc in let on_x : is_off x.latch ≡ false = ap (λ (w : LunView). is_off w.latch) same ∙ on in rw on_x refl
+on_drives (x ∷ vs) (suc n) v found on = at (is_off x.latch) (on_drives vs n v found on)
+  where
+    at : (b : Bool) → are_none (driving vs) ≡ false → are_none (cond b (driving vs) (x ∷ driving vs)) ≡ false
+    at true ih = ih
+    at false ih = refl
+
+-- where a LUN is on, it is the one driver, if there is one
+driver_at : (vs : List LunView) (n : ℕ) (v w : LunView) → slice_get vs n ≡ Some v → is_off v.latch ≡ false → driver vs ≡ Some w → w ≡ v
+driver_at [] n v w found on h = cc
+driver_at (x ∷ vs) zero v w found on h =
+    let same : x ≡ v = cc in
+    first (is_off x.latch) (ap (λ (w : LunView). is_off w.latch) same ∙ on) h ∙ same
+  where
+    alone : (b : Bool) → cond b (Some x) None ≡ Some w → w ≡ x
+    alone true h = cc
+    alone false h = cc
+
+    first : (b : Bool) → b ≡ false → only (cond b (driving vs) (x ∷ driving vs)) ≡ Some w → w ≡ x
+    first true e h = cc
+    first false e h = alone (are_none (driving vs)) h
+driver_at (x ∷ vs) (suc n) v w found on h = at (is_off x.latch) (driver_at vs n v w found on) h
+  where
+    more : (b : Bool) → b ≡ false → cond b (Some x) None ≡ Some w → w ≡ v
+    more true e h = cc
+    more false e h = cc
+
+    at : (b : Bool) → (driver vs ≡ Some w → w ≡ v) → only (cond b (driving vs) (x ∷ driving vs)) ≡ Some w → w ≡ v
+    at true ih h = ih h
+    at false ih h = more (are_none (driving vs)) (on_drives vs n v found on) h
+
+-- a LUN that shows something alone is the one driver, and what a test says of the driver it says of this LUN
+record IsDriver (luns : List LunView) (v : LunView) : Type 0 where
+  is : driver luns ≡ Some v
+
+alone_drives : (luns : List LunView) (n : ℕ) (v : LunView) → slice_get luns n ≡ Some v → is_off (cond (has_driver luns) v.latch Off) ≡ false → IsDriver luns v
+alone_drives luns n v found on = at (driver luns) refl on
+  where
+    at : (d : Option LunView) → driver luns ≡ d → is_off (cond (is_some_and (λ v. true) d) v.latch Off) ≡ false → IsDriver luns v
+    at None e on = cc
+    at (Some w) e on = record { is = e ∙ ap (λ (w : LunView). Some w) (driver_at luns n v w found on e) }
+
+alone_latch : (luns : List LunView) (v : LunView) → is_data (cond (has_driver luns) v.latch Off) ≡ true → is_data v.latch ≡ true
+alone_latch luns v h = at (has_driver luns) h
+  where
+    at : (b : Bool) → is_data (cond b v.latch Off) ≡ true → is_data v.latch ≡ true
+    at true h = h
+    at false h = cc
+
+data_is_on : (l : Latch) → is_data l ≡ true → is_off l ≡ false
+data_is_on Off h = cc
+data_is_on Status h = cc
+data_is_on Data h = refl
+
+driver_passes : (test : LunView → Bool) (luns : List LunView) (v : LunView) → IsDriver luns v → driver_is test luns ≡ test v
+driver_passes test luns v d = rw d.is refl
+
+both : (a b : Bool) → (a && b) ≡ true → (a ≡ true) × (b ≡ true)
+both true b h = (refl, h)
+both false b h = cc
+
+neither : (a b : Bool) → (a || b) ≡ false → (a ≡ false) × (b ≡ false)
+neither true b h = cc
+neither false b h = (refl, h)
+
+not_and : (a b : Bool) → a ≡ true → (a && b) ≡ false → b ≡ false
+not_and true b e h = h
+not_and false b e h = cc
+
+not_false : (b : Bool) → not b ≡ false → b ≡ true
+not_false true h = refl
+not_false false h = cc
+
+-- an effect that comes or not
+choice : (g : Parts) (v : LunView) (b : Bool) (x y : Effect) → (b ≡ true → EffectFits g v x) → (b ≡ false → EffectFits g v y) → EffectFits g v (cond b x y)
+choice g v true x y f h = f refl
+choice g v false x y f h = h refl
+
+page_is_small : (g : Parts) → InLimits g → (row : ℕ) → (page_address g row).page < 2 ^ 32
+page_is_small g limits row =
+    let below : row % 2 ^ page_bits g < 2 ^ page_bits g = mod-lt row (pow_pos (page_bits g)) in
+    let bits : page_bits g ≤ 24 = omega (arith, limits.row_bits_most) in
+    let most : 2 ^ page_bits g ≤ 2 ^ 24 = pow-le-pow_right {n = 2} (omega arith) bits in
+    omega arith
+
+-- a tail that wants D1 names the row of an erase
+wants_plane_erase : (c : Command) (n : ℕ) → (closes c BlockErasePlane && n == address_cycles c) ≡ true → (is_block_erase c && n == 3) ≡ true
+wants_plane_erase BlockErase n h = h
+wants_plane_erase c n h = cc
+
+erase_named : (o : Option Opening) → opened (λ c n. closes c BlockErasePlane && n == address_cycles c) o ≡ true → opened (λ c n. is_block_erase c && n == 3) o ≡ true
+erase_named None h = cc
+erase_named (Some o) h = wants_plane_erase o.opener o.addresses h
+
+program_named : (a b : Bool) → a ≡ true → (a || b) ≡ true
+program_named true b h = refl
+program_named false b h = cc
+
+-- the closer of a row
+confirm_fits : (g : Parts) → InLimits g → (t : TailFacts) (n : ℕ) (v : LunView) → TailFits g t → RowFits g t n v → (c : Command) → (wants_command t c && names_lun g (row t) n) ≡ true → EffectFits g v (confirm_effect g t c)
+confirm_fits g limits t n v tf rf ReadConfirm h = (page_is_small g limits (row t), tf.column)
+confirm_fits g limits t n v tf rf BlockEraseConfirm h = λ e. cc
+confirm_fits g limits t n v tf rf BlockErasePlane h = let parts = both (wants_command t BlockErasePlane) _ h in λ e. rf.erase parts.1 (erase_named t.opening parts.0)
+confirm_fits g limits t n v tf rf ProgramConfirm h = λ e. cc
+confirm_fits g limits t n v tf rf ProgramPlane h = let parts = both (wants_command t ProgramPlane) _ h in λ e. rf.program parts.1 (program_named (takes_inputs t.phase) (wants_column t.phase) parts.0)
+confirm_fits g limits t n v tf rf c h = tt
+
+-- a cache read goes on inside its block
+continued_fits : (g : Parts) → InLimits g → (t : TailFacts) (luns : List LunView) (v : LunView) → breaks_F15 g t luns (CommandCycle ReadCacheSequential) ≡ false → IsDriver luns v → v.array_page.page + 1 < 2 ^ 32
+unfolding breaks_F15
+continued_fits g limits t luns v f15 d =
+    let passes : continues_cache g v ≡ true = sym (driver_passes (continues_cache g) luns v d) ∙ not_false _ f15 in
+    let inside = (both (is_page_read v.closer) _ (both (not v.busy) _ passes).1).1 in
+    let pages = limits.pages_most in
+    grind (arith, nat_tests)
+
+command_fits : (g : Parts) → InLimits g → (t : TailFacts) (luns : List LunView) (n : ℕ) (v : LunView) → TailFits g t → RowFits g t n v → slice_get luns n ≡ Some v → (c : Command) → breaks_F15 g t luns (CommandCycle c) ≡ false → EffectFits g v (command_effect g t (cond (has_driver luns) v.latch Off) c n)
+command_fits g limits t luns n v tf rf found Read f15 = tt
+command_fits g limits t luns n v tf rf found ReadStatus f15 = tt
+command_fits g limits t luns n v tf rf found ReadStatusEnhanced f15 = tt
+command_fits g limits t luns n v tf rf found Reset f15 = tt
+command_fits g limits t luns n v tf rf found ReadCacheSequential f15 =
+    choice g v (is_off (cond (has_driver luns) v.latch Off)) Unaffected CacheReadContinued (λ e. tt) (λ e. continued_fits g limits t luns v f15 (alone_drives luns n v found e))
+command_fits g limits t luns n v tf rf found ReadCacheEnd f15 = choice g v (is_off (cond (has_driver luns) v.latch Off)) Unaffected CacheReadEnded (λ e. tt) (λ e. tt)
+command_fits g limits t luns n v tf rf found ChangeReadColumnConfirm f15 =
+    choice g v (wants_command t ChangeReadColumnConfirm && not (is_off (cond (has_driver luns) v.latch Off))) (ReadColumnChanged t.column) Unaffected (λ e. tf.column) (λ e. tt)
+command_fits g limits t luns n v tf rf found c f15 =
+    choice g v (wants_command t c && names_lun g (row t) n) (confirm_effect g t c) Unaffected (confirm_fits g limits t n v tf rf c) (λ e. tt)
+
+-- an address leaves all that fits
+address_kind_fits : (g : Parts) (t : TailFacts) (byte : ℕ) (n : ℕ) (v : LunView) (c : Command) (m : ℕ) → EffectFits g v (address_effect g t byte c m n)
+address_kind_fits g t byte n v ReadStatusEnhanced m =
+    choice g v (m == 2) (cond (names_lun g (row_with t byte) n) SelectedForStatus Deselected) Unaffected (λ e. choice g v (names_lun g (row_with t byte) n) SelectedForStatus Deselected (λ e. tt) (λ e. tt)) (λ e. tt)
+address_kind_fits g t byte n v ReadId m = choice g v (wants_address t byte) IdRead Unaffected (λ e. tt) (λ e. tt)
+address_kind_fits g t byte n v ReadParameterPage m = choice g v (wants_address t byte) ParameterPageReadStarted Unaffected (λ e. tt) (λ e. tt)
+address_kind_fits g t byte n v c m = tt
+
+address_fits : (g : Parts) (t : TailFacts) (byte n : ℕ) (v : LunView) (o : Option Opening) → EffectFits g v (opening_address_effect g t byte o n)
+address_fits g t byte n v None = tt
+address_fits g t byte n v (Some o) = address_kind_fits g t byte n v o.opener o.addresses
+
+-- an output lies in its register
+register_is_small : (g : Parts) → InLimits g → (r : Register) → register_len g r ≤ 20480
+register_is_small g limits Empty = omega arith
+register_is_small g limits (Page p) = let a = limits.page_bytes_most in let b = limits.spare_bytes_most in omega arith
+register_is_small g limits ParameterPage = omega arith
+register_is_small g limits Identifier = omega arith
+
+outputs_are_small : (k : ReadColumn) (len : ℕ) → len ≤ 20480 → lacks (output_column k) ≡ false → is_past (output_column k) len ≡ false → k.outputs < 2 ^ 16
+outputs_are_small k len small found inside = at k.lost found inside
+  where
+    given : (from : Option ℕ) → lacks (option_plus k.outputs from) ≡ false → is_past (option_plus k.outputs from) len ≡ false → k.outputs < 2 ^ 16
+    given None found inside = cc
+    given (Some from) found inside = grind (arith, nat_tests)
+
+    at : (b : Bool) → lacks (cond b None (option_plus k.outputs k.given)) ≡ false → is_past (cond b None (option_plus k.outputs k.given)) len ≡ false → k.outputs < 2 ^ 16
+    at true found inside = cc
+    at false found inside = given k.given found inside
+
+output_fits : (g : Parts) → InLimits g → (t : TailFacts) (luns : List LunView) (v : LunView) → breaks_F13 luns OutputCycle ≡ false → breaks_F14 g t luns OutputCycle ≡ false → IsDriver luns v → is_data v.latch ≡ true → v.column.outputs < 2 ^ 16
+unfolding breaks_F13 breaks_F14
+output_fits g limits t luns v f13 f14 d shows =
+    let has_byte : has_no_byte v ≡ false = sym (driver_passes has_no_byte luns v d) ∙ f13 in
+    let is_inside : is_past_register g v ≡ false = sym (driver_passes (is_past_register g) luns v d) ∙ f14 in
+    let found = (neither (v.busy || is_empty v.register) _ (not_and (is_data v.latch) (v.busy || is_empty v.register || lacks (output_column v.column)) shows has_byte)).1 in
+    outputs_are_small v.column (register_len g v.register) (register_is_small g limits v.register) found (not_and (is_data v.latch) _ shows is_inside)
+
+cycle_fits : (g : Parts) → InLimits g → (t : TailFacts) (luns : List LunView) (n : ℕ) (v : LunView) → TailFits g t → RowFits g t n v → slice_get luns n ≡ Some v → (cycle : TargetCycle) → KeepsRules g t luns cycle → EffectFits g v (cycle_effect g t (cond (has_driver luns) v.latch Off) cycle n)
+cycle_fits g limits t luns n v tf rf found (CommandCycle c) keeps = command_fits g limits t luns n v tf rf found c keeps.f15
+cycle_fits g limits t luns n v tf rf found (AddressCycle byte) keeps = address_fits g t byte n v t.opening
+cycle_fits g limits t luns n v tf rf found (InputCycle byte) keeps = tt
+cycle_fits g limits t luns n v tf rf found OutputCycle keeps =
+    choice g v (is_data (cond (has_driver luns) v.latch Off)) DataOutput Unaffected
+    (λ e. output_fits g limits t luns v keeps.f13 keeps.f14 (alone_drives luns n v found (data_is_on _ e)) (alone_latch luns v e))
+    (λ e. tt)
+
+-- the effect of a permitted item on a LUN of its target
+pub effect_fits : (g : Parts) → InLimits g → (targets : ℕ) (t : TailFacts) (luns : List LunView) (i : Item) (n : ℕ) (v : LunView) → judge g targets t luns i ≡ None → TailFits g t → RowFits g t n v → slice_get luns n ≡ Some v → EffectFits g v (effect_alone g t (has_driver luns) i n v)
+effect_fits g limits targets t luns (Cyc c) n v h tf rf found =
+    let cycle = target_cycle c.kind c.byte in
+    let keeps = keeps_rules g t luns cycle (first_passed (breaks_F1 targets luns (Cyc c)) F1 (judge_cycle g t luns cycle) h).1 in
+    choice g v (c.ce == c.ce) (cycle_effect g t (cond (has_driver luns) v.latch Off) cycle n) Unaffected (λ e. cycle_fits g limits t luns n v tf rf found cycle keeps) (λ e. tt)
+effect_fits g limits targets t luns (Rdy ce lun fail) n v h tf rf found = choice g v (ce == ce && lun == n) (BecameReady fail) Unaffected (λ e. tt) (λ e. tt)
+effect_fits g limits targets t luns (Ard ce lun) n v h tf rf found = choice g v (ce == ce && lun == n) ArrayBecameReady Unaffected (λ e. tt) (λ e. tt)

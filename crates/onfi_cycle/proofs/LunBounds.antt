@@ -1,0 +1,98 @@
+-- What an effect that keeps what fits leaves of a LUN.
+use Rattle.std.proofs.Common.{◌≡◌, ℕ, zero, suc, ◌+◌, ◌%◌, ◌/◌, ◌^◌, ◌<◌, ◌≤◌, ◌==◌, Bool, true, false, ◌||◌, cond, not, List, [], ◌∷◌, refl, arith, length}
+use Rattle.std.proofs.lemmas.Bool.Decides.{nat_tests}
+use Rattle.nand_geometry.specs.declared.Parts.{Parts}
+use Rattle.nand_geometry.specs.Limits.{InLimits, planes}
+use Rattle.onfi_cycle.specs.declared.PageAddress.{PageAddress}
+use Rattle.onfi_cycle.specs.declared.Queued.{Queued}
+use Rattle.onfi_cycle.specs.declared.Queued.TheVariants.{Erase, Program}
+use Rattle.onfi_cycle.specs.declared.Effect.{Effect}
+use Rattle.onfi_cycle.specs.declared.Effect.TheVariants.{Unaffected, DataOutputEnabled, StatusSelected, StatusRowAwaited, SelectedForStatus, Deselected, ReadStarted, EraseStarted, ProgramStarted, IdRead, ParameterPageReadStarted, CacheReadContinued, CacheReadEnded, ReadColumnChanged, DataOutput, ResetStarted, BecameReady, ArrayBecameReady}
+use Rattle.onfi_cycle.specs.LunView.{LunView}
+use Rattle.onfi_cycle.specs.Lun.{view_after}
+use Rattle.onfi_cycle.specs.Rules.{planes_clash, queued_clashes, some_queued_clashes}
+use Rattle.onfi_cycle.specs.Bounds.{plane_of, is_in_use, room_in, rooms, LunFits, EffectFits}
+
+-- a row that clashes with none of a queue lies in a plane that the queue doesn't use
+either : (a b : Bool) → (a || b) ≡ false → (a ≡ false) × (b ≡ false)
+either true b h = cc
+either false b h = (refl, h)
+
+first_of : (a b c : Bool) → (a || b || c) ≡ false → a ≡ false
+first_of true b c h = cc
+first_of false b c h = refl
+
+other_plane : (g : Parts) (erase : Bool) (p : PageAddress) (q : Queued) → queued_clashes g erase p q ≡ false → (plane_of g q == p.block % planes g) ≡ false
+other_plane g erase p (Erase q) h = turned (first_of (p.block % planes g == q.block % planes g) (not (p.page == q.page)) (not (p.block / planes g == q.block / planes g)) (either (not erase) (planes_clash g p q) h).1)
+  where
+    turned : (p.block % planes g == q.block % planes g) ≡ false → (q.block % planes g == p.block % planes g) ≡ false
+    turned h = grind (arith, nat_tests)
+other_plane g erase p (Program q) h = turned (first_of (p.block % planes g == q.block % planes g) (not (p.page == q.page)) (not (p.block / planes g == q.block / planes g)) (either erase (planes_clash g p q) h).1)
+  where
+    turned : (p.block % planes g == q.block % planes g) ≡ false → (q.block % planes g == p.block % planes g) ≡ false
+    turned h = grind (arith, nat_tests)
+
+not_in_use : (g : Parts) (erase : Bool) (p : PageAddress) (queue : List Queued) → some_queued_clashes g erase p queue ≡ false → is_in_use g (p.block % planes g) queue ≡ false
+not_in_use g erase p [] h = refl
+not_in_use g erase p (q ∷ queue) h =
+    let parts = either (queued_clashes g erase p q) _ h in
+    rw (other_plane g erase p q parts.0, not_in_use g erase p queue parts.1) refl
+
+-- one row more takes no room of another plane, and the room of its own
+room_or_less : (g : Parts) (k : ℕ) (q : Queued) (queue : List Queued) → room_in g k (q ∷ queue) ≤ room_in g k queue
+room_or_less g k q queue = at (plane_of g q == k) (is_in_use g k queue)
+  where
+    at : (b c : Bool) → cond (b || c) 0 1 ≤ cond c 0 1
+    at true true = omega arith
+    at true false = omega arith
+    at false c = omega arith
+
+room_taken : (g : Parts) (k : ℕ) (q : Queued) (queue : List Queued) → plane_of g q ≡ k → is_in_use g k queue ≡ false → room_in g k (q ∷ queue) + 1 ≡ room_in g k queue
+room_taken g k q queue is free = let same : (plane_of g q == k) ≡ true = grind (arith, nat_tests) in rw (same, free) refl
+
+-- one row more takes a room
+rooms_taken : (g : Parts) (k : ℕ) (q : Queued) (queue : List Queued) → plane_of g q ≡ k → k < 4 → is_in_use g k queue ≡ false → rooms g (q ∷ queue) + 1 ≤ rooms g queue
+rooms_taken g zero q queue is low free =
+    let taken = room_taken g 0 q queue is free in let b = room_or_less g 1 q queue in let c = room_or_less g 2 q queue in let d = room_or_less g 3 q queue in omega arith
+rooms_taken g (suc zero) q queue is low free =
+    let taken = room_taken g 1 q queue is free in let a = room_or_less g 0 q queue in let c = room_or_less g 2 q queue in let d = room_or_less g 3 q queue in omega arith
+rooms_taken g (suc (suc zero)) q queue is low free =
+    let taken = room_taken g 2 q queue is free in let a = room_or_less g 0 q queue in let b = room_or_less g 1 q queue in let d = room_or_less g 3 q queue in omega arith
+rooms_taken g (suc (suc (suc zero))) q queue is low free =
+    let taken = room_taken g 3 q queue is free in let a = room_or_less g 0 q queue in let b = room_or_less g 1 q queue in let c = room_or_less g 2 q queue in omega arith
+rooms_taken g (suc (suc (suc (suc k)))) q queue is low free = absurd (omega arith)
+
+-- a LUN has four planes at most
+four_planes : (b k : ℕ) → b ≤ 2 → k % 2 ^ b < 4
+four_planes zero k h = omega arith
+four_planes (suc zero) k h = omega arith
+four_planes (suc (suc zero)) k h = omega arith
+four_planes (suc (suc (suc b))) k h = absurd (omega arith)
+
+queue_fits : (g : Parts) → InLimits g → (q : Queued) (queue : List Queued) → is_in_use g (plane_of g q) queue ≡ false → plane_of g q < 4 → length queue + rooms g queue ≤ 4 → length (q ∷ queue) + rooms g (q ∷ queue) ≤ 4
+queue_fits g limits q queue free low h = let taken = rooms_taken g (plane_of g q) q queue refl low free in omega arith
+
+-- what an effect leaves of a LUN
+pub lun_fits : (g : Parts) → InLimits g → (e : Effect) (v : LunView) → EffectFits g v e → LunFits g v → LunFits g (view_after e v)
+lun_fits g limits (ReadStarted page column) v h f = record { outputs = omega arith; given = h.1; array_page = h.0; queue = f.queue }
+lun_fits g limits (EraseStarted true at) v h f =
+    record { outputs = f.outputs; given = f.given; array_page = f.array_page; queue = queue_fits g limits (Erase at) v.queue (not_in_use g true at v.queue (h refl)) (four_planes g.plane_bits at.block limits.plane_bits_most) f.queue }
+lun_fits g limits (EraseStarted false at) v h f = record { outputs = f.outputs; given = f.given; array_page = f.array_page; queue = omega arith }
+lun_fits g limits (ProgramStarted true at) v h f =
+    record { outputs = f.outputs; given = f.given; array_page = f.array_page; queue = queue_fits g limits (Program at) v.queue (not_in_use g false at v.queue (h refl)) (four_planes g.plane_bits at.block limits.plane_bits_most) f.queue }
+lun_fits g limits (ProgramStarted false at) v h f = record { outputs = f.outputs; given = f.given; array_page = f.array_page; queue = omega arith }
+lun_fits g limits IdRead v h f = record { outputs = omega arith; given = omega arith; array_page = f.array_page; queue = f.queue }
+lun_fits g limits ParameterPageReadStarted v h f = record { outputs = omega arith; given = omega arith; array_page = f.array_page; queue = f.queue }
+lun_fits g limits CacheReadContinued v h f = record { outputs = omega arith; given = omega arith; array_page = h; queue = f.queue }
+lun_fits g limits CacheReadEnded v h f = record { outputs = omega arith; given = omega arith; array_page = f.array_page; queue = f.queue }
+lun_fits g limits (ReadColumnChanged column) v h f = record { outputs = omega arith; given = h; array_page = f.array_page; queue = f.queue }
+lun_fits g limits DataOutput v h f = record { outputs = omega arith; given = f.given; array_page = f.array_page; queue = f.queue }
+lun_fits g limits ResetStarted v h f = record { outputs = f.outputs; given = f.given; array_page = f.array_page; queue = omega arith }
+lun_fits g limits Unaffected v h f = record { outputs = f.outputs; given = f.given; array_page = f.array_page; queue = f.queue }
+lun_fits g limits DataOutputEnabled v h f = record { outputs = f.outputs; given = f.given; array_page = f.array_page; queue = f.queue }
+lun_fits g limits StatusSelected v h f = record { outputs = f.outputs; given = f.given; array_page = f.array_page; queue = f.queue }
+lun_fits g limits StatusRowAwaited v h f = record { outputs = f.outputs; given = f.given; array_page = f.array_page; queue = f.queue }
+lun_fits g limits SelectedForStatus v h f = record { outputs = f.outputs; given = f.given; array_page = f.array_page; queue = f.queue }
+lun_fits g limits Deselected v h f = record { outputs = f.outputs; given = f.given; array_page = f.array_page; queue = f.queue }
+lun_fits g limits (BecameReady failed) v h f = record { outputs = f.outputs; given = f.given; array_page = f.array_page; queue = f.queue }
+lun_fits g limits ArrayBecameReady v h f = record { outputs = f.outputs; given = f.given; array_page = f.array_page; queue = f.queue }

@@ -1,0 +1,250 @@
+-- The row that a tail names goes together with the queue of its LUN, from its last address to its closer.
+use Rattle.std.proofs.Common.{◌≡◌, ℕ, suc, ◌+◌, ◌==◌, Bool, true, false, ◌&&◌, ◌||◌, cond, List, [], Option, Some, None, refl, sym, ap, ◌∙◌, arith, eqb-true}
+use Rattle.std.proofs.lemmas.Bool.Decides.{nat_tests}
+use Rattle.std.specs.List.{slice_get}
+use Rattle.nand_geometry.specs.declared.Parts.{Parts}
+use Rattle.nand_geometry.specs.Row.{row_of, parts_of}
+use Rattle.onfi_cycle.specs.declared.Command.{Command}
+use Rattle.onfi_cycle.specs.declared.Command.TheVariants.{BlockErase, ReadStatusEnhanced, PageProgram, ChangeWriteColumn, ReadId, ReadParameterPage}
+use Rattle.onfi_cycle.specs.declared.DataPhase.{DataPhase}
+use Rattle.onfi_cycle.specs.declared.DataPhase.TheVariants.{Outside, Inputs, FirstColumn, SecondColumn}
+use Rattle.onfi_cycle.specs.declared.Effect.{Effect}
+use Rattle.onfi_cycle.specs.declared.Effect.TheVariants.{Unaffected, SelectedForStatus, Deselected, IdRead, ParameterPageReadStarted, BecameReady, ArrayBecameReady}
+use Rattle.onfi_cycle.specs.declared.Forbidden.TheVariants.{F1}
+use Rattle.onfi_cycle.specs.declared.Item.{Item}
+use Rattle.onfi_cycle.specs.declared.Item.TheVariants.{Cyc, Rdy, Ard}
+use Rattle.onfi_cycle.specs.declared.Latch.{Latch}
+use Rattle.onfi_cycle.specs.declared.Latch.TheVariants.{Off}
+use Rattle.onfi_cycle.specs.declared.Opening.{Opening}
+use Rattle.onfi_cycle.specs.declared.PageAddress.{PageAddress}
+use Rattle.onfi_cycle.specs.declared.Queued.{Queued}
+use Rattle.onfi_cycle.specs.declared.TailFacts.{TailFacts}
+use Rattle.onfi_cycle.specs.declared.TargetCycle.{TargetCycle}
+use Rattle.onfi_cycle.specs.declared.TargetCycle.TheVariants.{CommandCycle, AddressCycle, InputCycle, OutputCycle}
+use Rattle.onfi_cycle.specs.LunView.{LunView}
+use Rattle.onfi_cycle.specs.Command.{is_page_program, at_last_row}
+use Rattle.onfi_cycle.specs.Sequence.{target_cycle, begins_sequence, facts_of, facts_after, extended_facts, opened, one_address_more, row_after_address, takes_inputs, wants_column, wants_command, wants_address, phase_after_command, phase_after_address, phase_after_input, row, row_with}
+use Rattle.onfi_cycle.specs.Effect.{names_lun, page_address, cycle_effect, address_effect, opening_address_effect}
+use Rattle.onfi_cycle.specs.Lun.{queue_after, view_after}
+use Rattle.onfi_cycle.specs.Rules.{some_queued_clashes, is_some_and, named_lun_is, refused_by, is_refused_by, breaks_F1, breaks_F10}
+use Rattle.onfi_cycle.specs.Permitted.{judge, judge_cycle}
+use Rattle.onfi_cycle.specs.State.{tail_after, effect_alone, has_driver}
+use Rattle.onfi_cycle.specs.Bounds.{TailFits, RowFits, is_block_erase, names_erase, names_program}
+use Rattle.onfi_cycle.proofs.Others.{first_passed}
+use Rattle.onfi_cycle.proofs.Passed.{KeepsRules, keeps_rules}
+
+-- a tail that names no row
+unnamed : (g : Parts) (t : TailFacts) (n : ℕ) (v : LunView) → names_erase t ≡ false → names_program t ≡ false → RowFits g t n v
+unnamed g t n v erase program = record { erase = λ named h. cc; program = λ named h. cc }
+
+-- a queue that stays
+same_queue : (g : Parts) (t : TailFacts) (n : ℕ) (v w : LunView) → w.queue ≡ v.queue → RowFits g t n v → RowFits g t n w
+same_queue g t n v w e f =
+    record {
+      erase = λ named h. ap (some_queued_clashes g true (page_address g (row t))) e ∙ f.erase named h;
+      program = λ named h. ap (some_queued_clashes g false (page_address g (row t))) e ∙ f.program named h;
+    }
+
+both : (a b : Bool) → (a && b) ≡ true → (a ≡ true) × (b ≡ true)
+both true b h = (refl, h)
+both false b h = cc
+
+never : (b : Bool) → (b && false) ≡ false
+never true = refl
+never false = refl
+
+-- effects that leave the queue
+either_keeps : (b : Bool) (x y : Effect) (q : List Queued) → queue_after x q ≡ q → queue_after y q ≡ q → queue_after (cond b x y) q ≡ q
+either_keeps true x y q hx hy = hx
+either_keeps false x y q hx hy = hy
+
+address_keeps : (g : Parts) (t : TailFacts) (byte : ℕ) (c : Command) (m n : ℕ) (q : List Queued) → queue_after (address_effect g t byte c m n) q ≡ q
+address_keeps g t byte ReadStatusEnhanced m n q =
+    either_keeps (m == 2) (cond (names_lun g (row_with t byte) n) SelectedForStatus Deselected) Unaffected q (either_keeps (names_lun g (row_with t byte) n) SelectedForStatus Deselected q refl refl) refl
+address_keeps g t byte ReadId m n q = either_keeps (wants_address t byte) IdRead Unaffected q refl refl
+address_keeps g t byte ReadParameterPage m n q = either_keeps (wants_address t byte) ParameterPageReadStarted Unaffected q refl refl
+address_keeps g t byte c m n q = refl
+
+opening_keeps : (g : Parts) (t : TailFacts) (byte n : ℕ) (o : Option Opening) (q : List Queued) → queue_after (opening_address_effect g t byte o n) q ≡ q
+opening_keeps g t byte n None q = refl
+opening_keeps g t byte n (Some o) q = address_keeps g t byte o.opener o.addresses n q
+
+-- a command: an opener names no row yet; of the others a Change Write Column alone goes on with a program
+begun_outside : (c : Command) → phase_after_command c Outside ≡ Outside
+begun_outside ChangeWriteColumn = refl
+begun_outside c = refl
+
+record ChangesColumn (c : Command) (p : DataPhase) : Type 0 where
+  command : c ≡ ChangeWriteColumn
+  phase : p ≡ Inputs
+
+goes_on_inside : (c : Command) (p : DataPhase) → (takes_inputs (phase_after_command c p) || wants_column (phase_after_command c p)) ≡ true → ChangesColumn c p
+goes_on_inside ChangeWriteColumn Inputs h = record { command = refl; phase = refl }
+goes_on_inside ChangeWriteColumn Outside h = cc
+goes_on_inside ChangeWriteColumn FirstColumn h = cc
+goes_on_inside ChangeWriteColumn SecondColumn h = cc
+goes_on_inside c p h = cc
+
+begun_row : (g : Parts) (n : ℕ) (v : LunView) (cycle : TargetCycle) → begins_sequence cycle ≡ true → RowFits g (extended_facts cycle (facts_of [])) n v
+begun_row g n v (CommandCycle c) h =
+    unnamed g (extended_facts (CommandCycle c) (facts_of [])) n v (never (is_block_erase c)) (rw (begun_outside c) refl)
+begun_row g n v (AddressCycle byte) h = cc
+begun_row g n v (InputCycle byte) h = cc
+begun_row g n v OutputCycle h = cc
+
+command_row : (g : Parts) (t : TailFacts) (la : Latch) (n : ℕ) (v : LunView) (c : Command) → t.is_empty ≡ false → RowFits g t n v → RowFits g (extended_facts (CommandCycle c) t) n (view_after (cycle_effect g t la (CommandCycle c) n) v)
+command_row g t la n v c some f =
+    record {
+      erase = λ named h. none (t.is_empty) some h;
+      program = λ named h. let is = goes_on_inside c t.phase h in kept c is.command named is.phase;
+    }
+  where
+    none : {A : Type 0} → (e : Bool) → e ≡ false → opened (λ c n. is_block_erase c && n == 3) (cond e (Some (record { opener = c; addresses = 0 })) None) ≡ true → A
+    none true e h = cc
+    none false e h = cc
+
+    kept : (d : Command) → d ≡ ChangeWriteColumn → names_lun g (row t) n ≡ true → t.phase ≡ Inputs → some_queued_clashes g false (page_address g (row t)) (queue_after (cycle_effect g t la (CommandCycle d) n) v.queue) ≡ false
+    kept ChangeWriteColumn is named e =
+        let same = either_keeps (wants_command t ChangeWriteColumn && names_lun g (row t) n) Unaffected Unaffected v.queue refl refl in
+        ap (some_queued_clashes g false (page_address g (row t))) same ∙ f.program named (rw e refl)
+    kept d is named e = cc
+
+-- an address: the last one of a row was judged by the queue of its LUN
+judged_row : (g : Parts) (row : ℕ) (test : LunView → Bool) (luns : List LunView) (n : ℕ) (v : LunView) → named_lun_is g row test luns ≡ false → names_lun g row n ≡ true → slice_get luns n ≡ Some v → test v ≡ false
+judged_row g row test luns n v passed named found = at (slice_get luns (parts_of g row).lun) refl passed
+  where
+    same : (parts_of g row).lun ≡ n
+    same = eqb-true (parts_of g row).lun n named
+
+    at : (o : Option LunView) → slice_get luns (parts_of g row).lun ≡ o → is_some_and test o ≡ false → test v ≡ false
+    at None e h = let two : slice_get luns (parts_of g row).lun ≡ Some v = ap (slice_get luns) same ∙ found in cc
+    at (Some w) e h = let two : slice_get luns (parts_of g row).lun ≡ Some v = ap (slice_get luns) same ∙ found in let is : w ≡ v = cc in sym (ap test is) ∙ h
+
+next_is : (m k : ℕ) → (m + 1 == suc k) ≡ true → m ≡ k
+next_is m k h = grind (arith, nat_tests)
+
+-- the third address of an erase
+erase_judged : (g : Parts) (p : PageAddress) (q : List Queued) (c : Command) (m : ℕ) → (at_last_row c m && refused_by g c p q) ≡ false → (is_block_erase c && m + 1 == 3) ≡ true → some_queued_clashes g true p q ≡ false
+erase_judged g p q BlockErase m h e = let two = next_is m 2 e in passes (m == 2) (rw two refl) h
+  where
+    passes : (b : Bool) → b ≡ true → (b && some_queued_clashes g true p q) ≡ false → some_queued_clashes g true p q ≡ false
+    passes true e h = h
+    passes false e h = cc
+erase_judged g p q c m h e = cc
+
+-- the fifth address of a program
+program_judged : (g : Parts) (p : PageAddress) (q : List Queued) (c : Command) (m : ℕ) → (at_last_row c m && refused_by g c p q) ≡ false → (is_page_program c && m == 4) ≡ true → some_queued_clashes g false p q ≡ false
+program_judged g p q PageProgram m h e = passes (m == 4) e h
+  where
+    passes : (b : Bool) → b ≡ true → (b && some_queued_clashes g false p q) ≡ false → some_queued_clashes g false p q ≡ false
+    passes true e h = h
+    passes false e h = cc
+program_judged g p q c m h e = cc
+
+in_data : (b : Bool) → (takes_inputs (cond b Inputs Outside) || wants_column (cond b Inputs Outside)) ≡ true → b ≡ true
+in_data true h = refl
+in_data false h = cc
+
+-- where no opener stands alone, an address goes on in the data of a program
+later_address : (p : DataPhase) → (takes_inputs (phase_after_address None p) || wants_column (phase_after_address None p)) ≡ true → (takes_inputs p || wants_column p) ≡ true
+later_address Outside h = cc
+later_address FirstColumn h = refl
+later_address SecondColumn h = refl
+later_address Inputs h = cc
+
+-- behind an opener, its last address
+last_address : (o : Opening) (p : DataPhase) → (wants_column p ≡ true → Some o ≡ None) → (takes_inputs (phase_after_address (Some o) p) || wants_column (phase_after_address (Some o) p)) ≡ true → (is_page_program o.opener && o.addresses == 4) ≡ true
+last_address o Outside alone h = in_data (is_page_program o.opener && o.addresses == 4) h
+last_address o FirstColumn alone h = let never = alone refl in cc
+last_address o SecondColumn alone h = let never = alone refl in cc
+last_address o Inputs alone h = cc
+
+abbrev opened_by_erase : Option Opening → Bool
+opened_by_erase o = opened (λ c n. is_block_erase c && n == 3) o
+
+address_row : (g : Parts) (t : TailFacts) (la : Latch) (luns : List LunView) (n : ℕ) (v : LunView) (byte : ℕ) → breaks_F10 g t luns (AddressCycle byte) ≡ false → slice_get luns n ≡ Some v → TailFits g t → RowFits g t n v → RowFits g (extended_facts (AddressCycle byte) t) n (view_after (cycle_effect g t la (AddressCycle byte) n) v)
+unfolding breaks_F10
+address_row g t la luns n v byte f10 found tf f = at t.opening refl f10
+  where
+    kept : queue_after (opening_address_effect g t byte t.opening n) v.queue ≡ v.queue
+    kept = opening_keeps g t byte n t.opening v.queue
+
+    next : TailFacts
+    next = extended_facts (AddressCycle byte) t
+
+    first : (o : Opening) → t.opening ≡ Some o → next.opening ≡ one_address_more (Some o) → next.phase ≡ phase_after_address (Some o) t.phase → row next ≡ row_with t byte → named_lun_is g (row_with t byte) (λ v. is_refused_by g (Some o) (page_address g (row_with t byte)) v.queue) luns ≡ false → RowFits g next n v
+    first o is opened phase same passed =
+        record {
+          erase = λ named h.
+              ap (λ r. some_queued_clashes g true (page_address g r) v.queue) same ∙
+              erase_judged g (page_address g (row_with t byte)) v.queue o.opener o.addresses (free named) (ap (opened_by_erase) (sym opened) ∙ h);
+          program = λ named h.
+              ap (λ r. some_queued_clashes g false (page_address g r) v.queue) same ∙
+              program_judged g (page_address g (row_with t byte)) v.queue o.opener o.addresses (free named) (last_address o t.phase (λ e. sym is ∙ tf.in_column e) (ap (λ p. takes_inputs p || wants_column p) (sym phase) ∙ h));
+        }
+      where
+        free : names_lun g (row next) n ≡ true → is_refused_by g (Some o) (page_address g (row_with t byte)) v.queue ≡ false
+        free named = judged_row g (row_with t byte) (λ v. is_refused_by g (Some o) (page_address g (row_with t byte)) v.queue) luns n v passed (ap (λ r. names_lun g r n) (sym same) ∙ named) found
+
+    later : next.opening ≡ None → next.phase ≡ phase_after_address None t.phase → row next ≡ row t → RowFits g next n v
+    later opened phase same =
+        record {
+          erase = λ named h. none next.opening opened h;
+          program = λ named h.
+              ap (λ r. some_queued_clashes g false (page_address g r) v.queue) same ∙
+              f.program (ap (λ r. names_lun g r n) (sym same) ∙ named) (later_address t.phase (ap (λ p. takes_inputs p || wants_column p) (sym phase) ∙ h));
+        }
+      where
+        none : {A : Type 0} → (o : Option Opening) → o ≡ None → opened_by_erase o ≡ true → A
+        none None e h = cc
+        none (Some o) e h = cc
+
+    at : (o : Option Opening) → t.opening ≡ o → named_lun_is g (row_with t byte) (λ v. is_refused_by g o (page_address g (row_with t byte)) v.queue) luns ≡ false → RowFits g next n (view_after (cycle_effect g t la (AddressCycle byte) n) v)
+    at None e passed =
+        same_queue g next n v (view_after (cycle_effect g t la (AddressCycle byte) n) v) kept
+        (later (ap one_address_more e) (ap (λ o. phase_after_address o t.phase) e) (ap (λ o. row_of (row_after_address o byte t.row).r1 (row_after_address o byte t.row).r2 (row_after_address o byte t.row).r3) e))
+    at (Some o) e passed =
+        same_queue g next n v (view_after (cycle_effect g t la (AddressCycle byte) n) v) kept
+        (first o e (ap one_address_more e) (ap (λ o. phase_after_address o t.phase) e) (ap (λ o. row_of (row_after_address o byte t.row).r1 (row_after_address o byte t.row).r2 (row_after_address o byte t.row).r3) e) passed)
+
+input_inside : (p : DataPhase) → (takes_inputs (phase_after_input p) || wants_column (phase_after_input p)) ≡ true → (takes_inputs p || wants_column p) ≡ true
+input_inside Outside h = cc
+input_inside FirstColumn h = cc
+input_inside SecondColumn h = cc
+input_inside Inputs h = refl
+
+extended_row : (g : Parts) (t : TailFacts) (la : Latch) (luns : List LunView) (n : ℕ) (v : LunView) (cycle : TargetCycle) → t.is_empty ≡ false → KeepsRules g t luns cycle → slice_get luns n ≡ Some v → TailFits g t → RowFits g t n v → RowFits g (extended_facts cycle t) n (view_after (cycle_effect g t la cycle n) v)
+extended_row g t la luns n v (CommandCycle c) some keeps found tf f = command_row g t la n v c some f
+extended_row g t la luns n v (AddressCycle byte) some keeps found tf f = address_row g t la luns n v byte keeps.f10 found tf f
+extended_row g t la luns n v (InputCycle byte) some keeps found tf f = record { erase = λ named h. cc; program = λ named h. f.program named (input_inside t.phase h) }
+extended_row g t la luns n v OutputCycle some keeps found tf f = record { erase = λ named h. cc; program = λ named h. cc }
+
+cycle_row : (g : Parts) (t : TailFacts) (la : Latch) (luns : List LunView) (n : ℕ) (v : LunView) (cycle : TargetCycle) → KeepsRules g t luns cycle → slice_get luns n ≡ Some v → TailFits g t → RowFits g t n v → RowFits g (facts_after cycle t) n (view_after (cycle_effect g t la cycle n) v)
+cycle_row g t la luns n v cycle keeps found tf f = at (begins_sequence cycle) refl
+  where
+    w : LunView
+    w = view_after (cycle_effect g t la cycle n) v
+
+    empty : t.is_empty ≡ true → RowFits g t n w
+    empty e = unnamed g t n w (rw (tf.nothing e) refl) (rw (tf.outside e) refl)
+
+    on : (e : Bool) → t.is_empty ≡ e → RowFits g (cond e t (extended_facts cycle t)) n w
+    on true e = empty e
+    on false e = extended_row g t la luns n v cycle e keeps found tf f
+
+    at : (b : Bool) → begins_sequence cycle ≡ b → RowFits g (cond b (extended_facts cycle (facts_of [])) (cond t.is_empty t (extended_facts cycle t))) n w
+    at true e = begun_row g n w cycle e
+    at false e = on t.is_empty refl
+
+-- a permitted item on its target
+pub row_fits : (g : Parts) (targets : ℕ) (t : TailFacts) (luns : List LunView) (i : Item) (n : ℕ) (v : LunView) → judge g targets t luns i ≡ None → slice_get luns n ≡ Some v → TailFits g t → RowFits g t n v → RowFits g (tail_after i t) n (view_after (effect_alone g t (has_driver luns) i n v) v)
+row_fits g targets t luns (Cyc c) n v h found tf f =
+    let cycle = target_cycle c.kind c.byte in
+    let keeps = keeps_rules g t luns cycle (first_passed (breaks_F1 targets luns (Cyc c)) F1 (judge_cycle g t luns cycle) h).1 in
+    at (c.ce == c.ce) refl (cycle_row g t (cond (has_driver luns) v.latch Off) luns n v cycle keeps found tf f)
+  where
+    at : (b : Bool) → (c.ce == c.ce) ≡ b → RowFits g (facts_after (target_cycle c.kind c.byte) t) n (view_after (cycle_effect g t (cond (has_driver luns) v.latch Off) (target_cycle c.kind c.byte) n) v) → RowFits g (facts_after (target_cycle c.kind c.byte) t) n (view_after (cond b (cycle_effect g t (cond (has_driver luns) v.latch Off) (target_cycle c.kind c.byte) n) Unaffected) v)
+    at true e h = h
+    at false e h = let same : (c.ce == c.ce) ≡ true = grind (arith, nat_tests) in cc
+row_fits g targets t luns (Rdy ce lun fail) n v h found tf f = same_queue g t n v _ (either_keeps (ce == ce && lun == n) (BecameReady fail) Unaffected v.queue refl refl) f
+row_fits g targets t luns (Ard ce lun) n v h found tf f = same_queue g t n v _ (either_keeps (ce == ce && lun == n) ArrayBecameReady Unaffected v.queue refl refl) f

@@ -1,0 +1,178 @@
+-- What stays small of a tail while only permitted items come.
+use Rattle.std.proofs.Common.{◌≡◌, ℕ, ◌+◌, ◌^◌, ◌<◌, ◌≤◌, ◌==◌, Bool, true, false, ◌&&◌, ◌||◌, cond, not, ltb, List, [], Option, Some, None, refl, arith, IfSome}
+use Rattle.std.proofs.lemmas.Bool.Decides.{nat_tests}
+use Rattle.nand_geometry.specs.declared.Parts.{Parts}
+use Rattle.onfi_cycle.specs.declared.Command.{Command}
+use Rattle.onfi_cycle.specs.declared.Command.TheVariants.{Read, ChangeReadColumn, BlockErase, ReadStatusEnhanced, PageProgram, ChangeWriteColumn, ReadId, ReadParameterPage}
+use Rattle.onfi_cycle.specs.declared.DataPhase.{DataPhase}
+use Rattle.onfi_cycle.specs.declared.DataPhase.TheVariants.{Outside, Inputs, FirstColumn, SecondColumn}
+use Rattle.onfi_cycle.specs.declared.Opening.{Opening}
+use Rattle.onfi_cycle.specs.declared.TailFacts.{TailFacts}
+use Rattle.onfi_cycle.specs.declared.TargetCycle.{TargetCycle}
+use Rattle.onfi_cycle.specs.declared.TargetCycle.TheVariants.{CommandCycle, AddressCycle, InputCycle, OutputCycle}
+use Rattle.onfi_cycle.specs.LunView.{LunView}
+use Rattle.onfi_cycle.specs.Command.{address_cycles, is_opener, takes_address, is_page_program}
+use Rattle.onfi_cycle.specs.Sequence.{target_cycle, begins_sequence, facts_of, facts_after, extended_facts, opened, one_address_more, wants_column, phase_after_command, phase_after_address, phase_after_last_address, phase_after_input}
+use Rattle.onfi_cycle.specs.Rules.{breaks_F1, breaks_F7, breaks_F14}
+use Rattle.onfi_cycle.specs.Permitted.{judge, judge_cycle}
+use Rattle.onfi_cycle.specs.State.{tail_after}
+use Rattle.onfi_cycle.specs.declared.Item.{Item}
+use Rattle.onfi_cycle.specs.declared.Item.TheVariants.{Cyc, Rdy, Ard}
+use Rattle.onfi_cycle.specs.declared.Forbidden.TheVariants.{F1}
+use Rattle.onfi_cycle.proofs.Others.{first_passed}
+use Rattle.onfi_cycle.proofs.Passed.{keeps_rules}
+use Rattle.onfi_cycle.specs.Bounds.{TailFits}
+
+-- no opener takes more than five addresses
+most_addresses : (c : Command) → address_cycles c ≤ 5
+most_addresses Read = omega arith
+most_addresses ChangeReadColumn = omega arith
+most_addresses BlockErase = omega arith
+most_addresses ReadStatusEnhanced = omega arith
+most_addresses PageProgram = omega arith
+most_addresses ReadId = omega arith
+most_addresses ReadParameterPage = omega arith
+most_addresses c = omega arith
+
+not_true : (b : Bool) → not b ≡ false → b ≡ true
+not_true true h = refl
+not_true false h = cc
+
+both : (a b : Bool) → (a && b) ≡ true → (a ≡ true) × (b ≡ true)
+both true b h = (refl, h)
+both false b h = cc
+
+-- a Change Write Column waits in the data of a program alone
+command_in_column : (c : Command) (p : DataPhase) → wants_column (phase_after_command c p) ≡ true → p ≡ Inputs
+command_in_column ChangeWriteColumn Inputs h = refl
+command_in_column ChangeWriteColumn Outside h = cc
+command_in_column ChangeWriteColumn FirstColumn h = cc
+command_in_column ChangeWriteColumn SecondColumn h = cc
+command_in_column c p h = cc
+
+last_in_column : (b : Bool) → wants_column (cond b Inputs Outside) ≡ false
+last_in_column true = refl
+last_in_column false = refl
+
+address_in_column : (o : Option Opening) (p : DataPhase) → wants_column (phase_after_address o p) ≡ true → wants_column p ≡ true
+address_in_column o Outside h = let no : wants_column (phase_after_last_address o) ≡ false = last_in_column (opened (λ c n. is_page_program c && n == 4) o) in cc
+address_in_column o FirstColumn h = refl
+address_in_column o SecondColumn h = refl
+address_in_column o Inputs h = cc
+
+input_in_column : (p : DataPhase) → wants_column (phase_after_input p) ≡ false
+input_in_column Outside = refl
+input_in_column FirstColumn = refl
+input_in_column SecondColumn = refl
+input_in_column Inputs = refl
+
+-- an opener with its next address
+next_address : (o : Option Opening) (p : DataPhase) (byte : ℕ) → (wants_column p ≡ true → o ≡ None) → not (opened (λ c n. is_opener c && ltb n (address_cycles c) && takes_address c byte) o || wants_column p) ≡ false → IfSome (one_address_more o) (λ o. o.addresses ≤ 5)
+next_address None p byte alone h = tt
+next_address (Some o) p byte alone h = at (wants_column p) refl (not_true _ h)
+  where
+    at : (w : Bool) → wants_column p ≡ w → ((is_opener o.opener && ltb o.addresses (address_cycles o.opener) && takes_address o.opener byte) || w) ≡ true → o.addresses + 1 ≤ 5
+    at true e h = let none = alone e in cc
+    at false e h =
+        let most = most_addresses o.opener in
+        let more : ltb o.addresses (address_cycles o.opener) ≡ true = fewer (is_opener o.opener) (ltb o.addresses (address_cycles o.opener)) (takes_address o.opener byte) h in
+        grind (arith, nat_tests)
+      where
+        fewer : (a b c : Bool) → ((a && b && c) || false) ≡ true → b ≡ true
+        fewer true true c h = refl
+        fewer true false c h = cc
+        fewer false b c h = cc
+
+-- a command that goes on with a tail, or that begins one
+command_fits : (g : Parts) (c : Command) (t : TailFacts) → t.is_empty ≡ false → TailFits g t → TailFits g (extended_facts (CommandCycle c) t)
+command_fits g c t some f =
+    record {
+      column = f.column;
+      inputs = omega arith;
+      addresses = rw some tt;
+      in_column = λ h. rw some refl;
+      nothing = λ h. cc;
+      outside = λ h. cc;
+    }
+
+opener_fits : (g : Parts) (c : Command) → TailFits g (extended_facts (CommandCycle c) (facts_of []))
+opener_fits g c =
+    record {
+      column = omega arith;
+      inputs = omega arith;
+      addresses = omega arith;
+      in_column = λ h. let inside : Outside ≡ Inputs = command_in_column c Outside h in cc;
+      nothing = λ h. cc;
+      outside = λ h. cc;
+    }
+
+-- an address
+address_fits : (g : Parts) (byte : ℕ) (t : TailFacts) → breaks_F7 t (AddressCycle byte) ≡ false → (extended_facts (AddressCycle byte) t).column < 2 ^ 16 → TailFits g t → TailFits g (extended_facts (AddressCycle byte) t)
+unfolding breaks_F7
+address_fits g byte t f7 small f =
+    record {
+      column = small;
+      inputs = omega arith;
+      addresses = next_address t.opening t.phase byte f.in_column f7;
+      in_column = λ h. none (f.in_column (address_in_column t.opening t.phase h));
+      nothing = λ h. cc;
+      outside = λ h. cc;
+    }
+  where
+    none : t.opening ≡ None → one_address_more t.opening ≡ None
+    none e = rw e refl
+
+-- an input, which has its place in the page
+input_fits : (g : Parts) (luns : List LunView) (byte : ℕ) (t : TailFacts) → breaks_F14 g t luns (InputCycle byte) ≡ false → TailFits g t → TailFits g (extended_facts (InputCycle byte) t)
+unfolding breaks_F14
+input_fits g luns byte t f14 f =
+    record {
+      column = f.column;
+      inputs = grind (arith, nat_tests);
+      addresses = tt;
+      in_column = λ h. refl;
+      nothing = λ h. cc;
+      outside = λ h. cc;
+    }
+
+output_fits : (g : Parts) (t : TailFacts) → TailFits g t → TailFits g (extended_facts OutputCycle t)
+output_fits g t f =
+    record { column = f.column; inputs = omega arith; addresses = tt; in_column = λ h. refl; nothing = λ h. cc; outside = λ h. cc }
+
+-- a cycle that goes on with a tail
+extended_fits : (g : Parts) (luns : List LunView) (cycle : TargetCycle) (t : TailFacts) → t.is_empty ≡ false → breaks_F7 t cycle ≡ false → breaks_F14 g t luns cycle ≡ false → (extended_facts cycle t).column < 2 ^ 16 → TailFits g t → TailFits g (extended_facts cycle t)
+extended_fits g luns (CommandCycle c) t some f7 f14 small f = command_fits g c t some f
+extended_fits g luns (AddressCycle byte) t some f7 f14 small f = address_fits g byte t f7 small f
+extended_fits g luns (InputCycle byte) t some f7 f14 small f = input_fits g luns byte t f14 f
+extended_fits g luns OutputCycle t some f7 f14 small f = output_fits g t f
+
+begun_fits : (g : Parts) (cycle : TargetCycle) → begins_sequence cycle ≡ true → TailFits g (extended_facts cycle (facts_of []))
+begun_fits g (CommandCycle c) h = opener_fits g c
+begun_fits g (AddressCycle byte) h = cc
+begun_fits g (InputCycle byte) h = cc
+begun_fits g OutputCycle h = cc
+
+-- a permitted cycle
+cycle_fits : (g : Parts) (luns : List LunView) (cycle : TargetCycle) (t : TailFacts) → breaks_F7 t cycle ≡ false → breaks_F14 g t luns cycle ≡ false → (facts_after cycle t).column < 2 ^ 16 → TailFits g t → TailFits g (facts_after cycle t)
+cycle_fits g luns cycle t f7 f14 small f = at (begins_sequence cycle) refl small
+  where
+    on : (e : Bool) → t.is_empty ≡ e → (cond e t (extended_facts cycle t)).column < 2 ^ 16 → TailFits g (cond e t (extended_facts cycle t))
+    on true e small = f
+    on false e small = extended_fits g luns cycle t e f7 f14 small f
+
+    at : (b : Bool) → begins_sequence cycle ≡ b → (cond b (extended_facts cycle (facts_of [])) (cond t.is_empty t (extended_facts cycle t))).column < 2 ^ 16 → TailFits g (cond b (extended_facts cycle (facts_of [])) (cond t.is_empty t (extended_facts cycle t)))
+    at true h small = begun_fits g cycle h
+    at false h small = on t.is_empty refl small
+
+-- a permitted item
+pub tail_fits : (g : Parts) (n : ℕ) (luns : List LunView) (i : Item) (t : TailFacts) → judge g n t luns i ≡ None → (tail_after i t).column < 2 ^ 16 → TailFits g t → TailFits g (tail_after i t)
+tail_fits g n luns (Cyc c) t h small f =
+    let cycle = target_cycle c.kind c.byte in
+    let keeps = keeps_rules g t luns cycle (first_passed (breaks_F1 n luns (Cyc c)) F1 (judge_cycle g t luns cycle) h).1 in
+    cycle_fits g luns cycle t keeps.f7 keeps.f14 small f
+tail_fits g n luns (Rdy _ _ _) t h small f = f
+tail_fits g n luns (Ard _ _) t h small f = f
+
+-- what is kept of a target that has seen nothing
+pub no_tail_fits : (g : Parts) → TailFits g (facts_of [])
+no_tail_fits g = record { column = omega arith; inputs = omega arith; addresses = tt; in_column = λ h. refl; nothing = λ h. refl; outside = λ h. refl }

@@ -1,0 +1,90 @@
+-- What stays small while only permitted items come, so that a running channel fits numbers and lists of fixed size.
+use Rattle.std.specs.Prelude.{◌≡◌, ℕ, ◌+◌, ◌^◌, ◌%◌, ◌<◌, ◌≤◌, ◌==◌, Bool, true, false, ◌||◌, ◌&&◌, if◌then◌else◌, List, [], ◌∷◌, None, length, IfSome, All}
+use Rattle.nand_geometry.specs.declared.Parts.{Parts}
+use Rattle.nand_geometry.specs.Limits.{InLimits, page_len, planes}
+use Rattle.onfi_cycle.specs.declared.Command.{Command}
+use Rattle.onfi_cycle.specs.declared.Command.TheVariants.{BlockErase}
+use Rattle.onfi_cycle.specs.declared.Queued.{Queued}
+use Rattle.onfi_cycle.specs.declared.Queued.TheVariants.{Erase, Program}
+use Rattle.onfi_cycle.specs.declared.TailFacts.{TailFacts}
+use Rattle.onfi_cycle.specs.declared.DataPhase.TheVariants.{Outside}
+use Rattle.onfi_cycle.specs.LunView.{LunView}
+use Rattle.onfi_cycle.specs.Sequence.{opened, takes_inputs, wants_column, row}
+use Rattle.onfi_cycle.specs.declared.Effect.{Effect}
+use Rattle.onfi_cycle.specs.declared.Effect.TheVariants.{DataOutput, EraseStarted, ProgramStarted, ReadStarted, ReadColumnChanged, CacheReadContinued}
+use Rattle.onfi_cycle.specs.Effect.{names_lun, page_address}
+use Rattle.onfi_cycle.specs.Rules.{some_queued_clashes}
+use Rattle.onfi_cycle.specs.State.{TargetView, BusView}
+
+-- the counts of a tail, and how its parts stand to one another
+pub record TailFits (g : Parts) (t : TailFacts) : Type 0 where
+  pub column : t.column < 2 ^ 16
+  pub inputs : t.inputs ≤ page_len g
+  pub addresses : IfSome t.opening (λ o. o.addresses ≤ 5)
+  pub in_column : wants_column t.phase ≡ true → t.opening ≡ None
+  pub nothing : t.is_empty ≡ true → t.opening ≡ None
+  pub outside : t.is_empty ≡ true → t.phase ≡ Outside
+
+abbrev pub plane_of : Parts → Queued → ℕ
+plane_of g (Erase p) = p.block % planes g
+plane_of g (Program p) = p.block % planes g
+
+-- some row of the queue lies in this plane
+abbrev pub is_in_use : Parts → ℕ → List Queued → Bool
+is_in_use g plane [] = false
+is_in_use g plane (q ∷ queue) = plane_of g q == plane || is_in_use g plane queue
+
+abbrev pub room_in : Parts → ℕ → List Queued → ℕ
+room_in g plane queue = if is_in_use g plane queue then 0 else 1
+
+-- how many of four planes hold no row of the queue
+abbrev pub rooms : Parts → List Queued → ℕ
+rooms g queue = room_in g 0 queue + room_in g 1 queue + room_in g 2 queue + room_in g 3 queue
+
+-- the counts of a LUN; its queue has a plane for each row
+pub record LunFits (g : Parts) (v : LunView) : Type 0 where
+  pub outputs : v.column.outputs ≤ 2 ^ 16
+  pub given : IfSome v.column.given (λ from. from < 2 ^ 16)
+  pub array_page : v.array_page.page < 2 ^ 32
+  pub queue : length v.queue + rooms g v.queue ≤ 4
+
+abbrev pub is_block_erase : Command → Bool
+is_block_erase BlockErase = true
+is_block_erase _ = false
+
+-- the tail has the whole row of an erase, or of a program
+abbrev pub names_erase : TailFacts → Bool
+names_erase t = opened (λ c n. is_block_erase c && n == 3) t.opening
+
+abbrev pub names_program : TailFacts → Bool
+names_program t = takes_inputs t.phase || wants_column t.phase
+
+-- the row that the tail names goes together with the queue of its LUN
+pub record RowFits (g : Parts) (t : TailFacts) (n : ℕ) (v : LunView) : Type 0 where
+  pub erase : names_lun g (row t) n ≡ true → names_erase t ≡ true → some_queued_clashes g true (page_address g (row t)) v.queue ≡ false
+  pub program : names_lun g (row t) n ≡ true → names_program t ≡ true → some_queued_clashes g false (page_address g (row t)) v.queue ≡ false
+
+-- of the LUNs of a target, from number n on
+abbrev pub LunsFit : Parts → TailFacts → ℕ → List LunView → Type 0
+LunsFit g t n [] = Unit {0}
+LunsFit g t n (v ∷ vs) = LunFits g v × RowFits g t n v × LunsFit g t (n + 1) vs
+
+pub record TargetFits (g : Parts) (s : TargetView) : Type 0 where
+  pub tail : TailFits g s.tail
+  pub luns : LunsFit g s.tail 0 s.luns
+  pub count : length s.luns ≤ 4
+
+pub record BusFits (state : BusView) : Type 0 where
+  pub limits : InLimits state.geometry
+  pub targets : All (TargetFits state.geometry) state.targets
+  pub count : length state.targets ≤ 4
+
+-- an effect keeps what fits: an output has its place, a queued row its plane, and columns and pages are small
+abbrev pub EffectFits : Parts → LunView → Effect → Type 0
+EffectFits g v DataOutput = v.column.outputs < 2 ^ 16
+EffectFits g v (EraseStarted queued at) = queued ≡ true → some_queued_clashes g true at v.queue ≡ false
+EffectFits g v (ProgramStarted queued at) = queued ≡ true → some_queued_clashes g false at v.queue ≡ false
+EffectFits g v (ReadStarted page column) = (page.page < 2 ^ 32) × (column < 2 ^ 16)
+EffectFits g v (ReadColumnChanged column) = column < 2 ^ 16
+EffectFits g v CacheReadContinued = v.array_page.page + 1 < 2 ^ 32
+EffectFits g v _ = Unit {0}

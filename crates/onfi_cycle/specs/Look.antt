@@ -1,0 +1,38 @@
+-- A look at a LUN, told from the facts of it.
+use Rattle.std.specs.Prelude.{ℕ, ◌&&◌, nat_lt, if◌then◌else◌, List, Option, Some, None, length, slice_get}
+use Rattle.nand_geometry.specs.declared.Parts.{Parts}
+use Rattle.onfi_cycle.specs.declared.Item.{Item}
+use Rattle.onfi_cycle.specs.declared.Lun.{Lun}
+use Rattle.onfi_cycle.specs.declared.bus_state.LunState.{LunState}
+use Rattle.onfi_cycle.specs.LunView.{LunView}
+use Rattle.onfi_cycle.specs.Lun.{output_column, is_cache_read, lun_view}
+use Rattle.onfi_cycle.specs.State.{TargetView, BusView}
+
+-- what is told of a LUN: its column is None where none is given or it is lost
+abbrev pub look_at : LunView → LunState
+look_at v =
+    record {
+      busy = v.busy;
+      latch = v.latch;
+      register = v.register;
+      column = output_column v.column;
+      queued = length v.queue;
+      caching = is_cache_read v.closer;
+      array_busy = v.array_busy;
+    }
+
+abbrev pub look_at_some : Option LunView → Option LunState
+look_at_some None = None
+look_at_some (Some v) = Some (look_at v)
+
+abbrev pub look_on : Option TargetView → ℕ → Option LunState
+look_on None lun = None
+look_on (Some s) lun = look_at_some (slice_get s.luns lun)
+
+-- what the state of a channel tells of a LUN, if that is there
+abbrev pub looked : BusView → Lun → Option LunState
+looked state l = look_on (slice_get state.targets l.ce) l.lun
+
+-- the look at a LUN after a past, if it is there
+abbrev pub look_after : Parts → ℕ → List Item → Lun → Option LunState
+look_after g targets past l = if nat_lt l.ce targets && nat_lt l.lun g.luns then Some (look_at (lun_view g past l)) else None

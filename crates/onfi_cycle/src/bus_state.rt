@@ -1,0 +1,383 @@
+//! The running state of a channel: the facts that the rules see, kept item by item.
+ghost use Rattle.std.specs.Prelude.{◌≡◌, ℕ, ◌+◌, ◌^◌, ◌<◌, ◌≤◌, ◌∷◌, List, [], Some, None, IfSome, length, slice_get};
+ghost use Rattle.std.specs.Option.{option_copied};
+ghost use Rattle.nand_geometry.specs.declared.Parts.{Parts};
+ghost use Rattle.onfi_cycle.specs.declared.Item.{Item};
+ghost use Rattle.onfi_cycle.specs.declared.Lun.{Lun};
+ghost use Rattle.onfi_cycle.specs.Sequence.{AreSmall};
+ghost use Rattle.onfi_cycle.specs.Lun.{view_after, queue_after, lun_view};
+ghost use Rattle.onfi_cycle.specs.Permitted.{broken};
+ghost use Rattle.nand_geometry.specs.Limits.{InLimits};
+ghost use Rattle.onfi_cycle.specs.State.{TargetView, BusView, Follows, target_view, judged, tail_after, effect_alone, luns_after, target_after, bus_after, bus};
+ghost use Rattle.onfi_cycle.specs.Look.{look_at, look_at_some, looked, look_after};
+ghost use Rattle.onfi_cycle.specs.Bounds.{LunFits, LunsFit, TargetFits, BusFits};
+
+use crate::effects::{
+    array_busy_after, array_page_after, busy_after, closer_after, is_cache_read, item_effect,
+    latch_after, output_column, read_column_after, register_after,
+};
+use crate::rules::{driver, judge};
+use crate::sequences::{facts_after, no_tail, target_cycle, target_of};
+use crate::{
+    Effect, Forbidden, Item, Latch, Lun, LunFacts, PageAddress, Queued, ReadColumn, Register,
+    TailFacts, WorkQueue,
+};
+use arrayvec::ArrayVec;
+use nand_geometry::Geometry;
+use std::marker::Model;
+
+impl Default for Queued {
+    /// The blank of a list of fixed size.
+    fn default() -> Queued {
+        Queued::Erase(PageAddress { block: 0, page: 0 })
+    }
+}
+
+impl WorkQueue for ArrayVec<Queued, 16> {
+    ghost members = { λ v. v.items };
+
+    fn works(&self) -> &[Queued] {
+        self.as_slice()
+    }
+}
+
+// A LUN to which nothing has happened.
+fn fresh_lun() -> LunFacts<ArrayVec<Queued, 16>>
+    ensures { (g : Parts) (l : Lun) → result ≡ lun_view g [] l }
+{
+    LunFacts {
+        latch: Latch::Off,
+        busy: false,
+        closer: None,
+        array_busy: false,
+        array_page: PageAddress { block: 0, page: 0 },
+        register: Register::Empty,
+        column: ReadColumn {
+            given: None,
+            outputs: 0,
+            lost: false,
+        },
+        queue: ArrayVec::new(),
+    }
+}
+
+impl Default for LunFacts<ArrayVec<Queued, 16>> {
+    /// A LUN to which nothing has happened.
+    fn default() -> LunFacts<ArrayVec<Queued, 16>> {
+        fresh_lun()
+    }
+}
+
+// What is kept of a target.
+#[derive(Drop)]
+struct TargetState {
+    tail: TailFacts,
+    luns: ArrayVec<LunFacts<ArrayVec<Queued, 16>>, 4>,
+}
+
+impl Model for TargetState {
+    ghost Value = { TargetView };
+
+    ghost view = { λ s. record { tail = s.tail; luns = s.luns.items } };
+}
+
+impl Default for TargetState {
+    fn default() -> TargetState {
+        TargetState {
+            tail: no_tail(),
+            luns: ArrayVec::new(),
+        }
+    }
+}
+
+/// What a running channel keeps of its past: for each target the facts of its tail, for each LUN its facts. It keeps
+/// no item, and takes no memory. An answer costs the same after every past.
+///
+/// It stands for every legal past that it [`apply`](BusState::apply)s, item by item, from the empty one on.
+#[derive(Drop)]
+pub struct BusState {
+    geometry: Geometry,
+    targets: ArrayVec<TargetState, 4>,
+}
+
+impl Model for BusState {
+    ghost Value = { BusView };
+
+    ghost view = { λ b. record { geometry = b.geometry; targets = b.targets.items } };
+
+    ghost invariant = { λ b. BusFits (record { geometry = b.geometry; targets = b.targets.items }) };
+}
+
+// What an effect leaves of a queue.
+fn apply_to_queue(queue: &mut ArrayVec<Queued, 16>, effect: Effect)
+    requires { length queue.old.items < 16 }
+    ensures { queue.new.items ≡ queue_after effect queue.old.items }
+{
+    match effect {
+        Effect::EraseStarted { queued: true, row } => queue.insert(0, Queued::Erase(row)),
+        Effect::ProgramStarted { queued: true, page } => queue.insert(0, Queued::Program(page)),
+        Effect::EraseStarted { .. } | Effect::ProgramStarted { .. } | Effect::ResetStarted => {
+            queue.clear()
+        }
+        _ => {}
+    }
+}
+
+// What an effect leaves of a LUN.
+fn apply_to_lun(lun: &mut LunFacts<ArrayVec<Queued, 16>>, effect: Effect)
+    requires outputs { lun.old.column.outputs ≤ 2 ^ 16 }
+    requires array_page { lun.old.array_page.page < 2 ^ 32 }
+    requires queue { length lun.old.queue ≤ 4 }
+    ensures { lun.new ≡ view_after effect lun.old }
+{
+    apply_to_queue(&mut lun.queue, effect);
+    lun.column = read_column_after(effect, lun.column);
+    lun.register = register_after(effect, lun.array_page, lun.register);
+    lun.array_page = array_page_after(effect, lun.array_page);
+    lun.array_busy = array_busy_after(effect, lun.busy, is_cache_read(lun.closer), lun.array_busy);
+    lun.closer = closer_after(effect, lun.closer);
+    lun.busy = busy_after(effect, lun.busy);
+    lun.latch = latch_after(effect, lun.latch);
+}
+
+// What an item leaves of the LUN of number n of its target.
+fn apply_item(
+    lun: &mut LunFacts<ArrayVec<Queued, 16>>,
+    geometry: &Geometry,
+    tail: TailFacts,
+    has_driver: bool,
+    item: Item,
+    n: u8,
+)
+    requires { LunFits geometry.now lun.old }
+    ensures { lun.new ≡ view_after (effect_alone geometry.now tail has_driver item n lun.old) lun.old }
+{
+    let latch_alone = if has_driver { lun.latch } else { Latch::Off };
+    let at = Lun {
+        ce: target_of(item),
+        lun: n,
+    };
+    apply_to_lun(lun, item_effect(geometry, tail, latch_alone, item, at));
+}
+
+// What an item leaves of the LUNs of its target, from number n on.
+fn apply_to_luns(
+    luns: &mut [LunFacts<ArrayVec<Queued, 16>>],
+    geometry: &Geometry,
+    tail: TailFacts,
+    has_driver: bool,
+    item: Item,
+    n: u8,
+)
+    requires count { n + length luns.old ≤ 4 }
+    requires luns { LunsFit geometry.now tail n luns.old }
+    ensures { luns.new ≡ luns_after geometry.now tail has_driver item n luns.old }
+{
+    if luns.is_empty() {
+        return;
+    }
+    let (first, rest) = luns.split_at_mut(1);
+    apply_item(&mut first[0], geometry, tail, has_driver, item, n);
+    apply_to_luns(rest, geometry, tail, has_driver, item, n + 1);
+}
+
+// What an item leaves of the tail of its target.
+fn tail_after(item: Item, t: TailFacts) -> TailFacts
+    requires { AreSmall (2 ^ 63) t }
+    ensures value { result ≡ tail_after item t }
+    ensures column { result.column < 2 ^ 16 }
+{
+    match item {
+        Item::Cyc(cycle) => facts_after(target_cycle(cycle.kind, cycle.byte), t),
+        Item::Rdy { .. } | Item::Ard { .. } => t,
+    }
+}
+
+impl TargetState {
+    // A target with so many LUNs to which nothing has happened.
+    fn new(count: u8) -> TargetState
+        requires { count ≤ 4 }
+        ensures { (g : Parts) (ce : ℕ) → g.luns ≡ count → result ≡ target_view g [] ce }
+    {
+        let mut luns: ArrayVec<LunFacts<ArrayVec<Queued, 16>>, 4> = ArrayVec::new();
+        for _ in 0..count {
+            luns.push(fresh_lun());
+        }
+        TargetState {
+            tail: no_tail(),
+            luns,
+        }
+    }
+
+    // What an item leaves of its target.
+    fn apply(&mut self, geometry: &Geometry, item: Item)
+        requires limits { InLimits geometry.now }
+        requires fits { TargetFits geometry.now self.old }
+        ensures value { self.new ≡ target_after geometry.now item self.old }
+        ensures column { self.new.tail.column < 2 ^ 16 }
+    {
+        let has_driver = driver(self.luns.as_slice()).is_some();
+        let tail = self.tail;
+        apply_to_luns(
+            self.luns.as_mut_slice(),
+            geometry,
+            tail,
+            has_driver,
+            item,
+            0,
+        );
+        self.tail = tail_after(item, tail);
+    }
+}
+
+// A look at a LUN.
+fn look_at(lun: &LunFacts<ArrayVec<Queued, 16>>) -> LunState
+    requires given { IfSome lun.now.column.given (λ from. from < 2 ^ 16) }
+    requires outputs { lun.now.column.outputs ≤ 2 ^ 16 }
+    ensures { result ≡ look_at lun.now }
+{
+    LunState {
+        busy: lun.busy,
+        latch: lun.latch,
+        register: lun.register,
+        column: output_column(lun.column).map(|place| place as u32),
+        queued: lun.queue.len(),
+        caching: is_cache_read(lun.closer),
+        array_busy: lun.array_busy,
+    }
+}
+
+// The LUN of this number, if it is there.
+fn lun_at(luns: &[LunFacts<ArrayVec<Queued, 16>>], n: u8) -> Option<&LunFacts<ArrayVec<Queued, 16>>>
+    ensures { option_copied result ≡ slice_get luns.now n }
+{
+    luns.get(usize::from(n))
+}
+
+// A look at one of the LUNs of a target.
+fn look_at_one(geometry: &Geometry, target: &TargetState, lun: u8) -> Option<LunState>
+    requires { TargetFits geometry.now target.now }
+    ensures { result ≡ look_at_some (slice_get target.now.luns lun) }
+{
+    match lun_at(target.luns.as_slice(), lun) {
+        None => None,
+        Some(found) => Some(look_at(found)),
+    }
+}
+
+// The target of this number, if it is there.
+fn target_at(targets: &[TargetState], ce: u8) -> Option<&TargetState>
+    ensures { option_copied result ≡ slice_get targets.now ce }
+{
+    targets.get(usize::from(ce))
+}
+
+// The first rule that an item breaks on these targets.
+fn judge_on(geometry: &Geometry, targets: &[TargetState], item: Item) -> Option<Forbidden>
+    requires { BusFits (bus geometry.now targets.now) }
+    ensures { result ≡ judged (bus geometry.now targets.now) item }
+{
+    match target_at(targets, target_of(item)) {
+        None => Some(Forbidden::F1),
+        Some(target) => judge(
+            geometry,
+            targets.len() as u8,
+            target.tail,
+            target.luns.as_slice(),
+            item,
+        ),
+    }
+}
+
+// Goes on by an item that is permitted on these targets.
+fn apply_on(geometry: &Geometry, targets: &mut [TargetState], item: Item)
+    requires fits { BusFits (bus geometry.now targets.old) }
+    requires permitted { judged (bus geometry.now targets.old) item ≡ None }
+    ensures value { bus geometry.now targets.new ≡ bus_after item (bus geometry.now targets.old) }
+    ensures fits { BusFits (bus geometry.now targets.new) }
+{
+    let target = &mut targets[usize::from(target_of(item))];
+    target.apply(geometry, item);
+}
+
+/// A LUN as it is seen from outside, told from the running state.
+#[derive(Clone, Copy, Debug, PartialEq, Eq)]
+pub struct LunState {
+    /// It does its work, and no ready has come yet.
+    pub busy: bool,
+    /// What it drives the bus with when its target is read.
+    pub latch: Latch,
+    /// What its register holds.
+    pub register: Register,
+    /// The place in the register that the next data output gives, None where none is given or it is lost.
+    pub column: Option<u32>,
+    /// How many rows its queue has.
+    pub queued: usize,
+    /// A cache read goes on.
+    pub caching: bool,
+    /// The array works on behind a cache read.
+    pub array_busy: bool,
+}
+
+impl BusState {
+    /// A channel to which nothing has happened: so many targets of this geometry, 4 at most.
+    pub fn new(geometry: Geometry, targets: u8) -> BusState
+        requires { targets ≤ 4 }
+        ensures { Follows geometry targets result [] }
+    {
+        let luns = geometry.parts().luns;
+        let mut all: ArrayVec<TargetState, 4> = ArrayVec::new();
+        for _ in 0..targets {
+            all.push(TargetState::new(luns));
+        }
+        BusState {
+            geometry,
+            targets: all,
+        }
+    }
+
+    /// The geometry of its targets.
+    pub fn geometry(&self) -> Geometry
+        ensures { result ≡ self.now.geometry }
+    {
+        self.geometry
+    }
+
+    /// How many targets it has.
+    pub fn targets(&self) -> u8
+        ensures value { result ≡ length self.now.targets }
+        ensures most { result ≤ 4 }
+    {
+        self.targets.len() as u8
+    }
+
+    /// The first rule that an item breaks, None where it is permitted: what the definition says of it after the past
+    /// that this state follows (docs/MODEL.md, "Rules").
+    pub fn judge(&self, item: Item) -> Option<Forbidden>
+        ensures state { result ≡ judged self.now item }
+        ensures past { (g : Parts) (n : ℕ) (past : List Item) → Follows g n self.now past → result ≡ broken g n past item }
+    {
+        judge_on(&self.geometry, self.targets.as_slice(), item)
+    }
+
+    /// Goes on by an item that [`judge`](BusState::judge) permits. The state then follows the past with that item.
+    pub fn apply(&mut self, item: Item)
+        requires { judged self.old item ≡ None }
+        ensures state { self.new ≡ bus_after item self.old }
+        ensures past { (g : Parts) (n : ℕ) (past : List Item) → Follows g n self.old past → Follows g n self.new (item ∷ past) }
+    {
+        let geometry = self.geometry;
+        apply_on(&geometry, self.targets.as_mut_slice(), item);
+    }
+
+    /// A look at one LUN, None where it isn't there.
+    pub fn lun_state(&self, l: Lun) -> Option<LunState>
+        ensures state { result ≡ looked self.now l }
+        ensures past { (g : Parts) (n : ℕ) (past : List Item) → Follows g n self.now past → result ≡ look_after g n past l }
+    {
+        match target_at(self.targets.as_slice(), l.ce) {
+            None => None,
+            Some(target) => look_at_one(&self.geometry, target, l.lun),
+        }
+    }
+}

@@ -1,0 +1,130 @@
+//! The running state beside the look-back twin, item by item, on made traces of the commands that the bus takes.
+use crate::past::{is_caching, lun_facts};
+use crate::trace::broken;
+use crate::worked::{ONE_LUN, TWO_LUNS, trace};
+use nand_geometry::Geometry;
+use onfi_cycle::effects::output_column;
+use onfi_cycle::{BusState, Item, Lun, WorkQueue};
+use std::alloc::{AllocError, Global};
+use std::process::Abort;
+use std::test::Fail;
+
+const TARGETS: u8 = 2;
+
+// What the made traces are of: erases, polls and readies, whole or in parts. 20 names LUN 1 of two, 40 a LUN that isn't
+// there.
+const PARTS: [&str; 16] = [
+    "C60 A00x3 Cd0",
+    "C60 A04 A00x2 Cd0",
+    "C60 A20 A00x2 Cd0",
+    "C60 A24 A00x2 Cd0",
+    "C60 A00x3 Cd0 R0",
+    "C60 A20 A00x2 Cd0 R1",
+    "C70 Oe0x2",
+    "C78 A00x3 Oe0",
+    "C78 A20 A00x2 Oe0x2",
+    "C78 A40 A00x2 Oe0",
+    "C60 A00",
+    "R0",
+    "F1",
+    "Oe0 C00 Y0",
+    "Cd0 A00",
+    "Ia5 Cff C60",
+];
+
+// The next number of a fixed generator.
+fn next(seed: &mut u32) -> u32 {
+    let mut x = *seed;
+    x ^= x << 13;
+    x ^= x >> 17;
+    x ^= x << 5;
+    *seed = x;
+    x
+}
+
+// The same item on another target.
+fn on_target(item: Item, ce: u8) -> Item {
+    match item {
+        Item::Cyc(mut cycle) => {
+            cycle.ce = ce;
+            Item::Cyc(cycle)
+        }
+        Item::Rdy { lun, fail, .. } => Item::Rdy { ce, lun, fail },
+        Item::Ard { lun, .. } => Item::Ard { ce, lun },
+    }
+}
+
+// The items of some parts, each on a target: mostly on the first, at times on the second, seldom on one that isn't there.
+fn made(alloc: Global, seed: &mut u32) -> Result<Vec<Item>, AllocError> {
+    let mut items = Vec::new(alloc);
+    for _ in 0..2 {
+        let part = PARTS[(next(seed) % 16) as usize];
+        let ce = match next(seed) % 16 {
+            0..12 => 0,
+            12..15 => 1,
+            _ => 2,
+        };
+        for item in trace(alloc, part)? {
+            items.push(on_target(item, ce))?;
+        }
+    }
+    Ok(items)
+}
+
+// The state of each LUN is what the look-back tells of it.
+fn luns_agree(
+    rt: &impl Abort,
+    alloc: Global,
+    geometry: &Geometry,
+    past: &[Item],
+    state: &BusState,
+) -> Result<(), Fail> {
+    for ce in 0..TARGETS {
+        for lun in 0..geometry.parts().luns {
+            let l = Lun { ce, lun };
+            let Some(told) = state.lun_state(l) else {
+                return Err(Fail::from("a LUN is missing"));
+            };
+            let facts = lun_facts(alloc, geometry, past, l)?;
+            assert_eq!(rt; told.busy, facts.busy);
+            assert_eq!(rt; told.latch, facts.latch);
+            assert_eq!(rt; told.register, facts.register);
+            assert_eq!(rt; told.column.map(u64::from), output_column(facts.column));
+            assert_eq!(rt; told.queued, facts.queue.works().len());
+            assert_eq!(rt; told.caching, is_caching(alloc, geometry, past, l)?);
+            assert_eq!(rt; told.array_busy, facts.array_busy);
+        }
+    }
+    Ok(())
+}
+
+/// Two thousand traces of two parts: each item is judged by both, and those that are permitted go on with the trace.
+#[test]
+fn state_agrees(rt: HostRuntime) -> Result<(), Fail> {
+    let mut seed = 0x2545_f491;
+    let mut permitted: u32 = 0;
+    let mut told = [0u32; 15];
+    for number in 0..2_000 {
+        let geometry = Geometry::of(if number % 4 == 0 { ONE_LUN } else { TWO_LUNS })?;
+        let mut state = BusState::new(geometry, TARGETS);
+        let mut items: Vec<Item> = Vec::new(rt.alloc());
+        for item in made(rt.alloc(), &mut seed)? {
+            let rule = broken(rt.alloc(), &geometry, TARGETS, &items, item)?;
+            assert_eq!(rt; state.judge(item), rule, "{items:?} {item:?}");
+            match rule {
+                Some(rule) => told[rule as usize] = told[rule as usize].saturating_add(1),
+                None => {
+                    state.apply(item);
+                    items.push(item)?;
+                    permitted = permitted.saturating_add(1);
+                }
+            }
+        }
+        items.reverse();
+        if number % 20 == 19 {
+            luns_agree(&rt, rt.alloc(), &geometry, &items, &state)?;
+        }
+    }
+    assert!(rt; permitted > 9_000, "{permitted} permitted, {told:?}");
+    Ok(())
+}
