@@ -1,0 +1,39 @@
+-- A trace with an item that isn't permitted isn't legal.
+use Rattle.std.proofs.Common.{◌≡◌, ℕ, ◌+◌, ◌<◌, Bool, true, false, ◌&&◌, List, [], ◌∷◌, ◌++◌, Option, Some, None, refl, sym, ap, ◌∙◌, arith, length, reverse, take, drop, get_or, is_none}
+use Rattle.std.proofs.lemmas.Grind.{common_steps}
+use Rattle.std.proofs.lemmas.List.{reverse-append, take-append-drop}
+use Rattle.std.proofs.lemmas.Option.{slice_get_within, get_or_from_slice_get, slice_get-get_or}
+use Rattle.nand_geometry.specs.declared.Parts.{Parts}
+use Rattle.onfi_cycle.specs.declared.Forbidden.{Forbidden}
+use Rattle.onfi_cycle.specs.declared.Item.{Item}
+use Rattle.onfi_cycle.specs.Permitted.{broken, is_permitted, is_legal, IsFirstBroken}
+
+-- one item more of a list in the order of time
+pub next_past : (items : List Item) (k : ℕ) (d : Item) → k < length items → get_or items k d ∷ reverse (take k items) ≡ reverse (take (k + 1) items)
+next_past items k d h = grind (arith, common_steps)
+
+both_true : (a b : Bool) → (a && b) ≡ true → (a ≡ true) × (b ≡ true)
+both_true true b h = (refl, h)
+both_true false b h = cc
+
+-- what stands before part of a legal past is legal
+legal_before : (g : Parts) (n : ℕ) (later past : List Item) → is_legal g n (later ++ past) ≡ true → is_legal g n past ≡ true
+legal_before g n [] past h = h
+legal_before g n (i ∷ later) past h = legal_before g n later past (both_true (is_permitted g n (later ++ past) i) (is_legal g n (later ++ past)) h).1
+
+not_permitted : (o : Option Forbidden) (rule : Forbidden) → o ≡ Some rule → is_none o ≡ true → ⊥
+not_permitted None rule e h = cc
+not_permitted (Some f) rule e h = cc
+
+pub broken_isn't_legal : (g : Parts) (n : ℕ) (items : List Item) (k : ℕ) (rule : Forbidden) → IsFirstBroken g n items k rule → is_legal g n (reverse items) ≡ true → ⊥
+broken_isn't_legal g n items k rule f legal =
+    let inside = slice_get_within items k f.item f.there in
+    let here : get_or items k f.item ≡ f.item = get_or_from_slice_get items k f.item f.item f.there in
+    let split : reverse items ≡ reverse (drop (k + 1) items) ++ reverse (take (k + 1) items) = ap reverse (sym (take-append-drop (k + 1) items)) ∙ reverse-append (take (k + 1) items) (drop (k + 1) items) in
+    let part = legal_before g n (reverse (drop (k + 1) items)) (reverse (take (k + 1) items)) (sym (ap (is_legal g n) split) ∙ legal) in
+    let first = ap (λ (i : Item). i ∷ reverse (take k items)) (sym here) ∙ next_past items k f.item inside in
+    let permitted = (both_true (is_permitted g n (reverse (take k items)) f.item) (is_legal g n (reverse (take k items))) (ap (is_legal g n) first ∙ part)).0 in
+    not_permitted (broken g n (reverse (take k items)) f.item) rule f.breaks permitted
+
+pub first_broken : (g : Parts) (n : ℕ) (items : List Item) (k : ℕ) (d : Item) (rule : Forbidden) (told : Option Forbidden) → k < length items → is_legal g n (reverse (take k items)) ≡ true → told ≡ broken g n (reverse (take k items)) (get_or items k d) → told ≡ Some rule → IsFirstBroken g n items k rule
+first_broken g n items k d rule told inside legal is some = record { item = get_or items k d; there = slice_get-get_or items k d inside; legal = legal; breaks = sym is ∙ some }

@@ -1,0 +1,47 @@
+-- Reading lines one after the other, as a loop does.
+use Rattle.std.proofs.Common.{◌≡◌, ℕ, ◌+◌, List, [], ◌∷◌, ◌++◌, Result, Ok, Err, refl, sym, ap, ◌∙◌, append_assoc}
+use Rattle.std.specs.Prelude.{IsOk, IfErr}
+use Rattle.std.proofs.lemmas.List.{append-nil}
+use Rattle.onfi_cycle.specs.declared.Item.{Item}
+use Rattle.trace_text.specs.declared.refusal.TraceFault.{TraceFault}
+use Rattle.trace_text.specs.declared.refusal.TraceRefusal.{TraceRefusal}
+use Rattle.trace_text.specs.declared.refusal.TraceRefusal.TheVariants.{Fault}
+use Rattle.trace_text.specs.Reading.{◌>>=◌, reading_from, reading, BeginsWith, HasFault}
+
+-- what was read before, and what is still read
+abbrev pub with_front : List Item → Result (List Item) TraceRefusal → Result (List Item) TraceRefusal
+with_front front read = read >>= λ items. Ok (front ++ items)
+
+-- the lines before this one are read, and the rest of the text begins with it
+pub record IsSoFar (line : ℕ) (rest whole : List ℕ) (front : List Item) : Type 0 where
+  pub so_far : with_front front (reading_from line [] rest) ≡ reading whole
+
+empty_front : (read : Result (List Item) TraceRefusal) → with_front [] read ≡ read
+empty_front (Ok items) = refl
+empty_front (Err e) = refl
+
+regroup : (front : List Item) (item : Item) (read : Result (List Item) TraceRefusal) → with_front front (read >>= λ items. Ok (item ∷ items)) ≡ with_front (front ++ item ∷ []) read
+regroup front item (Ok items) = ap (λ (xs : List Item). Ok xs) (sym (append_assoc front (item ∷ []) items))
+regroup front item (Err e) = refl
+
+pub starts : (whole : List ℕ) → IsSoFar 1 whole whole []
+starts whole = record { so_far = empty_front (reading_from 1 [] whole) }
+
+pub goes_on : (line : ℕ) (rest whole behind : List ℕ) (front : List Item) (item : Item) → BeginsWith rest item behind → IsSoFar line rest whole front → IsSoFar (line + 1) behind whole (front ++ item ∷ [])
+goes_on line rest whole behind front item first before =
+    let one : with_front front (reading_from line [] rest) ≡ with_front (front ++ item ∷ []) (reading_from (line + 1) [] behind) = ap (with_front front) (first.read line) ∙ regroup front item (reading_from (line + 1) [] behind) in
+    record { so_far = sym one ∙ before.so_far }
+
+pub ends : (line : ℕ) (rest whole : List ℕ) (front : List Item) (code : TraceFault) → HasFault rest code → IsSoFar line rest whole front → reading whole ≡ Err (Fault code line)
+ends line rest whole front code fault before = sym before.so_far ∙ ap (with_front front) (fault.read line)
+
+pub is_done : (line : ℕ) (rest whole : List ℕ) (front : List Item) → rest ≡ [] → IsSoFar line rest whole front → reading whole ≡ Ok front
+unfolding reading_from
+is_done line rest whole front empty before =
+    let none : reading_from line [] rest ≡ Ok [] = ap (reading_from line []) empty in
+    sym before.so_far ∙ ap (with_front front) none ∙ ap (λ (xs : List Item). Ok xs) (append-nil front)
+
+-- where the whole text has no fault, its next line has none
+pub next_is_ok : {A : Type 0} (line : ℕ) (rest whole : List ℕ) (front : List Item) (first : Result A TraceFault) → IfErr first (HasFault rest) → IsOk (reading whole) → IsSoFar line rest whole front → IsOk first
+next_is_ok line rest whole front (Ok x) fault fine before = refl
+next_is_ok line rest whole front (Err code) fault fine before = let failed = ends line rest whole front code fault before in cc

@@ -1,0 +1,81 @@
+-- The definitions at a few lines and texts.
+use Rattle.std.proofs.Common.{◌≡◌, [], ◌∷◌, ◌++◌, true, false, Ok, Err, refl}
+use Rattle.std.specs.Prelude.{codes}
+use Rattle.onfi_cycle.specs.declared.Kind.TheVariants.{Cmd, Dout}
+use Rattle.onfi_cycle.specs.declared.Item.TheVariants.{Cyc, Rdy, Ard}
+use Rattle.trace_text.specs.declared.refusal.TraceFault.TheVariants.{X1, X2}
+use Rattle.trace_text.specs.declared.refusal.TraceRefusal.TheVariants.{Fault}
+use Rattle.trace_text.specs.Line.{line}
+use Rattle.trace_text.specs.Reading.{place_of, byte_of, fail_of, letter_of, cycle, ready, array_ready, line_item, reading_from, reading}
+
+erase_line : line (Cyc (record { ce = 0; kind = Cmd; byte = 0xd0 })) ≡ codes "0 C d0" ++ 10 ∷ []
+erase_line = refl
+
+status_line : line (Cyc (record { ce = 3; kind = Dout; byte = 0x0e })) ≡ codes "3 O 0e" ++ 10 ∷ []
+status_line = refl
+
+ready_line : line (Rdy 1 2 true) ≡ codes "1 R 2 1" ++ 10 ∷ []
+ready_line = refl
+
+array_line : line (Ard 0 1) ≡ codes "0 Y 1" ++ 10 ∷ []
+array_line = refl
+
+erase_read : line_item (codes "0 C d0") ≡ Ok (Cyc (record { ce = 0; kind = Cmd; byte = 0xd0 }))
+unfolding line_item letter_of cycle place_of byte_of
+erase_read = refl
+
+ready_read : line_item (codes "1 R 2 1") ≡ Ok (Rdy 1 2 true)
+unfolding line_item letter_of ready place_of fail_of
+ready_read = refl
+
+array_read : line_item (codes "0 Y 1") ≡ Ok (Ard 0 1)
+unfolding line_item letter_of array_ready place_of
+array_read = refl
+
+upper_case : line_item (codes "0 C D0") ≡ Err X2
+unfolding line_item letter_of cycle place_of byte_of
+upper_case = refl
+
+chip_enable_4 : line_item (codes "4 C 60") ≡ Err X2
+unfolding line_item letter_of cycle place_of byte_of
+chip_enable_4 = refl
+
+three_digits : line_item (codes "0 C 600") ≡ Err X2
+unfolding line_item letter_of cycle place_of byte_of
+three_digits = refl
+
+two_spaces : line_item (codes "0  C 60") ≡ Err X1
+unfolding line_item
+two_spaces = refl
+
+small_letter : line_item (codes "0 c 60") ≡ Err X1
+unfolding line_item letter_of
+small_letter = refl
+
+no_line : line_item [] ≡ Err X1
+unfolding line_item
+no_line = refl
+
+space_at_the_end : line_item (codes "0 Y 1 ") ≡ Err X1
+unfolding line_item
+space_at_the_end = refl
+
+five_fields : line_item (codes "9 R 2 1 0") ≡ Err X1
+unfolding line_item
+five_fields = refl
+
+empty_text : reading [] ≡ Ok []
+unfolding reading_from
+empty_text = refl
+
+two_lines : reading (codes "0 Y 1" ++ 10 ∷ codes "1 R 2 0" ++ 10 ∷ []) ≡ Ok (Ard 0 1 ∷ Rdy 1 2 false ∷ [])
+unfolding reading_from line_item letter_of array_ready ready place_of fail_of
+two_lines = refl
+
+unended : reading (codes "0 Y 1" ++ 10 ∷ codes "1 R 2 0") ≡ Err (Fault X1 2)
+unfolding reading_from line_item letter_of array_ready ready place_of fail_of
+unended = refl
+
+lowest_line : reading (codes "0 Y 1" ++ 10 ∷ codes "1 R 4 0" ++ 10 ∷ codes "1") ≡ Err (Fault X2 2)
+unfolding reading_from line_item letter_of array_ready ready place_of fail_of
+lowest_line = refl

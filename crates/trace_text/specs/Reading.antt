@@ -1,0 +1,134 @@
+-- Reading a text: the items, or the first fault with its line.
+use Rattle.std.specs.Prelude.{◌≡◌, ℕ, ◌+◌, ◌-◌, ◌*◌, ◌<◌, Bool, true, false, not, ◌&&◌, ◌==◌, nat_le, if◌then◌else◌, List, [], ◌∷◌, ◌++◌, length, slice_index, Option, Some, None, Result, Ok, Err, IsOk, ok_or}
+use Rattle.std.specs.List.{slice_split, list_all}
+use Rattle.std.specs.Char.{is_ascii_graphic}
+use Rattle.onfi_cycle.specs.declared.Kind.{Kind}
+use Rattle.onfi_cycle.specs.declared.Kind.TheVariants.{Cmd, Adr, Din, Dout}
+use Rattle.onfi_cycle.specs.declared.Item.{Item}
+use Rattle.onfi_cycle.specs.declared.Item.TheVariants.{Cyc, Rdy, Ard}
+use Rattle.trace_text.specs.declared.refusal.TraceFault.{TraceFault}
+use Rattle.trace_text.specs.declared.refusal.TraceFault.TheVariants.{X1, X2}
+use Rattle.trace_text.specs.declared.refusal.TraceRefusal.{TraceRefusal}
+use Rattle.trace_text.specs.declared.refusal.TraceRefusal.TheVariants.{Fault, OutOfMemory}
+use Rattle.trace_text.specs.declared.line.Letter.{Letter}
+use Rattle.trace_text.specs.declared.line.Letter.TheVariants.{CycleOf, Ready, ArrayReady}
+
+infixl 10 ◌>>=◌
+abbrev pub ◌>>=◌ : {A B E : Type 0} → Result A E → (A → Result B E) → Result B E
+(Ok x) >>= f = f x
+(Err e) >>= f = Err e
+
+abbrev pub and_then : {A B : Type 0} → Option A → (A → Option B) → Option B
+and_then (Some x) f = f x
+and_then None f = None
+
+-- ---- the fields of a line
+
+-- a line is split at each of its spaces
+abbrev pub fields : List ℕ → List (List ℕ)
+fields line = slice_split (λ b. b == 32) line
+
+-- a field has visible characters alone, and at least one
+abbrev pub is_field : List ℕ → Bool
+is_field field = not (length field == 0) && list_all is_ascii_graphic field
+
+-- a chip enable or a LUN: one digit from 0 to 3
+abbrev pub place_of_digit : ℕ → Option ℕ
+place_of_digit d = if nat_le 48 d && nat_le d 51 then Some (d - 48) else None
+
+unfoldable pub place_of : List ℕ → Option ℕ
+place_of field = if length field == 1 then place_of_digit (slice_index field 0) else None
+
+-- the number of a hexadecimal digit in lower case
+abbrev pub hex_value : ℕ → Option ℕ
+hex_value d = if nat_le 48 d && nat_le d 57 then Some (d - 48) else (if nat_le 97 d && nat_le d 102 then Some (d - 87) else None)
+
+-- a byte: two of them, the high one first
+unfoldable pub byte_of : List ℕ → Option ℕ
+byte_of field =
+    if length field == 2 then and_then (hex_value (slice_index field 0)) (λ high. and_then (hex_value (slice_index field 1)) (λ low. Some (16 * high + low))) else None
+
+-- a failure: 0 or 1
+abbrev pub fail_of_digit : ℕ → Option Bool
+fail_of_digit d = if d == 48 then Some false else (if d == 49 then Some true else None)
+
+unfoldable pub fail_of : List ℕ → Option Bool
+fail_of field = if length field == 1 then fail_of_digit (slice_index field 0) else None
+
+-- what the second field says: one of the letters C, A, I, O, R and Y
+abbrev pub letter_of_code : ℕ → Option Letter
+letter_of_code c =
+    if c == 67 then Some (CycleOf Cmd) else (if c == 65 then Some (CycleOf Adr) else (if c == 73 then Some (CycleOf Din) else (
+    if c == 79 then Some (CycleOf Dout) else (if c == 82 then Some Ready else (if c == 89 then Some ArrayReady else None)))))
+
+unfoldable pub letter_of : List ℕ → Option Letter
+letter_of field = if length field == 1 then letter_of_code (slice_index field 0) else None
+
+-- ---- the item of a line
+
+-- the items of number fields, where each has its form
+unfoldable pub cycle : List ℕ → Kind → List ℕ → Option Item
+cycle ce kind byte = and_then (place_of ce) (λ ce. and_then (byte_of byte) (λ byte. Some (Cyc (record { ce = ce; kind = kind; byte = byte }))))
+
+unfoldable pub ready : List ℕ → List ℕ → List ℕ → Option Item
+ready ce lun fail = and_then (place_of ce) (λ ce. and_then (place_of lun) (λ lun. and_then (fail_of fail) (λ fail. Some (Rdy ce lun fail))))
+
+unfoldable pub array_ready : List ℕ → List ℕ → Option Item
+array_ready ce lun = and_then (place_of ce) (λ ce. and_then (place_of lun) (λ lun. Some (Ard ce lun)))
+
+-- C, A, I, O and Y want three fields, and R four; each number field has its form
+abbrev pub of_three : Option Letter → List ℕ → List ℕ → Result Item TraceFault
+of_three (Some (CycleOf kind)) ce byte = ok_or (cycle ce kind byte) X2
+of_three (Some Ready) ce third = Err X1
+of_three (Some ArrayReady) ce lun = ok_or (array_ready ce lun) X2
+of_three None ce third = Err X1
+
+abbrev pub of_four : Option Letter → List ℕ → List ℕ → List ℕ → Result Item TraceFault
+of_four (Some (CycleOf kind)) ce third fourth = Err X1
+of_four (Some Ready) ce lun fail = ok_or (ready ce lun fail) X2
+of_four (Some ArrayReady) ce third fourth = Err X1
+of_four None ce third fourth = Err X1
+
+abbrev pub item_of : List (List ℕ) → Result Item TraceFault
+item_of (ce ∷ letter ∷ third ∷ []) = of_three (letter_of letter) ce third
+item_of (ce ∷ letter ∷ third ∷ fourth ∷ []) = of_four (letter_of letter) ce third fourth
+item_of _ = Err X1
+
+-- the item of a line, or its fault
+unfoldable pub line_item : List ℕ → Result Item TraceFault
+line_item line = if list_all is_field (fields line) then item_of (fields line) else Err X1
+
+-- ---- the items of a text
+
+-- a fault of a line, with the number of the line
+abbrev pub at_line : {A : Type 0} → ℕ → Result A TraceFault → Result A TraceRefusal
+at_line line (Ok x) = Ok x
+at_line line (Err code) = Err (Fault code line)
+
+-- From line number `line` on, of which `front` is read: a line feed (10) ends a line, and the text ends behind one.
+unfoldable pub reading_from : ℕ → List ℕ → List ℕ → Result (List Item) TraceRefusal
+reading_from line front [] = if length front == 0 then Ok [] else Err (Fault X1 line)
+reading_from line front (b ∷ bs) =
+    if b == 10 then (at_line line (line_item front) >>= λ item. reading_from (line + 1) [] bs >>= λ items. Ok (item ∷ items))
+    else reading_from line (front ++ b ∷ []) bs
+
+-- a whole text
+abbrev pub reading : List ℕ → Result (List Item) TraceRefusal
+reading text = reading_from 1 [] text
+
+-- A refusal is the fault that reading tells; or memory ran out at a text without a fault.
+abbrev pub IsRefusalOf : TraceRefusal → Result (List Item) TraceRefusal → Type 0
+IsRefusalOf (Fault code line) read = read ≡ Err (Fault code line)
+IsRefusalOf OutOfMemory read = IsOk read
+
+-- ---- a text line by line
+
+-- the first line is the item's, and the rest stands behind it
+pub record BeginsWith (text : List ℕ) (item : Item) (rest : List ℕ) : Type 0 where
+  pub shorter : length rest < length text
+  pub read : (line : ℕ) → reading_from line [] text ≡ (reading_from (line + 1) [] rest >>= λ items. Ok (item ∷ items))
+
+-- the first line has this fault
+pub record HasFault (text : List ℕ) (code : TraceFault) : Type 0 where
+  pub some : 0 < length text
+  pub read : (line : ℕ) → reading_from line [] text ≡ Err (Fault code line)

@@ -1,0 +1,40 @@
+//! The check of a trace.
+
+ghost use Rattle.std.specs.Prelude.{◌≡◌, ◌≤◌, ◌↔◌, true, reverse, IsOk, IfErr};
+ghost use Rattle.onfi_cycle.specs.Permitted.{is_legal};
+ghost use Rattle.trace_text.specs.Checking.{TellsFirst};
+
+use nand_geometry::Geometry;
+use onfi_cycle::{BusState, Forbidden, Item};
+use thiserror::Error;
+
+/// Why a trace isn't legal.
+#[derive(Clone, Copy, Debug, PartialEq, Eq, Error)]
+pub enum CheckRefusal {
+    /// The place of the first item that isn't permitted after those before it, counted from 0, and the first rule
+    /// that it breaks.
+    #[error("{1:?} at item {0}: {1}")]
+    At(usize, Forbidden),
+    /// Memory was refused. [`check`] takes none and never answers this; it stands here for programs that check a trace
+    /// they have read.
+    #[error("out of memory")]
+    OutOfMemory,
+}
+
+/// Whether a trace is legal on a channel of so many targets of this geometry, 4 at most: whether each item is permitted
+/// after those before it (docs/MODEL.md, "Rules"). The items stand in the order of time. The byte of an output isn't
+/// judged. Takes no memory, and a time that grows with the number of items alone.
+pub fn check(geometry: &Geometry, targets: u8, items: &[Item]) -> Result<(), CheckRefusal>
+    requires { targets ≤ 4 }
+    ensures legal { IsOk result ↔ (is_legal geometry.now targets (reverse items.now) ≡ true) }
+    ensures first { IfErr result (TellsFirst geometry.now targets items.now) }
+{
+    let mut state = BusState::new(*geometry, targets);
+    for (place, item) in items.iter().enumerate() {
+        if let Some(rule) = state.judge(*item) {
+            return Err(CheckRefusal::At(place, rule));
+        }
+        state.apply(*item);
+    }
+    Ok(())
+}

@@ -1,0 +1,9 @@
+//! What holds of the definitions: the contract of a function that does nothing.
+
+ghost use Rattle.trace_text.specs.Trace.{TextsAreItems};
+
+/// The text of items, each chip enable and each LUN of which is at most 3, is read as these items; and what is
+/// read as items is their text, and no other.
+pub fn texts_are_items()
+    ensures { TextsAreItems }
+{}

@@ -1,0 +1,29 @@
+//! Traces as text: [`print`] writes one line for each item, and [`parse`] reads these lines and nothing else.
+//!
+//! A line is ended by a line feed, and its fields stand apart by single spaces:
+//!
+//! ```text
+//! CE K XX          a cycle: K is C (command), A (address), I (input) or O (output), XX its byte
+//! CE R LUN FAIL    a LUN becomes ready, with failure (1) or without (0)
+//! CE Y LUN         the array of a LUN becomes ready
+//! ```
+//!
+//! CE and LUN are one digit from 0 to 3, and XX is two hexadecimal digits in lower case.
+#![tactic(auto)]
+
+mod checking;
+pub mod laws;
+mod line;
+mod parsing;
+mod printing;
+mod refusal;
+
+pub use checking::{CheckRefusal, check};
+pub use parsing::parse;
+pub use printing::{is_printable, print};
+pub use refusal::{TraceFault, TraceRefusal};
+
+#[cfg(test)]
+mod check_tests;
+#[cfg(test)]
+mod tests;

@@ -1,0 +1,90 @@
+//! Reading the text of a trace.
+
+ghost use Rattle.std.specs.Prelude.{◌≡◌, [], List, IsOk, OnOk, IfOk, IfErr, IfSome, MatchOption, MatchResult};
+ghost use Rattle.std.specs.Str.{IsUtf8};
+ghost use Rattle.onfi_cycle.specs.declared.Item.{Item};
+ghost use Rattle.trace_text.specs.declared.refusal.TraceRefusal.TheVariants.{OutOfMemory};
+ghost use Rattle.trace_text.specs.Trace.{IsTextOf};
+ghost use Rattle.trace_text.specs.Reading.{reading, IsRefusalOf, BeginsWith, HasFault};
+
+use crate::line::line_item;
+use crate::refusal::{TraceFault, TraceRefusal};
+use onfi_cycle::Item;
+use std::alloc::{AllocError, Allocator};
+
+// The item of the first line and the text behind that line, if the text isn't empty.
+fn first_item(text: &str) -> Result<Option<(Item, &str)>, TraceFault>
+    ensures ok { IfOk result (λ o. MatchOption o (text.entry.now ≡ []) (λ x. BeginsWith text.entry.now x.0 x.1.now)) }
+    ensures utf8 { IfOk result (λ o. IfSome o (λ x. IsUtf8 x.1.now)) }
+    ensures err { IfErr result (HasFault text.entry.now) }
+{
+    match text.split_once('\n') {
+        Some((line, rest)) => Ok(Some((line_item(line)?, rest))),
+        None if text.is_empty() => Ok(None),
+        None => Err(TraceFault::X1),
+    }
+}
+
+// How many items the text has, or its first fault. Takes no memory.
+fn count_items(text: &str) -> Result<usize, TraceRefusal>
+    ensures ok { OnOk result (IsOk (reading text.now)) }
+    ensures err { IfErr result (λ e. IsRefusalOf e (reading text.now)) }
+{
+    let mut rest = text;
+    let mut count = 0;
+    'lines: loop {
+        match first_item(rest) {
+            Ok(Some((_, behind))) => {
+                rest = behind;
+                count += 1;
+            }
+            Ok(None) => return Ok(count),
+            Err(code) => {
+                return Err(TraceRefusal::Fault {
+                    code,
+                    line: count + 1,
+                });
+            }
+        }
+    }
+}
+
+// The items of a text without a fault.
+fn items_of<A: Allocator>(alloc: A, text: &str, count: usize) -> Result<Vec<Item, A>, AllocError>
+    requires { IsOk (reading text.now) }
+    ensures { IfOk result (λ v. reading text.now ≡ Ok v.items) }
+{
+    let mut items = Vec::with_capacity(alloc, count)?;
+    let mut rest = text;
+    'lines: while let Some((item, behind)) = first_item(rest).unwrap() {
+        items.push(item)?;
+        rest = behind;
+    }
+    Ok(items)
+}
+
+// The items, or the first fault.
+fn all<A: Allocator>(alloc: A, text: &str) -> Result<Vec<Item, A>, TraceRefusal>
+    ensures ok { IfOk result (λ v. reading text.now ≡ Ok v.items) }
+    ensures err { IfErr result (λ e. IsRefusalOf e (reading text.now)) }
+{
+    let count = count_items(text)?;
+    Ok(items_of(alloc, text, count)?)
+}
+
+/// The items of a text, which is one that [`print`](crate::print) writes. Of any other text the lowest line with
+/// a fault is told, counted from 1, and its first fault: X1 if the line isn't ended, has a field other than one or
+/// more visible ASCII characters between single spaces, a letter other than C, A, I, O, R and Y, or other than the
+/// number of fields that its letter wants; then X2 if a number field isn't of its form. Memory is taken once there
+/// is no fault, and `OutOfMemory` is answered only where it was refused.
+pub fn parse<A: Allocator>(alloc: A, text: &str) -> Result<Vec<Item, A>, TraceRefusal>
+    // What is read are items whose text this is, each chip enable and each LUN at most 3.
+    ensures found { IfOk result (λ v. IsTextOf text.now v.items) }
+    // The text of such items is read as these items.
+    ensures only { (items : List Item) → IsTextOf text.now items → MatchResult result (λ v. v.items ≡ items) (λ e. e ≡ OutOfMemory) }
+    // Which items, and which fault of which line.
+    ensures ok { IfOk result (λ v. reading text.now ≡ Ok v.items) }
+    ensures err { IfErr result (λ e. IsRefusalOf e (reading text.now)) }
+{
+    all(alloc, text)
+}

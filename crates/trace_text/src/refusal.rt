@@ -1,0 +1,45 @@
+//! Why a text is refused.
+
+ghost use Rattle.std.specs.Prelude.{◌≡◌};
+ghost use Rattle.trace_text.specs.declared.refusal.TraceRefusal.TheVariants.{OutOfMemory};
+
+use std::alloc::{AllocError, AllocFailed};
+use thiserror::Error;
+
+/// What is wrong with a line of a text. A line is judged by its shape first, and then by its numbers.
+#[derive(Clone, Copy, Debug, PartialEq, Eq, Error)]
+pub enum TraceFault {
+    /// The line isn't ended, has an unknown letter, or not the fields that its letter wants.
+    #[error("the line hasn't the shape of an item")]
+    X1,
+    /// A number field isn't a number of its form.
+    #[error("a field isn't a number of its form")]
+    X2,
+}
+
+/// Why a text gives no trace.
+#[derive(Clone, Copy, Debug, PartialEq, Eq, Error)]
+pub enum TraceRefusal {
+    /// The lowest line with a fault, counted from 1, and its first fault.
+    #[error("{code:?} at line {line}: {code}")]
+    Fault { code: TraceFault, line: usize },
+    /// Memory was refused to a text without a fault.
+    #[error("out of memory")]
+    OutOfMemory,
+}
+
+impl From<AllocError> for TraceRefusal {
+    ghost from_gives = { λ _ e. e ≡ OutOfMemory };
+
+    fn from(_e: AllocError) -> TraceRefusal {
+        TraceRefusal::OutOfMemory
+    }
+}
+
+impl<T: Drop> From<AllocFailed<T>> for TraceRefusal {
+    ghost from_gives = { λ _ e. e ≡ OutOfMemory };
+
+    fn from(_e: AllocFailed<T>) -> TraceRefusal {
+        TraceRefusal::OutOfMemory
+    }
+}
