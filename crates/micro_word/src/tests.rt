@@ -71,6 +71,7 @@ fn long_get_is_read(rt: HostRuntime) -> Result<(), Fail> {
         .ok()
         .ok_or("the words are a text")?;
     assert_eq!(rt; write(rt.alloc(), &made)?.as_slice(), LONG_GET.as_slice());
+    assert_eq!(rt; made.into_words().as_slice(), words.as_slice());
     Ok(())
 }
 

@@ -92,6 +92,13 @@ impl<A: Allocator> Text<A> {
         self.budget
     }
 
+    /// The words, taken out of the text.
+    pub fn into_words(self) -> Vec<Word, A>
+        ensures { result.items ≡ self.words }
+    {
+        self.words
+    }
+
     /// The words, at most 1,024, each with its operands in range.
     pub fn words(&self) -> &[Word]
         ensures value { result.now ≡ self.now.words }

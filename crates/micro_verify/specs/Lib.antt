@@ -1,0 +1,12 @@
+pub mod Lines
+pub mod Program
+pub mod Moves
+pub mod Played
+pub mod Step
+pub mod Safe
+pub mod Actions
+pub mod State
+pub mod Verified
+pub mod Laws
+pub mod Erase
+pub mod Unsafe
