@@ -1,0 +1,30 @@
+-- The laws of the crates below, as the proofs here cite them. No other file here names a proof of another crate.
+use Rattle.onfi_cycle.specs.Steps.{FactsGoOn, ReadiesChange}
+use Rattle.onfi_cycle.proofs.Keeping.{facts_go_on, readies_change}
+use Rattle.micro_verify.specs.Laws.{FineStepsGoWell, OwnCyclesPassOthers}
+use Rattle.micro_verify.proofs.Strides.{fine_step}
+use Rattle.micro_verify.proofs.Passing.{own_cycles_pass_others}
+use Rattle.micro_verify.specs.Actions.{WalkGivesActs}
+use Rattle.micro_verify.proofs.Acts.{walk_gives_acts}
+use Rattle.micro_verify.specs.Erase.{EraseIsSafe}
+use Rattle.micro_verify.proofs.Erase.{erase_is_safe}
+pub use Rattle.micro_verify.proofs.Tracking.{StepParts, step_parts}
+pub use Rattle.micro_verify.proofs.Basics.{and_parts, and_true, eqb_self, there_lun}
+
+pub facts : FactsGoOn
+facts = facts_go_on
+
+pub readies_leave : ReadiesChange
+readies_leave = readies_change
+
+pub fine_steps : FineStepsGoWell
+fine_steps = fine_step
+
+pub own_cycles_pass : OwnCyclesPassOthers
+own_cycles_pass = own_cycles_pass_others
+
+pub walk_gives : WalkGivesActs
+walk_gives = walk_gives_acts
+
+pub erase_safe : EraseIsSafe
+erase_safe = erase_is_safe

@@ -1,0 +1,9 @@
+pub mod Runs
+pub mod Below
+pub mod Slots
+pub mod Texts
+pub mod Events
+pub mod Loads
+pub mod Refusals
+pub mod Main
+pub mod Premises

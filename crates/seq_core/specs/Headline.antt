@@ -1,0 +1,81 @@
+-- The laws of events and of runs, the main theorem last.
+use Rattle.std.specs.Prelude.{◌≡◌, ◌⊎◌, Bool, true, false, not, List, [], ◌∷◌, Some, None}
+use Rattle.onfi_cycle.specs.declared.Lun.{Lun}
+use Rattle.onfi_cycle.specs.declared.Item.{Item}
+use Rattle.onfi_cycle.specs.declared.Item.TheVariants.{Rdy, Ard}
+use Rattle.onfi_cycle.specs.Permitted.{is_legal}
+use Rattle.onfi_cycle.specs.Channel.{Channel, IsChannel}
+use Rattle.micro_verify.specs.Safe.{AddsOwn}
+use Rattle.seq_core.specs.declared.answers.Stepped.TheVariants.{Empty, Held}
+use Rattle.seq_core.specs.World.{Slot, World, slot_of, fresh}
+use Rattle.seq_core.specs.Event.{Event, Load, Step, Ready, ArrayReady, Unload, LoadsVerified, AllLoadVerified}
+use Rattle.seq_core.specs.Reply.{Reply, ToLoad, ToStep, ToReady, ToArrayReady, ToUnload, NotLoaded, NotUnloaded}
+use Rattle.seq_core.specs.After.{After, Ran, after, run}
+use Rattle.seq_core.specs.Lawful.{IsWithin, DoesItsText, LawfulWorld}
+
+-- nothing, or this item alone, was added to a trace
+abbrev pub AddsAtMost : Item → List Item → List Item → Type 0
+AddsAtMost i before later = (later ≡ before) ⊎ (later ≡ i ∷ before)
+
+-- what an event adds to the trace. A step: cycles of its LUN, each permitted where it comes; their rows name the LUN, and the
+-- LUN is the one driver of their outputs. A ready: itself, if it comes. Others: nothing
+abbrev pub AddsItsOwn : Channel → Event → List Item → List Item → Type 0
+AddsItsOwn s (Step l) before later = AddsOwn s l before later
+AddsItsOwn s (Ready l fail) before later = AddsAtMost (Rdy l.ce l.lun fail) before later
+AddsItsOwn s (ArrayReady l) before later = AddsAtMost (Ard l.ce l.lun) before later
+AddsItsOwn s (Load l j) before later = later ≡ before
+AddsItsOwn s (Unload l) before later = later ≡ before
+
+-- an event is defined, adds what is its own, and leaves a lawful world
+pub record EventGoesWell (s : Channel) (w : World) (e : Event) : Type 0 where
+  pub then : After
+  pub is_then : after s w e ≡ Some then
+  pub own : AddsItsOwn s e w.past then.world.past
+  pub lawful : LawfulWorld s then.world
+
+-- the law: in a lawful world the LUN that has the bus has a program that goes on, so the bus isn't kept for nothing
+abbrev pub HoldersGoOn : Type 0
+HoldersGoOn = (s : Channel) (w : World) (l : Lun) → LawfulWorld s w → w.holder ≡ Some l → (x : Slot) × (slot_of s w l ≡ Some x) × (x.code ≡ None)
+
+-- the law: every event of a lawful world goes well, if a job that it loads is verified
+abbrev pub EventsGoWell : Type 0
+EventsGoWell = (s : Channel) (w : World) (e : Event) → IsChannel s → LawfulWorld s w → LoadsVerified e → EventGoesWell s w e
+
+-- the answer of an event that was refused
+abbrev pub is_refusal : Reply → Bool
+is_refusal (ToLoad (NotLoaded fault j)) = true
+is_refusal (ToStep Empty) = true
+is_refusal (ToStep Held) = true
+is_refusal (ToReady came) = not came
+is_refusal (ToArrayReady came) = not came
+is_refusal (ToUnload (NotUnloaded fault)) = true
+is_refusal _ = false
+
+-- the law: an event that was refused changes nothing
+abbrev pub RefusalsChangeNothing : Type 0
+RefusalsChangeNothing = (s : Channel) (w : World) (e : Event) (a : After) → after s w e ≡ Some a → is_refusal a.reply ≡ true → a.world ≡ w
+
+-- the law: the world before the first event is lawful
+abbrev pub FreshIsLawful : Type 0
+FreshIsLawful = (s : Channel) → LawfulWorld s (fresh s)
+
+-- each of these events adds what is its own, from this world on
+abbrev pub EventsAreOwn : Channel → List Event → World → Type 0
+EventsAreOwn s [] w = Unit {0}
+EventsAreOwn s (e ∷ events) w =
+    (a : After) × (after s w e ≡ Some a) × AddsItsOwn s e w.past a.world.past × EventsAreOwn s events a.world
+
+-- a run is defined, its trace is legal, each of its events adds what is its own, each program has stayed inside its
+-- buffer and its budget and has done a beginning of what its text means, and the world is lawful
+pub record GoesWell (s : Channel) (events : List Event) : Type 0 where
+  pub ran : Ran
+  pub is_ran : run s events (fresh s) ≡ Some ran
+  pub legal : is_legal s.geometry s.targets ran.world.past ≡ true
+  pub own : EventsAreOwn s events (fresh s)
+  pub within : (l : Lun) (x : Slot) → slot_of s ran.world l ≡ Some x → IsWithin s x
+  pub text : (l : Lun) (x : Slot) → slot_of s ran.world l ≡ Some x → DoesItsText s x x.code
+  pub lawful : LawfulWorld s ran.world
+
+-- the law: every list of events whose loaded jobs are verified goes well
+abbrev pub Headline : Type 0
+Headline = (s : Channel) (events : List Event) → IsChannel s → AllLoadVerified events → GoesWell s events

@@ -1,0 +1,6 @@
+pub mod World
+pub mod Event
+pub mod Reply
+pub mod After
+pub mod Lawful
+pub mod Headline

@@ -1,0 +1,44 @@
+//! What loads, steps and unloads are answered.
+
+/// Why a job isn't made, or isn't loaded.
+#[derive(Clone, Copy, Debug, PartialEq, Eq)]
+pub enum LoadFault {
+    /// The slot has a job.
+    S1,
+    /// The LUN isn't there, or isn't the one of the job.
+    S2,
+    /// A row of the job is outside the geometry.
+    S3,
+    /// The buffer hasn't the length that the text names.
+    S4,
+    /// The text was verified for another geometry.
+    S5,
+    /// The text continues a cache read, and the job doesn't begin with a block.
+    S6,
+}
+
+/// How a step went.
+#[derive(Clone, Copy, Debug, PartialEq, Eq)]
+pub enum Stepped {
+    /// The slot has no job; nothing was done.
+    Empty,
+    /// The job had ended before, and nothing was done. Or the word was `end`: its code is kept, and the bus let go.
+    Ended,
+    /// Another slot has the bus, and the job goes on; nothing was done.
+    Held,
+    /// The word was `yield`: it is done, and the bus let go.
+    HandedOver,
+    /// The word was `wait` and its poll says busy: the poll is in the trace, the word isn't done, and the bus let go.
+    NotReady,
+    /// Any other word, or a `wait` whose poll says ready: it is done, and the slot has the bus.
+    Went,
+}
+
+/// Why nothing is unloaded.
+#[derive(Clone, Copy, Debug, PartialEq, Eq)]
+pub enum UnloadFault {
+    /// The slot has no job.
+    U1,
+    /// The job hasn't ended.
+    U2,
+}
