@@ -18,3 +18,4 @@ pub mod Tracking
 pub mod Sound
 pub mod Accepted
 pub mod Erase
+pub mod Waiting

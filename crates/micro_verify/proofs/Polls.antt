@@ -204,6 +204,7 @@ pub record PollLeaves (s : Channel) (j : Job) (past : List Item) (p : Polling s 
   pub shown : bus_byte s p.polled j.lun.ce ≡ Some byte
   pub is_played : played s j.lun.ce (p.before ++ (Take ∷ [])) past ≡ Some (after_output j.lun.ce byte p.polled)
   pub says : is_ready_status byte ≡ true → is_busy s.geometry past j.lun ≡ false
+  pub says_not : is_ready_status byte ≡ false → is_busy s.geometry past j.lun ≡ true
   pub leaves : Calm s.geometry past (cycle j.lun.ce Dout byte ∷ p.polled) j.lun
   pub closed : is_open_on (cycle j.lun.ce Dout byte ∷ p.polled) j.lun.ce ≡ false
 
@@ -212,6 +213,13 @@ ready_said : (busy array_busy failed : Bool) → is_ready_status (cond busy 0x80
 ready_said true a f h = cc
 ready_said false a f h = refl
 
+-- and one that doesn't is that of a busy one
+unready_said : (busy array_busy failed : Bool) → is_ready_status (cond busy 0x80 (cond array_busy 0xc0 (cond failed 0xe1 0xe0))) ≡ false → busy ≡ true
+unready_said true a f h = refl
+unready_said false true f h = cc
+unready_said false false true h = cc
+unready_said false false false h = cc
+
 pub poll_leaves : (s : Channel) → IsChannel s → (j : Job) (past : List Item) → is_there s j.lun ≡ true → (p : Polling s j past) → PollLeaves s j past p
 poll_leaves s is j past there p =
     record {
@@ -219,6 +227,7 @@ poll_leaves s is j past there p =
       shown = b.1;
       is_played = p.plays ∙ rw b.1 refl;
       says = λ t. sym p.leaves.busy ∙ ready_said _ _ _ (subst (λ (n : ℕ). is_ready_status n ≡ true) said t);
+      says_not = λ t. sym p.leaves.busy ∙ unready_said _ _ _ (subst (λ (n : ℕ). is_ready_status n ≡ false) said t);
       leaves = calmer s.geometry past p.polled _ j.lun p.leaves output;
       closed = outputs.closes p.polled j.lun.ce b.0;
     }

@@ -46,3 +46,17 @@ ghost use Rattle.micro_verify.specs.Unsafe.{SomeAreUnsafe};
 pub fn some_are_unsafe()
     ensures { SomeAreUnsafe }
 {}
+
+ghost use Rattle.micro_verify.specs.Lines.{LinesAreWords};
+
+/// The lines of a text without loops and branches are its words, each at its place.
+pub fn lines_are_words()
+    ensures { LinesAreWords }
+{}
+
+ghost use Rattle.micro_verify.specs.Laws.{UnreadyIsBusy};
+
+/// Where a `wait` comes again, its LUN is busy: so a ready of it may come, and the `wait` doesn't come again for ever.
+pub fn unready_is_busy()
+    ensures { UnreadyIsBusy }
+{}

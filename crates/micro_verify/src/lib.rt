@@ -10,7 +10,7 @@ mod refusal;
 mod state;
 mod verifying;
 
-pub use refusal::{Reason, VerifyRefusal};
+pub use refusal::{Fault, Reason, VerifyRefusal};
 pub use verifying::{Verified, verify};
 
 #[cfg(test)]

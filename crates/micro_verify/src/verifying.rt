@@ -1,8 +1,9 @@
 //! Verifying a text: from its first word on, what is known before each word, and whether anything is against it.
-ghost use Rattle.std.specs.Prelude.{◌≡◌, ◌+◌, ◌^◌, ◌<◌, ◌≤◌, ◌↔◌, length, Some, None, IsOk, IfOk, IfErr, IfSome};
+ghost use Rattle.std.specs.Prelude.{◌≡◌, ◌+◌, ◌^◌, ◌<◌, ◌≤◌, ◌↔◌, length, Some, None, IsOk, IfOk, IfErr, IfSome, true};
 ghost use Rattle.micro_verify.specs.State.{first_state, reason_at, onward, walked, ends, fault_of, IsSmall};
 ghost use Rattle.micro_verify.specs.Verified.{Tells};
 ghost use Rattle.micro_verify.specs.Safe.{IsSafe};
+ghost use Rattle.micro_verify.specs.Lines.{all_lead_on};
 
 use crate::refusal::{Fault, Reason, VerifyRefusal};
 use crate::state::{State, is_straight};
@@ -23,19 +24,22 @@ pub struct Verified<A: Allocator = Global> {
 impl<A: Allocator> Model for Verified<A> {
     ghost use Rattle.micro_verify.specs.Verified.{VerifiedText};
     ghost use Rattle.micro_verify.specs.Safe.{IsSafe};
+    ghost use Rattle.micro_verify.specs.Lines.{all_lead_on};
+    ghost use Rattle.std.specs.Prelude.{◌≡◌, true};
 
     ghost Value = { VerifiedText };
 
     ghost view = { λ v. record { text = v.text; geometry = v.geometry } };
 
-    ghost invariant = { λ v. IsSafe v.text v.geometry };
+    ghost invariant = { λ v. IsSafe v.text v.geometry × (all_lead_on v.text.words ≡ true) };
 }
 
 impl<A: Allocator> Verified<A> {
-    /// The text.
+    /// The text. Texts that are accepted today have no loops and no branches.
     pub fn text(&self) -> &Text<A>
         ensures value { result.now ≡ self.now.text }
         ensures safe { IsSafe self.now.text self.now.geometry }
+        ensures in_order { all_lead_on self.now.text.words ≡ true }
     {
         &self.text
     }

@@ -1,4 +1,5 @@
 pub mod FieldLemmas
 pub mod LimitLemmas
+pub mod PageLemmas
 pub mod RowLemmas
 mod Worked

@@ -27,3 +27,10 @@ pub fn parts_give_the_row()
 pub fn indices_are_distinct()
     ensures { IndicesAreDistinct }
 {}
+
+ghost use Rattle.nand_geometry.specs.Page.{ParametersHaveTheirLength};
+
+/// The register of the parameter page has 768 bytes.
+pub fn parameters_have_their_length()
+    ensures { ParametersHaveTheirLength }
+{}

@@ -289,6 +289,29 @@ looked_is_look g n s past l f = at (ltb l.ce n) refl (ltb l.lun g.luns) refl
         let beyond : length s.targets ≤ l.ce = grind (arith, nat_tests, count_of g n s past f) in
         ap (λ (x : Option TargetView). look_on x l.lun) (slice_get_past s.targets l.ce beyond)
 
+-- what an item does to a LUN, by the state and by the past
+pub effect_elsewhere : (g : Parts) (past : List Item) (i : Item) (l : Lun) → target_of i ≢ l.ce → Unaffected ≡ effect_on g past i l
+unfolding effect_on
+effect_elsewhere g past i l ne = sym (rests_elsewhere g past (latch_alone g past l) i l ne)
+
+pub target_not_missing : (g : Parts) (n : ℕ) (s : BusView) (past : List Item) (ce : ℕ) → Follows g n s past → ce < n → slice_get s.targets ce ≡ None → ⊥
+target_not_missing g n s past ce f h none = let found = found_target g n s past ce f h in missing (slice_get s.targets ce) found none
+  where
+    missing : (o : Option TargetView) → o ≡ Some (target_view g past ce) → o ≡ None → ⊥
+    missing None a b = cc
+    missing (Some t) a b = cc
+
+pub effect_there : (g : Parts) (n : ℕ) (s : BusView) (past : List Item) (i : Item) (l : Lun) (t : TargetView) (e : Effect) → Follows g n s past → l.ce < n → l.lun < g.luns → target_of i ≡ l.ce → slice_get s.targets l.ce ≡ Some t → ((v : LunView) → slice_get t.luns l.lun ≡ Some v → e ≡ effect_alone s.geometry t.tail (has_driver t.luns) i l.lun v) → e ≡ effect_on g past i l
+effect_there g n s past i l t e f here low on found is =
+    let same : t ≡ target_view g past l.ce = the_same (sym found ∙ found_target g n s past l.ce f here) in
+    let by_state = subst (λ (ce : ℕ). effect_on g past i (record { ce = ce; lun = l.lun }) ≡ effect_alone g (facts_of (tail past ce)) (has_driver (luns_of g past ce)) i l.lun (lun_view g past (record { ce = ce; lun = l.lun }))) on (effect_by_state g past i l.lun low) in
+    is (lun_view g past l) (ap (λ (u : TargetView). slice_get u.luns l.lun) same ∙ view_at g past l low) ∙
+    (ap (λ (h : Parts). effect_alone h t.tail (has_driver t.luns) i l.lun (lun_view g past l)) f.geometry ∙
+    (ap (λ (u : TargetView). effect_alone g u.tail (has_driver u.luns) i l.lun (lun_view g past l)) same ∙ sym by_state))
+  where
+    the_same : {x y : TargetView} → Some x ≡ Some y → x ≡ y
+    the_same h = cc
+
 -- 6. the beginning
 
 views_last : (g : Parts) (past : List Item) (ce count n : ℕ) → views_from g past ce count n ++ (lun_view g past (record { ce = ce; lun = n + count }) ∷ []) ≡ views_from g past ce (suc count) n

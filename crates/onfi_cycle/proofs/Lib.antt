@@ -17,3 +17,4 @@ pub mod LunBounds
 pub mod EffectBounds
 pub mod RowBounds
 pub mod Following
+pub mod OfToday

@@ -15,3 +15,4 @@ pub mod Steps
 pub mod State
 pub mod Bounds
 pub mod Look
+pub mod Today

@@ -4,11 +4,12 @@ ghost use Rattle.std.specs.Option.{option_copied};
 ghost use Rattle.nand_geometry.specs.declared.Parts.{Parts};
 ghost use Rattle.onfi_cycle.specs.declared.Item.{Item};
 ghost use Rattle.onfi_cycle.specs.declared.Lun.{Lun};
+ghost use Rattle.onfi_cycle.specs.LunView.{LunView};
 ghost use Rattle.onfi_cycle.specs.Sequence.{AreSmall};
-ghost use Rattle.onfi_cycle.specs.Lun.{view_after, queue_after, lun_view};
+ghost use Rattle.onfi_cycle.specs.Lun.{effect_on, view_after, queue_after, lun_view};
 ghost use Rattle.onfi_cycle.specs.Permitted.{broken};
 ghost use Rattle.nand_geometry.specs.Limits.{InLimits};
-ghost use Rattle.onfi_cycle.specs.State.{TargetView, BusView, Follows, target_view, judged, tail_after, effect_alone, luns_after, target_after, bus_after, bus};
+ghost use Rattle.onfi_cycle.specs.State.{TargetView, BusView, Follows, target_view, judged, tail_after, effect_alone, has_driver, luns_after, target_after, bus_after, bus};
 ghost use Rattle.onfi_cycle.specs.Look.{look_at, look_at_some, looked, look_after};
 ghost use Rattle.onfi_cycle.specs.Bounds.{LunFits, LunsFit, TargetFits, BusFits};
 
@@ -289,6 +290,22 @@ fn judge_on(geometry: &Geometry, targets: &[TargetState], item: Item) -> Option<
     }
 }
 
+// What an item of this target does to the LUN of number n, if that is there.
+fn effect_at(geometry: &Geometry, target: &TargetState, item: Item, n: u8) -> Effect
+    ensures { (v : LunView) → slice_get target.now.luns n ≡ Some v → result ≡ effect_alone geometry.now target.now.tail (has_driver target.now.luns) item n v }
+{
+    let luns = target.luns.as_slice();
+    let latch_alone = match lun_at(luns, n) {
+        Some(found) if driver(luns).is_some() => found.latch,
+        _ => Latch::Off,
+    };
+    let at = Lun {
+        ce: target_of(item),
+        lun: n,
+    };
+    item_effect(geometry, target.tail, latch_alone, item, at)
+}
+
 // Goes on by an item that is permitted on these targets.
 fn apply_on(geometry: &Geometry, targets: &mut [TargetState], item: Item)
     requires fits { BusFits (bus geometry.now targets.old) }
@@ -368,6 +385,19 @@ impl BusState {
     {
         let geometry = self.geometry;
         apply_on(&geometry, self.targets.as_mut_slice(), item);
+    }
+
+    /// What an item does to a LUN that is there.
+    pub fn effect(&self, item: Item, l: Lun) -> Effect
+        ensures past { (g : Parts) (n : ℕ) (past : List Item) → Follows g n self.now past → l.ce < n → l.lun < g.luns → result ≡ effect_on g past item l }
+    {
+        if target_of(item) != l.ce {
+            return Effect::Unaffected;
+        }
+        match target_at(self.targets.as_slice(), l.ce) {
+            None => Effect::Unaffected,
+            Some(target) => effect_at(&self.geometry, target, item, l.lun),
+        }
     }
 
     /// A look at one LUN, None where it isn't there.

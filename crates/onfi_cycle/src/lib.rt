@@ -11,6 +11,7 @@ pub mod laws;
 pub mod rules;
 pub mod sequences;
 pub mod status_byte;
+pub mod today;
 
 ghost use Rattle.std.specs.Prelude.{◌≡◌, List};
 

@@ -1,13 +1,20 @@
 -- The laws of the crates below, as the proofs here cite them. No other file here names a proof of another crate.
 use Rattle.onfi_cycle.specs.Steps.{FactsGoOn, ReadiesChange}
 use Rattle.onfi_cycle.proofs.Keeping.{facts_go_on, readies_change}
-use Rattle.micro_verify.specs.Laws.{FineStepsGoWell, OwnCyclesPassOthers}
+pub use Rattle.onfi_cycle.proofs.Keeping.{view_at}
+pub use Rattle.onfi_cycle.proofs.Following.{refilled}
+use Rattle.micro_verify.specs.Laws.{FineStepsGoWell, OwnCyclesPassOthers, UnreadyIsBusy}
+use Rattle.micro_verify.proofs.Waiting.{unready_is_busy}
 use Rattle.micro_verify.proofs.Strides.{fine_step}
 use Rattle.micro_verify.proofs.Passing.{own_cycles_pass_others}
 use Rattle.micro_verify.specs.Actions.{WalkGivesActs}
 use Rattle.micro_verify.proofs.Acts.{walk_gives_acts}
 use Rattle.micro_verify.specs.Erase.{EraseIsSafe}
 use Rattle.micro_verify.proofs.Erase.{erase_is_safe}
+use Rattle.micro_verify.specs.Lines.{LinesAreWords}
+use Rattle.micro_verify.proofs.Walking.{lines_are_words}
+use Rattle.micro_verify.specs.Moves.{BufferKeepsLength}
+use Rattle.micro_verify.proofs.Costs.{buffer_len}
 pub use Rattle.micro_verify.proofs.Tracking.{StepParts, step_parts}
 pub use Rattle.micro_verify.proofs.Basics.{and_parts, and_true, eqb_self, there_lun}
 
@@ -28,3 +35,12 @@ walk_gives = walk_gives_acts
 
 pub erase_safe : EraseIsSafe
 erase_safe = erase_is_safe
+
+pub lines_of : LinesAreWords
+lines_of = lines_are_words
+
+pub keeps_length : BufferKeepsLength
+keeps_length = buffer_len
+
+pub unready_busy : UnreadyIsBusy
+unready_busy = unready_is_busy

@@ -55,7 +55,7 @@ or_right false b h = rw h refl
 or_left : (a b : Bool) → a ≡ true → (a || not b) ≡ true
 or_left a b h = rw h refl
 
-may_step_now : (s : Channel) (w : World) (l : Lun) (holder : Option Lun) → is_held holder l ≡ false → ((ce : ℕ) → has_bus_on holder ce ≡ false → is_open_on w.past ce ≡ false) → (has_bus holder l || not (is_open_on w.past l.ce)) ≡ true
+pub may_step_now : (s : Channel) (w : World) (l : Lun) (holder : Option Lun) → is_held holder l ≡ false → ((ce : ℕ) → has_bus_on holder ce ≡ false → is_open_on w.past ce ≡ false) → (has_bus holder l || not (is_open_on w.past l.ce)) ≡ true
 may_step_now s w l None h closed = or_right false (is_open_on w.past l.ce) (closed l.ce refl)
 may_step_now s w l (Some k) h closed = or_left (same_lun k l) (is_open_on w.past l.ce) (unheld (same_lun k l) h)
 

@@ -7,3 +7,12 @@ pub mod Loads
 pub mod Refusals
 pub mod Main
 pub mod Premises
+pub mod Progress
+pub mod Calls
+pub mod Replies
+pub mod Plays
+pub mod Alone
+pub mod Played
+pub mod Steps
+pub mod Cores
+pub mod EventList

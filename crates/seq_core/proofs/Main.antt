@@ -75,7 +75,7 @@ fresh_is_lawful s =
       closed = λ ce h. refl;
     }
 
-lawful_slot : (s : Channel) (w : World) → LawfulWorld s w → (l : Lun) (x : Slot) → slot_of s w l ≡ Some x → LawfulSlot s w.past (has_bus w.holder l) l x
+pub lawful_slot : (s : Channel) (w : World) → LawfulWorld s w → (l : Lun) (x : Slot) → slot_of s w l ≡ Some x → LawfulSlot s w.past (has_bus w.holder l) l x
 lawful_slot s w law l x e = subst (λ (o : Option Slot). LawfulAt s w.past (has_bus w.holder l) l o) e (law.slots l (there_of_slot s w l x e))
 
 -- who has the bus goes on

@@ -18,7 +18,7 @@ same_lun_is l m h =
 pub same_lun_self : (l : Lun) → same_lun l l ≡ true
 same_lun_self l = and_true (l.ce == l.ce) (l.lun == l.lun) (eqb_self l.ce) (eqb_self l.lun)
 
-there_ce : (s : Channel) (l : Lun) → is_there s l ≡ true → l.ce < s.targets
+pub there_ce : (s : Channel) (l : Lun) → is_there s l ≡ true → l.ce < s.targets
 there_ce s l h = ltb-true l.ce s.targets (and_parts (ltb l.ce s.targets) (ltb l.lun s.geometry.luns) h).0
 
 below : (a b n x : ℕ) → a < b → x < n → a * n + x < b * n

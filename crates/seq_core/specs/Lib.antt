@@ -4,3 +4,10 @@ pub mod Reply
 pub mod After
 pub mod Lawful
 pub mod Headline
+pub mod Progress
+pub mod Job
+pub mod Shows
+pub mod Calls
+pub mod EventList
+pub mod Alone
+pub mod Playing

@@ -24,6 +24,14 @@ pub fn holders_go_on()
     ensures { HoldersGoOn }
 {}
 
+ghost use Rattle.seq_core.specs.Alone.{AloneProgramsEnd};
+
+/// A program that is stepped alone ends, if its LUN becomes ready after each poll that says busy: in two turns for each
+/// line to come and one more.
+pub fn alone_programs_end()
+    ensures { AloneProgramsEnd }
+{}
+
 /// The main theorem. On every channel whose geometry is in the limits, with any number of targets, after every list of
 /// loads, steps, readies, array readies and unloads in every interleaving, if each job that it loads is verified: the
 /// run is defined (each output has a byte), and its trace is legal. What a step adds to the trace are permitted cycles

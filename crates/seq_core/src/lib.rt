@@ -2,10 +2,22 @@
 //!
 //! The definitions stand in `specs/`: the slots of a channel (`World`), what happens on it and how that is answered
 //! (`Event`, `Reply`), what an event leaves and what a run comes to (`After`), what each event keeps (`Lawful`), and the
-//! laws (`Headline`), the main theorem last. They are proved as the contracts of `laws`. No code runs programs yet.
+//! laws (`Headline`), the main theorem last. They are proved as the contracts of `laws`. `Core` runs programs: each call is
+//! an event (`Calls`), and `run_events` does a list of them (`EventList`).
 #![tactic(auto)]
 
 mod answers;
+mod event_list;
+mod job;
 pub mod laws;
+mod playing;
+mod registers;
+mod sequencer;
+mod slot;
+#[cfg(test)]
+mod tests;
 
 pub use answers::{LoadFault, Stepped, UnloadFault};
+pub use event_list::{Event, Ran, Reply, do_event, run_events};
+pub use job::Job;
+pub use sequencer::{Core, Done};

@@ -1,0 +1,4 @@
+pub mod Jobs
+pub mod Moves
+pub mod Taking
+pub mod Closing

@@ -1,0 +1,5 @@
+pub mod Rule
+pub mod Passes
+pub mod Holding
+pub mod Submitted
+pub mod Closed

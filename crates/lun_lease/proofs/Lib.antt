@@ -1,0 +1,4 @@
+pub mod Holders
+pub mod Calls
+pub mod Steps
+pub mod Moves

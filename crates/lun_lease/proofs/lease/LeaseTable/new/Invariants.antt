@@ -1,0 +1,10 @@
+use Rattle.std.proofs.Common.{◌≡◌, ◌+◌, [], length, Some}
+use Rattle.std.specs.List.{All}
+use Rattle.lun_lease.proofs.lease.LeaseTable.new.Given as goal
+
+abbrev pub invariant-loop : goal.invariant-loop
+invariant-loop g l = record {
+  same : l.first ≡ record { table = l.initial.first.table; calls = [] };
+  count : length l.seats.items + 1 ≡ l.counter;
+  each : All (λ o. o ≡ Some (record { table = l.initial.first.table; calls = [] })) l.seats.items;
+}

@@ -1,0 +1,60 @@
+-- The parameter page of a geometry (ONFI 4.x, Read Parameter Page Definition).
+use Rattle.std.specs.Prelude.{◌≡◌, ℕ, zero, suc, ◌+◌, ◌*◌, ◌/◌, ◌%◌, ◌^◌, ◌==◌, Bool, true, false, not, nat_lt, if◌then◌else◌, List, [], ◌∷◌, ◌++◌, replicate, bit_xor, length}
+use Rattle.nand_geometry.specs.declared.Parts.{Parts}
+
+-- so many bytes of a number, the least significant first
+abbrev pub low_bytes : ℕ → ℕ → List ℕ
+low_bytes zero n = []
+low_bytes (suc count) n = n % 256 ∷ low_bytes count (n / 256)
+
+-- a bit of a field, where it is set
+abbrev pub flag : ℕ → Bool → ℕ
+flag bit set = if set then 2 ^ bit else 0
+
+-- bit 1: operations of several LUNs; bit 3: program and erase of several planes
+abbrev pub features : Parts → ℕ
+features g = flag 1 (nat_lt 1 g.luns) + flag 3 g.multi_plane
+
+-- bit 1: read cache; bit 3: Read Status Enhanced
+abbrev pub optional_commands : Parts → ℕ
+optional_commands g = flag 1 g.cache + flag 3 g.enhanced
+
+abbrev zeros : ℕ → List ℕ
+zeros count = replicate count 0
+
+-- the bytes in front of the checksum; 23h tells two column bytes and three row bytes of an address
+abbrev pub page_body : Parts → List ℕ
+page_body g =
+    (0x4f ∷ (0x4e ∷ (0x46 ∷ (0x49 ∷ [])))) ++ (zeros 2 ++ (low_bytes 2 (features g) ++ (low_bytes 2 (optional_commands g) ++ (zeros 70
+    ++ (low_bytes 4 g.page_bytes ++ (low_bytes 2 g.spare_bytes ++ (zeros 6 ++ (low_bytes 4 g.pages ++ (low_bytes 4 g.blocks
+    ++ ((g.luns ∷ (0x23 ∷ [])) ++ (zeros 11 ++ ((g.plane_bits ∷ []) ++ zeros 140))))))))))))
+
+-- one bit comes into the shift register of the checksum, which is combined with 8005h where the bit that falls out is another
+abbrev pub crc_bit : ℕ → ℕ → ℕ
+crc_bit register bit =
+    if register / 2 ^ 15 == bit then register * 2 % 2 ^ 16 else bit_xor (register * 2 % 2 ^ 16) 0x8005
+
+-- so many bits of a byte, from the most significant of them on
+abbrev pub crc_bits : ℕ → ℕ → ℕ → ℕ
+crc_bits zero byte register = register
+crc_bits (suc count) byte register = crc_bits count byte (crc_bit register (byte / 2 ^ count % 2))
+
+abbrev pub crc_from : List ℕ → ℕ → ℕ
+crc_from [] register = register
+crc_from (byte ∷ bytes) register = crc_from bytes (crc_bits 8 byte register)
+
+-- the checksum of some bytes
+abbrev pub crc : List ℕ → ℕ
+crc bytes = crc_from bytes 0x4f4e
+
+-- the parameter page
+abbrev pub page : Parts → List ℕ
+page g = page_body g ++ low_bytes 2 (crc (page_body g))
+
+-- what its register holds: three copies
+unfoldable pub parameter_bytes : Parts → List ℕ
+parameter_bytes g = page g ++ (page g ++ page g)
+
+-- the law: the register of the parameter page has 768 bytes
+abbrev pub ParametersHaveTheirLength : Type 0
+ParametersHaveTheirLength = (g : Parts) → length (parameter_bytes g) ≡ 768

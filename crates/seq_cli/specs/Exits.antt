@@ -1,0 +1,32 @@
+-- How a run of the program ends: its status, and what it says on standard error.
+use Rattle.std.specs.Prelude.{ℕ, List, Option, Some, None, codes}
+use Rattle.std.specs.declared.io.ErrorKind.{ErrorKind}
+use Rattle.std.specs.declared.io.ErrorKind.TheVariants.{OutOfMemory as OutOfMemoryKind}
+use Rattle.seq_cli.specs.declared.fault.StreamFault.{StreamFault}
+use Rattle.seq_cli.specs.declared.fault.StreamFault.TheVariants.{Fault, OutOfMemory}
+use Rattle.seq_cli.specs.declared.exit.Exit.{Exit}
+use Rattle.seq_cli.specs.declared.exit.Exit.TheVariants.{Done, Refused, FileFault, OutOfMemory as NoMemory}
+
+-- want of memory is told apart from all other failures of a read or a write
+abbrev pub fault_of : ErrorKind → StreamFault
+fault_of OutOfMemoryKind = OutOfMemory
+fault_of _ = Fault
+
+-- the end that a fault of a stream leads to
+abbrev pub exit_of : StreamFault → Exit
+exit_of Fault = FileFault
+exit_of OutOfMemory = NoMemory
+
+-- the status of the process; a command line that can't be read has 3
+abbrev pub status : Exit → ℕ
+status Done = 0
+status Refused = 1
+status FileFault = 2
+status NoMemory = 4
+
+-- the line on standard error, without its line feed
+abbrev pub message : Exit → Option (List ℕ)
+message Done = None
+message Refused = None
+message FileFault = Some (codes "file fault -")
+message NoMemory = Some (codes "out of memory")

@@ -1,0 +1,84 @@
+-- What running a word file once comes to: the line of its refusal, or the text of its run.
+use Rattle.std.specs.Prelude.{◌≡◌, ℕ, ◌+◌, ◌*◌, Bool, true, false, List, [], ◌++◌, Option, Some, None, Result, Ok, Err, length, replicate, reverse}
+use Rattle.nand_geometry.specs.declared.Parts.{Parts}
+use Rattle.onfi_cycle.specs.declared.Lun.{Lun}
+use Rattle.onfi_cycle.specs.Permitted.{is_legal}
+use Rattle.onfi_cycle.specs.Channel.{Channel}
+use Rattle.micro_word.specs.declared.refusal.WordRefusal.{WordRefusal}
+use Rattle.micro_word.specs.declared.refusal.WordRefusal.TheVariants.{Fault, OutOfMemory}
+use Rattle.micro_word.specs.Text.{Microprogram, IsFileOf}
+use Rattle.micro_word.specs.Reading.{reading}
+use Rattle.micro_verify.specs.declared.refusal.Fault.{Fault as TextFault}
+use Rattle.micro_verify.specs.State.{fault_of}
+use Rattle.micro_verify.specs.Program.{Job}
+use Rattle.micro_verify.specs.Verified.{VerifiedText}
+use Rattle.seq_core.specs.declared.answers.LoadFault.{LoadFault}
+use Rattle.seq_core.specs.World.{Slot, World, slot_of, fresh}
+use Rattle.seq_core.specs.Event.{Load}
+use Rattle.seq_core.specs.Reply.{ToLoad, Loaded}
+use Rattle.seq_core.specs.After.{after}
+use Rattle.seq_core.specs.Job.{job_of, job_fault}
+use Rattle.target_bus.specs.Bus.{channel_on}
+use Rattle.seq_core.specs.Alone.{alone_on}
+use Rattle.trace_text.specs.Line.{text}
+use Rattle.seq_cli.specs.Lines.{word_fault_name, reason_name, load_fault_name, refusal_line, end_line}
+
+-- one LUN of 8 blocks of 4 pages of 512 + 16 bytes
+abbrev pub one_lun : Parts
+one_lun = record { page_bytes = 512; spare_bytes = 16; pages = 4; blocks = 8; luns = 1; plane_bits = 0; enhanced = false; multi_plane = false; cache = false }
+
+-- its LUN, on a channel of one target
+abbrev pub the_lun : Lun
+the_lun = record { ce = 0; lun = 0 }
+
+abbrev pub the_channel : Channel
+the_channel = channel_on one_lun 1
+
+abbrev pub for_one_lun : Microprogram → VerifiedText
+for_one_lun x = record { text = x; geometry = one_lun }
+
+-- the refusal of a job
+abbrev pub refused_load : Option LoadFault → Option (List ℕ)
+refused_load None = None
+refused_load (Some fault) = Some (refusal_line (load_fault_name fault) 0)
+
+-- that of a text, or of its job
+abbrev pub refused_text : ℕ → Microprogram → Option TextFault → Option (List ℕ)
+refused_text base x None = refused_load (job_fault one_lun 1 the_lun base (for_one_lun x) x.buffer)
+refused_text base x (Some fault) = Some (refusal_line (reason_name fault.reason) fault.word)
+
+-- that of a file, of its text, or of its job
+abbrev pub refused_file : ℕ → Result Microprogram WordRefusal → Option (List ℕ)
+refused_file base (Ok x) = refused_text base x (fault_of one_lun x.budget x.words)
+refused_file base (Err (Fault code word)) = Some (refusal_line (word_fault_name code) word)
+refused_file base (Err OutOfMemory) = None
+
+-- the line of the refusal of a file at a base, if it is refused
+abbrev pub refused : ℕ → List ℕ → Option (List ℕ)
+refused base bytes = refused_file base (reading bytes)
+
+-- the job of a text, its buffer all 00
+abbrev pub the_job : ℕ → Microprogram → Job
+the_job base x = job_of the_lun base (for_one_lun x) (replicate x.buffer 0)
+
+-- the job of the microprogram whose file the bytes are
+abbrev pub IsJobOf : ℕ → List ℕ → Job → Type 0
+IsJobOf base bytes j = (x : Microprogram) × IsFileOf bytes x × (j ≡ the_job base x)
+
+-- the bytes are the file of a microprogram, which runs on a channel to which nothing has happened, whose pages are all FF, until
+-- it ends, its LUN becoming ready without failure after each poll that says busy; and what is written are the lines of that trace
+-- and of the code
+pub record IsRun (base : ℕ) (bytes written : List ℕ) : Type 0 where
+  pub x : Microprogram
+  pub is_file : IsFileOf bytes x
+  pub start : World
+  pub is_start : after the_channel (fresh the_channel) (Load the_lun (the_job base x)) ≡ Some (record { world = start; reply = ToLoad Loaded })
+  pub turns : ℕ
+  pub end : World
+  pub is_end : alone_on the_channel the_lun turns start ≡ Some end
+  pub legal : is_legal one_lun 1 end.past ≡ true
+  pub slot : Slot
+  pub is_slot : slot_of the_channel end the_lun ≡ Some slot
+  pub code : ℕ
+  pub is_code : slot.code ≡ Some code
+  pub lines : written ≡ text (reverse end.past) ++ end_line code

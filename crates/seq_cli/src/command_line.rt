@@ -1,0 +1,44 @@
+//! The command line.
+
+use clap::{Arg, Error};
+use std::alloc::Global;
+
+/// What the program is asked to do.
+#[derive(Clone, Copy, Debug, PartialEq, Eq)]
+pub enum Command {
+    /// To run the word file on standard input, its rows from this index on.
+    Once { base: u32 },
+}
+
+// The command line, as it is declared. It has its name in usage, however the program was called.
+fn declared<'a>(alloc: Global) -> Result<clap::Command<'a>, Error> {
+    let base = Arg::new(alloc, "base")
+        .long("base")
+        .value_name("n")
+        .default_value("0")
+        .value_parser(clap::value_parser!(u32))
+        .help("The index that row 0 of the program stands for");
+    let once = clap::Command::new(alloc, "once")
+        .about("Runs the word file on standard input once, on an erased die, and prints the trace")
+        .arg(base)?;
+    Ok(
+        clap::Command::new(alloc, "onfiseq")
+            .bin_name("onfiseq")?
+            .about("Runs microprograms of NAND flash on a modelled channel")
+            .subcommand_required(true)
+            .subcommand(once)?,
+    )
+}
+
+/// What these words ask for; the first is the name of the program. An error has the text for the user, and so have the
+/// words that ask for help.
+pub fn parse(alloc: Global, words: &[String]) -> Result<Command, Error> {
+    let matches = declared(alloc)?.try_get_matches_from(words)?;
+    let base = match matches.subcommand() {
+        Some((_, once)) => once.get_one::<u32>("base"),
+        None => None,
+    };
+    Ok(Command::Once {
+        base: base.unwrap_or(0),
+    })
+}

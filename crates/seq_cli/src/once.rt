@@ -1,0 +1,181 @@
+//! Running a word file once.
+ghost use Rattle.std.specs.Prelude.{◌≡◌, ℕ, List, Some, None, Ok, IfOk, OnOk, IfErr, IfSome};
+ghost use Rattle.std.specs.Io.KnownBytes.{Appends};
+ghost use Rattle.micro_word.specs.Reading.{reading};
+ghost use Rattle.micro_verify.specs.State.{fault_of};
+ghost use Rattle.seq_cli.specs.Refusals.{line_of, Tells};
+ghost use Rattle.micro_word.specs.Text.{IsFileOf};
+ghost use Rattle.seq_core.specs.World.{fresh};
+ghost use Rattle.seq_core.specs.Shows.{IsAt, channel_in};
+ghost use Rattle.seq_cli.specs.Once.{one_lun, refused, the_channel, IsJobOf};
+ghost use Rattle.seq_cli.specs.Runs.{EndsWithin, HasRun, TookTurn};
+
+use crate::exit::Exit;
+use crate::fault::StreamFault;
+use crate::input::read_all;
+use crate::output::write_text;
+use crate::refusal::{NotRun, Refusal};
+use die_model::LunDie;
+use micro_verify::{Verified, VerifyRefusal, verify};
+use micro_word::{WordRefusal, read};
+use nand_geometry::{Geometry, Parts};
+use onfi_cycle::Lun;
+use seq_core::{Core, Job, Stepped};
+use std::alloc::{AllocError, Allocator};
+use std::io::{Read, Write};
+use target_bus::Bus;
+
+// One LUN of 8 blocks of 4 pages of 512 + 16 bytes.
+const ONE_LUN: Parts = Parts {
+    page_bytes: 512,
+    spare_bytes: 16,
+    pages: 4,
+    blocks: 8,
+    luns: 1,
+    plane_bits: 0,
+    enhanced: false,
+    multi_plane: false,
+    cache: false,
+};
+
+// Its LUN.
+const THE_LUN: Lun = Lun { ce: 0, lun: 0 };
+
+// The geometry that files run on.
+fn geometry() -> Geometry
+    ensures { result ≡ one_lun }
+{
+    match Geometry::of(ONE_LUN) {
+        Ok(geometry) => geometry,
+        Err(_) => unreachable!(),
+    }
+}
+
+// The text of a file, verified.
+fn verified<A: Allocator>(alloc: A, bytes: &[u8]) -> Result<Verified<A>, NotRun>
+    ensures text { IfOk result (λ v. reading bytes.now ≡ Ok v.text) }
+    ensures file { IfOk result (λ v. IsFileOf bytes.now v.text) }
+    ensures faultless { IfOk result (λ v. fault_of one_lun v.text.budget v.text.words ≡ None) }
+    ensures geometry { IfOk result (λ v. v.geometry ≡ one_lun) }
+    ensures refused { (base : ℕ) → IfErr result (λ e. Tells e (refused base bytes.now)) }
+{
+    let text = match read(alloc, bytes) {
+        Ok(text) => text,
+        Err(WordRefusal::Fault { code, word }) => {
+            return Err(NotRun::Refused(Refusal::File { fault: code, word }));
+        }
+        Err(WordRefusal::OutOfMemory) => return Err(NotRun::OutOfMemory),
+    };
+    match verify(text, geometry()) {
+        Ok(verified) => Ok(verified),
+        Err((VerifyRefusal::Refusal { word, reason }, _)) => {
+            Err(NotRun::Refused(Refusal::Text { reason, word }))
+        }
+        Err((VerifyRefusal::OutOfMemory, _)) => Err(NotRun::OutOfMemory),
+    }
+}
+
+// The job of a file: its text at this base, its buffer all 00.
+fn made_job<A: Allocator + Clone>(alloc: A, bytes: &[u8], base: u32) -> Result<Job<A>, NotRun>
+    ensures job { IfOk result (λ j. IsJobOf base bytes.now j) }
+    ensures refused { IfErr result (λ e. Tells e (refused base bytes.now)) }
+{
+    let verified = verified(alloc.clone()?, bytes)?;
+    let buffer = vec![in alloc; 0; verified.text().buffer() as usize]?;
+    match Job::new(geometry(), 1, THE_LUN, base, verified, buffer) {
+        Ok(job) => Ok(job),
+        Err((fault, _, _)) => Err(NotRun::Refused(Refusal::Job { fault })),
+    }
+}
+
+// A sequencer on a channel of one LUN to which nothing has happened.
+fn new_core<A: Allocator + Clone>(alloc: A) -> Result<Core<A>, AllocError>
+    ensures channel { IfOk result (λ c. channel_in c ≡ the_channel) }
+    ensures fresh { IfOk result (λ c. IsAt c (fresh the_channel)) }
+{
+    let mut dies = Vec::with_capacity(alloc.clone()?, 1)?;
+    dies.push(LunDie::new(geometry())?)?;
+    match Bus::new(alloc, geometry(), dies) {
+        Ok(bus) => Ok(Core::new(bus)),
+        Err(_) => unreachable!(),
+    }
+}
+
+// One turn of the one program: its next word is stepped, and its LUN becomes ready without failure if a poll says busy. It
+// tells whether the program has ended.
+fn turn<A: Allocator>(core: &mut Core<A>) -> Result<bool, AllocError>
+    ensures { IfOk result (λ ended. TookTurn core.old ended core.new) }
+{
+    match core.step(THE_LUN)? {
+        Stepped::Ended => Ok(true),
+        Stepped::NotReady => {
+            core.ready(THE_LUN, false);
+            Ok(false)
+        }
+        _ => Ok(false),
+    }
+}
+
+// Turn after turn, until the program has ended.
+fn run_to_end<A: Allocator>(core: &mut Core<A>, turns: usize) -> Result<(), AllocError>
+    requires { EndsWithin core.old turns }
+    ensures { OnOk result (HasRun core.old turns core.new) }
+{
+    for _ in 0..turns {
+        if turn(core)? {
+            return Ok(());
+        }
+    }
+    unreachable!()
+}
+
+// Writes the line of a refusal.
+fn refuse<A: Allocator, W: Write>(
+    alloc: A,
+    output: &mut W,
+    refusal: Refusal,
+) -> Result<(), StreamFault>
+    ensures { OnOk result (Appends (W.contents output.old) (W.contents output.new) (line_of refusal)) }
+{
+    let line = refusal.line(alloc)?;
+    write_text(output, line.as_str())
+}
+
+// Reads a file, runs it and writes what becomes of it.
+fn run<A: Allocator + Clone, R: Read, W: Write>(
+    alloc: A,
+    input: &mut R,
+    output: &mut W,
+    base: u32,
+) -> Result<Exit, StreamFault>
+    ensures refused { result ≡ Ok Exit.Refused → IfSome (R.remaining input.old) (λ bytes. (line : List ℕ) × (refused base bytes ≡ Some line)
+        × Appends (W.contents output.old) (W.contents output.new) line) }
+{
+    let bytes = read_all(alloc.clone()?, input)?;
+    match made_job(alloc.clone()?, bytes.as_slice(), base) {
+        // The run itself is to come: `new_core` and `run_to_end` are its parts.
+        Ok(_) => Ok(Exit::Done),
+        Err(NotRun::Refused(refusal)) => {
+            refuse(alloc, output, refusal)?;
+            Ok(Exit::Refused)
+        }
+        Err(NotRun::OutOfMemory) => Err(StreamFault::OutOfMemory),
+    }
+}
+
+/// Reads a word file from an input, and judges whether it can be run from this base on, on a channel of one LUN: `Refused`,
+/// with the line of the refusal on the output, or `Done`. Running it is still to come.
+pub fn once_on<A: Allocator + Clone, R: Read, W: Write>(
+    alloc: A,
+    input: &mut R,
+    output: &mut W,
+    base: u32,
+) -> Exit
+    ensures refused { result ≡ Exit.Refused → IfSome (R.remaining input.old) (λ bytes. (line : List ℕ) × (refused base bytes ≡ Some line)
+        × Appends (W.contents output.old) (W.contents output.new) line) }
+{
+    match run(alloc, input, output, base) {
+        Ok(exit) => exit,
+        Err(fault) => Exit::from(fault),
+    }
+}

@@ -1,0 +1,315 @@
+use crate::command_line::{Command, parse};
+use crate::exit::Exit;
+use crate::fault::StreamFault;
+use crate::input::read_all;
+use crate::lines::{push_end_line, refusal_line};
+use crate::once::once_on;
+use crate::output::write_text;
+use clap::error::ErrorKind as UsageKind;
+use linked_list_allocator::LocalHeap;
+use std::alloc::{AllocError, Global};
+use std::io;
+use std::io::{Read, Write, repeat};
+use std::process::Abort;
+use std::test::Fail;
+
+// The erase of one block: cmd 60, addr 2 3, cmd d0, wait, end 0; rows 1, budget 5.
+const ERASE: [u8; 36] = [
+    0x4e, 0x4d, 0x50, 0x31, 0x05, 0x00, 0x01, 0x00, 0x00, 0x00, 0x00, 0x00, 0x05, 0x00, 0x00, 0x00,
+    0x01, 0x60, 0x00, 0x00, 0x02, 0x02, 0x03, 0x00, 0x01, 0xd0, 0x00, 0x00, 0x0a, 0x00, 0x00, 0x00,
+    0x00, 0x00, 0x00, 0x00,
+];
+
+// The same without its `wait`, and a file of no words.
+const NO_WAIT: [u8; 32] = [
+    0x4e, 0x4d, 0x50, 0x31, 0x04, 0x00, 0x01, 0x00, 0x00, 0x00, 0x00, 0x00, 0x05, 0x00, 0x00, 0x00,
+    0x01, 0x60, 0x00, 0x00, 0x02, 0x02, 0x03, 0x00, 0x01, 0xd0, 0x00, 0x00, 0x00, 0x00, 0x00, 0x00,
+];
+
+const NO_WORDS: [u8; 16] = [
+    0x4e, 0x4d, 0x50, 0x31, 0x00, 0x00, 0x01, 0x00, 0x00, 0x00, 0x00, 0x00, 0x05, 0x00, 0x00, 0x00,
+];
+
+// Gives a byte a call; the call numbered `bad` fails.
+#[derive(Drop)]
+struct SlowReader<'a> {
+    bytes: &'a [u8],
+    calls: usize,
+    bad: usize,
+    kind: io::ErrorKind,
+}
+
+impl<'a> Read for SlowReader<'a> {
+    fn read(&mut self, buf: &mut [u8]) -> io::Result<usize> {
+        let call = self.calls;
+        self.calls = call.saturating_add(1);
+        if call == self.bad {
+            return Err(io::Error::from(self.kind));
+        }
+        if self.bytes.is_empty() || buf.is_empty() {
+            return Ok(0);
+        }
+        buf[0] = self.bytes[0];
+        self.bytes = &self.bytes[1..];
+        Ok(1)
+    }
+}
+
+// Takes three bytes a call; the call numbered `bad` fails, and so does the flush if it has that number.
+#[derive(Drop)]
+struct SlowWriter {
+    bytes: Vec<u8>,
+    calls: usize,
+    bad: usize,
+    kind: io::ErrorKind,
+}
+
+impl SlowWriter {
+    fn call(&mut self) -> io::Result<()> {
+        let call = self.calls;
+        self.calls = call.saturating_add(1);
+        if call == self.bad {
+            return Err(io::Error::from(self.kind));
+        }
+        Ok(())
+    }
+}
+
+impl Write for SlowWriter {
+    fn write(&mut self, buf: &[u8]) -> io::Result<usize> {
+        self.call()?;
+        let most = buf.len().min(3);
+        self.bytes.extend_from_slice(&buf[..most])?;
+        Ok(most)
+    }
+
+    fn flush(&mut self) -> io::Result<()> {
+        self.call()
+    }
+}
+
+fn reader(bytes: &[u8], bad: usize, kind: io::ErrorKind) -> SlowReader<'_> {
+    SlowReader {
+        bytes,
+        calls: 0,
+        bad,
+        kind,
+    }
+}
+
+fn writer(alloc: Global, bad: usize, kind: io::ErrorKind) -> SlowWriter {
+    SlowWriter {
+        bytes: Vec::new(alloc),
+        calls: 0,
+        bad,
+        kind,
+    }
+}
+
+#[test]
+fn inputs_are_read_whole(rt: HostRuntime) -> Result<(), Fail> {
+    let long = vec![in rt.alloc(); 7u8; 10_000]?;
+    let mut input = long.as_slice();
+    let read = read_all(rt.alloc(), &mut input);
+    assert_eq!(rt; read.map(|bytes| bytes.len()), Ok(10_000));
+    let mut slow = reader(&ERASE, 5, io::ErrorKind::Interrupted);
+    let read = read_all(rt.alloc(), &mut slow);
+    assert!(rt; read.is_ok_and(|bytes| bytes.as_slice() == ERASE.as_slice()));
+    // 36 bytes, the call that was interrupted, and the end.
+    assert_eq!(rt; slow.calls, 38);
+    Ok(())
+}
+
+#[test]
+fn failed_reads(rt: HostRuntime) {
+    for bad in 0..37 {
+        for (kind, want) in [
+            (io::ErrorKind::Other, StreamFault::Fault),
+            (io::ErrorKind::OutOfMemory, StreamFault::OutOfMemory),
+        ] {
+            let mut slow = reader(&ERASE, bad, kind);
+            let read = read_all(rt.alloc(), &mut slow);
+            assert_eq!(rt; read.err(), Some(want), "call {bad}");
+        }
+    }
+}
+
+// Never at its end: it gives no bytes at all, and each read is interrupted.
+#[derive(Drop)]
+struct Endless {
+    calls: u32,
+}
+
+impl Read for Endless {
+    fn read(&mut self, _buf: &mut [u8]) -> io::Result<usize> {
+        self.calls = self.calls.saturating_add(1);
+        Err(io::Error::from(io::ErrorKind::Interrupted))
+    }
+}
+
+#[test]
+fn an_input_without_an_end(rt: HostRuntime) {
+    let mut endless = Endless { calls: 0 };
+    let read = read_all(rt.alloc(), &mut endless);
+    assert_eq!(rt; read.err(), Some(StreamFault::Fault));
+    assert_eq!(rt; endless.calls, 1_048_576);
+}
+
+#[test]
+fn failed_writes(rt: HostRuntime) {
+    // Four writes and the flush.
+    for bad in 0..5 {
+        let mut slow = writer(rt.alloc(), bad, io::ErrorKind::BrokenPipe);
+        assert_eq!(rt;
+            write_text(&mut slow, "ten bytes."),
+            Err(StreamFault::Fault),
+            "call {bad}"
+        );
+        let mut full = writer(rt.alloc(), bad, io::ErrorKind::OutOfMemory);
+        assert_eq!(rt;
+            write_text(&mut full, "ten bytes."),
+            Err(StreamFault::OutOfMemory),
+            "call {bad}"
+        );
+    }
+    let mut slow = writer(rt.alloc(), 2, io::ErrorKind::Interrupted);
+    assert_eq!(rt; write_text(&mut slow, "ten bytes."), Ok(()));
+    assert_eq!(rt; slow.bytes.as_slice(), b"ten bytes.".as_slice());
+}
+
+#[test]
+fn lines(rt: HostRuntime) -> Result<(), Fail> {
+    let refused = refusal_line(rt.alloc(), "V15", 2)?;
+    assert_eq!(rt; refused.as_str(), "refused V15 at 2\n");
+    let mut text = String::new(rt.alloc());
+    push_end_line(&mut text, 0)?;
+    push_end_line(&mut text, 255)?;
+    assert_eq!(rt; text.as_str(), "end 0\nend 255\n");
+    Ok(())
+}
+
+#[test]
+fn exits(rt: HostRuntime) {
+    let exits = [
+        (Exit::Done, 0, None),
+        (Exit::Refused, 1, None),
+        (Exit::FileFault, 2, Some("file fault -")),
+        (Exit::OutOfMemory, 4, Some("out of memory")),
+    ];
+    for (exit, status, message) in exits {
+        assert_eq!(rt; exit.status(), status);
+        assert_eq!(rt; exit.message(), message);
+    }
+}
+
+// What a file comes to, with all that it writes.
+fn outcome(alloc: Global, file: &[u8], base: u32) -> (Exit, Vec<u8>) {
+    let mut input = file;
+    let mut output = Vec::new(alloc);
+    let exit = once_on(alloc, &mut input, &mut output, base);
+    (exit, output)
+}
+
+fn expect_refusal(rt: &(impl Abort + AllocGlobal), file: &[u8], line: &str) {
+    let (exit, output) = outcome(rt.alloc(), file, 4);
+    assert_eq!(rt; exit, Exit::Refused, "{line}");
+    assert_eq!(rt; output.as_slice(), line.as_bytes());
+}
+
+#[test]
+fn refusals(rt: HostRuntime) -> Result<(), Fail> {
+    let mut budget = ERASE;
+    budget[12] = 4;
+    let mut stray = ERASE;
+    stray[29] = 1;
+    let mut longer = ERASE.to_vec(rt.alloc())?;
+    longer.push(0)?;
+    expect_refusal(&rt, &budget, "refused V15 at 2\n");
+    expect_refusal(&rt, &NO_WAIT, "refused V14 at 3\n");
+    expect_refusal(&rt, &NO_WORDS, "refused V1 at 0\n");
+    expect_refusal(&rt, &ERASE[..15], "refused M1 at 0\n");
+    expect_refusal(&rt, &stray, "refused M5 at 3\n");
+    expect_refusal(&rt, longer.as_slice(), "refused M7 at 0\n");
+    expect_refusal(&rt, &ERASE[..35], "refused M3 at 0\n");
+    Ok(())
+}
+
+#[test]
+fn streams_that_fail(rt: HostRuntime) {
+    for bad in 0..37 {
+        let mut output = Vec::new(rt.alloc());
+        let mut slow = reader(&ERASE, bad, io::ErrorKind::Other);
+        assert_eq!(rt;
+            once_on(rt.alloc(), &mut slow, &mut output, 4),
+            Exit::FileFault,
+            "read {bad}"
+        );
+        assert!(rt; output.is_empty());
+    }
+    // `refused V14 at 3` and a line feed: six writes and the flush.
+    for bad in 0..7 {
+        let mut input = NO_WAIT.as_slice();
+        let mut slow = writer(rt.alloc(), bad, io::ErrorKind::BrokenPipe);
+        assert_eq!(rt;
+            once_on(rt.alloc(), &mut input, &mut slow, 4),
+            Exit::FileFault,
+            "write {bad}"
+        );
+    }
+}
+
+#[test]
+fn refused_memory(rt: HostRuntime) -> Result<(), Fail> {
+    let mut refused_at: usize = 0;
+    for size in 0..40usize {
+        let heap = LocalHeap::new(rt.alloc(), 16 * size)?;
+        let mut input = NO_WAIT.as_slice();
+        let mut output = Vec::new(rt.alloc());
+        match once_on(&heap, &mut input, &mut output, 4) {
+            Exit::OutOfMemory => {
+                assert!(rt; output.is_empty());
+                refused_at = size + 1;
+            }
+            exit => {
+                assert_eq!(rt; exit, Exit::Refused);
+                assert_eq!(rt; output.as_slice(), b"refused V14 at 3\n".as_slice());
+            }
+        }
+    }
+    // It was refused at first, and went on in the end.
+    assert!(rt; refused_at > 0 && refused_at < 40);
+    Ok(())
+}
+
+// What words ask for, or the kind of their error.
+fn asked(alloc: Global, words: &[&str]) -> Result<Result<Command, UsageKind>, AllocError> {
+    let mut owned = Vec::new(alloc);
+    for word in words {
+        owned.push(String::from_str(alloc, word)?)?;
+    }
+    Ok(parse(alloc, owned.as_slice()).map_err(|error| error.kind()))
+}
+
+#[test]
+fn command_lines(rt: HostRuntime) -> Result<(), Fail> {
+    let alloc = rt.alloc();
+    let once = |base| Ok(Command::Once { base });
+    assert_eq!(rt; asked(alloc, &["onfiseq", "once"])?, once(0));
+    assert_eq!(rt; asked(alloc, &["onfiseq", "once", "--base", "4"])?, once(4));
+    assert_eq!(rt;
+        asked(alloc, &["onfiseq", "once", "--base=4294967295"])?,
+        once(4_294_967_295)
+    );
+    assert_eq!(rt;
+        asked(alloc, &["onfiseq", "once", "--base", "4294967296"])?,
+        Err(UsageKind::ValueValidation)
+    );
+    assert_eq!(rt;
+        asked(alloc, &["onfiseq", "--help"])?,
+        Err(UsageKind::DisplayHelp)
+    );
+    assert!(rt; asked(alloc, &["onfiseq"])?.is_err());
+    assert!(rt; asked(alloc, &["onfiseq", "twice"])?.is_err());
+    assert!(rt; asked(alloc, &["onfiseq", "once", "file"])?.is_err());
+    Ok(())
+}

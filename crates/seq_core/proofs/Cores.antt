@@ -1,0 +1,287 @@
+-- What the calls of a sequencer do, told of its bus, its slots and its holder.
+use Rattle.std.proofs.Common.{◌≡◌, ℕ, zero, suc, ◌+◌, ◌*◌, ◌^◌, ◌<◌, ◌≤◌, Bool, true, false, cond, List, [], ◌∷◌, ◌++◌, Option, Some, None, is_some, refl, sym, ap, ◌∙◌, subst, arith, length, get_or, set, replicate, IfSome, IsTrue}
+use Rattle.std.proofs.lemmas.Nat.{mul-le}
+use Rattle.nand_geometry.specs.declared.Parts.{Parts}
+use Rattle.onfi_cycle.specs.declared.Lun.{Lun}
+use Rattle.onfi_cycle.specs.declared.Item.{Item}
+use Rattle.onfi_cycle.specs.declared.Item.TheVariants.{Rdy, Ard}
+use Rattle.onfi_cycle.specs.Permitted.{is_permitted}
+use Rattle.onfi_cycle.specs.Channel.{Channel, IsChannel, is_there}
+use Rattle.micro_verify.specs.Lines.{all_lead_on}
+use Rattle.micro_verify.specs.Program.{Job}
+use Rattle.target_bus.specs.Bus.{Traced, channel_of, channel_on, IsNext}
+use Rattle.seq_core.specs.declared.answers.LoadFault.{LoadFault}
+use Rattle.seq_core.specs.declared.answers.LoadFault.TheVariants.{S1, S2}
+use Rattle.seq_core.specs.declared.answers.Stepped.{Stepped}
+use Rattle.seq_core.specs.declared.answers.Stepped.TheVariants.{Empty, Held, Ended}
+use Rattle.seq_core.specs.declared.answers.UnloadFault.TheVariants.{U1, U2}
+use Rattle.seq_core.specs.World.{number, fresh}
+use Rattle.seq_core.specs.Event.{Load, Step, Ready, ArrayReady, Unload, IsVerified}
+use Rattle.seq_core.specs.Reply.{ToLoad, ToStep, ToReady, ToArrayReady, ToUnload, Loaded, NotLoaded, Unloaded, NotUnloaded}
+use Rattle.seq_core.specs.After.{is_held}
+use Rattle.seq_core.specs.Progress.{Progress, fresh_progress}
+use Rattle.seq_core.specs.Shows.{CoreView, channel_in, KeepsAll, IsAt}
+use Rattle.seq_core.specs.Calls.{IsCore, IsEvent, CanStep, Steps, slot_at, slot_code, load_fault_at, holder_after, fault_by, stepped_view, with_item}
+use Rattle.seq_core.specs.Playing.{IsSame}
+use Rattle.seq_core.proofs.Main.{fresh_is_lawful}
+use Rattle.seq_core.proofs.Slots.{number_below}
+use Rattle.seq_core.proofs.Calls.{keeps_count, some_same, empty_step, ended_step, held_step, going_step}
+use Rattle.seq_core.proofs.Replies.{refused_load, done_load, ready_event, array_ready_event, empty_unload, early_unload, done_unload, can_step, is_core_after}
+
+-- what is kept by a bus, slots and a holder
+abbrev pub view_of : Traced → List (Option Progress) → Option Lun → CoreView
+view_of b slots holder = record { geometry = b.geometry; targets = b.targets; past = b.past; slots = slots; holder = holder }
+
+-- the number of a LUN that is there
+abbrev pub place_of : CoreView → Lun → Option ℕ
+place_of c l = cond (is_there (channel_in c) l) (Some (number (channel_in c) l)) None
+
+-- the same bus, slots and holder
+pub untouched : (b d : Traced) (slots later : List (Option Progress)) (holder : Option Lun) → IsSame b d → d.past ≡ b.past → later ≡ slots → view_of d later holder ≡ view_of b slots holder
+untouched b d slots later holder same past is =
+    let g : d.geometry ≡ b.geometry = ap (λ (s : Channel). s.geometry) same in
+    let t : d.targets ≡ b.targets = ap (λ (s : Channel). s.targets) same in
+    λ i. record { geometry = g i; targets = t i; past = past i; slots = is i; holder = holder }
+
+pub luns_place : (c : CoreView) (l : Lun) (targets luns : ℕ) (place : Option ℕ) → targets ≡ c.targets → luns ≡ c.geometry.luns → ((s : Channel) → s.targets ≡ targets → s.geometry.luns ≡ luns → place ≡ cond (is_there s l) (Some (number s l)) None) → place ≡ place_of c l
+luns_place c l targets luns place t n h = h (channel_in c) (sym t) (sym n)
+
+-- a LUN that is there has one of at most sixteen slots
+pub few_places : (c : CoreView) (l : Lun) (place : Option ℕ) → IsCore c → c.targets ≤ 4 → c.geometry.luns ≤ 4 → place ≡ place_of c l → IfSome place (λ k. (k < length c.slots) × (k < 16))
+few_places c l place core targets luns h = subst (λ (o : Option ℕ). IfSome o (λ k. (k < length c.slots) × (k < 16))) (sym h) (at (is_there (channel_in c) l) refl)
+  where
+    at : (b : Bool) → is_there (channel_in c) l ≡ b → IfSome (cond b (Some (number (channel_in c) l)) None) (λ k. (k < length c.slots) × (k < 16))
+    at false e = tt
+    at true e =
+        let below = number_below (channel_in c) l e in
+        let size : length c.slots ≡ c.targets * c.geometry.luns = sym (keeps_count core.world.slots c.slots core.is_at.slots) ∙ core.lawful.size in
+        let most : c.targets * c.geometry.luns ≤ 4 * 4 = mul-le c.targets c.geometry.luns 4 4 targets luns in
+        (omega (arith, below, size), omega (arith, below, most))
+
+-- 1. slots by their numbers
+
+pub no_place_no_slot : (c : CoreView) (l : Lun) → None ≡ place_of c l → slot_at c l ≡ None
+no_place_no_slot c l h = at (is_there (channel_in c) l) h
+  where
+    at : (b : Bool) → None ≡ cond b (Some (number (channel_in c) l)) None → cond b (get_or c.slots (number (channel_in c) l) None) None ≡ None
+    at true h = cc
+    at false h = refl
+
+pub slot_of_place : (c : CoreView) (l : Lun) (k : ℕ) → Some k ≡ place_of c l → (slot_at c l ≡ get_or c.slots k None) × (k ≡ number (channel_in c) l)
+slot_of_place c l k h = at (is_there (channel_in c) l) h
+  where
+    at : (b : Bool) → Some k ≡ cond b (Some (number (channel_in c) l)) None → (cond b (get_or c.slots (number (channel_in c) l) None) None ≡ get_or c.slots k None) × (k ≡ number (channel_in c) l)
+    at true h = let same : k ≡ number (channel_in c) l = cc in (ap (λ (n : ℕ). get_or c.slots n None) (sym same), same)
+    at false h = cc
+
+pub code_without : (c : CoreView) (l : Lun) → None ≡ place_of c l → None ≡ slot_code (slot_at c l)
+code_without c l h = ap slot_code (sym (no_place_no_slot c l h))
+
+abbrev no_code : Option (Option ℕ)
+no_code = None
+
+pub never_there : (c : CoreView) (l : Lun) → None ≡ place_of c l → Some None ≡ slot_code (slot_at c l) → ⊥
+never_there c l h running = let none = code_without c l h in clash (none ∙ sym running)
+  where
+    clash : no_code ≡ Some None → ⊥
+    clash e = cc
+
+pub code_of_place : (c : CoreView) (l : Lun) (k : ℕ) (slots : List (Option Progress)) (code : Option (Option ℕ)) → Some k ≡ place_of c l → slots ≡ c.slots → code ≡ slot_code (get_or slots k None) → code ≡ slot_code (slot_at c l)
+code_of_place c l k slots code h same is =
+    is ∙ (ap (λ (ss : List (Option Progress)). slot_code (get_or ss k None)) same ∙ ap slot_code (sym (slot_of_place c l k h).0))
+
+-- what a code tells of a slot
+pub no_slot : (o : Option Progress) → None ≡ slot_code o → o ≡ None
+no_slot None h = refl
+no_slot (Some v) h = cc
+
+pub record HasCode (o : Option Progress) (code : Option ℕ) : Type 0 where
+  pub v : Progress
+  pub is : o ≡ Some v
+  pub code_is : v.code ≡ code
+
+pub has_code : (o : Option Progress) (code : Option ℕ) → Some code ≡ slot_code o → HasCode o code
+has_code None code h = cc
+has_code (Some v) code h = record { v = v; is = refl; code_is = cc }
+
+-- 2. a new sequencer
+
+keeps_none : (n : ℕ) → KeepsAll (replicate n None) (replicate n None)
+keeps_none zero = tt
+keeps_none (suc n) = (tt, keeps_none n)
+
+pub new_is_fresh : (b : Traced) (slots : List (Option Progress)) (n : ℕ) → b.past ≡ [] → slots ≡ replicate n None → n ≡ b.targets * b.geometry.luns → IsAt (view_of b slots None) (fresh (channel_of b))
+new_is_fresh b slots n past is count =
+    record { past = past; holder = refl; slots = subst (KeepsAll (replicate (b.targets * b.geometry.luns) None)) (sym (is ∙ ap (λ (m : ℕ). replicate m None) count)) (keeps_none (b.targets * b.geometry.luns)) }
+
+pub new_is_core : (b : Traced) (slots : List (Option Progress)) (n : ℕ) → IsChannel (channel_of b) → b.past ≡ [] → slots ≡ replicate n None → n ≡ b.targets * b.geometry.luns → IsCore (view_of b slots None)
+new_is_core b slots n is past slots_are count =
+    record { is_channel = is; world = fresh (channel_of b); is_at = new_is_fresh b slots n past slots_are count; lawful = fresh_is_lawful (channel_of b) }
+
+abbrev no_progress : Option Progress
+no_progress = None
+
+pub one_more : (slots more : List (Option Progress)) (k : ℕ) → slots ≡ replicate k None → more ≡ slots ++ (None ∷ []) → more ≡ replicate (k + 1) None
+one_more slots more k is h = h ∙ (ap (λ (ss : List (Option Progress)). ss ++ (None ∷ [])) is ∙ last k)
+  where
+    last : (n : ℕ) → replicate n no_progress ++ (no_progress ∷ []) ≡ replicate (n + 1) no_progress
+    last zero = refl
+    last (suc n) =
+        let next : suc (n + 1) ≡ suc n + 1 = omega arith in
+        ap (λ (ss : List (Option Progress)). no_progress ∷ ss) (last n) ∙ ap (λ (m : ℕ). replicate m no_progress) next
+
+pub one_longer : (slots more : List (Option Progress)) (k : ℕ) → length slots ≡ k → more ≡ slots ++ (no_progress ∷ []) → length more ≡ k + 1
+one_longer slots more k is h = ap length h ∙ (last slots ∙ ap (λ (n : ℕ). n + 1) is)
+  where
+    last : (ss : List (Option Progress)) → length (ss ++ (no_progress ∷ [])) ≡ length ss + 1
+    last [] = refl
+    last (s ∷ ss) = let rest = last ss in omega (arith, rest)
+
+pub replicate_all : (slots : List (Option Progress)) (k n : ℕ) → slots ≡ replicate k no_progress → k ≡ n → slots ≡ replicate n no_progress
+replicate_all slots k n is h = is ∙ ap (λ (m : ℕ). replicate m no_progress) h
+
+pub few_slots : (a b targets luns : ℕ) → a ≡ targets → b ≡ luns → targets ≤ 4 → luns ≤ 4 → a * b ≤ 16
+few_slots a b targets luns e f t n =
+    let x : a ≤ 4 = omega (arith, e, t) in
+    let y : b ≤ 4 = omega (arith, f, n) in
+    mul-le a b 4 4 x y
+
+-- 3. steps
+
+pub empty_now : (c : CoreView) (l : Lun) → IsCore c → None ≡ slot_code (slot_at c l) → IsEvent c (Step l) (ToStep Empty) c
+empty_now c l k h = empty_step c l k.is_channel (no_slot (slot_at c l) h)
+
+pub ended_now : (c : CoreView) (l : Lun) (code : ℕ) → IsCore c → Some (Some code) ≡ slot_code (slot_at c l) → IsEvent c (Step l) (ToStep Ended) c
+ended_now c l code k h = let s = has_code (slot_at c l) (Some code) h in ended_step c l s.v code k.is_channel s.is s.code_is
+
+pub held_now : (c : CoreView) (l : Lun) → IsCore c → Some None ≡ slot_code (slot_at c l) → is_held c.holder l ≡ true → IsEvent c (Step l) (ToStep Held) c
+held_now c l k h held = let s = has_code (slot_at c l) None h in held_step c l s.v k.is_channel s.is s.code_is held
+
+-- the slot of a LUN that may step
+pub can_now : (c : CoreView) (l : Lun) (k : ℕ) → IsCore c → Some k ≡ place_of c l → Some None ≡ slot_code (slot_at c l) → is_held c.holder l ≡ false → (v : Progress) × (get_or c.slots k None ≡ Some v) × CanStep (channel_in c) c.past v
+can_now c l k core place h free =
+    let s = has_code (slot_at c l) None h in
+    (s.v, sym (slot_of_place c l k place).0 ∙ s.is, (can_step c l s.v core s.is s.code_is free).0)
+
+same_view : (b d : Traced) (c : CoreView) (slots : List (Option Progress)) (holder : Option Lun) → channel_on c.geometry c.targets ≡ channel_of b → IsSame b d → view_of d slots holder ≡ record { geometry = c.geometry; targets = c.targets; past = d.past; slots = slots; holder = holder }
+same_view b d c slots holder h same =
+    let g : d.geometry ≡ c.geometry = ap (λ (s : Channel). s.geometry) (same ∙ sym h) in
+    let t : d.targets ≡ c.targets = ap (λ (s : Channel). s.targets) (same ∙ sym h) in
+    λ i. record { geometry = g i; targets = t i; past = d.past; slots = slots; holder = holder }
+
+-- what a step that was played leaves is a core again
+pub went_on : (c : CoreView) (l : Lun) (answer : Stepped) (later : CoreView) → IsCore c → IsEvent c (Step l) (ToStep answer) later → IsCore later
+went_on c l answer later k event = is_core_after c later (Step l) (ToStep answer) k event
+
+pub went_now : (b d : Traced) (slots later : List (Option Progress)) (holder : Option Lun) (l : Lun) (k : ℕ) (answer : Stepped) (v u : Progress) → IsCore (view_of b slots holder) → Some k ≡ place_of (view_of b slots holder) l → Some None ≡ slot_code (slot_at (view_of b slots holder) l) → is_held holder l ≡ false → IsSame b d → get_or slots k None ≡ Some v → Steps (channel_of b) b.past v answer d.past u → later ≡ set slots k (Some u) → IsEvent (view_of b slots holder) (Step l) (ToStep answer) (view_of d later (holder_after answer l))
+went_now b d slots later holder l k answer v u core place h free same found st is =
+    let c : CoreView = view_of b slots holder in
+    let s = has_code (slot_at c l) None h in
+    let at = slot_of_place c l k place in
+    let v_is : s.v ≡ v = some_same s.v v (sym s.is ∙ (at.0 ∙ found)) in
+    let mine = (can_step c l s.v core s.is s.code_is free).1 in
+    let event = going_step c l v u d.past answer core.is_channel (s.is ∙ ap (λ (x : Progress). Some x) v_is) (sym (ap (λ (x : Progress). x.code) v_is) ∙ s.code_is) free (sym (ap (λ (x : Progress). x.job.lun) v_is) ∙ mine) st in
+    let later_is : later ≡ set slots (number (channel_in c) l) (Some u) = is ∙ ap (λ (n : ℕ). set slots n (Some u)) at.1 in
+    let view_is : view_of d later (holder_after answer l) ≡ stepped_view c l answer d.past u =
+    same_view b d c later (holder_after answer l) refl same ∙ ap (λ (ss : List (Option Progress)). record { geometry = b.geometry; targets = b.targets; past = d.past; slots = ss; holder = holder_after answer l }) later_is in
+    subst (IsEvent c (Step l) (ToStep answer)) (sym view_is) event
+
+-- 4. loads
+
+pub refused_now : (c : CoreView) (l : Lun) (j : Job) (fault : LoadFault) → IsCore c → IsVerified j → load_fault_at c l j ≡ Some fault → IsEvent c (Load l j) (ToLoad (NotLoaded fault j)) c
+refused_now c l j fault k v h = refused_load c l j fault k.is_channel v h
+
+-- a job that is admitted is of a LUN that is there
+pub admitted_there : (c : CoreView) (l : Lun) (j : Job) → load_fault_at c l j ≡ None → None ≡ place_of c l → ⊥
+admitted_there c l j h none = at (is_there (channel_in c) l) refl none h
+  where
+    at : (b : Bool) → is_there (channel_in c) l ≡ b → None ≡ cond b (Some (number (channel_in c) l)) None → load_fault_at c l j ≡ None → ⊥
+    at true e f h = cc
+    at false e f h = refused (is_some (slot_at c l)) (sym (rw e refl) ∙ h)
+      where
+        refused : (b : Bool) → cond b (Some S1) (Some S2) ≡ None → ⊥
+        refused true x = cc
+        refused false x = cc
+
+pub loaded_now : (b : Traced) (slots later : List (Option Progress)) (holder : Option Lun) (l : Lun) (k : ℕ) (j : Job) → IsCore (view_of b slots holder) → IsVerified j → all_lead_on j.text.words ≡ true → j.base < 2 ^ 32 → load_fault_at (view_of b slots holder) l j ≡ None → Some k ≡ place_of (view_of b slots holder) l → later ≡ set slots k (Some (fresh_progress j)) → IsEvent (view_of b slots holder) (Load l j) (ToLoad Loaded) (view_of b later holder)
+loaded_now b slots later holder l k j core v leads small h place is =
+    let c : CoreView = view_of b slots holder in
+    let event = done_load c l j core.is_channel v leads small h in
+    let later_is : later ≡ set slots (number (channel_in c) l) (Some (fresh_progress j)) = is ∙ ap (λ (n : ℕ). set slots n (Some (fresh_progress j))) (slot_of_place c l k place).1 in
+    subst (λ (ss : List (Option Progress)). IsEvent c (Load l j) (ToLoad Loaded) (view_of b ss holder)) (sym later_is) event
+
+-- 5. readies
+
+came_view : (b d : Traced) (slots : List (Option Progress)) (holder : Option Lun) (i : Item) (came : Bool) → (IsTrue came → IsNext b d i) → (came ≡ false → d ≡ b) → view_of d slots holder ≡ with_item (view_of b slots holder) i came
+came_view b d slots holder i true does stays =
+    let n = does true_is in
+    let g : d.geometry ≡ b.geometry = ap (λ (s : Channel). s.geometry) n.channel in
+    let t : d.targets ≡ b.targets = ap (λ (s : Channel). s.targets) n.channel in
+    let p : d.past ≡ i ∷ b.past = n.past in
+    λ k. record { geometry = g k; targets = t k; past = p k; slots = slots; holder = holder }
+  where
+    true_is : IsTrue true
+    true_is = refl
+came_view b d slots holder i false does stays = ap (λ (x : Traced). view_of x slots holder) (stays refl)
+
+pub ready_now : (b d : Traced) (slots : List (Option Progress)) (holder : Option Lun) (l : Lun) (fail came : Bool) → IsCore (view_of b slots holder) → came ≡ is_permitted b.geometry b.targets b.past (Rdy l.ce l.lun fail) → (IsTrue came → IsNext b d (Rdy l.ce l.lun fail)) → (came ≡ false → d ≡ b) → IsEvent (view_of b slots holder) (Ready l fail) (ToReady came) (view_of d slots holder)
+ready_now b d slots holder l fail came core h does stays =
+    subst (IsEvent (view_of b slots holder) (Ready l fail) (ToReady came)) (sym (came_view b d slots holder (Rdy l.ce l.lun fail) came does stays)) (ready_event (view_of b slots holder) l fail came core.is_channel h)
+
+pub array_ready_now : (b d : Traced) (slots : List (Option Progress)) (holder : Option Lun) (l : Lun) (came : Bool) → IsCore (view_of b slots holder) → came ≡ is_permitted b.geometry b.targets b.past (Ard l.ce l.lun) → (IsTrue came → IsNext b d (Ard l.ce l.lun)) → (came ≡ false → d ≡ b) → IsEvent (view_of b slots holder) (ArrayReady l) (ToArrayReady came) (view_of d slots holder)
+array_ready_now b d slots holder l came core h does stays =
+    subst (IsEvent (view_of b slots holder) (ArrayReady l) (ToArrayReady came)) (sym (came_view b d slots holder (Ard l.ce l.lun) came does stays)) (array_ready_event (view_of b slots holder) l came core.is_channel h)
+
+-- 6. unloads
+
+pub none_unloaded : (c : CoreView) (l : Lun) → IsCore c → None ≡ slot_code (slot_at c l) → IsEvent c (Unload l) (ToUnload (NotUnloaded U1)) c
+none_unloaded c l k h = empty_unload c l k.is_channel (no_slot (slot_at c l) h)
+
+pub early_now : (c : CoreView) (l : Lun) → IsCore c → Some None ≡ slot_code (slot_at c l) → IsEvent c (Unload l) (ToUnload (NotUnloaded U2)) c
+early_now c l k h = let s = has_code (slot_at c l) None h in early_unload c l s.v k.is_channel s.is s.code_is
+
+pub unloaded_now : (b : Traced) (slots later : List (Option Progress)) (holder : Option Lun) (l : Lun) (k code : ℕ) (v : Progress) → IsCore (view_of b slots holder) → Some k ≡ place_of (view_of b slots holder) l → Some (Some code) ≡ slot_code (slot_at (view_of b slots holder) l) → get_or slots k None ≡ Some v → later ≡ set slots k None → IsEvent (view_of b slots holder) (Unload l) (ToUnload (Unloaded v.job code)) (view_of b later holder)
+unloaded_now b slots later holder l k code v core place h found is =
+    let c : CoreView = view_of b slots holder in
+    let s = has_code (slot_at c l) (Some code) h in
+    let at = slot_of_place c l k place in
+    let v_is : s.v ≡ v = some_same s.v v (sym s.is ∙ (at.0 ∙ found)) in
+    let event = done_unload c l v code core.is_channel (s.is ∙ ap (λ (x : Progress). Some x) v_is) (sym (ap (λ (x : Progress). x.code) v_is) ∙ s.code_is) in
+    let later_is : later ≡ set slots (number (channel_in c) l) None = is ∙ ap (λ (n : ℕ). set slots n None) at.1 in
+    subst (λ (ss : List (Option Progress)). IsEvent c (Unload l) (ToUnload (Unloaded v.job code)) (view_of b ss holder)) (sym later_is) event
+
+pub never_coded : (c : CoreView) (l : Lun) (code : ℕ) → None ≡ place_of c l → Some (Some code) ≡ slot_code (slot_at c l) → ⊥
+never_coded c l code h some = let none = code_without c l h in clash (none ∙ sym some)
+  where
+    clash : no_code ≡ Some (Some code) → ⊥
+    clash e = cc
+
+-- a slot that has a code is there
+pub never_empty : (c : CoreView) (l : Lun) (k code : ℕ) → Some k ≡ place_of c l → Some (Some code) ≡ slot_code (slot_at c l) → get_or c.slots k None ≡ None → ⊥
+never_empty c l k code place h none =
+    let s = has_code (slot_at c l) (Some code) h in
+    clash (sym none ∙ (sym (slot_of_place c l k place).0 ∙ s.is))
+  where
+    clash : {v : Progress} → None ≡ Some v → ⊥
+    clash e = cc
+
+-- 7. what a load would answer
+
+same_some : (o : Option Progress) → is_some (slot_code o) ≡ is_some o
+same_some None = refl
+same_some (Some v) = refl
+
+there_by_place : (c : CoreView) (l : Lun) (place : Option ℕ) → place ≡ place_of c l → is_some place ≡ is_there (channel_in c) l
+there_by_place c l place h = ap is_some h ∙ at (is_there (channel_in c) l)
+  where
+    at : (b : Bool) → is_some (cond b (Some (number (channel_in c) l)) None) ≡ b
+    at true = refl
+    at false = refl
+
+pub fault_is : (c : CoreView) (l : Lun) (j : Job) (code : Option (Option ℕ)) (place : Option ℕ) (has_job there : Bool) (at : Lun) (g h : Parts) (fault : Option LoadFault) → code ≡ slot_code (slot_at c l) → place ≡ place_of c l → has_job ≡ is_some code → there ≡ is_some place → at ≡ j.lun → g ≡ c.geometry → h ≡ j.geometry → fault ≡ fault_by has_job there l at g h → load_fault_at c l j ≡ fault
+fault_is c l j code place has_job there at g h fault code_is place_is has there_is lun here of is =
+    let a : has_job ≡ is_some (slot_at c l) = has ∙ (ap is_some code_is ∙ same_some (slot_at c l)) in
+    let b : there ≡ is_there (channel_in c) l = there_is ∙ there_by_place c l place place_is in
+    sym (is ∙ (ap (λ (x : Bool). fault_by x there l at g h) a ∙ (ap (λ (x : Bool). fault_by (is_some (slot_at c l)) x l at g h) b ∙
+    (ap (λ (x : Lun). fault_by (is_some (slot_at c l)) (is_there (channel_in c) l) l x g h) lun ∙ (ap (λ (x : Parts). fault_by (is_some (slot_at c l)) (is_there (channel_in c) l) l j.lun x h) here ∙
+    ap (λ (x : Parts). fault_by (is_some (slot_at c l)) (is_there (channel_in c) l) l j.lun c.geometry x) of)))))

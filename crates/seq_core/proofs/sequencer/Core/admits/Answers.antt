@@ -1,0 +1,12 @@
+use Rattle.std.proofs.Common.{◌∙◌, ap}
+use Rattle.seq_core.specs.Shows.{CoreView}
+use Rattle.seq_core.proofs.Cores.{fault_is}
+use Rattle.seq_core.proofs.sequencer.Core.admits.Goals as goal
+
+pub returns-in-Some-clause-err : goal.returns-in-Some-clause-err
+returns-in-Some-clause-err g c =
+    fault_is c.args.self.now c.args.l c.args.job.now c.code_at.result c.place.result c.is_some-has_job.result c.is_some-there.result c.lun.result c.geometry-geometry.result c.geometry.result.now _ c.code_at.ensures.value c.place.ensures.value c.is_some-has_job.ensures c.is_some-there.ensures c.lun.ensures.value (c.geometry-geometry.ensures.value ∙ ap (λ (v : CoreView). v.geometry) c.self.view_is) c.geometry.ensures c.in-Some.ensures
+
+pub returns-in-None-clause-ok : goal.returns-in-None-clause-ok
+returns-in-None-clause-ok g c =
+    fault_is c.args.self.now c.args.l c.args.job.now c.code_at.result c.place.result c.is_some-has_job.result c.is_some-there.result c.lun.result c.geometry-geometry.result c.geometry.result.now _ c.code_at.ensures.value c.place.ensures.value c.is_some-has_job.ensures c.is_some-there.ensures c.lun.ensures.value (c.geometry-geometry.ensures.value ∙ ap (λ (v : CoreView). v.geometry) c.self.view_is) c.geometry.ensures c.in-None.ensures

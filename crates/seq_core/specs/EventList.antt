@@ -1,0 +1,78 @@
+-- What doing a list of events is: the run of the events that were done.
+use Rattle.std.specs.Prelude.{◌≡◌, Bool, true, false, List, [], ◌∷◌, ◌++◌, map, Result, Ok, Err, Some}
+use Rattle.micro_verify.specs.Program.{Job}
+use Rattle.seq_core.specs.declared.answers.LoadFault.{LoadFault}
+use Rattle.seq_core.specs.declared.answers.UnloadFault.{UnloadFault}
+use Rattle.seq_core.specs.declared.sequencer.Done.{Done}
+use Rattle.seq_core.specs.declared.event_list.Event.{Event as Asked}
+use Rattle.seq_core.specs.declared.event_list.Event.TheVariants.{Load as AskLoad, Step as AskStep, Ready as AskReady, ArrayReady as AskArrayReady, Unload as AskUnload}
+use Rattle.seq_core.specs.declared.event_list.Reply.{Reply as Answered}
+use Rattle.seq_core.specs.declared.event_list.Reply.TheVariants.{Load as OfLoad, Step as OfStep, Ready as OfReady, ArrayReady as OfArrayReady, Unload as OfUnload}
+use Rattle.seq_core.specs.World.{World, fresh}
+use Rattle.seq_core.specs.Event.{Event, Load, Step, Ready, ArrayReady, Unload}
+use Rattle.seq_core.specs.Reply.{Reply, Loading, Unloading, ToLoad, ToStep, ToReady, ToArrayReady, ToUnload, Loaded, NotLoaded, Unloaded, NotUnloaded}
+use Rattle.seq_core.specs.After.{Ran, run}
+use Rattle.seq_core.specs.Lawful.{LawfulWorld}
+use Rattle.seq_core.specs.Shows.{CoreView, IsAt, channel_in}
+use Rattle.seq_core.specs.Headline.{EventsAreOwn, GoesWell}
+
+-- the event that is asked for
+abbrev pub event_of : {A : Type 0} → Asked A → Event
+event_of (AskLoad l j) = Load l j
+event_of (AskStep l) = Step l
+event_of (AskReady l fail) = Ready l fail
+event_of (AskArrayReady l) = ArrayReady l
+event_of (AskUnload l) = Unload l
+
+abbrev pub loading_of : Result (Unit {0}) (LoadFault × Job) → Loading
+loading_of (Ok u) = Loaded
+loading_of (Err e) = NotLoaded e.0 e.1
+
+abbrev pub unloading_of : {A : Type 0} → Result (Done A) UnloadFault → Unloading
+unloading_of (Ok done) = Unloaded done.job done.code
+unloading_of (Err fault) = NotUnloaded fault
+
+-- the reply that was answered
+abbrev pub reply_of : {A : Type 0} → Answered A → Reply
+reply_of (OfLoad answer) = ToLoad (loading_of answer)
+reply_of (OfStep answer) = ToStep answer
+reply_of (OfReady came) = ToReady came
+reply_of (OfArrayReady came) = ToArrayReady came
+reply_of (OfUnload answer) = ToUnload (unloading_of answer)
+
+-- the events run from this world on: the run is defined, answered so, and adds to the trace what is each event's own; the world
+-- behind it is lawful, and is what is kept afterwards
+pub record RanFrom (c : CoreView) (w : World) (events : List Event) (replies : List Reply) (later : CoreView) : Type 0 where
+  pub ran : Ran
+  pub is_ran : run (channel_in c) events w ≡ Some ran
+  pub replied : ran.replies ≡ replies
+  pub is_at : IsAt later ran.world
+  pub own : EventsAreOwn (channel_in c) events w
+  pub lawful : LawfulWorld (channel_in c) ran.world
+  pub channel : channel_in later ≡ channel_in c
+
+-- calls were this run of each lawful world that was kept
+abbrev pub IsRun : CoreView → List Event → List Reply → CoreView → Type 0
+IsRun c events replies later = (w : World) → IsAt c w → LawfulWorld (channel_in c) w → RanFrom c w events replies later
+
+-- the first of the events were done, all but the rest: they were a run, and one that goes well if nothing had happened before
+pub record DidEvents {A : Type 0} (c : CoreView) (events : List (Asked A)) (replies : List (Answered A)) (rest : List (Asked A)) (later : CoreView) : Type 0 where
+  pub done : List (Asked A)
+  pub parts : events ≡ done ++ rest
+  pub is_run : IsRun c (map event_of done) (map reply_of replies) later
+  pub goes_well : IsAt c (fresh (channel_in c)) → GoesWell (channel_in c) (map event_of done)
+
+-- a step is the one event that wants memory
+abbrev pub is_step : {A : Type 0} → Asked A → Bool
+is_step (AskStep l) = true
+is_step _ = false
+
+-- all were done, or those that weren't begin with a step
+abbrev pub stops_at_step : {A : Type 0} → List (Asked A) → Bool
+stops_at_step [] = true
+stops_at_step (e ∷ events) = is_step e
+
+-- the same, where some were answered
+abbrev pub stops_after : {A : Type 0} → List (Answered A) → List (Asked A) → Bool
+stops_after [] rest = true
+stops_after (reply ∷ replies) rest = stops_at_step rest

@@ -1,0 +1,139 @@
+//! A job: a verified text that is to run on a LUN, from a base on, with its buffer.
+ghost use Rattle.std.specs.Prelude.{◌≡◌, ◌↔◌, ◌≤◌, IsOk, IfOk, IfErr, Some, None, length, true};
+ghost use Rattle.micro_verify.specs.Lines.{continues_cache_read, is_command_31, all_lead_on};
+ghost use Rattle.micro_verify.specs.Safe.{IsSafe};
+ghost use Rattle.micro_verify.specs.Program.{Job as JobValue};
+ghost use Rattle.seq_core.specs.Job.{job_fault, job_of};
+ghost use Rattle.seq_core.specs.Event.{IsVerified};
+
+use crate::answers::LoadFault;
+use micro_verify::Verified;
+use micro_word::{Text, Word};
+use nand_geometry::Geometry;
+use onfi_cycle::Lun;
+use std::alloc::{Allocator, Global};
+use std::marker::Model;
+
+/// A verified text with the LUN that it is to run on, the row index that it begins at, and its buffer.
+#[derive(Drop)]
+pub struct Job<A: Allocator = Global> {
+    pub(crate) lun: Lun,
+    pub(crate) base: u32,
+    pub(crate) verified: Verified<A>,
+    pub(crate) buffer: Vec<u8, A>,
+}
+
+impl<A: Allocator> Model for Job<A> {
+    ghost use Rattle.std.specs.Prelude.{◌≡◌, true};
+    ghost use Rattle.micro_verify.specs.Program.{Job as JobValue};
+    ghost use Rattle.micro_verify.specs.Lines.{all_lead_on};
+    ghost use Rattle.seq_core.specs.Event.{IsVerified};
+    ghost use Rattle.seq_core.specs.Job.{job_of};
+
+    ghost Value = { JobValue };
+
+    ghost view = { λ j. job_of j.lun j.base j.verified j.buffer.items };
+
+    ghost invariant = { λ j. IsVerified (job_of j.lun j.base j.verified j.buffer.items) × (all_lead_on j.verified.text.words ≡ true) };
+}
+
+// Some word continues a cache read.
+fn continues_cache_read(words: &[Word]) -> bool
+    ensures { result ≡ continues_cache_read words.now }
+{
+    match words {
+        [] => false,
+        [first, rest @ ..] => {
+            matches!(first, Word::Command { byte: 0x31 }) || continues_cache_read(rest)
+        }
+    }
+}
+
+// The first fault of a job.
+fn job_fault<A: Allocator>(
+    geometry: &Geometry,
+    targets: u8,
+    lun: Lun,
+    base: u32,
+    verified: &Verified<A>,
+    buffer: usize,
+) -> Option<LoadFault>
+    ensures { result ≡ job_fault geometry.now targets lun base verified.now buffer }
+{
+    let text = verified.text();
+    let parts = geometry.parts();
+    let end = u64::from(base) + u64::from(text.rows());
+    if lun.ce >= targets || lun.lun >= parts.luns {
+        Some(LoadFault::S2)
+    } else if end > u64::from(geometry.indices()) {
+        Some(LoadFault::S3)
+    } else if buffer != text.buffer() as usize {
+        Some(LoadFault::S4)
+    } else if parts != verified.geometry().parts() {
+        Some(LoadFault::S5)
+    } else if continues_cache_read(text.words()) && base % parts.pages != 0 {
+        Some(LoadFault::S6)
+    } else {
+        None
+    }
+}
+
+impl<A: Allocator> Job<A> {
+    /// The job of a verified text on a LUN of a channel with this geometry and so many targets. Its rows are counted from
+    /// the index `base`; its buffer has the length that the text names.
+    ///
+    /// Errors, the first that stands, with text and buffer handed back: `S2` the LUN isn't there; `S3` base and rows pass
+    /// the indices of a LUN; `S4` the buffer hasn't the length that the text names; `S5` the text was verified for another
+    /// geometry; `S6` the text continues a cache read, and the base isn't the first page of a block. Takes no memory.
+    pub fn new(
+        geometry: Geometry,
+        targets: u8,
+        lun: Lun,
+        base: u32,
+        verified: Verified<A>,
+        buffer: Vec<u8, A>,
+    ) -> Result<Job<A>, (LoadFault, Verified<A>, Vec<u8, A>)>
+        ensures accepted { IsOk result ↔ (job_fault geometry targets lun base verified (length buffer.items) ≡ None) }
+        ensures value { IfOk result (λ j. j ≡ job_of lun base verified buffer.items) }
+        ensures refused { IfErr result (λ e. (job_fault geometry targets lun base verified (length buffer.items) ≡ Some e.0) × (e.1 ≡ verified) × (e.2 ≡ buffer)) }
+    {
+        match job_fault(&geometry, targets, lun, base, &verified, buffer.len()) {
+            Some(fault) => Err((fault, verified, buffer)),
+            None => Ok(Job {
+                lun,
+                base,
+                verified,
+                buffer,
+            }),
+        }
+    }
+
+    /// The LUN that it is to run on.
+    pub fn lun(&self) -> Lun
+        ensures value { result ≡ self.now.lun }
+        ensures verified { IsVerified self.now }
+    {
+        self.lun
+    }
+
+    /// The geometry that its text was verified for.
+    pub fn geometry(&self) -> &Geometry
+        ensures { result.now ≡ self.now.geometry }
+    {
+        self.verified.geometry()
+    }
+
+    /// The text.
+    pub fn text(&self) -> &Text<A>
+        ensures { result.now ≡ self.now.text }
+    {
+        self.verified.text()
+    }
+
+    /// The buffer: before the job has run as it was handed over, after it as the program left it.
+    pub fn buffer(&self) -> &[u8]
+        ensures { result.now ≡ self.now.buffer }
+    {
+        &self.buffer
+    }
+}

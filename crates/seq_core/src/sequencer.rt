@@ -1,0 +1,363 @@
+//! The sequencer: it runs a program on each LUN, and hands the bus from one to another.
+ghost use Rattle.std.specs.Prelude.{◌≡◌, ℕ, ◌*◌, ◌<◌, ◌≤◌, ◌∷◌, List, [], Some, None, if◌then◌else◌, IfOk, OnErr, IfErr, IfSome, length, replicate, reverse, get_or, set, true, false};
+ghost use Rattle.onfi_cycle.specs.Permitted.{is_legal};
+ghost use Rattle.onfi_cycle.specs.Channel.{Channel, is_there};
+ghost use Rattle.target_bus.specs.Bus.{Traced, channel_of};
+ghost use Rattle.seq_core.specs.World.{World, fresh, number};
+ghost use Rattle.seq_core.specs.Event.{Load, Step, Ready, ArrayReady, Unload, IsVerified};
+ghost use Rattle.seq_core.specs.Reply.{ToLoad, ToStep, ToReady, ToArrayReady, ToUnload, Loaded, NotLoaded, Unloaded, NotUnloaded};
+ghost use Rattle.seq_core.specs.After.{is_held};
+ghost use Rattle.seq_core.specs.Lawful.{LawfulWorld};
+ghost use Rattle.seq_core.specs.Progress.{Progress};
+ghost use Rattle.seq_core.specs.Shows.{CoreView, IsAt, channel_in};
+ghost use Rattle.seq_core.specs.Calls.{IsCore, IsEvent, CanStep, Steps, slot_at, slot_code, holder_after, fault_by, load_fault_at};
+ghost use Rattle.seq_core.specs.Playing.{IsSame};
+
+use crate::answers::{LoadFault, Stepped, UnloadFault};
+use crate::job::Job;
+use crate::slot::Slot;
+use arrayvec::ArrayVec;
+use nand_geometry::Geometry;
+use onfi_cycle::{Item, Lun};
+use std::alloc::{AllocError, Allocator, Global};
+use std::marker::Model;
+use target_bus::Bus;
+
+/// A sequencer on the bus of a channel. Each LUN has a slot for one job; one LUN at a time has the bus.
+#[derive(Drop)]
+pub struct Core<A: Allocator = Global> {
+    bus: Bus<A>,
+    slots: ArrayVec<Option<Slot<A>>, 16>,
+    holder: Option<Lun>,
+}
+
+impl<A: Allocator> Model for Core<A> {
+    ghost use Rattle.seq_core.specs.Shows.{CoreView};
+    ghost use Rattle.seq_core.specs.Calls.{IsCore};
+
+    ghost Value = { CoreView };
+
+    ghost view = { λ c. record { geometry = c.bus.geometry; targets = c.bus.targets; past = c.bus.past; slots = c.slots.items; holder = c.holder } };
+
+    ghost invariant = { λ c. IsCore (record { geometry = c.bus.geometry; targets = c.bus.targets; past = c.bus.past; slots = c.slots.items; holder = c.holder }) };
+}
+
+/// A job that has ended, and its code.
+#[derive(Drop)]
+pub struct Done<A: Allocator = Global> {
+    pub job: Job<A>,
+    pub code: u8,
+}
+
+// How many LUNs so many targets have.
+fn lun_count(targets: u8, geometry: &Geometry) -> usize
+    requires { targets ≤ 4 }
+    ensures value { result ≡ targets * geometry.now.luns }
+    ensures most { result ≤ 16 }
+{
+    usize::from(targets) * usize::from(geometry.parts().luns)
+}
+
+// So many slots without a job.
+fn empty_slots<A: Allocator>(count: usize) -> ArrayVec<Option<Slot<A>>, 16>
+    requires { count ≤ 16 }
+    ensures { result.items ≡ replicate count None }
+{
+    let mut slots: ArrayVec<Option<Slot<A>>, 16> = ArrayVec::new();
+    for _ in 0..count {
+        slots.push(None);
+    }
+    slots
+}
+
+// The number of a LUN of a channel, if it is there.
+fn number_of(targets: u8, luns: u8, l: Lun) -> Option<usize>
+    ensures { (s : Channel) → s.targets ≡ targets → s.geometry.luns ≡ luns → result ≡ (if is_there s l then Some (number s l) else None) }
+{
+    if l.ce < targets && l.lun < luns {
+        Some(usize::from(l.ce) * usize::from(luns) + usize::from(l.lun))
+    } else {
+        None
+    }
+}
+
+// The code of a slot, if it has a job.
+fn code_in<A: Allocator>(slots: &[Option<Slot<A>>], k: usize) -> Option<Option<u8>>
+    requires { k < length slots.now }
+    ensures { result ≡ slot_code (get_or slots.now k None) }
+{
+    match &slots[k] {
+        None => None,
+        Some(slot) => Some(slot.code()),
+    }
+}
+
+// Steps the slot of a number.
+fn step_in<A: Allocator>(
+    bus: &mut Bus<A>,
+    slots: &mut [Option<Slot<A>>],
+    k: usize,
+) -> Result<Stepped, AllocError>
+    requires inside { k < length slots.old }
+    requires can { (v : Progress) × (get_or slots.old k None ≡ Some v) × CanStep (channel_of bus.old) bus.old.past v }
+    ensures same { IsSame bus.old bus.new }
+    ensures ok { IfOk result (λ answer. (v : Progress) × (u : Progress) × (get_or slots.old k None ≡ Some v) × Steps (channel_of bus.old) bus.old.past v answer bus.new.past u × (slots.new ≡ set slots.old k (Some u))) }
+    ensures err { OnErr result ((bus.new.past ≡ bus.old.past) × (slots.new ≡ slots.old)) }
+{
+    match &mut slots[k] {
+        Some(slot) => slot.step(bus),
+        None => unreachable!(),
+    }
+}
+
+// Why a job isn't loaded onto a LUN that has a job or not, and is there or not.
+fn load_fault(
+    has_job: bool,
+    there: bool,
+    l: Lun,
+    at: Lun,
+    geometry: &Geometry,
+    of: &Geometry,
+) -> Option<LoadFault>
+    ensures { result ≡ fault_by has_job there l at geometry.now of.now }
+{
+    if has_job {
+        Some(LoadFault::S1)
+    } else if !(there && l.ce == at.ce && l.lun == at.lun) {
+        Some(LoadFault::S2)
+    } else if geometry.parts() != of.parts() {
+        Some(LoadFault::S5)
+    } else {
+        None
+    }
+}
+
+// Puts another slot at a number.
+fn put_in<A: Allocator>(slots: &mut [Option<Slot<A>>], k: usize, slot: Option<Slot<A>>)
+    requires { k < length slots.old }
+    ensures { slots.new ≡ set slots.old k slot }
+{
+    slots[k] = slot;
+}
+
+// Takes the slot of a number.
+fn take_in<A: Allocator>(slots: &mut [Option<Slot<A>>], k: usize) -> Option<Slot<A>>
+    requires { k < length slots.old }
+    ensures value { result ≡ get_or slots.old k None }
+    ensures slots { slots.new ≡ set slots.old k None }
+{
+    slots[k].take()
+}
+
+// Another LUN has the bus.
+fn is_held(holder: Option<Lun>, l: Lun) -> bool
+    ensures { result ≡ is_held holder l }
+{
+    match holder {
+        None => false,
+        Some(m) => !(m.ce == l.ce && m.lun == l.lun),
+    }
+}
+
+// The LUN that has the bus after a step of this one.
+fn holder_after(answer: Stepped, l: Lun) -> Option<Lun>
+    ensures { result ≡ holder_after answer l }
+{
+    match answer {
+        Stepped::Went => Some(l),
+        _ => None,
+    }
+}
+
+impl<A: Allocator> Core<A> {
+    /// A sequencer on a bus on which nothing has happened (`Bus::is_fresh` tells): each slot is empty. Takes no memory.
+    pub fn new(bus: Bus<A>) -> Core<A>
+        requires { bus.past ≡ [] }
+        ensures channel { (result.geometry ≡ bus.geometry) × (result.targets ≡ bus.targets) }
+        ensures world { IsAt result (fresh (channel_in result)) }
+        ensures lawful { LawfulWorld (channel_in result) (fresh (channel_in result)) }
+    {
+        let slots = empty_slots(lun_count(bus.targets(), &bus.geometry()));
+        let _ = bus.trace();
+        Core {
+            bus,
+            slots,
+            holder: None,
+        }
+    }
+
+    // The number of a LUN, if it is there.
+    fn place(&self, l: Lun) -> Option<usize>
+        ensures value { result ≡ (if is_there (channel_in self.now) l then Some (number (channel_in self.now) l) else None) }
+        ensures inside { IfSome result (λ k. (k < length self.now.slots) × (k < 16)) }
+    {
+        number_of(self.bus.targets(), self.bus.geometry().parts().luns, l)
+    }
+
+    /// The number of a LUN, counted from LUN 0 of target 0 on, or None where it isn't there.
+    pub fn number(&self, l: Lun) -> Option<u32>
+        ensures { result ≡ (if is_there (channel_in self.now) l then Some (number (channel_in self.now) l) else None) }
+    {
+        match self.place(l) {
+            None => None,
+            Some(k) => Some(k as u32),
+        }
+    }
+
+    // The code of a LUN's slot, if it has a job.
+    fn code_at(&self, l: Lun) -> Option<Option<u8>>
+        ensures value { result ≡ slot_code (slot_at self.now l) }
+        ensures core { IsCore self.now }
+    {
+        match self.place(l) {
+            None => None,
+            Some(k) => code_in(self.slots.as_slice(), k),
+        }
+    }
+
+    /// What has happened on the channel, in the order of time. It is a legal trace.
+    pub fn trace(&self) -> &[Item]
+        ensures value { result.now ≡ reverse self.now.past }
+        ensures legal { is_legal self.now.geometry self.now.targets self.now.past ≡ true }
+    {
+        self.bus.trace()
+    }
+
+    /// The LUN that has the bus, if one has it.
+    pub fn holder(&self) -> Option<Lun>
+        ensures { result ≡ self.now.holder }
+    {
+        self.holder
+    }
+
+    /// Steps a LUN: the next word of its program, with all its cycles. `Empty`: it has no job, or isn't there. `Ended`: the
+    /// word was `end`, or the job had ended before. `Held`: another LUN has the bus. `HandedOver`: the word was `yield`, and
+    /// the bus is let go. `NotReady`: the word was `wait` and its poll says busy; it comes again, and the bus is let go.
+    /// `Went`: any other word; the LUN has the bus. Without memory for it all stays as it was.
+    pub fn step(&mut self, l: Lun) -> Result<Stepped, AllocError>
+        ensures came { IfOk result (λ answer. IsEvent self.old (Step l) (ToStep answer) self.new) }
+        ensures err { OnErr result (self.new ≡ self.old) }
+    {
+        match self.code_at(l) {
+            None => Ok(Stepped::Empty),
+            Some(Some(_)) => Ok(Stepped::Ended),
+            Some(None) if is_held(self.holder, l) => Ok(Stepped::Held),
+            Some(None) => self.step_on(l),
+        }
+    }
+
+    // Steps a LUN whose program goes on and may have the bus.
+    fn step_on(&mut self, l: Lun) -> Result<Stepped, AllocError>
+        requires running { Some None ≡ slot_code (slot_at self.old l) }
+        requires free { is_held self.old.holder l ≡ false }
+        ensures came { IfOk result (λ answer. IsEvent self.old (Step l) (ToStep answer) self.new) }
+        ensures err { OnErr result (self.new ≡ self.old) }
+    {
+        match self.place(l) {
+            None => unreachable!(),
+            Some(k) => {
+                match step_in(&mut self.bus, self.slots.as_mut_slice(), k) {
+                    Err(error) => Err(error),
+                    Ok(answer) => {
+                        self.holder = holder_after(answer, l);
+                        Ok(answer)
+                    }
+                }
+            }
+        }
+    }
+
+    /// What [`load`](Core::load) would answer.
+    pub fn admits(&self, l: Lun, job: &Job<A>) -> Result<(), LoadFault>
+        ensures ok { IfOk result (λ _. load_fault_at self.now l job.now ≡ None) }
+        ensures err { IfErr result (λ fault. load_fault_at self.now l job.now ≡ Some fault) }
+        ensures verified { IsVerified job.now }
+        ensures core { IsCore self.now }
+    {
+        let has_job = self.code_at(l).is_some();
+        let there = self.place(l).is_some();
+        let geometry = self.bus.geometry();
+        match load_fault(has_job, there, l, job.lun(), &geometry, job.geometry()) {
+            Some(fault) => Err(fault),
+            None => Ok(()),
+        }
+    }
+
+    /// Loads a job onto its LUN. Errors, the first that stands, with the job handed back and all as it was: `S1` the LUN
+    /// has a job; `S2` the LUN isn't there, or isn't the job's; `S5` the job is of another geometry. Takes no memory.
+    pub fn load(&mut self, l: Lun, job: Job<A>) -> Result<(), (LoadFault, Job<A>)>
+        ensures ok { IfOk result (λ _. IsEvent self.old (Load l job) (ToLoad Loaded) self.new) }
+        ensures err { IfErr result (λ e. (e.1 ≡ job) × (self.new ≡ self.old) × IsEvent self.old (Load l job) (ToLoad (NotLoaded e.0 job)) self.new) }
+    {
+        match self.admits(l, &job) {
+            Err(fault) => Err((fault, job)),
+            Ok(()) => {
+                self.fill(l, job);
+                Ok(())
+            }
+        }
+    }
+
+    // Puts a job that is admitted into its slot.
+    fn fill(&mut self, l: Lun, job: Job<A>)
+        requires { load_fault_at self.old l job ≡ None }
+        ensures { IsEvent self.old (Load l job) (ToLoad Loaded) self.new }
+    {
+        match self.place(l) {
+            None => unreachable!(),
+            Some(k) => put_in(self.slots.as_mut_slice(), k, Some(Slot::new(job))),
+        }
+    }
+
+    /// A LUN becomes ready, with failure or without; false, with all as it was, where it isn't there or isn't busy. Takes no
+    /// memory.
+    pub fn ready(&mut self, l: Lun, fail: bool) -> bool
+        ensures { IsEvent self.old (Ready l fail) (ToReady result) self.new }
+    {
+        self.bus.ready(l, fail)
+    }
+
+    /// The array of a LUN becomes ready behind a cache read; false, with all as it was, where none goes on. Takes no memory.
+    pub fn array_ready(&mut self, l: Lun) -> bool
+        ensures { IsEvent self.old (ArrayReady l) (ToArrayReady result) self.new }
+    {
+        self.bus.array_ready(l)
+    }
+
+    /// Takes a job that has ended from its LUN, with its buffer as the program left it. Errors, with all as it was: `U1` the
+    /// LUN has no job, or isn't there; `U2` its job hasn't ended. Takes no memory.
+    pub fn unload(&mut self, l: Lun) -> Result<Done<A>, UnloadFault>
+        ensures ok { IfOk result (λ done. IsEvent self.old (Unload l) (ToUnload (Unloaded done.job done.code)) self.new) }
+        ensures err { IfErr result (λ fault. (self.new ≡ self.old) × IsEvent self.old (Unload l) (ToUnload (NotUnloaded fault)) self.new) }
+    {
+        match self.code_at(l) {
+            None => Err(UnloadFault::U1),
+            Some(None) => Err(UnloadFault::U2),
+            Some(Some(code)) => Ok(Done {
+                job: self.empty(l, code),
+                code,
+            }),
+        }
+    }
+
+    // Takes the job of a LUN that has ended with this code.
+    fn empty(&mut self, l: Lun, code: u8) -> Job<A>
+        requires { Some (Some code) ≡ slot_code (slot_at self.old l) }
+        ensures { IsEvent self.old (Unload l) (ToUnload (Unloaded result code)) self.new }
+    {
+        match self.place(l) {
+            None => unreachable!(),
+            Some(k) => match take_in(self.slots.as_mut_slice(), k) {
+                None => unreachable!(),
+                Some(slot) => slot.into_job(),
+            },
+        }
+    }
+
+    /// The bus, as the trace has left it.
+    pub fn into_bus(self) -> Bus<A>
+        ensures { (result.geometry ≡ self.geometry) × (result.targets ≡ self.targets) × (result.past ≡ self.past) }
+    {
+        self.bus
+    }
+}

@@ -1,0 +1,233 @@
+//! The bus of a channel in front of its dies: it takes a cycle where the rules permit it, works it on the dies, and keeps
+//! the trace. The dies, the running state and the trace always tell the same (docs/MODEL.md).
+#![tactic(auto)]
+
+mod dies;
+mod refusal;
+#[cfg(test)]
+mod tests;
+
+ghost use Rattle.std.specs.Prelude.{◌≡◌, ◌≢◌, ℕ, ◌*◌, ◌<◌, ◌≤◌, ◌↔◌, Bool, true, false, List, [], ◌∷◌, Some, None, IsOk, IfOk, IfErr, IsTrue, length, reverse, slice_get};
+ghost use Rattle.nand_geometry.specs.Limits.{InLimits};
+ghost use Rattle.onfi_cycle.specs.declared.Item.TheVariants.{Cyc, Rdy, Ard};
+ghost use Rattle.onfi_cycle.specs.declared.Kind.TheVariants.{Dout};
+ghost use Rattle.onfi_cycle.specs.declared.Lun.{Lun};
+ghost use Rattle.onfi_cycle.specs.declared.PageAddress.{PageAddress};
+ghost use Rattle.onfi_cycle.specs.Permitted.{broken, is_permitted, is_legal};
+ghost use Rattle.onfi_cycle.specs.Channel.{IsChannel, cycle, bus_byte};
+ghost use Rattle.onfi_cycle.specs.State.{Follows};
+ghost use Rattle.onfi_cycle.specs.Look.{look_after};
+ghost use Rattle.onfi_cycle.specs.Today.{starts_work};
+ghost use Rattle.die_model.specs.Die.{Die, page_of};
+ghost use Rattle.target_bus.specs.Bus.{Traced, channel_of, numbered, number_of, StandFor, bus_fault, Refuses, IsNext, is_output, IsRunning};
+
+use die_model::LunDie;
+use dies::{
+    are_new, are_targets, begin_work, busy_dies, judge_output, output, shown_byte, starting,
+};
+use nand_geometry::Geometry;
+use onfi_cycle::{BusState, Cycle, Item, Lun, LunState};
+pub use refusal::{BusFault, BusRefusal};
+use std::alloc::{AllocError, Allocator, Global};
+use std::marker::Model;
+
+/// The bus of a channel with its dies and its trace.
+#[derive(Drop)]
+pub struct Bus<A: Allocator = Global> {
+    state: BusState,
+    dies: Vec<LunDie, A>,
+    trace: Vec<Item, A>,
+    /// How many cycles to come need no memory, if they start no work.
+    room: usize,
+}
+
+impl<A: Allocator> Model for Bus<A> {
+    ghost use Rattle.std.specs.Prelude.{length, reverse};
+    ghost use Rattle.std.specs.Vec.{vec_len, vec_capacity};
+    ghost use Rattle.target_bus.specs.Bus.{Traced, IsRunning};
+
+    ghost Value = { Traced };
+
+    ghost view = { λ b. record { geometry = b.state.geometry; targets = length b.state.targets; past = reverse b.trace.items; room = b.room } };
+
+    ghost invariant = { λ b. IsRunning b.state b.dies.items b.trace.items (vec_len b.trace) (vec_capacity b.trace) b.room };
+}
+
+impl<A: Allocator> Bus<A> {
+    /// The bus of these dies, LUN by LUN and target by target. It takes no memory.
+    ///
+    /// Errors, with the dies: `B1` they aren't 1 to 4 targets of whole LUNs; `B2` a die has another geometry or isn't new.
+    pub fn new(
+        alloc: A,
+        geometry: Geometry,
+        dies: Vec<LunDie, A>,
+    ) -> Result<Bus<A>, (BusFault, Vec<LunDie, A>)>
+        ensures ok { IsOk result ↔ (bus_fault geometry dies.items ≡ None) }
+        ensures value { IfOk result (λ b. (b.past ≡ []) × (b.geometry ≡ geometry) × (b.targets * geometry.luns ≡ length dies.items)) }
+        ensures opening { IfOk result (λ b. (l : Lun) (p : PageAddress) (d : Die) → slice_get dies.items (number_of geometry l) ≡ Some d → (channel_of b).opening l p ≡ page_of d p) }
+        ensures err { IfErr result (λ e. (bus_fault geometry dies.items ≡ Some e.0) × (e.1 ≡ dies)) }
+    {
+        let luns = geometry.parts().luns;
+        if !are_targets(&geometry, dies.len()) {
+            return Err((BusFault::B1, dies));
+        }
+        if !are_new(&geometry, dies.as_slice()) {
+            return Err((BusFault::B2, dies));
+        }
+        let targets = (dies.len() / usize::from(luns)) as u8;
+        Ok(Bus {
+            state: BusState::new(geometry, targets),
+            dies,
+            trace: Vec::new(alloc),
+            room: 0,
+        })
+    }
+
+    /// The geometry of its targets.
+    pub fn geometry(&self) -> Geometry
+        ensures value { result ≡ self.now.geometry }
+    {
+        self.state.geometry()
+    }
+
+    /// How many targets it has.
+    pub fn targets(&self) -> u8
+        ensures value { result ≡ self.now.targets }
+        ensures least { 1 ≤ result }
+        ensures most { result ≤ 4 }
+    {
+        let _ = &self.trace;
+        self.state.targets()
+    }
+
+    /// What has happened, in the order of time. It is a legal trace.
+    pub fn trace(&self) -> &[Item]
+        ensures value { result.now ≡ reverse self.now.past }
+        ensures legal { is_legal self.now.geometry self.now.targets self.now.past ≡ true }
+        ensures channel { IsChannel (channel_of self.now) }
+    {
+        self.trace.as_slice()
+    }
+
+    /// Nothing has happened yet.
+    pub fn is_fresh(&self) -> bool
+        ensures { result ≡ true ↔ self.now.past ≡ [] }
+    {
+        self.trace.is_empty()
+    }
+
+    /// The running state of the channel.
+    pub fn state(&self) -> &BusState
+        ensures { Follows self.now.geometry self.now.targets result.now self.now.past }
+    {
+        &self.state
+    }
+
+    /// A look at one LUN, None where it isn't there.
+    pub fn lun_state(&self, l: Lun) -> Option<LunState>
+        ensures { result ≡ look_after self.now.geometry self.now.targets self.now.past l }
+    {
+        self.state.lun_state(l)
+    }
+
+    /// Puts a cycle on the bus: a command, an address or an input.
+    ///
+    /// Errors, with all as it was: the first rule that the cycle breaks; and where it breaks none, want of memory.
+    pub fn put(&mut self, cycle: Cycle) -> Result<(), BusRefusal>
+        requires { is_output cycle.kind ≡ false }
+        ensures ok { IfOk result (λ _. (broken self.old.geometry self.old.targets self.old.past (Cyc cycle) ≡ None) × IsNext self.old self.new (Cyc cycle)) }
+        ensures err { IfErr result (λ e. Refuses e (broken self.old.geometry self.old.targets self.old.past (Cyc cycle)) × (self.new ≡ self.old)) }
+        ensures memory { 0 < self.old.room → starts_work (Cyc cycle) ≡ false → IfErr result (λ e. e ≢ BusRefusal.OutOfMemory) }
+    {
+        let item = Item::Cyc(cycle);
+        if let Some(rule) = self.state.judge(item) {
+            return Err(BusRefusal::Forbidden(rule));
+        }
+        let left = self.room.saturating_sub(1);
+        let places = 1 + left + busy_dies(self.dies.as_slice()) + starting(item);
+        self.trace.reserve(places)?;
+        begin_work(&self.state, self.dies.as_mut_slice(), item)?;
+        self.state.apply(item);
+        self.trace.push_reserved(item);
+        self.room = left;
+        Ok(())
+    }
+
+    /// Takes the byte that the one driver of a target shows.
+    ///
+    /// Errors, with all as it was: the first rule that the output breaks; and where it breaks none, want of memory.
+    pub fn take(&mut self, ce: u8) -> Result<u8, BusRefusal>
+        ensures ok { IfOk result (λ byte. (broken self.old.geometry self.old.targets self.old.past (cycle ce Dout byte) ≡ None) × (bus_byte (channel_of self.old) self.old.past ce ≡ Some byte) × IsNext self.old self.new (cycle ce Dout byte)) }
+        ensures err { IfErr result (λ e. ((byte : ℕ) → Refuses e (broken self.old.geometry self.old.targets self.old.past (cycle ce Dout byte))) × (self.new ≡ self.old)) }
+        ensures memory { 0 < self.old.room → IfErr result (λ e. e ≢ BusRefusal.OutOfMemory) }
+    {
+        if let Some(rule) = judge_output(&self.state, ce) {
+            return Err(BusRefusal::Forbidden(rule));
+        }
+        let left = self.room.saturating_sub(1);
+        self.trace
+            .reserve(1 + left + busy_dies(self.dies.as_slice()))?;
+        let byte = shown_byte(&self.state, self.dies.as_slice(), ce);
+        let item = output(ce, byte);
+        self.state.apply(item);
+        self.trace.push_reserved(item);
+        self.room = left;
+        Ok(byte)
+    }
+
+    /// A LUN becomes ready, with failure or without; false where it isn't there or isn't busy. It takes no memory.
+    pub fn ready(&mut self, l: Lun, fail: bool) -> bool
+        ensures came { result ≡ is_permitted self.old.geometry self.old.targets self.old.past (Rdy l.ce l.lun fail) }
+        ensures yes { IsTrue result → IsNext self.old self.new (Rdy l.ce l.lun fail) }
+        ensures no { result ≡ false → self.new ≡ self.old }
+        ensures room { self.new.room ≡ self.old.room }
+    {
+        let item = Item::Rdy {
+            ce: l.ce,
+            lun: l.lun,
+            fail,
+        };
+        if self.state.judge(item).is_some() {
+            return false;
+        }
+        let luns = self.state.geometry().parts().luns;
+        let k = usize::from(l.ce) * usize::from(luns) + usize::from(l.lun);
+        self.dies[k].finish(fail);
+        self.state.apply(item);
+        self.trace.push_reserved(item);
+        true
+    }
+
+    /// The array of a LUN becomes ready behind a cache read. No cache read is taken today, so none comes.
+    pub fn array_ready(&mut self, l: Lun) -> bool
+        ensures came { result ≡ is_permitted self.old.geometry self.old.targets self.old.past (Ard l.ce l.lun) }
+        ensures yes { IsTrue result → IsNext self.old self.new (Ard l.ce l.lun) }
+        ensures no { result ≡ false → self.new ≡ self.old }
+    {
+        let _ = &self.trace;
+        let _ = l;
+        false
+    }
+
+    /// Keeps places for so many cycles to come, if they start no work. Without memory for that all stays as it was.
+    pub fn reserve(&mut self, n: usize) -> Result<(), AllocError>
+        ensures ok { IfOk result (λ _. (channel_of self.new ≡ channel_of self.old) × (self.new.past ≡ self.old.past) × (n ≤ self.new.room)) }
+        ensures err { IfErr result (λ _. self.new ≡ self.old) }
+    {
+        let room = self.room.max(n);
+        let Some(places) = room.checked_add(busy_dies(self.dies.as_slice())) else {
+            return Err(AllocError);
+        };
+        self.trace.reserve(places)?;
+        self.room = room;
+        Ok(())
+    }
+
+    /// The dies, as the trace has left them.
+    pub fn into_dies(self) -> Vec<LunDie, A>
+        ensures count { length result.items ≡ self.targets * self.geometry.luns }
+        ensures dies { StandFor (channel_of self) self.past result.items }
+    {
+        self.dies
+    }
+}
