@@ -1,1 +1,4 @@
+pub mod Ends
+pub mod Printing
+pub mod Told
 pub mod Turns

@@ -60,7 +60,7 @@ fn no_words<R: Eprint>(rt: &R, error: &io::Error) -> u8 {
 
 // Runs the file on standard input.
 fn run_once(rt: &HostRuntime, base: u32) -> Exit {
-    once_on(rt.alloc(), &mut rt.reader(), &mut rt.stdout(), base)
+    once_on(&rt.alloc(), &mut rt.reader(), &mut rt.stdout(), base)
 }
 
 fn words_given(rt: &HostRuntime) -> io::Result<Vec<String>> {

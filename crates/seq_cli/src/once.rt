@@ -1,29 +1,35 @@
 //! Running a word file once.
-ghost use Rattle.std.specs.Prelude.{◌≡◌, ℕ, List, Some, None, Ok, IfOk, OnOk, IfErr, IfSome};
+ghost use Rattle.std.specs.Prelude.{◌≡◌, ℕ, ◌+◌, ◌*◌, List, ◌++◌, Some, None, Ok, IfOk, OnOk, IfErr, IfSome, length};
 ghost use Rattle.std.specs.Io.KnownBytes.{Appends};
+ghost use Rattle.std.specs.List.{All};
+ghost use Rattle.std.specs.String.{string_bytes};
 ghost use Rattle.micro_word.specs.Reading.{reading};
 ghost use Rattle.micro_verify.specs.State.{fault_of};
 ghost use Rattle.seq_cli.specs.Refusals.{line_of, Tells};
 ghost use Rattle.micro_word.specs.Text.{IsFileOf};
 ghost use Rattle.seq_core.specs.World.{fresh};
 ghost use Rattle.seq_core.specs.Shows.{IsAt, channel_in};
-ghost use Rattle.seq_cli.specs.Once.{one_lun, refused, the_channel, IsJobOf};
-ghost use Rattle.seq_cli.specs.Runs.{EndsWithin, HasRun, TookTurn};
+ghost use Rattle.seq_cli.specs.Once.{one_lun, refused, the_channel, IsJobOf, IsRun};
+ghost use Rattle.seq_cli.specs.Lines.{end_line};
+ghost use Rattle.seq_cli.specs.Runs.{EndsWithin, HasRun, IsForTheLun, IsLoaded, RanAlone, TellsRun, TookTurn};
+ghost use Rattle.trace_text.specs.Line.{text, IsPrintable};
 
 use crate::exit::Exit;
 use crate::fault::StreamFault;
 use crate::input::read_all;
+use crate::lines::push_end_line;
 use crate::output::write_text;
 use crate::refusal::{NotRun, Refusal};
 use die_model::LunDie;
 use micro_verify::{Verified, VerifyRefusal, verify};
 use micro_word::{WordRefusal, read};
 use nand_geometry::{Geometry, Parts};
-use onfi_cycle::Lun;
+use onfi_cycle::{Item, Lun};
 use seq_core::{Core, Job, Stepped};
 use std::alloc::{AllocError, Allocator};
 use std::io::{Read, Write};
 use target_bus::Bus;
+use trace_text::print;
 
 // One LUN of 8 blocks of 4 pages of 512 + 16 bytes.
 const ONE_LUN: Parts = Parts {
@@ -78,6 +84,7 @@ fn verified<A: Allocator>(alloc: A, bytes: &[u8]) -> Result<Verified<A>, NotRun>
 // The job of a file: its text at this base, its buffer all 00.
 fn made_job<A: Allocator + Clone>(alloc: A, bytes: &[u8], base: u32) -> Result<Job<A>, NotRun>
     ensures job { IfOk result (λ j. IsJobOf base bytes.now j) }
+    ensures alone { IfOk result (λ j. IsForTheLun j) }
     ensures refused { IfErr result (λ e. Tells e (refused base bytes.now)) }
 {
     let verified = verified(alloc.clone()?, bytes)?;
@@ -129,6 +136,69 @@ fn run_to_end<A: Allocator>(core: &mut Core<A>, turns: usize) -> Result<(), Allo
     unreachable!()
 }
 
+// A sequencer on which a job is loaded, and nothing else has happened.
+fn loaded<A: Allocator + Clone>(alloc: A, job: Job<A>) -> Result<Core<A>, AllocError>
+    requires { IsForTheLun job }
+    ensures { IfOk result (λ core. IsLoaded job core) }
+{
+    let mut core = new_core(alloc)?;
+    match core.load(THE_LUN, job) {
+        Ok(()) => Ok(core),
+        Err(_) => unreachable!(),
+    }
+}
+
+// How many turns a job takes at most: two for each word, and one more.
+fn turns_of<A: Allocator>(job: &Job<A>) -> usize
+    ensures { result ≡ 2 * length job.now.text.words + 1 }
+{
+    2 * job.text().words().len() + 1
+}
+
+// A sequencer on which a job is loaded, and how many turns it takes at most to its end.
+fn started<A: Allocator + Clone>(alloc: A, job: Job<A>) -> Result<(Core<A>, usize), AllocError>
+    requires { IsForTheLun job }
+    ensures loaded { IfOk result (λ r. IsLoaded job r.0) }
+    ensures turns { IfOk result (λ r. r.1 ≡ 2 * length job.text.words + 1) }
+    ensures ends { IfOk result (λ r. EndsWithin r.0 r.1) }
+{
+    let turns = turns_of(&job);
+    let core = loaded(alloc, job)?;
+    Ok((core, turns))
+}
+
+// Runs a job to its end: the sequencer, and the code with which the program has ended.
+fn ran<A: Allocator + Clone>(alloc: A, job: Job<A>) -> Result<(Core<A>, u8), AllocError>
+    requires { IsForTheLun job }
+    ensures { IfOk result (λ r. RanAlone job r.0.past r.1) }
+{
+    let (mut core, turns) = started(alloc, job)?;
+    run_to_end(&mut core, turns)?;
+    match core.unload(THE_LUN) {
+        Ok(done) => Ok((core, done.code)),
+        Err(_) => unreachable!(),
+    }
+}
+
+// The lines of a run: those of its trace, and that of the code.
+fn lines_of<A: Allocator>(alloc: A, items: &[Item], code: u8) -> Result<String<A>, AllocError>
+    requires { All IsPrintable items.now }
+    ensures { IfOk result (λ lines. string_bytes lines ≡ text items.now ++ end_line code) }
+{
+    let mut lines = print(alloc, items)?;
+    push_end_line(&mut lines, code)?;
+    Ok(lines)
+}
+
+// What is written of a job that runs to its end.
+fn told<'a, A: Allocator>(alloc: &'a A, job: Job<&'a A>) -> Result<String<&'a A>, AllocError>
+    requires { IsForTheLun job }
+    ensures { IfOk result (λ lines. TellsRun job.entry (string_bytes lines)) }
+{
+    let (core, code) = ran(alloc, job)?;
+    lines_of(alloc, core.trace(), code)
+}
+
 // Writes the line of a refusal.
 fn refuse<A: Allocator, W: Write>(
     alloc: A,
@@ -142,19 +212,24 @@ fn refuse<A: Allocator, W: Write>(
 }
 
 // Reads a file, runs it and writes what becomes of it.
-fn run<A: Allocator + Clone, R: Read, W: Write>(
-    alloc: A,
+fn run<A: Allocator, R: Read, W: Write>(
+    alloc: &A,
     input: &mut R,
     output: &mut W,
     base: u32,
 ) -> Result<Exit, StreamFault>
+    ensures done { result ≡ Ok Exit.Done → IfSome (R.remaining input.old) (λ bytes. (written : List ℕ) × IsRun base bytes written
+        × Appends (W.contents output.old) (W.contents output.new) written) }
     ensures refused { result ≡ Ok Exit.Refused → IfSome (R.remaining input.old) (λ bytes. (line : List ℕ) × (refused base bytes ≡ Some line)
         × Appends (W.contents output.old) (W.contents output.new) line) }
 {
-    let bytes = read_all(alloc.clone()?, input)?;
-    match made_job(alloc.clone()?, bytes.as_slice(), base) {
-        // The run itself is to come: `new_core` and `run_to_end` are its parts.
-        Ok(_) => Ok(Exit::Done),
+    let bytes = read_all(alloc, input)?;
+    match made_job(alloc, bytes.as_slice(), base) {
+        Ok(job) => {
+            let lines = told(alloc, job)?;
+            write_text(output, lines.as_str())?;
+            Ok(Exit::Done)
+        }
         Err(NotRun::Refused(refusal)) => {
             refuse(alloc, output, refusal)?;
             Ok(Exit::Refused)
@@ -163,14 +238,22 @@ fn run<A: Allocator + Clone, R: Read, W: Write>(
     }
 }
 
-/// Reads a word file from an input, and judges whether it can be run from this base on, on a channel of one LUN: `Refused`,
-/// with the line of the refusal on the output, or `Done`. Running it is still to come.
-pub fn once_on<A: Allocator + Clone, R: Read, W: Write>(
-    alloc: A,
+/// Reads a word file from an input, and runs it on a channel of one LUN of 8 blocks of 4 pages of 512 + 16 bytes, whose pages
+/// are all FF. Its rows are counted from the index `base`; its buffer is all 00. The LUN becomes ready without failure after
+/// each poll that says busy.
+///
+/// `Done`: the output has the lines of the trace (docs/TRACES.md) and then `end CODE`. `Refused`: it has the line
+/// `refused NAME at N`, and nothing was run: an M fault of the file with its word, a V reason against the text with its word, or an
+/// S fault of the job. `FileFault`: the input couldn't be read, or has no end after 1,048,576 reads, or the output
+/// couldn't be written. `OutOfMemory`: nothing of a trace is written, unless it is the output that asked for memory.
+pub fn once_on<A: Allocator, R: Read, W: Write>(
+    alloc: &A,
     input: &mut R,
     output: &mut W,
     base: u32,
 ) -> Exit
+    ensures done { result ≡ Exit.Done → IfSome (R.remaining input.old) (λ bytes. (written : List ℕ) × IsRun base bytes written
+        × Appends (W.contents output.old) (W.contents output.new) written) }
     ensures refused { result ≡ Exit.Refused → IfSome (R.remaining input.old) (λ bytes. (line : List ℕ) × (refused base bytes ≡ Some line)
         × Appends (W.contents output.old) (W.contents output.new) line) }
 {

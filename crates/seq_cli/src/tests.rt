@@ -30,6 +30,13 @@ const NO_WORDS: [u8; 16] = [
     0x4e, 0x4d, 0x50, 0x31, 0x00, 0x00, 0x01, 0x00, 0x00, 0x00, 0x00, 0x00, 0x05, 0x00, 0x00, 0x00,
 ];
 
+// The lines of the run of the erase from page 0 of block 1, and from page 3 of block 7.
+const RUN: &str =
+    "0 C 60\n0 A 04\n0 A 00\n0 A 00\n0 C d0\n0 C 70\n0 O 80\n0 R 0 0\n0 C 70\n0 O e0\nend 0\n";
+
+const RUN_AT_31: &str =
+    "0 C 60\n0 A 1f\n0 A 00\n0 A 00\n0 C d0\n0 C 70\n0 O 80\n0 R 0 0\n0 C 70\n0 O e0\nend 0\n";
+
 // Gives a byte a call; the call numbered `bad` fails.
 #[derive(Drop)]
 struct SlowReader<'a> {
@@ -206,14 +213,26 @@ fn exits(rt: HostRuntime) {
 fn outcome(alloc: Global, file: &[u8], base: u32) -> (Exit, Vec<u8>) {
     let mut input = file;
     let mut output = Vec::new(alloc);
-    let exit = once_on(alloc, &mut input, &mut output, base);
+    let exit = once_on(&alloc, &mut input, &mut output, base);
     (exit, output)
 }
 
+fn expect(rt: &(impl Abort + AllocGlobal), file: &[u8], base: u32, exit: Exit, lines: &str) {
+    let (got, output) = outcome(rt.alloc(), file, base);
+    assert_eq!(rt; got, exit, "{lines}");
+    assert_eq!(rt; output.as_slice(), lines.as_bytes());
+}
+
 fn expect_refusal(rt: &(impl Abort + AllocGlobal), file: &[u8], line: &str) {
-    let (exit, output) = outcome(rt.alloc(), file, 4);
-    assert_eq!(rt; exit, Exit::Refused, "{line}");
-    assert_eq!(rt; output.as_slice(), line.as_bytes());
+    expect(rt, file, 4, Exit::Refused, line);
+}
+
+#[test]
+fn erases(rt: HostRuntime) {
+    expect(&rt, &ERASE, 4, Exit::Done, RUN);
+    expect(&rt, &ERASE, 31, Exit::Done, RUN_AT_31);
+    expect(&rt, &ERASE, 32, Exit::Refused, "refused S3 at 0\n");
+    expect(&rt, &ERASE, u32::MAX, Exit::Refused, "refused S3 at 0\n");
 }
 
 #[test]
@@ -240,7 +259,7 @@ fn streams_that_fail(rt: HostRuntime) {
         let mut output = Vec::new(rt.alloc());
         let mut slow = reader(&ERASE, bad, io::ErrorKind::Other);
         assert_eq!(rt;
-            once_on(rt.alloc(), &mut slow, &mut output, 4),
+            once_on(&rt.alloc(), &mut slow, &mut output, 4),
             Exit::FileFault,
             "read {bad}"
         );
@@ -251,34 +270,53 @@ fn streams_that_fail(rt: HostRuntime) {
         let mut input = NO_WAIT.as_slice();
         let mut slow = writer(rt.alloc(), bad, io::ErrorKind::BrokenPipe);
         assert_eq!(rt;
-            once_on(rt.alloc(), &mut input, &mut slow, 4),
+            once_on(&rt.alloc(), &mut input, &mut slow, 4),
             Exit::FileFault,
             "write {bad}"
         );
     }
+    // The 77 bytes of a run: 26 writes and the flush.
+    for bad in 0..27 {
+        let mut input = ERASE.as_slice();
+        let mut slow = writer(rt.alloc(), bad, io::ErrorKind::BrokenPipe);
+        assert_eq!(rt;
+            once_on(&rt.alloc(), &mut input, &mut slow, 4),
+            Exit::FileFault,
+            "write {bad}"
+        );
+        assert!(rt; RUN.as_bytes().starts_with(slow.bytes.as_slice()));
+    }
+}
+
+// Runs a file over heaps of all sizes: it is out of memory first, writing nothing, and in the end comes to what it should.
+fn over_heaps(
+    rt: &(impl Abort + AllocGlobal),
+    file: &[u8],
+    exit: Exit,
+    lines: &str,
+) -> Result<(), Fail> {
+    let mut refused_at: usize = 0;
+    for size in 0..200usize {
+        let heap = LocalHeap::new(rt.alloc(), 16 * size)?;
+        let mut input = file;
+        let mut output = Vec::new(rt.alloc());
+        let got = once_on(&heap, &mut input, &mut output, 4);
+        if got == Exit::OutOfMemory {
+            assert!(rt; output.is_empty());
+            refused_at = size + 1;
+        } else {
+            assert_eq!(rt; got, exit);
+            assert_eq!(rt; output.as_slice(), lines.as_bytes());
+        }
+    }
+    assert!(rt; refused_at > 0 && refused_at < 200);
+    Ok(())
 }
 
 #[test]
 fn refused_memory(rt: HostRuntime) -> Result<(), Fail> {
-    let mut refused_at: usize = 0;
-    for size in 0..40usize {
-        let heap = LocalHeap::new(rt.alloc(), 16 * size)?;
-        let mut input = NO_WAIT.as_slice();
-        let mut output = Vec::new(rt.alloc());
-        match once_on(&heap, &mut input, &mut output, 4) {
-            Exit::OutOfMemory => {
-                assert!(rt; output.is_empty());
-                refused_at = size + 1;
-            }
-            exit => {
-                assert_eq!(rt; exit, Exit::Refused);
-                assert_eq!(rt; output.as_slice(), b"refused V14 at 3\n".as_slice());
-            }
-        }
-    }
-    // It was refused at first, and went on in the end.
-    assert!(rt; refused_at > 0 && refused_at < 40);
-    Ok(())
+    over_heaps(&rt, &NO_WAIT, Exit::Refused, "refused V14 at 3\n")?;
+    over_heaps(&rt, &ERASE, Exit::Done, RUN)
 }
 
 // What words ask for, or the kind of their error.

@@ -1,0 +1,12 @@
+-- The trace of a job that ran can be printed.
+use Rattle.std.proofs.Common.{◌≡◌, ℕ, List, reverse, sym, ap, ◌∙◌, subst}
+use Rattle.std.specs.List.{All}
+use Rattle.onfi_cycle.specs.declared.Item.{Item}
+use Rattle.micro_verify.specs.Program.{Job}
+use Rattle.trace_text.specs.Line.{IsPrintable}
+use Rattle.seq_cli.specs.Runs.{RanAlone}
+use Rattle.seq_cli.proofs.Printing.{legal_is_printable}
+
+pub printable : (j : Job) (past items : List Item) (code : ℕ) → RanAlone j past code → items ≡ reverse past → All IsPrintable items
+printable j past items code ran is =
+    subst (All IsPrintable) (sym (is ∙ ap (reverse {A = Item}) ran.past_is)) (legal_is_printable ran.end.past ran.lawful.legal)
