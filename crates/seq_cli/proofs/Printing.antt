@@ -1,5 +1,5 @@
 -- A legal trace of a channel of one LUN can be printed.
-use Rattle.std.proofs.Common.{◌≡◌, ℕ, zero, suc, ◌<◌, ◌≤◌, Bool, true, false, cond, ◌&&◌, ◌||◌, not, nat_le, List, [], ◌∷◌, ◌++◌, reverse, Option, Some, None, is_none, refl, sym, ap, ◌∙◌, subst, arith}
+use Rattle.std.proofs.Common.{◌≡◌, ℕ, zero, suc, ◌≤◌, Bool, true, false, cond, ◌&&◌, ◌||◌, not, nat_le, List, [], ◌∷◌, reverse, Option, Some, is_none, refl, sym, subst, arith}
 use Rattle.std.specs.List.{All}
 use Rattle.std.proofs.lemmas.Bool.Decides.{nat_tests}
 use Rattle.std.proofs.lemmas.List.{reverse-append}
@@ -12,7 +12,7 @@ use Rattle.onfi_cycle.specs.LunView.{LunView}
 use Rattle.onfi_cycle.specs.Rules.{breaks_F1, lun_is}
 use Rattle.onfi_cycle.specs.Sequence.{target_of, tail, facts_of}
 use Rattle.onfi_cycle.specs.Lun.{lun_view, luns_of}
-use Rattle.onfi_cycle.specs.Permitted.{judge_item, broken, is_permitted, is_legal}
+use Rattle.onfi_cycle.specs.Permitted.{judge_item, is_permitted, is_legal}
 use Rattle.trace_text.specs.Line.{IsPrintable}
 use Rattle.seq_cli.specs.Once.{one_lun}
 

@@ -1,5 +1,5 @@
 -- What running a word file once comes to: the line of its refusal, or the text of its run.
-use Rattle.std.specs.Prelude.{◌≡◌, ℕ, ◌+◌, ◌*◌, Bool, true, false, List, [], ◌++◌, Option, Some, None, Result, Ok, Err, length, replicate, reverse}
+use Rattle.std.specs.Prelude.{◌≡◌, ℕ, true, false, List, ◌++◌, Option, Some, None, Result, Ok, Err, replicate, reverse}
 use Rattle.nand_geometry.specs.declared.Parts.{Parts}
 use Rattle.onfi_cycle.specs.declared.Lun.{Lun}
 use Rattle.onfi_cycle.specs.Permitted.{is_legal}
@@ -65,10 +65,11 @@ the_job base x = job_of the_lun base (for_one_lun x) (replicate x.buffer 0)
 abbrev pub IsJobOf : ℕ → List ℕ → Job → Type 0
 IsJobOf base bytes j = (x : Microprogram) × IsFileOf bytes x × (j ≡ the_job base x)
 
--- the bytes are the file of a microprogram, which runs on a channel to which nothing has happened, whose pages are all FF, until
--- it ends, its LUN becoming ready without failure after each poll that says busy; and what is written are the lines of that trace
--- and of the code
+-- the bytes are the file of a microprogram, not refused at this base, which runs on a channel to which nothing has happened, whose
+-- pages are all FF, until it ends, its LUN becoming ready without failure after each poll that says busy; and what is written are
+-- the lines of that trace and of the code
 pub record IsRun (base : ℕ) (bytes written : List ℕ) : Type 0 where
+  pub accepted : refused base bytes ≡ None
   pub x : Microprogram
   pub is_file : IsFileOf bytes x
   pub start : World

@@ -85,6 +85,7 @@ fn verified<A: Allocator>(alloc: A, bytes: &[u8]) -> Result<Verified<A>, NotRun>
 fn made_job<A: Allocator + Clone>(alloc: A, bytes: &[u8], base: u32) -> Result<Job<A>, NotRun>
     ensures job { IfOk result (λ j. IsJobOf base bytes.now j) }
     ensures alone { IfOk result (λ j. IsForTheLun j) }
+    ensures accepted { IfOk result (λ j. refused base bytes.now ≡ None) }
     ensures refused { IfErr result (λ e. Tells e (refused base bytes.now)) }
 {
     let verified = verified(alloc.clone()?, bytes)?;

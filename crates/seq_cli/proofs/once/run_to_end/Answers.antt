@@ -1,6 +1,6 @@
 use Rattle.std.proofs.Common.{subst}
 use Rattle.seq_cli.specs.Runs.{TookTurn}
-use Rattle.seq_cli.proofs.Turns.{runs_first, runs_on, has_ended, never_out}
+use Rattle.seq_cli.proofs.Turns.{runs_on, has_ended, never_out}
 use Rattle.seq_cli.proofs.once.run_to_end.Goals as goal
 
 pub returns-then-branch : goal.returns-then-branch
