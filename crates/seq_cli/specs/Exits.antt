@@ -1,7 +1,7 @@
 -- How a run of the program ends: its status, and what it says on standard error.
-use Rattle.std.specs.Prelude.{ℕ, List, Option, Some, None, codes}
+use Rattle.std.specs.Prelude.{ℕ, Bool, false, List, Option, Some, None, Result, Ok, Err, codes}
 use Rattle.std.specs.declared.io.ErrorKind.{ErrorKind}
-use Rattle.std.specs.declared.io.ErrorKind.TheVariants.{OutOfMemory as OutOfMemoryKind}
+use Rattle.std.specs.declared.io.ErrorKind.TheVariants.{Interrupted, OutOfMemory as OutOfMemoryKind}
 use Rattle.seq_cli.specs.declared.fault.StreamFault.{StreamFault}
 use Rattle.seq_cli.specs.declared.fault.StreamFault.TheVariants.{Fault, OutOfMemory}
 use Rattle.seq_cli.specs.declared.exit.Exit.{Exit}
@@ -11,6 +11,12 @@ use Rattle.seq_cli.specs.declared.exit.Exit.TheVariants.{Done, Refused, FileFaul
 abbrev pub fault_of : ErrorKind → StreamFault
 fault_of OutOfMemoryKind = OutOfMemory
 fault_of _ = Fault
+
+-- what a failed read leads to: one that a signal interrupts brings no end and is tried again
+abbrev pub after_failure : ErrorKind → Result Bool StreamFault
+after_failure Interrupted = Ok false
+after_failure OutOfMemoryKind = Err OutOfMemory
+after_failure _ = Err Fault
 
 -- the end that a fault of a stream leads to
 abbrev pub exit_of : StreamFault → Exit

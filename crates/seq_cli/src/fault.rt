@@ -28,7 +28,9 @@ impl StreamFault {
 }
 
 impl From<AllocError> for StreamFault {
-    fn from(_error: AllocError) -> StreamFault {
+    fn from(_error: AllocError) -> StreamFault
+        ensures { result ≡ StreamFault.OutOfMemory }
+    {
         StreamFault::OutOfMemory
     }
 }

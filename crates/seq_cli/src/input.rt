@@ -1,6 +1,8 @@
 //! Reading an input to its end.
-ghost use Rattle.std.specs.Prelude.{◌≡◌, ◌≢◌, ◌++◌, List, ℕ, Ok, true, IfOk, OnOk, IfSome};
+ghost use Rattle.std.specs.Prelude.{◌≡◌, ◌++◌, List, ℕ, Ok, true, IfOk, OnOk, IfSome};
 ghost use Rattle.std.specs.Io.KnownBytes.{Consumes, IsAtEnd};
+ghost use Rattle.std.specs.IoError.{error_kind};
+ghost use Rattle.seq_cli.specs.Exits.{after_failure};
 
 use crate::fault::StreamFault;
 use std::alloc::Allocator;
@@ -14,7 +16,7 @@ const PIECE: usize = 512;
 
 // What a failed read comes to: none has bytes, and one that a signal interrupts is tried again.
 fn after_failure(error: &Error) -> Result<bool, StreamFault>
-    ensures { result ≢ Ok true }
+    ensures { result ≡ after_failure (error_kind error.now) }
 {
     match error.kind() {
         ErrorKind::Interrupted => Ok(false),

@@ -4,6 +4,9 @@
 //! couldn't be read; 4 out of memory. Standard error says what went wrong.
 #![tactic(auto)]
 
+ghost use Rattle.std.specs.Prelude.{◌≡◌};
+ghost use Rattle.seq_cli.specs.Exits.{status};
+
 mod command_line;
 mod exit;
 mod fault;
@@ -27,7 +30,9 @@ use std::process::ExitCode;
 const USAGE: u8 = 3;
 
 // Says how a run ended, and gives its status. Where standard error takes nothing, the status alone says it.
-fn end<R: Eprint>(rt: &R, exit: Exit) -> u8 {
+fn end<R: Eprint>(rt: &R, exit: Exit) -> u8
+    ensures { result ≡ status exit }
+{
     if let Some(message) = exit.message() {
         let _ = eprintln!(rt; "{message}");
     }

@@ -1,12 +1,16 @@
 //! Writing to an output.
-ghost use Rattle.std.specs.Prelude.{OnOk};
+ghost use Rattle.std.specs.Prelude.{◌≡◌, OnOk};
 ghost use Rattle.std.specs.Io.KnownBytes.{Appends};
+ghost use Rattle.std.specs.IoError.{error_kind};
+ghost use Rattle.seq_cli.specs.Exits.{fault_of};
 
 use crate::fault::StreamFault;
 use std::io::{Error, Write};
 
 impl From<Error> for StreamFault {
-    fn from(error: Error) -> StreamFault {
+    fn from(error: Error) -> StreamFault
+        ensures { result ≡ fault_of (error_kind error) }
+    {
         StreamFault::of(&error)
     }
 }
