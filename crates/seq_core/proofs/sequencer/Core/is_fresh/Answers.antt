@@ -1,4 +1,4 @@
-use Rattle.std.proofs.Common.{◌≡◌, ◌∙◌, ◌↔◌, List, [], Option, None, ap, sym, subst, true, true≢false}
+use Rattle.std.proofs.Common.{◌≡◌, ◌∙◌, ◌↔◌, [], None, ap, sym, subst, true, true≢false}
 use Rattle.seq_core.specs.World.{fresh}
 use Rattle.seq_core.specs.Shows.{CoreView, IsAt, channel_in}
 use Rattle.seq_core.specs.Calls.{all_are_empty}
@@ -13,6 +13,7 @@ returns-then-is_none g c =
   where
     past : c.self.inside.bus.past ≡ []
     past = elim c.if-is_fresh.branch [ then-is_fresh w ↦ c.is_fresh.ensures.0 w.if-is_fresh.true | else-is_fresh w ↦ absurd (true≢false (sym c.if-is_none.true ∙ (w.value-is ∙ w.if-is_fresh.false))) ]
+
     holder : c.self.inside.holder ≡ None
     holder = elim c.if-is_fresh.branch [ then-is_fresh w ↦ none_holds c.self.inside.holder w.is_none.result w.is_none.ensures (sym w.value-is ∙ c.if-is_none.true) | else-is_fresh w ↦ absurd (true≢false (sym c.if-is_none.true ∙ (w.value-is ∙ w.if-is_fresh.false))) ]
 
