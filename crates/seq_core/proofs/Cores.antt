@@ -1,5 +1,5 @@
 -- What the calls of a sequencer do, told of its bus, its slots and its holder.
-use Rattle.std.proofs.Common.{◌≡◌, ℕ, zero, suc, ◌+◌, ◌*◌, ◌^◌, ◌<◌, ◌≤◌, Bool, true, false, cond, List, [], ◌∷◌, ◌++◌, Option, Some, None, is_some, refl, sym, ap, ◌∙◌, subst, arith, length, get_or, set, replicate, IfSome, IsTrue}
+use Rattle.std.proofs.Common.{◌≡◌, ℕ, zero, suc, ◌+◌, ◌*◌, ◌^◌, ◌<◌, ◌≤◌, ◌↔◌, Bool, true, false, not, cond, List, [], ◌∷◌, ◌++◌, Option, Some, None, is_some, refl, sym, ap, ◌∙◌, subst, arith, length, get_or, set, replicate, IfSome, IsTrue}
 use Rattle.std.proofs.lemmas.Nat.{mul-le}
 use Rattle.nand_geometry.specs.declared.Parts.{Parts}
 use Rattle.onfi_cycle.specs.declared.Lun.{Lun}
@@ -21,7 +21,7 @@ use Rattle.seq_core.specs.Reply.{ToLoad, ToStep, ToReady, ToArrayReady, ToUnload
 use Rattle.seq_core.specs.After.{is_held}
 use Rattle.seq_core.specs.Progress.{Progress, fresh_progress}
 use Rattle.seq_core.specs.Shows.{CoreView, channel_in, KeepsAll, IsAt}
-use Rattle.seq_core.specs.Calls.{IsCore, IsEvent, CanStep, Steps, slot_at, slot_code, load_fault_at, holder_after, fault_by, stepped_view, with_item}
+use Rattle.seq_core.specs.Calls.{IsCore, IsEvent, CanStep, Steps, slot_at, slot_code, all_are_empty, load_fault_at, holder_after, fault_by, stepped_view, with_item}
 use Rattle.seq_core.specs.Playing.{IsSame}
 use Rattle.seq_core.proofs.Main.{fresh_is_lawful}
 use Rattle.seq_core.proofs.Slots.{number_below}
@@ -285,3 +285,44 @@ fault_is c l j code place has_job there at g h fault code_is place_is has there_
     sym (is ∙ (ap (λ (x : Bool). fault_by x there l at g h) a ∙ (ap (λ (x : Bool). fault_by (is_some (slot_at c l)) x l at g h) b ∙
     (ap (λ (x : Lun). fault_by (is_some (slot_at c l)) (is_there (channel_in c) l) l x g h) lun ∙ (ap (λ (x : Parts). fault_by (is_some (slot_at c l)) (is_there (channel_in c) l) l j.lun x h) here ∙
     ap (λ (x : Parts). fault_by (is_some (slot_at c l)) (is_there (channel_in c) l) l j.lun c.geometry x) of)))))
+
+-- 8. whether nothing has happened
+
+keeps_empty : (n : ℕ) (slots : List (Option Progress)) → length slots ≡ n → all_are_empty slots ≡ true → KeepsAll (replicate n None) slots
+keeps_empty zero [] size h = tt
+keeps_empty zero (slot ∷ slots) size h = cc
+keeps_empty (suc n) [] size h = cc
+keeps_empty (suc n) (None ∷ slots) size h = let rest : length slots ≡ n = omega (arith, size) in (tt, keeps_empty n slots rest h)
+keeps_empty (suc n) (Some v ∷ slots) size h = cc
+
+empty_if_kept : (n : ℕ) (slots : List (Option Progress)) → KeepsAll (replicate n None) slots → all_are_empty slots ≡ true
+empty_if_kept zero [] h = refl
+empty_if_kept zero (slot ∷ slots) h = absurd h
+empty_if_kept (suc n) [] h = absurd h
+empty_if_kept (suc n) (None ∷ slots) h = empty_if_kept n slots h.1
+empty_if_kept (suc n) (Some v ∷ slots) h = absurd h.0
+
+-- where nothing has happened and no LUN has the bus, all is fresh if no slot has a job
+pub fresh_if_empty : (c : CoreView) (told : Bool) → IsCore c → c.past ≡ [] → c.holder ≡ None → told ≡ all_are_empty c.slots → (told ≡ true) ↔ IsAt c (fresh (channel_in c))
+fresh_if_empty c told core past holder h =
+    let n : ℕ = c.targets * c.geometry.luns in
+    let size : length c.slots ≡ n = sym (keeps_count core.world.slots c.slots core.is_at.slots) ∙ core.lawful.size in
+    (λ yes. record { past = past; holder = holder; slots = keeps_empty n c.slots size (sym h ∙ yes) }, λ at. h ∙ empty_if_kept n c.slots at.slots)
+
+-- where something has happened, or a LUN has the bus, nothing is fresh
+pub fresh_if_told : (c : CoreView) (told : Bool) → told ≡ false → (c.past ≡ [] → c.holder ≡ None → told ≡ true) → (told ≡ true) ↔ IsAt c (fresh (channel_in c))
+fresh_if_told c told is_not is = (λ t. clash (sym is_not ∙ t), λ at. is at.past at.holder)
+  where
+    clash : false ≡ true → IsAt c (fresh (channel_in c))
+    clash e = cc
+
+-- no LUN has the bus, if that is told
+pub none_holds : (holder : Option Lun) (told : Bool) → is_some holder ≡ not told → told ≡ true → holder ≡ None
+none_holds None told h is = refl
+none_holds (Some l) true h is = cc
+none_holds (Some l) false h is = cc
+
+pub told_none_holds : (holder : Option Lun) (told : Bool) → is_some holder ≡ not told → holder ≡ None → told ≡ true
+told_none_holds None true h is = refl
+told_none_holds None false h is = cc
+told_none_holds (Some l) told h is = cc

@@ -1,5 +1,5 @@
 -- Lists of events: the run of those done, one event more at its end.
-use Rattle.std.proofs.Common.{◌≡◌, ℕ, ◌-◌, Bool, true, take, List, [], ◌∷◌, ◌++◌, Option, Some, None, Result, Ok, Err, IfOk, IfErr, map, reverse, refl, sym, ap, ◌∙◌, subst}
+use Rattle.std.proofs.Common.{◌≡◌, ℕ, ◌-◌, true, take, List, [], ◌∷◌, ◌++◌, Option, Some, None, Result, Ok, Err, IfOk, IfErr, map, reverse, refl, sym, ap, ◌∙◌, subst}
 use Rattle.std.proofs.lemmas.List.{map-append, append-nil, append_assoc, reverse-append, reverse-reverse}
 use Rattle.onfi_cycle.specs.declared.Lun.{Lun}
 use Rattle.onfi_cycle.specs.Channel.{Channel}
@@ -18,7 +18,7 @@ use Rattle.seq_core.specs.Lawful.{LawfulWorld}
 use Rattle.seq_core.specs.Shows.{CoreView, IsAt, channel_in}
 use Rattle.seq_core.specs.Headline.{AddsItsOwn, EventsAreOwn, GoesWell}
 use Rattle.seq_core.specs.Calls.{IsEvent}
-use Rattle.seq_core.specs.EventList.{RanFrom, IsRun, DidEvents, event_of, reply_of, loading_of, unloading_of, is_step, stops_at_step, stops_after}
+use Rattle.seq_core.specs.EventList.{IsRun, DidEvents, event_of, reply_of, loading_of, unloading_of, is_step, stops_at_step, stops_after}
 use Rattle.seq_core.proofs.Main.{fresh_is_lawful, lawful_slot}
 
 same_ran : (r q : Ran) → Some r ≡ Some q → r ≡ q

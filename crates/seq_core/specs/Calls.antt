@@ -1,5 +1,5 @@
 -- What a call of a sequencer is: an event of the world that it keeps.
-use Rattle.std.specs.Prelude.{◌≡◌, ℕ, Bool, true, ◌&&◌, not, if◌then◌else◌, List, ◌∷◌, Option, Some, None, is_some, length, slice_get, get_or, set}
+use Rattle.std.specs.Prelude.{◌≡◌, ℕ, Bool, true, false, ◌&&◌, not, if◌then◌else◌, List, [], ◌∷◌, Option, Some, None, is_some, length, slice_get, get_or, set}
 use Rattle.nand_geometry.specs.declared.Parts.{Parts}
 use Rattle.onfi_cycle.specs.declared.Lun.{Lun}
 use Rattle.onfi_cycle.specs.declared.Item.{Item}
@@ -117,3 +117,9 @@ with_item c i came = record { geometry = c.geometry; targets = c.targets; past =
 abbrev pub slot_code : Option Progress → Option (Option ℕ)
 slot_code None = None
 slot_code (Some v) = Some v.code
+
+-- no slot has a job
+abbrev pub all_are_empty : List (Option Progress) → Bool
+all_are_empty [] = true
+all_are_empty (None ∷ slots) = all_are_empty slots
+all_are_empty (Some v ∷ slots) = false

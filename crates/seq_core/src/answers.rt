@@ -1,19 +1,28 @@
 //! What loads, steps and unloads are answered.
 
+use std::fmt;
+use thiserror::Error;
+
 /// Why a job isn't made, or isn't loaded.
-#[derive(Clone, Copy, Debug, PartialEq, Eq)]
+#[derive(Clone, Copy, Debug, PartialEq, Eq, Error)]
 pub enum LoadFault {
     /// The slot has a job.
+    #[error("the LUN has a job already")]
     S1,
     /// The LUN isn't there, or isn't the one of the job.
+    #[error("the LUN isn't there, or isn't the job's")]
     S2,
     /// A row of the job is outside the geometry.
+    #[error("a row of the job is outside the geometry")]
     S3,
     /// The buffer hasn't the length that the text names.
+    #[error("the buffer hasn't the length that the text names")]
     S4,
     /// The text was verified for another geometry.
+    #[error("the text was verified for another geometry")]
     S5,
     /// The text continues a cache read, and the job doesn't begin with a block.
+    #[error("the text continues a cache read, and the job doesn't begin with a block")]
     S6,
 }
 
@@ -34,11 +43,26 @@ pub enum Stepped {
     Went,
 }
 
+impl fmt::Display for Stepped {
+    fn fmt<W: fmt::Write>(&self, f: &mut fmt::Formatter<W>) -> fmt::Result {
+        f.write_str(match self {
+            Stepped::Empty => "empty",
+            Stepped::Ended => "ended",
+            Stepped::Held => "held",
+            Stepped::HandedOver => "handed over",
+            Stepped::NotReady => "not ready",
+            Stepped::Went => "went",
+        })
+    }
+}
+
 /// Why nothing is unloaded.
-#[derive(Clone, Copy, Debug, PartialEq, Eq)]
+#[derive(Clone, Copy, Debug, PartialEq, Eq, Error)]
 pub enum UnloadFault {
     /// The slot has no job.
+    #[error("the LUN has no job")]
     U1,
     /// The job hasn't ended.
+    #[error("the job hasn't ended")]
     U2,
 }

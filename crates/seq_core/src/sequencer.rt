@@ -1,5 +1,5 @@
 //! The sequencer: it runs a program on each LUN, and hands the bus from one to another.
-ghost use Rattle.std.specs.Prelude.{◌≡◌, ℕ, ◌*◌, ◌<◌, ◌≤◌, ◌∷◌, List, [], Some, None, if◌then◌else◌, IfOk, OnErr, IfErr, IfSome, length, replicate, reverse, get_or, set, true, false};
+ghost use Rattle.std.specs.Prelude.{◌≡◌, ◌↔◌, ℕ, ◌*◌, ◌<◌, ◌≤◌, ◌∷◌, List, [], Some, None, if◌then◌else◌, IfOk, OnErr, IfErr, IfSome, length, replicate, reverse, get_or, set, true, false};
 ghost use Rattle.onfi_cycle.specs.Permitted.{is_legal};
 ghost use Rattle.onfi_cycle.specs.Channel.{Channel, is_there};
 ghost use Rattle.target_bus.specs.Bus.{Traced, channel_of};
@@ -10,7 +10,7 @@ ghost use Rattle.seq_core.specs.After.{is_held};
 ghost use Rattle.seq_core.specs.Lawful.{LawfulWorld};
 ghost use Rattle.seq_core.specs.Progress.{Progress};
 ghost use Rattle.seq_core.specs.Shows.{CoreView, IsAt, channel_in};
-ghost use Rattle.seq_core.specs.Calls.{IsCore, IsEvent, CanStep, Steps, slot_at, slot_code, holder_after, fault_by, load_fault_at};
+ghost use Rattle.seq_core.specs.Calls.{IsCore, IsEvent, CanStep, Steps, slot_at, slot_code, all_are_empty, holder_after, fault_by, load_fault_at};
 ghost use Rattle.seq_core.specs.Playing.{IsSame};
 
 use crate::answers::{LoadFault, Stepped, UnloadFault};
@@ -132,6 +132,16 @@ fn load_fault(
     }
 }
 
+// No slot has a job.
+fn all_are_empty<A: Allocator>(slots: &[Option<Slot<A>>]) -> bool
+    ensures { result ≡ all_are_empty slots.now }
+{
+    match slots {
+        [] => true,
+        [first, rest @ ..] => first.is_none() && all_are_empty(rest),
+    }
+}
+
 // Puts another slot at a number.
 fn put_in<A: Allocator>(slots: &mut [Option<Slot<A>>], k: usize, slot: Option<Slot<A>>)
     requires { k < length slots.old }
@@ -184,6 +194,13 @@ impl<A: Allocator> Core<A> {
             slots,
             holder: None,
         }
+    }
+
+    /// Nothing has happened on the channel, no LUN has a job, and none has the bus.
+    pub fn is_fresh(&self) -> bool
+        ensures { result ≡ true ↔ IsAt self.now (fresh (channel_in self.now)) }
+    {
+        self.bus.is_fresh() && self.holder.is_none() && all_are_empty(self.slots.as_slice())
     }
 
     // The number of a LUN, if it is there.

@@ -1,10 +1,12 @@
-use crate::{Core, Job, LoadFault, Stepped, UnloadFault};
+use crate::{Core, Done, Event, Job, LoadFault, Ran, Reply, Stepped, UnloadFault, run_events};
 use die_model::LunDie;
 use linked_list_allocator::LocalHeap;
 use micro_verify::{Verified, verify};
 use micro_word::{Text, Word};
 use nand_geometry::{Geometry, Parts};
-use onfi_cycle::{BusState, Cycle, Item, Kind, Lun};
+use onfi_cycle::effects::output_column;
+use onfi_cycle::{BusState, Cycle, Item, Kind, Latch, Lun, LunState, Register, WorkQueue};
+use onfi_lookback::past::{is_caching, lun_facts};
 use std::alloc::{AllocError, Allocator, Global};
 use std::process::Abort;
 use std::test::Fail;
@@ -111,13 +113,17 @@ fn load_refused<A: Allocator>(core: &mut Core<A>, l: Lun, job: Job<A>) -> Option
     }
 }
 
+// It is the erase on this LUN with no buffer.
+fn is_erase<A: Allocator>(done: &Done<A>, l: Lun) -> bool {
+    done.job.text().words() == ERASE.as_slice()
+        && done.job.lun() == l
+        && done.job.buffer().is_empty()
+}
+
 // The code of what is unloaded, if it is the erase on its LUN with no buffer.
 fn unloaded<A: Allocator>(core: &mut Core<A>, l: Lun) -> Result<u8, UnloadFault> {
     let done = core.unload(l)?;
-    if done.job.text().words() == ERASE.as_slice()
-        && done.job.lun() == l
-        && done.job.buffer().is_empty()
-    {
+    if is_erase(&done, l) {
         Ok(done.code)
     } else {
         Ok(255)
@@ -130,6 +136,14 @@ fn readied<A: Allocator>(core: &mut Core<A>, l: Lun, fail: bool) -> bool {
 
 fn step<A: Allocator>(core: &mut Core<A>, l: Lun) -> Result<Stepped, Fail> {
     Ok(core.step(l)?)
+}
+
+fn array_readied<A: Allocator>(core: &mut Core<A>, l: Lun) -> bool {
+    core.array_ready(l)
+}
+
+fn is_fresh<A: Allocator>(core: &Core<A>) -> bool {
+    core.is_fresh()
 }
 
 fn trace_of<A: Allocator>(core: &Core<A>) -> &[Item] {
@@ -177,6 +191,22 @@ fn ready(lun: u8, fail: bool) -> Item {
     Item::Rdy { ce: 0, lun, fail }
 }
 
+// What an erase of block 1 of the one LUN of target 0 puts onto the bus.
+fn erase_of_block_1() -> [Item; 10] {
+    [
+        command(0x60),
+        address(0x04),
+        address(0x00),
+        address(0x00),
+        command(0xd0),
+        command(0x70),
+        output(0x80),
+        ready(0, false),
+        command(0x70),
+        output(0xe0),
+    ]
+}
+
 // Whether each item is permitted after those before it.
 fn is_legal(parts: Parts, targets: u8, items: &[Item]) -> Result<bool, Fail> {
     if targets > 4 {
@@ -220,19 +250,7 @@ fn one_block_is_erased(rt: HostRuntime) -> Result<(), Fail> {
     assert!(rt; !has_bus(&core, ZERO));
     assert!(rt; readied(&mut core, ZERO, false));
     end(&rt, &mut core, ZERO)?;
-    let expected = [
-        command(0x60),
-        address(0x04),
-        address(0x00),
-        address(0x00),
-        command(0xd0),
-        command(0x70),
-        output(0x80),
-        ready(0, false),
-        command(0x70),
-        output(0xe0),
-    ];
-    assert_eq!(rt; trace_of(&core), expected.as_slice());
+    assert_eq!(rt; trace_of(&core), erase_of_block_1().as_slice());
     assert_eq!(rt; unloaded(&mut core, ZERO), Ok(0));
     assert_eq!(rt; step(&mut core, ZERO)?, Stepped::Empty);
     Ok(())
@@ -537,5 +555,291 @@ fn refused_memory(rt: HostRuntime) -> Result<(), Fail> {
         }
     }
     assert!(rt; at_first && halfway && sufficed);
+    Ok(())
+}
+
+#[test]
+fn is_fresh_until_something_happens(rt: HostRuntime) -> Result<(), Fail> {
+    let mut core = core_of(rt.alloc(), TWO_LUNS, 2)?;
+    assert!(rt; is_fresh(&core));
+    assert_eq!(rt; step(&mut core, ONE)?, Stepped::Empty);
+    assert!(rt; is_fresh(&core));
+    load(&mut core, job_of(rt.alloc(), TWO_LUNS, ONE, 0)?)?;
+    assert!(rt; !is_fresh(&core) && trace_of(&core).is_empty());
+    begin(&rt, &mut core, ONE)?;
+    assert!(rt; !is_fresh(&core) && readied(&mut core, ONE, false));
+    end(&rt, &mut core, ONE)?;
+    assert_eq!(rt; unloaded(&mut core, ONE), Ok(0));
+    assert!(rt; !is_fresh(&core) && trace_of(&core).len() == 16);
+    Ok(())
+}
+
+// What would be answered to the load of an erase for `parts` on the LUN `at`, if it is loaded onto `l`.
+fn admitted<A: Allocator + Copy>(
+    alloc: A,
+    core: &Core<A>,
+    l: Lun,
+    parts: Parts,
+    at: Lun,
+) -> Result<Result<(), LoadFault>, Fail> {
+    let job = job_of(alloc, parts, at, 0)?;
+    Ok(core.admits(l, &job))
+}
+
+#[test]
+fn what_a_load_would_be_answered(rt: HostRuntime) -> Result<(), Fail> {
+    let mut core = core_of(rt.alloc(), ONE_LUN, 1)?;
+    let cases = [
+        (ZERO, ONE_LUN, NEXT, LoadFault::S2),
+        (NEXT, ONE_LUN, NEXT, LoadFault::S2),
+        (ZERO, TWO_LUNS, ONE, LoadFault::S2),
+        (ZERO, TWO_LUNS, ZERO, LoadFault::S5),
+    ];
+    for (l, parts, at, fault) in cases {
+        assert_eq!(rt; admitted(rt.alloc(), &core, l, parts, at)?, Err(fault));
+        let job = job_of(rt.alloc(), parts, at, 0)?;
+        assert_eq!(rt; load_refused(&mut core, l, job), Some((fault, at)));
+    }
+    assert_eq!(rt; admitted(rt.alloc(), &core, ZERO, ONE_LUN, ZERO)?, Ok(()));
+    assert!(rt; is_fresh(&core));
+    load(&mut core, job_of(rt.alloc(), ONE_LUN, ZERO, 4)?)?;
+    for (parts, at) in [(ONE_LUN, ZERO), (ONE_LUN, NEXT), (TWO_LUNS, ZERO)] {
+        assert_eq!(rt;
+            admitted(rt.alloc(), &core, ZERO, parts, at)?,
+            Err(LoadFault::S1)
+        );
+        let job = job_of(rt.alloc(), parts, at, 0)?;
+        assert_eq!(rt;
+            load_refused(&mut core, ZERO, job),
+            Some((LoadFault::S1, at))
+        );
+    }
+    // the job that is loaded goes on
+    begin(&rt, &mut core, ZERO)?;
+    assert_eq!(rt; trace_of(&core).get(1), Some(&address(0x04)));
+    Ok(())
+}
+
+// No array becomes ready, and the trace stays as it was.
+fn no_array_works<A: Allocator>(
+    rt: &impl Abort,
+    core: &mut Core<A>,
+    items: usize,
+) -> Result<(), Fail> {
+    for lun in [ZERO, ONE, NEXT] {
+        assert!(rt; !array_readied(core, lun));
+    }
+    assert_eq!(rt; trace_of(core).len(), items);
+    Ok(())
+}
+
+#[test]
+fn no_array_becomes_ready(rt: HostRuntime) -> Result<(), Fail> {
+    let mut core = core_of(rt.alloc(), ONE_LUN, 1)?;
+    no_array_works(&rt, &mut core, 0)?;
+    load(&mut core, job_of(rt.alloc(), ONE_LUN, ZERO, 4)?)?;
+    no_array_works(&rt, &mut core, 0)?;
+    begin(&rt, &mut core, ZERO)?;
+    no_array_works(&rt, &mut core, 7)?;
+    assert!(rt; readied(&mut core, ZERO, false));
+    no_array_works(&rt, &mut core, 8)?;
+    end(&rt, &mut core, ZERO)?;
+    no_array_works(&rt, &mut core, 10)?;
+    assert_eq!(rt; trace_of(&core), erase_of_block_1().as_slice());
+    Ok(())
+}
+
+#[test]
+fn the_bus_is_handed_back(rt: HostRuntime) -> Result<(), Fail> {
+    let mut core = core_of(rt.alloc(), ONE_LUN, 1)?;
+    load(&mut core, job_of(rt.alloc(), ONE_LUN, ZERO, 4)?)?;
+    begin(&rt, &mut core, ZERO)?;
+    assert!(rt; readied(&mut core, ZERO, false));
+    end(&rt, &mut core, ZERO)?;
+    let bus = core.into_bus();
+    assert_eq!(rt; bus.trace(), erase_of_block_1().as_slice());
+    // idle, and it shows its status, since 70 came last
+    let idle = LunState {
+        busy: false,
+        latch: Latch::Status,
+        register: Register::Empty,
+        column: None,
+        queued: 0,
+        caching: false,
+        array_busy: false,
+    };
+    assert_eq!(rt; bus.lun_state(ZERO), Some(idle));
+    assert_eq!(rt; bus.lun_state(ONE), None);
+    Ok(())
+}
+
+// Two LUNs are loaded with an erase of block 1 each, stepped in turn with both ready behind their first polls, and unloaded.
+fn events_in_turn(alloc: Global, parts: Parts, a: Lun, b: Lun) -> Result<Vec<Event>, Fail> {
+    let mut events = Vec::new(alloc);
+    events.push(Event::Load(a, job_of(alloc, parts, a, 4)?))?;
+    events.push(Event::Load(b, job_of(alloc, parts, b, 4)?))?;
+    for _ in 0..7 {
+        events.push(Event::Step(a))?;
+        events.push(Event::Step(b))?;
+    }
+    events.push(Event::Ready(a, false))?;
+    events.push(Event::Ready(b, false))?;
+    for _ in 0..3 {
+        events.push(Event::Step(a))?;
+        events.push(Event::Step(b))?;
+    }
+    events.push(Event::Unload(a))?;
+    events.push(Event::Unload(b))?;
+    Ok(events)
+}
+
+// An erase of block 1 of the one LUN, from its load to its unload.
+fn events_of_one(alloc: Global) -> Result<Vec<Event>, Fail> {
+    let mut events = Vec::new(alloc);
+    events.push(Event::Load(ZERO, job_of(alloc, ONE_LUN, ZERO, 4)?))?;
+    for _ in 0..4 {
+        events.push(Event::Step(ZERO))?;
+    }
+    events.push(Event::Ready(ZERO, false))?;
+    events.push(Event::Step(ZERO))?;
+    events.push(Event::Step(ZERO))?;
+    events.push(Event::Unload(ZERO))?;
+    Ok(events)
+}
+
+fn ran(core: &mut Core, alloc: Global, events: Vec<Event>) -> Ran<Global> {
+    run_events(core, alloc, events)
+}
+
+// The replies to the middle of an erase: its steps, and the ready behind the first poll.
+fn are_of_steps(replies: &[Reply]) -> bool {
+    matches!(
+        replies,
+        [
+            Reply::Step(Stepped::Went),
+            Reply::Step(Stepped::Went),
+            Reply::Step(Stepped::Went),
+            Reply::Step(Stepped::NotReady),
+            Reply::Ready(true),
+            Reply::Step(Stepped::Went),
+            Reply::Step(Stepped::Ended),
+        ]
+    )
+}
+
+// The replies to an erase on LUN 0 that ends with code 0.
+fn are_of_one(replies: &[Reply]) -> bool {
+    match replies {
+        [Reply::Load(Ok(())), steps @ .., Reply::Unload(Ok(done))] => {
+            are_of_steps(steps) && is_erase(done, ZERO) && done.code == 0
+        }
+        _ => false,
+    }
+}
+
+#[test]
+fn a_list_of_events_is_done(rt: HostRuntime) -> Result<(), Fail> {
+    let mut core = core_of(rt.alloc(), ONE_LUN, 1)?;
+    let told = ran(&mut core, rt.alloc(), events_of_one(rt.alloc())?);
+    assert!(rt; told.rest.is_empty());
+    assert!(rt; are_of_one(told.replies.as_slice()));
+    assert_eq!(rt; trace_of(&core), erase_of_block_1().as_slice());
+    assert_eq!(rt; step(&mut core, ZERO)?, Stepped::Empty);
+    Ok(())
+}
+
+// The running state of a LUN is what the look back at the trace tells of it.
+fn lun_agrees(
+    rt: &impl Abort,
+    alloc: Global,
+    bus: &Bus,
+    past: &[Item],
+    l: Lun,
+) -> Result<(), Fail> {
+    let Some(told) = bus.lun_state(l) else {
+        return Err(Fail::from("a LUN is missing"));
+    };
+    let geometry = bus.geometry();
+    let facts = lun_facts(alloc, &geometry, past, l)?;
+    assert_eq!(rt; told.busy, facts.busy);
+    assert_eq!(rt; told.latch, facts.latch);
+    assert_eq!(rt; told.register, facts.register);
+    assert_eq!(rt; told.column.map(u64::from), output_column(facts.column));
+    assert_eq!(rt; told.queued, facts.queue.works().len());
+    assert_eq!(rt; told.caching, is_caching(alloc, &geometry, past, l)?);
+    assert_eq!(rt; told.array_busy, facts.array_busy);
+    Ok(())
+}
+
+// Does the first so many events of two LUNs, and looks at both. How many items they leave.
+fn agrees_behind(
+    rt: &impl Abort,
+    alloc: Global,
+    parts: Parts,
+    other: Lun,
+    count: usize,
+) -> Result<usize, Fail> {
+    let mut core = core_of(alloc, parts, 2)?;
+    let mut events = events_in_turn(alloc, parts, ZERO, other)?;
+    events.truncate(count);
+    let told = ran(&mut core, alloc, events);
+    assert!(rt; told.rest.is_empty() && told.replies.len() == count);
+    let bus = core.into_bus();
+    let mut past = bus.trace().to_vec(alloc)?;
+    past.reverse();
+    lun_agrees(rt, alloc, &bus, &past, ZERO)?;
+    lun_agrees(rt, alloc, &bus, &past, other)?;
+    Ok(past.len())
+}
+
+#[test]
+fn the_state_agrees_with_a_look_back(rt: HostRuntime) -> Result<(), Fail> {
+    for (parts, other, items) in [(TWO_LUNS, ONE, 32), (ONE_LUN, NEXT, 20)] {
+        let mut last = 0;
+        for count in 0..=26 {
+            last = agrees_behind(&rt, rt.alloc(), parts, other, count)?;
+        }
+        assert_eq!(rt; last, items);
+    }
+    Ok(())
+}
+
+#[test]
+fn answers_are_shown(rt: HostRuntime) -> Result<(), Fail> {
+    let loads = [
+        (LoadFault::S1, "the LUN has a job already"),
+        (LoadFault::S2, "the LUN isn't there, or isn't the job's"),
+        (LoadFault::S3, "a row of the job is outside the geometry"),
+        (
+            LoadFault::S4,
+            "the buffer hasn't the length that the text names",
+        ),
+        (LoadFault::S5, "the text was verified for another geometry"),
+        (
+            LoadFault::S6,
+            "the text continues a cache read, and the job doesn't begin with a block",
+        ),
+    ];
+    for (fault, text) in loads {
+        assert_eq!(rt; fault.to_string(rt.alloc())?.as_str(), text);
+    }
+    let unloads = [
+        (UnloadFault::U1, "the LUN has no job"),
+        (UnloadFault::U2, "the job hasn't ended"),
+    ];
+    for (fault, text) in unloads {
+        assert_eq!(rt; fault.to_string(rt.alloc())?.as_str(), text);
+    }
+    let answers = [
+        (Stepped::Empty, "empty"),
+        (Stepped::Ended, "ended"),
+        (Stepped::Held, "held"),
+        (Stepped::HandedOver, "handed over"),
+        (Stepped::NotReady, "not ready"),
+        (Stepped::Went, "went"),
+    ];
+    for (answer, text) in answers {
+        assert_eq!(rt; answer.to_string(rt.alloc())?.as_str(), text);
+    }
     Ok(())
 }
