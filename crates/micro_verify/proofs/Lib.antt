@@ -9,6 +9,8 @@ pub mod Acts
 pub mod Views
 pub mod Calm
 pub mod Cycles
+pub mod Places
+pub mod Lengths
 pub mod Polls
 pub mod Readies
 pub mod Walking

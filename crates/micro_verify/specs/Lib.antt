@@ -1,4 +1,5 @@
 pub mod Lines
+pub mod Places
 pub mod Program
 pub mod Moves
 pub mod Played

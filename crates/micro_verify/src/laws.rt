@@ -60,3 +60,10 @@ ghost use Rattle.micro_verify.specs.Laws.{UnreadyIsBusy};
 pub fn unready_is_busy()
     ensures { UnreadyIsBusy }
 {}
+
+ghost use Rattle.micro_verify.specs.Places.{LinesAreFew};
+
+/// A text with its loops written out has few lines: each word comes at most 4,096 times in each of two loops.
+pub fn lines_are_few()
+    ensures { LinesAreFew }
+{}

@@ -1,5 +1,5 @@
 -- A job that was loaded alone runs to its end.
-use Rattle.std.proofs.Common.{◌≡◌, ℕ, suc, ◌+◌, ◌*◌, ◌≤◌, cond, ◌&&◌, not, is_some, List, [], ◌∷◌, length, Option, Some, None, refl, sym, ap, ◌∙◌, subst, arith}
+use Rattle.std.proofs.Common.{◌≡◌, ℕ, ◌+◌, ◌*◌, ◌≤◌, cond, ◌&&◌, not, is_some, List, [], ◌∷◌, length, Option, Some, None, refl, sym, ap, ◌∙◌, subst, arith}
 use Rattle.std.proofs.lemmas.List.{length-replicate}
 use Rattle.nand_geometry.specs.declared.Parts.{Parts}
 use Rattle.nand_geometry.specs.Limits.{InLimits, width, page_len}
@@ -8,9 +8,11 @@ use Rattle.nand_geometry.proofs.PageLemmas.{parameters_have_their_length}
 use Rattle.onfi_cycle.specs.declared.Lun.{Lun}
 use Rattle.onfi_cycle.specs.Channel.{Channel, IsChannel, is_there, same_lun}
 use Rattle.micro_word.specs.declared.word.Word.{Word}
-use Rattle.micro_verify.specs.Lines.{Line, lines_from, unrolled}
+use Rattle.micro_word.specs.Text.{Microprogram}
+use Rattle.micro_verify.specs.Lines.{unrolled}
+use Rattle.micro_verify.specs.Places.{IsShaped}
+use Rattle.micro_verify.proofs.Lengths.{lines_are_few}
 use Rattle.micro_verify.specs.Program.{Job}
-use Rattle.micro_verify.proofs.Walking.{lines_are_words}
 use Rattle.seq_core.specs.declared.answers.LoadFault.{LoadFault}
 use Rattle.seq_core.specs.declared.answers.LoadFault.TheVariants.{S1, S2, S5}
 use Rattle.seq_core.specs.declared.answers.UnloadFault.{UnloadFault}
@@ -84,22 +86,19 @@ never_refused c later j fault h same at event =
 
 -- ---- the turns
 
-lines_length : (words : List Word) (at : ℕ) → length (lines_from words at) ≡ length words
-lines_length [] at = refl
-lines_length (word ∷ words) at = ap suc (lines_length words (at + 1))
+pub enough_turns : (j : Job) (x : Microprogram) (words : List Word) → x ≡ j.text → words ≡ x.words → IsShaped j.text.words → 2 * length (unrolled j.text.words) + 1 ≤ 33554432 * length words + 1
+enough_turns j x words same is shaped =
+    let few = lines_are_few j.text.words shaped in
+    let all : length words ≡ length j.text.words = ap (length {A = Word}) (is ∙ ap (λ (y : Microprogram). y.words) same) in
+    omega (arith, few, all)
 
-few_turns : (j : Job) (turns : ℕ) → IsForTheLun j → turns ≡ 2 * length j.text.words + 1 → 2 * length (fresh_slot j).ahead + 1 ≤ turns
-few_turns j turns h e =
-    let same : length (unrolled j.text.words) ≡ length j.text.words = ap (length {A = Line}) (lines_are_words j.text.words h.leads) ∙ lines_length j.text.words 0 in
-    omega (arith, e, same)
-
-ends_alone : (c : CoreView) (j : Job) (turns : ℕ) (h : IsForTheLun j) (l : IsLoaded j c) → turns ≡ 2 * length j.text.words + 1 → HasEndedAlone the_channel the_lun turns l.start
+ends_alone : (c : CoreView) (j : Job) (turns : ℕ) (h : IsForTheLun j) (l : IsLoaded j c) → 2 * length (unrolled j.text.words) + 1 ≤ turns → HasEndedAlone the_channel the_lun turns l.start
 ends_alone c j turns h l e =
     let same : loaded_world j ≡ l.start = ap (λ (a : After). a.world) (some_same (behind_load j) (record { world = l.start; reply = ToLoad Loaded }) (sym (load_is j h) ∙ l.is_start)) in
     subst (HasEndedAlone the_channel the_lun turns) same
-    (alone_programs_end the_channel is_the_channel (loaded_world j) the_lun (fresh_slot j) turns (subst (LawfulWorld the_channel) (sym same) l.lawful) refl refl refl (few_turns j turns h e))
+    (alone_programs_end the_channel is_the_channel (loaded_world j) the_lun (fresh_slot j) turns (subst (LawfulWorld the_channel) (sym same) l.lawful) refl refl refl e)
 
-pub ends_within : (c : CoreView) (j : Job) (turns : ℕ) → IsForTheLun j → IsLoaded j c → turns ≡ 2 * length j.text.words + 1 → EndsWithin c turns
+pub ends_within : (c : CoreView) (j : Job) (turns : ℕ) → IsForTheLun j → IsLoaded j c → 2 * length (unrolled j.text.words) + 1 ≤ turns → EndsWithin c turns
 ends_within c j turns h l e =
     let m = ends_alone c j turns h l e in
     record {
@@ -130,7 +129,7 @@ unload_came c later w reply same at law event =
     let k = event w at (subst (λ (s : Channel). LawfulWorld s w) (sym same) law) in
     (k.next, subst (λ (s : Channel). after s w (Unload the_lun) ≡ Some k.next) same k.is_next, k.replied, k.is_at.past)
 
-pub never_stays : (c now later : CoreView) (j : Job) (turns : ℕ) (fault : UnloadFault) → IsForTheLun j → IsLoaded j c → turns ≡ 2 * length j.text.words + 1 → HasRun c turns now → IsEvent now (Unload the_lun) (ToUnload (NotUnloaded fault)) later → ⊥
+pub never_stays : (c now later : CoreView) (j : Job) (turns : ℕ) (fault : UnloadFault) → IsForTheLun j → IsLoaded j c → 2 * length (unrolled j.text.words) + 1 ≤ turns → HasRun c turns now → IsEvent now (Unload the_lun) (ToUnload (NotUnloaded fault)) later → ⊥
 never_stays c now later j turns fault h l e run event =
     let m = ends_alone c j turns h l e in
     let at = at_end c now j turns l m run in
@@ -143,7 +142,7 @@ never_stays c now later j turns fault h l e run event =
 same_code : (a b : Job) (m n : ℕ) → ToUnload (Unloaded a m) ≡ ToUnload (Unloaded b n) → m ≡ n
 same_code a b m n q = cc
 
-pub ran_alone : (c now later : CoreView) (j given : Job) (turns code : ℕ) → IsForTheLun j → IsLoaded j c → turns ≡ 2 * length j.text.words + 1 → HasRun c turns now → IsEvent now (Unload the_lun) (ToUnload (Unloaded given code)) later → RanAlone j later.past code
+pub ran_alone : (c now later : CoreView) (j given : Job) (turns code : ℕ) → IsForTheLun j → IsLoaded j c → 2 * length (unrolled j.text.words) + 1 ≤ turns → HasRun c turns now → IsEvent now (Unload the_lun) (ToUnload (Unloaded given code)) later → RanAlone j later.past code
 ran_alone c now later j given turns code h l e run event =
     let m = ends_alone c j turns h l e in
     let at = at_end c now j turns l m run in

@@ -1,8 +1,7 @@
 -- What running a program to its end does to a sequencer.
-use Rattle.std.specs.Prelude.{◌≡◌, ℕ, suc, Bool, true, if◌then◌else◌, List, ◌++◌, Some, reverse}
+use Rattle.std.specs.Prelude.{◌≡◌, ℕ, suc, Bool, if◌then◌else◌, List, ◌++◌, Some, reverse}
 use Rattle.onfi_cycle.specs.declared.Item.{Item}
 use Rattle.onfi_cycle.specs.Channel.{Channel}
-use Rattle.micro_verify.specs.Lines.{all_lead_on}
 use Rattle.micro_verify.specs.Program.{Job}
 use Rattle.seq_core.specs.World.{Slot, World, slot_of, fresh}
 use Rattle.seq_core.specs.Event.{Load}
@@ -37,11 +36,10 @@ abbrev pub HasRun : CoreView → ℕ → CoreView → Type 0
 HasRun c turns later =
     (world end : World) → IsAt c world → LawfulWorld (channel_in c) world → alone_on (channel_in c) the_lun turns world ≡ Some end → IsAt later end × LawfulWorld (channel_in c) end × (channel_in later ≡ channel_in c)
 
--- the job is one for the LUN, and its words follow one another
+-- the job is one for the LUN
 pub record IsForTheLun (j : Job) : Type 0 where
   pub lun : j.lun ≡ the_lun
   pub geometry : j.geometry ≡ one_lun
-  pub leads : all_lead_on j.text.words ≡ true
 
 -- the job was loaded, and nothing else has happened
 pub record IsLoaded (j : Job) (c : CoreView) : Type 0 where

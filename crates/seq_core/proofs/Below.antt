@@ -11,8 +11,6 @@ use Rattle.micro_verify.specs.Actions.{WalkGivesActs}
 use Rattle.micro_verify.proofs.Acts.{walk_gives_acts}
 use Rattle.micro_verify.specs.Erase.{EraseIsSafe}
 use Rattle.micro_verify.proofs.Erase.{erase_is_safe}
-use Rattle.micro_verify.specs.Lines.{LinesAreWords}
-use Rattle.micro_verify.proofs.Walking.{lines_are_words}
 use Rattle.micro_verify.specs.Moves.{BufferKeepsLength}
 use Rattle.micro_verify.proofs.Costs.{buffer_len}
 pub use Rattle.micro_verify.proofs.Tracking.{StepParts, step_parts}
@@ -35,9 +33,6 @@ walk_gives = walk_gives_acts
 
 pub erase_safe : EraseIsSafe
 erase_safe = erase_is_safe
-
-pub lines_of : LinesAreWords
-lines_of = lines_are_words
 
 pub keeps_length : BufferKeepsLength
 keeps_length = buffer_len

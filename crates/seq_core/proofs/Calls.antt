@@ -6,7 +6,7 @@ use Rattle.onfi_cycle.specs.declared.Lun.{Lun}
 use Rattle.onfi_cycle.specs.declared.Item.{Item}
 use Rattle.onfi_cycle.specs.Channel.{Channel, IsChannel, is_there}
 use Rattle.micro_word.specs.declared.word.Word.{Word}
-use Rattle.micro_verify.specs.Lines.{Line, leads_on}
+use Rattle.micro_verify.specs.Lines.{Line}
 use Rattle.micro_verify.specs.Program.{Job}
 use Rattle.micro_verify.specs.Moves.{Move, moves, and_then}
 use Rattle.micro_verify.specs.Played.{Played, played}
@@ -23,7 +23,9 @@ use Rattle.seq_core.specs.Shows.{CoreView, channel_in, KeepsSlot, Keeps, KeepsAl
 use Rattle.seq_core.specs.Calls.{Came, IsEvent, slot_at, Steps, holder_after, stepped_view}
 use Rattle.seq_core.proofs.Below.{step_parts}
 use Rattle.seq_core.proofs.Main.{events_go_well}
-use Rattle.seq_core.proofs.Progress.{same_moves, first_word, slot_after, GoesOn, goes_on}
+use Rattle.seq_core.specs.Loops.{StandsAt}
+use Rattle.seq_core.proofs.Standing.{first_word}
+use Rattle.seq_core.proofs.Progress.{same_moves, slot_after, GoesOn, goes_on}
 
 -- 1. slots
 
@@ -125,7 +127,7 @@ some_same x y h = cc
 
 same_step : (s : Channel) (x : Slot) (v : Progress) (past later : List Item) (line : Line) (rest : List Line) (answer : Stepped) (u : Progress) (r : Stride) → KeepsSlot x v → InLimits s.geometry → x.code ≡ None → x.ahead ≡ line ∷ rest → Steps s past v answer later u → next_step s x.job past (line ∷ rest) x.done ≡ Some r → SameStep s x r later u answer
 same_step s x v past later line rest answer u r k limits running is st e =
-    let f = first_word x.job.text.words v.at v.at line rest k.leads (sym is ∙ k.ahead) in
+    let f = first_word x.job.text.words v.at v.loops line rest (subst (λ (ls : List Line). StandsAt x.job.text.words ls v.at v.loops) is k.place) in
     let there : slice_get x.job.text.words v.at ≡ Some st.word = ap (λ (j : Job). slice_get j.text.words v.at) (sym k.job) ∙ st.here in
     let word : f.word ≡ st.word = some_same f.word st.word (sym f.here ∙ there) in
     let here : line ≡ record { at = v.at; word = st.word } = f.is_line ∙ ap (λ (w : Word). let y : Line = record { at = v.at; word = w } in y) word in
@@ -136,9 +138,8 @@ same_step s x v past later line rest answer u r k limits running is st e =
     some_same parts.p (record { past = later; bytes = st.bytes }) (sym parts.is_p ∙ (ap (λ (m : List Move). played s x.job.lun.ce m past) moved ∙ (ap (λ (j : Job). played s j.lun.ce st.moved past) (sym k.job) ∙ st.plays))) in
     let r_is : stride (record { at = v.at; word = st.word }) rest x.done (record { past = later; bytes = st.bytes }) st.word ≡ r =
     sym (ap (λ (y : Line). stride y rest x.done parts.p y.word) here ∙ ap (λ (q : Played). stride (record { at = v.at; word = st.word }) rest x.done q st.word) p) ∙ parts.is_r in
-    let leads : leads_on st.word ≡ true = subst (λ (w : Word). leads_on w ≡ true) word f.leads in
     let ahead : x.ahead ≡ record { at = v.at; word = st.word } ∷ rest = is ∙ ap (λ (y : Line). y ∷ rest) here in
-    let goes = goes_on x v v.at st.word rest (record { past = later; bytes = st.bytes }) k running leads ahead f.is_rest in
+    let goes = goes_on x v st.word rest (record { past = later; bytes = st.bytes }) k running there ahead in
     let g : GoesOn x v st.word (record { past = later; bytes = st.bytes }) r = subst (λ (q : Stride). GoesOn x v st.word (record { past = later; bytes = st.bytes }) q) r_is goes in
     record {
       past = sym g.past;

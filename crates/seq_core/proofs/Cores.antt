@@ -7,7 +7,7 @@ use Rattle.onfi_cycle.specs.declared.Item.{Item}
 use Rattle.onfi_cycle.specs.declared.Item.TheVariants.{Rdy, Ard}
 use Rattle.onfi_cycle.specs.Permitted.{is_permitted}
 use Rattle.onfi_cycle.specs.Channel.{Channel, IsChannel, is_there}
-use Rattle.micro_verify.specs.Lines.{all_lead_on}
+use Rattle.micro_verify.specs.Places.{IsShaped}
 use Rattle.micro_verify.specs.Program.{Job}
 use Rattle.target_bus.specs.Bus.{Traced, channel_of, channel_on, IsNext}
 use Rattle.seq_core.specs.declared.answers.LoadFault.{LoadFault}
@@ -203,10 +203,10 @@ admitted_there c l j h none = at (is_there (channel_in c) l) refl none h
         refused true x = cc
         refused false x = cc
 
-pub loaded_now : (b : Traced) (slots later : List (Option Progress)) (holder : Option Lun) (l : Lun) (k : ℕ) (j : Job) → IsCore (view_of b slots holder) → IsVerified j → all_lead_on j.text.words ≡ true → j.base < 2 ^ 32 → load_fault_at (view_of b slots holder) l j ≡ None → Some k ≡ place_of (view_of b slots holder) l → later ≡ set slots k (Some (fresh_progress j)) → IsEvent (view_of b slots holder) (Load l j) (ToLoad Loaded) (view_of b later holder)
-loaded_now b slots later holder l k j core v leads small h place is =
+pub loaded_now : (b : Traced) (slots later : List (Option Progress)) (holder : Option Lun) (l : Lun) (k : ℕ) (j : Job) → IsCore (view_of b slots holder) → IsVerified j → IsShaped j.text.words → j.base < 2 ^ 32 → load_fault_at (view_of b slots holder) l j ≡ None → Some k ≡ place_of (view_of b slots holder) l → later ≡ set slots k (Some (fresh_progress j)) → IsEvent (view_of b slots holder) (Load l j) (ToLoad Loaded) (view_of b later holder)
+loaded_now b slots later holder l k j core v shaped small h place is =
     let c : CoreView = view_of b slots holder in
-    let event = done_load c l j core.is_channel v leads small h in
+    let event = done_load c l j core.is_channel v shaped small h in
     let later_is : later ≡ set slots (number (channel_in c) l) (Some (fresh_progress j)) = is ∙ ap (λ (n : ℕ). set slots n (Some (fresh_progress j))) (slot_of_place c l k place).1 in
     subst (λ (ss : List (Option Progress)). IsEvent c (Load l j) (ToLoad Loaded) (view_of b ss holder)) (sym later_is) event
 

@@ -7,6 +7,8 @@ pub mod Loads
 pub mod Refusals
 pub mod Main
 pub mod Premises
+pub mod Standing
+pub mod Looping
 pub mod Progress
 pub mod Calls
 pub mod Replies

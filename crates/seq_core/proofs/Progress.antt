@@ -1,5 +1,5 @@
 -- A word does to what is kept of a slot what it does to the slot.
-use Rattle.std.proofs.Common.{◌≡◌, ℕ, zero, suc, ◌+◌, ◌-◌, ◌*◌, ◌/◌, ◌^◌, ◌≤◌, Bool, true, false, ◌&&◌, leb, ltb, List, [], ◌∷◌, ◌++◌, Option, Some, None, refl, sym, ap, ◌∙◌, arith, drop}
+use Rattle.std.proofs.Common.{◌≡◌, ℕ, zero, suc, ◌+◌, ◌-◌, ◌*◌, ◌/◌, ◌^◌, ◌≤◌, Bool, true, false, ◌&&◌, leb, ltb, List, [], ◌∷◌, ◌++◌, Option, Some, None, refl, sym, ap, ◌∙◌, subst, arith}
 use Rattle.std.proofs.lemmas.Bool.Decides.{nat_tests}
 use Rattle.std.proofs.lemmas.Nat.{mul-le}
 use Rattle.std.specs.List.{slice_get}
@@ -9,9 +9,9 @@ use Rattle.nand_geometry.specs.Limits.{InLimits, indices, planes}
 use Rattle.nand_geometry.specs.Row.{row_bytes_of}
 use Rattle.onfi_cycle.specs.declared.Kind.TheVariants.{Adr, Din}
 use Rattle.micro_word.specs.declared.word.Word.{Word}
-use Rattle.micro_word.specs.declared.word.Word.TheVariants.{End, Command, Address, Get, Put, Seek, Column, RowAdd, Row, Plane, Wait, Yield, ReadStatus}
-use Rattle.micro_verify.specs.Lines.{Line, leads_on, all_lead_on, lines_from}
-use Rattle.micro_verify.specs.Program.{Job, Done, written, buffer_now, column_now, plane_now, index_now, place_now, is_ready_status}
+use Rattle.micro_word.specs.declared.word.Word.TheVariants.{End, Command, Address, Get, Put, Seek, Column, RowAdd, Row, Plane, Wait, Yield, ReadStatus, BranchOnStatus, Loop, Next, Jump}
+use Rattle.micro_verify.specs.Lines.{Line}
+use Rattle.micro_verify.specs.Program.{Job, Done, written, buffer_now, column_now, plane_now, index_now, place_now, status_now, is_ready_status}
 use Rattle.micro_verify.specs.Moves.{Move, and_then, part, column_bytes, address, gives, put_bytes, moves}
 use Rattle.micro_verify.specs.Played.{Played}
 use Rattle.micro_verify.specs.Step.{Stride, stride, first_byte}
@@ -19,7 +19,9 @@ use Rattle.seq_core.specs.declared.registers.Registers.{Registers}
 use Rattle.seq_core.specs.Reply.{answer_of}
 use Rattle.seq_core.specs.World.{Slot}
 use Rattle.seq_core.specs.Progress.{Progress, five_bytes, put_bytes_at, poll_at, moves_at, stopped, status_of, behind_word, progress_after, outcome_of}
+use Rattle.seq_core.specs.Loops.{StandsAt, place_behind, loops_behind, lines_left}
 use Rattle.seq_core.specs.Shows.{KeepsSlot}
+use Rattle.seq_core.proofs.Standing.{stands_behind}
 
 -- 1. the same moves
 
@@ -88,42 +90,12 @@ same_moves g limits x v (Address from count) k =
     here ∙ ap (λ (j : Job). given_address g j.lun.lun v.registers from count) (sym k.job)
 same_moves g limits x v (Get len) k = refl
 same_moves g limits x v (Put len) k =
-    ap (λ (o : Option (List ℕ)). and_then o (λ bytes. Some (gives Din bytes))) (same_put v.job.buffer x.job x.done v.registers len k.place (ap (λ (j : Job). j.buffer) k.job))
+    ap (λ (o : Option (List ℕ)). and_then o (λ bytes. Some (gives Din bytes))) (same_put v.job.buffer x.job x.done v.registers len k.buffer_place (ap (λ (j : Job). j.buffer) k.job))
 same_moves g limits x v Wait k = ap (λ (j : Job). poll_at g j.lun.lun) (sym k.job)
 same_moves g limits x v ReadStatus k = ap (λ (j : Job). poll_at g j.lun.lun) (sym k.job)
 same_moves g limits x v _ k = refl
 
--- 2. the word behind it
-
--- the lines from a place on, if there is one: its word, and the lines behind it
-pub record FirstWord (words : List Word) (at from : ℕ) (line : Line) (rest : List Line) : Type 0 where
-  pub word : Word
-  pub here : slice_get words at ≡ Some word
-  pub is_line : line ≡ record { at = from; word = word }
-  pub is_rest : rest ≡ lines_from (drop (at + 1) words) (from + 1)
-  pub leads : leads_on word ≡ true
-
-both : (a b : Bool) → (a && b) ≡ true → (a ≡ true) × (b ≡ true)
-both true b h = (refl, h)
-both false b h = cc
-
-pub first_word : (words : List Word) (at from : ℕ) (line : Line) (rest : List Line) → all_lead_on words ≡ true → line ∷ rest ≡ lines_from (drop at words) from → FirstWord words at from line rest
-first_word [] zero from line rest h e = cc
-first_word [] (suc at) from line rest h e = cc
-first_word (word ∷ words) zero from line rest h e =
-    record { word = word; here = refl; is_line = cc; is_rest = cc; leads = (both (leads_on word) (all_lead_on words) h).0 }
-first_word (word ∷ words) (suc at) from line rest h e =
-    let f = first_word words at from line rest (both (leads_on word) (all_lead_on words) h).1 e in
-    let next : suc (at + 1) ≡ suc at + 1 = omega arith in
-    record {
-      word = f.word;
-      here = f.here;
-      is_line = f.is_line;
-      is_rest = f.is_rest ∙ ap (λ (k : ℕ). lines_from (drop k (word ∷ words)) (from + 1)) next;
-      leads = f.leads;
-    }
-
--- 3. what a word leaves
+-- 2. what a word leaves
 
 -- a slot after a stride
 abbrev pub slot_after : Slot → Stride → Slot
@@ -138,28 +110,40 @@ pub record GoesOn (x : Slot) (v : Progress) (word : Word) (p : Played) (r : Stri
 stops_again : (i n : ℕ) → stopped (stopped i + n) ≡ stopped (i + n)
 stops_again i n = omega arith
 
-pub goes_on : (x : Slot) (v : Progress) (from : ℕ) (word : Word) (rest : List Line) (p : Played) → KeepsSlot x v → x.code ≡ None → leads_on word ≡ true → x.ahead ≡ record { at = from; word = word } ∷ rest → rest ≡ lines_from (drop (v.at + 1) x.job.text.words) (v.at + 1) → GoesOn x v word p (stride (record { at = from; word = word }) rest x.done p word)
-goes_on x v from word rest p k running leads is behind = at word leads is
+-- a slot stands behind its word
+abbrev StandsBehind : Slot → Progress → List Line → Word → Type 0
+StandsBehind x v rest word = StandsAt x.job.text.words (lines_left (status_now x.done) word rest) (place_behind v.at v.loops v.registers.status word) (loops_behind v.at v.loops word)
+
+pub goes_on : (x : Slot) (v : Progress) (word : Word) (rest : List Line) (p : Played) → KeepsSlot x v → x.code ≡ None → slice_get x.job.text.words v.at ≡ Some word → x.ahead ≡ record { at = v.at; word = word } ∷ rest → GoesOn x v word p (stride (record { at = v.at; word = word }) rest x.done p word)
+goes_on x v word rest p k running here is = at word is behind
   where
-    at : (word : Word) → leads_on word ≡ true → x.ahead ≡ record { at = from; word = word } ∷ rest → GoesOn x v word p (stride (record { at = from; word = word }) rest x.done p word)
-    at (End code) h e = record { kept = record { job = k.job; leads = k.leads; ahead = behind; column = k.column; index = k.index; plane = k.plane; place = k.place; status = k.status; code = refl }; answer = refl; past = refl }
-    at (Command byte) h e = record { kept = record { job = k.job; leads = k.leads; ahead = behind; column = k.column; index = k.index; plane = k.plane; place = k.place; status = k.status; code = refl }; answer = refl; past = refl }
-    at (Address first count) h e = record { kept = record { job = k.job; leads = k.leads; ahead = behind; column = k.column; index = k.index; plane = k.plane; place = k.place; status = k.status; code = refl }; answer = refl; past = refl }
-    at (Get len) h e =
+    behind : StandsBehind x v rest word
+    behind =
+        subst (λ (n : ℕ). StandsAt x.job.text.words (lines_left n word rest) (place_behind v.at v.loops v.registers.status word) (loops_behind v.at v.loops word)) k.status
+        (stands_behind x.job.text.words v.at v.loops v.registers.status word rest k.shaped here (subst (λ (ls : List Line). StandsAt x.job.text.words ls v.at v.loops) is k.place))
+
+    at : (word : Word) → x.ahead ≡ record { at = v.at; word = word } ∷ rest → StandsBehind x v rest word → GoesOn x v word p (stride (record { at = v.at; word = word }) rest x.done p word)
+    at (End code) e b = record { kept = record { job = k.job; shaped = k.shaped; place = b; column = k.column; index = k.index; plane = k.plane; buffer_place = k.buffer_place; status = k.status; code = refl }; answer = refl; past = refl }
+    at (Command byte) e b = record { kept = record { job = k.job; shaped = k.shaped; place = b; column = k.column; index = k.index; plane = k.plane; buffer_place = k.buffer_place; status = k.status; code = refl }; answer = refl; past = refl }
+    at (Address first count) e b = record { kept = record { job = k.job; shaped = k.shaped; place = b; column = k.column; index = k.index; plane = k.plane; buffer_place = k.buffer_place; status = k.status; code = refl }; answer = refl; past = refl }
+    at (Get len) e b =
         let got : record v.job { buffer = written p.bytes v.registers.place v.job.buffer } ≡ record x.job { buffer = written p.bytes (place_now x.done) (buffer_now x.job.buffer x.done) } =
-        ap (λ (j : Job). record j { buffer = written p.bytes v.registers.place j.buffer }) k.job ∙ ap (λ (n : ℕ). record x.job { buffer = written p.bytes n (buffer_now x.job.buffer x.done) }) k.place in
-        record { kept = record { job = got; leads = k.leads; ahead = behind; column = k.column; index = k.index; plane = k.plane; place = ap (λ (n : ℕ). n + len) k.place; status = k.status; code = refl }; answer = refl; past = refl }
-    at (Put len) h e = record { kept = record { job = k.job; leads = k.leads; ahead = behind; column = k.column; index = k.index; plane = k.plane; place = ap (λ (n : ℕ). n + len) k.place; status = k.status; code = refl }; answer = refl; past = refl }
-    at (Seek place) h e = record { kept = record { job = k.job; leads = k.leads; ahead = behind; column = k.column; index = k.index; plane = k.plane; place = refl; status = k.status; code = refl }; answer = refl; past = refl }
-    at (Column column) h e = record { kept = record { job = k.job; leads = k.leads; ahead = behind; column = refl; index = k.index; plane = k.plane; place = k.place; status = k.status; code = refl }; answer = refl; past = refl }
-    at (RowAdd rows) h e = record { kept = record { job = k.job; leads = k.leads; ahead = behind; column = k.column; index = ap (λ (i : ℕ). stopped (i + rows)) k.index ∙ stops_again (index_now x.job.base x.done) rows; plane = k.plane; place = k.place; status = k.status; code = refl }; answer = refl; past = refl }
-    at (Row row) h e = record { kept = record { job = k.job; leads = k.leads; ahead = behind; column = k.column; index = ap (λ (j : Job). stopped (j.base + row)) k.job; plane = k.plane; place = k.place; status = k.status; code = refl }; answer = refl; past = refl }
-    at (Plane plane) h e = record { kept = record { job = k.job; leads = k.leads; ahead = behind; column = k.column; index = k.index; plane = refl; place = k.place; status = k.status; code = refl }; answer = refl; past = refl }
-    at Wait h e = on (is_ready_status (first_byte p.bytes)) refl
+        ap (λ (j : Job). record j { buffer = written p.bytes v.registers.place j.buffer }) k.job ∙ ap (λ (n : ℕ). record x.job { buffer = written p.bytes n (buffer_now x.job.buffer x.done) }) k.buffer_place in
+        record { kept = record { job = got; shaped = k.shaped; place = b; column = k.column; index = k.index; plane = k.plane; buffer_place = ap (λ (n : ℕ). n + len) k.buffer_place; status = k.status; code = refl }; answer = refl; past = refl }
+    at (Put len) e b = record { kept = record { job = k.job; shaped = k.shaped; place = b; column = k.column; index = k.index; plane = k.plane; buffer_place = ap (λ (n : ℕ). n + len) k.buffer_place; status = k.status; code = refl }; answer = refl; past = refl }
+    at (Seek place) e b = record { kept = record { job = k.job; shaped = k.shaped; place = b; column = k.column; index = k.index; plane = k.plane; buffer_place = refl; status = k.status; code = refl }; answer = refl; past = refl }
+    at (Column column) e b = record { kept = record { job = k.job; shaped = k.shaped; place = b; column = refl; index = k.index; plane = k.plane; buffer_place = k.buffer_place; status = k.status; code = refl }; answer = refl; past = refl }
+    at (RowAdd rows) e b = record { kept = record { job = k.job; shaped = k.shaped; place = b; column = k.column; index = ap (λ (i : ℕ). stopped (i + rows)) k.index ∙ stops_again (index_now x.job.base x.done) rows; plane = k.plane; buffer_place = k.buffer_place; status = k.status; code = refl }; answer = refl; past = refl }
+    at (Row row) e b = record { kept = record { job = k.job; shaped = k.shaped; place = b; column = k.column; index = ap (λ (j : Job). stopped (j.base + row)) k.job; plane = k.plane; buffer_place = k.buffer_place; status = k.status; code = refl }; answer = refl; past = refl }
+    at (Plane plane) e b = record { kept = record { job = k.job; shaped = k.shaped; place = b; column = k.column; index = k.index; plane = refl; buffer_place = k.buffer_place; status = k.status; code = refl }; answer = refl; past = refl }
+    at Wait e b = on (is_ready_status (first_byte p.bytes)) refl
       where
-        on : (b : Bool) → is_ready_status (first_byte p.bytes) ≡ b → GoesOn x v Wait p (stride (record { at = from; word = Wait }) rest x.done p Wait)
-        on true d = record { kept = rw (d, progress_after, behind_word, outcome_of) (record { job = k.job; leads = k.leads; ahead = behind; column = k.column; index = k.index; plane = k.plane; place = k.place; status = refl; code = refl }); answer = rw (d, outcome_of) refl; past = rw d refl }
-        on false d = record { kept = rw (d, progress_after, behind_word, outcome_of) (record { job = k.job; leads = k.leads; ahead = sym e ∙ k.ahead; column = k.column; index = k.index; plane = k.plane; place = k.place; status = k.status; code = k.code ∙ running }); answer = rw (d, outcome_of) refl; past = rw d refl }
-    at Yield h e = record { kept = record { job = k.job; leads = k.leads; ahead = behind; column = k.column; index = k.index; plane = k.plane; place = k.place; status = k.status; code = refl }; answer = refl; past = refl }
-    at ReadStatus h e = record { kept = record { job = k.job; leads = k.leads; ahead = behind; column = k.column; index = k.index; plane = k.plane; place = k.place; status = refl; code = refl }; answer = refl; past = refl }
-    at _ h e = cc
+        on : (ready : Bool) → is_ready_status (first_byte p.bytes) ≡ ready → GoesOn x v Wait p (stride (record { at = v.at; word = Wait }) rest x.done p Wait)
+        on true d = record { kept = rw (d, progress_after, behind_word, outcome_of) (record { job = k.job; shaped = k.shaped; place = b; column = k.column; index = k.index; plane = k.plane; buffer_place = k.buffer_place; status = refl; code = refl }); answer = rw (d, outcome_of) refl; past = rw d refl }
+        on false d = record { kept = rw (d, progress_after, behind_word, outcome_of) (record { job = k.job; shaped = k.shaped; place = subst (λ (ls : List Line). StandsAt x.job.text.words ls v.at v.loops) e k.place; column = k.column; index = k.index; plane = k.plane; buffer_place = k.buffer_place; status = k.status; code = k.code ∙ running }); answer = rw (d, outcome_of) refl; past = rw d refl }
+    at Yield e b = record { kept = record { job = k.job; shaped = k.shaped; place = b; column = k.column; index = k.index; plane = k.plane; buffer_place = k.buffer_place; status = k.status; code = refl }; answer = refl; past = refl }
+    at ReadStatus e b = record { kept = record { job = k.job; shaped = k.shaped; place = b; column = k.column; index = k.index; plane = k.plane; buffer_place = k.buffer_place; status = refl; code = refl }; answer = refl; past = refl }
+    at (BranchOnStatus mask target) e b = record { kept = record { job = k.job; shaped = k.shaped; place = b; column = k.column; index = k.index; plane = k.plane; buffer_place = k.buffer_place; status = k.status; code = refl }; answer = refl; past = refl }
+    at (Loop turns) e b = record { kept = record { job = k.job; shaped = k.shaped; place = b; column = k.column; index = k.index; plane = k.plane; buffer_place = k.buffer_place; status = k.status; code = refl }; answer = refl; past = refl }
+    at Next e b = record { kept = record { job = k.job; shaped = k.shaped; place = b; column = k.column; index = k.index; plane = k.plane; buffer_place = k.buffer_place; status = k.status; code = refl }; answer = refl; past = refl }
+    at (Jump target) e b = record { kept = record { job = k.job; shaped = k.shaped; place = b; column = k.column; index = k.index; plane = k.plane; buffer_place = k.buffer_place; status = k.status; code = refl }; answer = refl; past = refl }

@@ -7,7 +7,8 @@ use Rattle.onfi_cycle.specs.declared.Item.TheVariants.{Rdy, Ard}
 use Rattle.onfi_cycle.specs.Permitted.{is_permitted}
 use Rattle.onfi_cycle.specs.Channel.{Channel, IsChannel, is_open_on}
 use Rattle.micro_word.specs.declared.word.Word.{Word}
-use Rattle.micro_verify.specs.Lines.{Line, all_lead_on}
+use Rattle.micro_verify.specs.Lines.{Line}
+use Rattle.micro_verify.specs.Places.{IsShaped}
 use Rattle.micro_verify.specs.Program.{Job, fits}
 use Rattle.micro_verify.specs.Safe.{Seat, Reaches, MovesAreOwn, may_step, WordIsFine, LineIsFine}
 use Rattle.seq_core.specs.declared.answers.LoadFault.{LoadFault}
@@ -20,10 +21,12 @@ use Rattle.seq_core.specs.Lawful.{HasSeat, LawfulSlot, LawfulAt, LawfulWorld, ha
 use Rattle.seq_core.specs.Progress.{Progress, fresh_progress}
 use Rattle.seq_core.specs.Shows.{CoreView, channel_in, KeepsSlot, Keeps, IsAt}
 use Rattle.seq_core.specs.Calls.{IsCore, IsEvent, slot_at, CanStep, load_fault_at, with_slot_at, with_item}
-use Rattle.seq_core.proofs.Below.{lines_of, keeps_length}
+use Rattle.seq_core.proofs.Below.{keeps_length}
 use Rattle.seq_core.proofs.Slots.{there_of_slot}
 use Rattle.seq_core.proofs.Events.{may_step_now}
-use Rattle.seq_core.proofs.Progress.{same_moves, first_word}
+use Rattle.seq_core.specs.Loops.{StandsAt, place_behind, loops_behind, lines_left}
+use Rattle.seq_core.proofs.Standing.{first_word, stands_behind, few_loops, stands_first}
+use Rattle.seq_core.proofs.Progress.{same_moves}
 use Rattle.seq_core.proofs.Calls.{keeps_set, keeps_lun, came, HasSlot, has_slot, some_same}
 
 -- 1. loads
@@ -46,12 +49,12 @@ refused_load c l j fault is v h w at law =
         let same : after_load (channel_in c) w l j (Some fault) ≡ a = sym (ap (after_load (channel_in c) w l j) (same_load_fault c w l j at ∙ h)) ∙ e in
         subst (λ (b : After). (b.reply ≡ ToLoad (NotLoaded fault j)) × IsAt c b.world) same (refl, at)
 
-fresh_is_kept : (j : Job) → all_lead_on j.text.words ≡ true → j.base < 2 ^ 32 → KeepsSlot (fresh_slot j) (fresh_progress j)
-fresh_is_kept j leads small =
-    record { job = refl; leads = leads; ahead = lines_of j.text.words leads; column = refl; index = omega arith; plane = refl; place = refl; status = refl; code = refl }
+fresh_is_kept : (j : Job) → IsShaped j.text.words → j.base < 2 ^ 32 → KeepsSlot (fresh_slot j) (fresh_progress j)
+fresh_is_kept j shaped small =
+    record { job = refl; shaped = shaped; place = stands_first j.text.words shaped; column = refl; index = omega arith; plane = refl; buffer_place = refl; status = refl; code = refl }
 
-pub done_load : (c : CoreView) (l : Lun) (j : Job) → IsChannel (channel_in c) → IsVerified j → all_lead_on j.text.words ≡ true → j.base < 2 ^ 32 → load_fault_at c l j ≡ None → IsEvent c (Load l j) (ToLoad Loaded) (with_slot_at c l (Some (fresh_progress j)))
-done_load c l j is v leads small h w at law =
+pub done_load : (c : CoreView) (l : Lun) (j : Job) → IsChannel (channel_in c) → IsVerified j → IsShaped j.text.words → j.base < 2 ^ 32 → load_fault_at c l j ≡ None → IsEvent c (Load l j) (ToLoad Loaded) (with_slot_at c l (Some (fresh_progress j)))
+done_load c l j is v shaped small h w at law =
     came c w (Load l j) (ToLoad Loaded) later is law v refl (λ a e. on a (some_same (after_load (channel_in c) w l j (load_fault (channel_in c) w l j)) a e))
   where
     later : CoreView
@@ -61,7 +64,7 @@ done_load c l j is v leads small h w at law =
     on a e =
         let same : after_load (channel_in c) w l j None ≡ a = sym (ap (after_load (channel_in c) w l j) (same_load_fault c w l j at ∙ h)) ∙ e in
         subst (λ (b : After). (b.reply ≡ ToLoad Loaded) × IsAt later b.world) same
-        (refl, record { past = at.past; holder = at.holder; slots = keeps_set w.slots c.slots (number (channel_in c) l) (Some (fresh_slot j)) (Some (fresh_progress j)) at.slots (fresh_is_kept j leads small) })
+        (refl, record { past = at.past; holder = at.holder; slots = keeps_set w.slots c.slots (number (channel_in c) l) (Some (fresh_slot j)) (Some (fresh_progress j)) at.slots (fresh_is_kept j shaped small) })
 
 -- 2. readies
 
@@ -172,7 +175,10 @@ can_step c l v k some running free = (on h.x.ahead refl f.1, ap (λ (j : Job). j
     on : (ahead : List Line) → h.x.ahead ≡ ahead → LineIsFine (channel_in c) h.x.job k.world.past h.x.done ahead → CanStep (channel_in c) c.past v
     on [] e m = absurd m
     on (line ∷ rest) e m =
-        let first = first_word h.x.job.text.words v.at v.at line rest h.kept.leads (sym e ∙ h.kept.ahead) in
+        let stands : StandsAt h.x.job.text.words (line ∷ rest) v.at v.loops = subst (λ (ls : List Line). StandsAt h.x.job.text.words ls v.at v.loops) e h.kept.place in
+        let first = first_word h.x.job.text.words v.at v.loops line rest stands in
+        let behind =
+        stands_behind h.x.job.text.words v.at v.loops v.registers.status first.word rest h.kept.shaped first.here (subst (λ (y : Line). StandsAt h.x.job.text.words (y ∷ rest) v.at v.loops) first.is_line stands) in
         let is_word : line.word ≡ first.word = ap (λ (y : Line). y.word) first.is_line in
         let fine : WordIsFine (channel_in c) h.x.job k.world.past h.x.done first.word = subst (λ (w : Word). WordIsFine (channel_in c) h.x.job k.world.past h.x.done w) is_word m in
         record {
@@ -182,6 +188,7 @@ can_step c l v k some running free = (on h.x.ahead refl f.1, ap (λ (j : Job). j
             moved = fine.moved;
             is_moved = sym (same_moves c.geometry k.is_channel.limits h.x v first.word h.kept) ∙ fine.is_moved;
             own = subst (λ (t : List Item). MovesAreOwn (channel_in c) v.job.lun fine.moved t) (sym k.is_at.past) (subst (λ (j : Job). MovesAreOwn (channel_in c) j.lun fine.moved k.world.past) (sym h.kept.job) fine.own);
-            inside = ap (λ (n : ℕ). fits n v.registers.place first.word) length_is ∙ (ap (λ (n : ℕ). fits h.x.job.text.buffer n first.word) h.kept.place ∙ fine.inside);
+            inside = ap (λ (n : ℕ). fits n v.registers.place first.word) length_is ∙ (ap (λ (n : ℕ). fits h.x.job.text.buffer n first.word) h.kept.buffer_place ∙ fine.inside);
           };
+          room = few_loops h.x.job.text.words (lines_left v.registers.status first.word rest) (place_behind v.at v.loops v.registers.status first.word) (loops_behind v.at v.loops first.word) h.kept.shaped behind;
         }

@@ -1,11 +1,14 @@
 -- What a slot is after a word that was played.
-use Rattle.std.proofs.Common.{◌≡◌, ℕ, List, Some, ap, ◌∙◌}
+use Rattle.std.proofs.Common.{◌≡◌, ℕ, ◌<◌, ◌^◌, true, List, Some, ap, ◌∙◌, arith}
+use Rattle.std.proofs.lemmas.Bool.Decides.{nat_tests}
 use Rattle.std.specs.List.{slice_get}
 use Rattle.onfi_cycle.specs.declared.Item.{Item}
 use Rattle.onfi_cycle.specs.Channel.{Channel}
 use Rattle.micro_word.specs.declared.word.Word.{Word}
+use Rattle.micro_word.specs.declared.word.Word.TheVariants.{Get, Put}
+use Rattle.micro_verify.specs.Program.{fits}
 use Rattle.seq_core.specs.declared.answers.Stepped.{Stepped}
-use Rattle.seq_core.specs.Progress.{Progress, buffer_behind, with_buffer, behind_word, outcome_of}
+use Rattle.seq_core.specs.Progress.{Progress, reaches, buffer_behind, with_buffer, behind_word, outcome_of}
 use Rattle.seq_core.specs.Calls.{DidPlay, Steps}
 
 -- a word was played, and the slot went on behind it
@@ -23,3 +26,9 @@ steps_on s past later v w u word status answer here p left is slot =
           ap (behind_word (with_buffer v (buffer_behind v.registers.place word p.bytes v.job.buffer)) word) p.status_is);
       answer_is = is ∙ ap (outcome_of word) p.status_is;
     }
+
+-- a word that stays inside a buffer doesn't reach far
+pub reaches_inside : (size place : ℕ) (word : Word) → size < 2 ^ 32 → fits size place word ≡ true → reaches place word < 2 ^ 32
+reaches_inside size place (Get len) small h = grind (arith, nat_tests)
+reaches_inside size place (Put len) small h = grind (arith, nat_tests)
+reaches_inside size place _ small h = omega arith

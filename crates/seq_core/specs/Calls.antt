@@ -1,5 +1,5 @@
 -- What a call of a sequencer is: an event of the world that it keeps.
-use Rattle.std.specs.Prelude.{◌≡◌, ℕ, Bool, true, false, ◌&&◌, not, if◌then◌else◌, List, [], ◌∷◌, Option, Some, None, is_some, length, slice_get, get_or, set}
+use Rattle.std.specs.Prelude.{◌≡◌, ℕ, ◌≤◌, Bool, true, false, ◌&&◌, not, if◌then◌else◌, List, [], ◌∷◌, Option, Some, None, is_some, length, slice_get, get_or, set}
 use Rattle.nand_geometry.specs.declared.Parts.{Parts}
 use Rattle.onfi_cycle.specs.declared.Lun.{Lun}
 use Rattle.onfi_cycle.specs.declared.Item.{Item}
@@ -20,6 +20,7 @@ use Rattle.seq_core.specs.Reply.{Reply}
 use Rattle.seq_core.specs.After.{After, after, same_parts}
 use Rattle.seq_core.specs.Lawful.{LawfulWorld}
 use Rattle.seq_core.specs.Headline.{AddsItsOwn}
+use Rattle.seq_core.specs.Loops.{loops_behind}
 use Rattle.seq_core.specs.Progress.{Progress, moves_at, buffer_behind, status_of, outcome_of, progress_after}
 use Rattle.seq_core.specs.Shows.{CoreView, channel_in, IsAt}
 
@@ -56,11 +57,12 @@ pub record CanPlay (s : Channel) (past : List Item) (l : Lun) (buffer : List ℕ
   pub own : MovesAreOwn s l moved past
   pub inside : fits (length buffer) r.place word ≡ true
 
--- there is a next word, and it can be played
+-- there is a next word, it can be played, and loops stay two deep at most
 pub record CanStep (s : Channel) (past : List Item) (v : Progress) : Type 0 where
   pub word : Word
   pub here : slice_get v.job.text.words v.at ≡ Some word
   pub can : CanPlay s past v.job.lun v.job.buffer v.registers word
+  pub room : length (loops_behind v.at v.loops word) ≤ 2
 
 -- these moves make of the trace the later one, and take these bytes
 abbrev pub Plays : Channel → ℕ → List Move → List Item → List Item → List ℕ → Type 0

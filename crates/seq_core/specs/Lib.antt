@@ -4,6 +4,7 @@ pub mod Reply
 pub mod After
 pub mod Lawful
 pub mod Headline
+pub mod Loops
 pub mod Progress
 pub mod Job
 pub mod Shows

@@ -1,22 +1,26 @@
 -- A program in progress as a running channel keeps it: its job with the buffer as it is now, the place of its next word in
--- the text, and registers.
+-- the text, the loops around it, and registers.
 use Rattle.std.specs.Prelude.{ℕ, ◌+◌, ◌-◌, ◌^◌, min, Bool, true, false, nat_le, nat_lt, if◌then◌else◌, List, [], ◌∷◌, ◌++◌, Option, Some, None, length, replicate}
 use Rattle.nand_geometry.specs.declared.Parts.{Parts}
 use Rattle.nand_geometry.specs.Row.{row_bytes_of}
 use Rattle.onfi_cycle.specs.declared.Kind.TheVariants.{Cmd, Adr, Din}
 use Rattle.micro_word.specs.declared.word.Word.{Word}
 use Rattle.micro_word.specs.declared.word.Word.TheVariants.{End, Command, Address, Get, Put, Seek, Column, RowAdd, Row, Plane, Wait, Yield, ReadStatus}
-use Rattle.micro_verify.specs.Program.{Job, written, place_after, is_ready_status}
+use Rattle.micro_verify.specs.Program.{Job, written, is_ready_status}
 use Rattle.micro_verify.specs.Moves.{Move, Give, Take, and_then, part, column_bytes, gives}
 use Rattle.micro_verify.specs.Step.{first_byte}
 use Rattle.seq_core.specs.declared.answers.Stepped.{Stepped}
 use Rattle.seq_core.specs.declared.answers.Stepped.TheVariants.{Ended, HandedOver, NotReady, Went}
 use Rattle.seq_core.specs.declared.registers.Registers.{Registers}
+use Rattle.seq_core.specs.declared.loops.OpenLoop.{OpenLoop}
+use Rattle.seq_core.specs.Loops.{place_behind, loops_behind}
 
--- the job with its buffer as it is now, the place of the next word, the registers, and the code with which it ended, if it has
+-- the job with its buffer as it is now, the place of the next word, the loops around it, the innermost first, the registers, and the
+-- code with which it ended, if it has
 pub record Progress : Type 0 where
   pub job : Job
   pub at : ℕ
+  pub loops : List OpenLoop
   pub registers : Registers
   pub code : Option ℕ
 
@@ -25,7 +29,7 @@ fresh_registers base = record { column = 0; index = base; plane = 0; place = 0; 
 
 -- a job before its first word
 abbrev pub fresh_progress : Job → Progress
-fresh_progress j = record { job = j; at = 0; registers = fresh_registers j.base; code = None }
+fresh_progress j = record { job = j; at = 0; loops = []; registers = fresh_registers j.base; code = None }
 
 -- C1 C2 R1 R2 R3; where the last byte that is wanted is one of the column, the row's are 0
 abbrev pub five_bytes : Parts → ℕ → Registers → (last : ℕ) → Option (List ℕ)
@@ -53,9 +57,11 @@ moves_at g lun buffer r Wait = poll_at g lun
 moves_at g lun buffer r ReadStatus = poll_at g lun
 moves_at g lun buffer r _ = Some []
 
--- how far a word moves the place
-abbrev pub moves_on : ℕ → Word → ℕ
-moves_on place word = place_after word place
+-- how far into the buffer a word reaches
+abbrev pub reaches : ℕ → Word → ℕ
+reaches place (Get len) = place + len
+reaches place (Put len) = place + len
+reaches place _ = 0
 
 -- an index that stops at the greatest number of 32 bits
 abbrev pub stopped : ℕ → ℕ
@@ -103,12 +109,18 @@ code_of _ = None
 
 -- a slot with another buffer
 abbrev pub with_buffer : Progress → List ℕ → Progress
-with_buffer v buffer = record { job = record v.job { buffer = buffer }; at = v.at; registers = v.registers; code = v.code }
+with_buffer v buffer = record { job = record v.job { buffer = buffer }; at = v.at; loops = v.loops; registers = v.registers; code = v.code }
 
 -- a slot with its word done, which brought this status
 abbrev pub done_with : Progress → Word → ℕ → Progress
 done_with v word status =
-    record { job = v.job; at = v.at + 1; registers = registers_after v.job.base v.registers word status; code = code_of word }
+    record {
+      job = v.job;
+      at = place_behind v.at v.loops v.registers.status word;
+      loops = loops_behind v.at v.loops word;
+      registers = registers_after v.job.base v.registers word status;
+      code = code_of word;
+    }
 
 -- a slot behind a word that brought this status: it goes on if the word is done
 abbrev pub behind_word : Progress → Word → ℕ → Progress

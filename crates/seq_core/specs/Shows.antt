@@ -1,13 +1,14 @@
 -- What a sequencer keeps, and of which worlds it is: the model's progress told from places and registers.
-use Rattle.std.specs.Prelude.{◌≡◌, ℕ, true, List, [], ◌∷◌, Option, Some, None, drop}
+use Rattle.std.specs.Prelude.{◌≡◌, ℕ, List, [], ◌∷◌, Option, Some, None}
 use Rattle.nand_geometry.specs.declared.Parts.{Parts}
 use Rattle.onfi_cycle.specs.declared.Lun.{Lun}
 use Rattle.onfi_cycle.specs.declared.Item.{Item}
 use Rattle.onfi_cycle.specs.Channel.{Channel}
 use Rattle.target_bus.specs.Bus.{channel_on}
-use Rattle.micro_verify.specs.Lines.{all_lead_on, lines_from}
+use Rattle.micro_verify.specs.Places.{IsShaped}
 use Rattle.micro_verify.specs.Program.{buffer_now, column_now, plane_now, index_now, place_now, status_now}
 use Rattle.seq_core.specs.World.{Slot, World}
+use Rattle.seq_core.specs.Loops.{StandsAt}
 use Rattle.seq_core.specs.Progress.{Progress, stopped}
 
 -- the trace, what each LUN runs, those of target 0 first, and the LUN that has the bus
@@ -22,15 +23,15 @@ pub record CoreView : Type 0 where
 abbrev pub channel_in : CoreView → Channel
 channel_in c = channel_on c.geometry c.targets
 
--- a slot is kept so: the lines to come are the words from its place on, and each register is what the words done have set
+-- a slot is kept so: the lines to come are those at its place in its loops, and each register is what the words done have set
 pub record KeepsSlot (x : Slot) (v : Progress) : Type 0 where
   pub job : v.job ≡ record x.job { buffer = buffer_now x.job.buffer x.done }
-  pub leads : all_lead_on x.job.text.words ≡ true
-  pub ahead : x.ahead ≡ lines_from (drop v.at x.job.text.words) v.at
+  pub shaped : IsShaped x.job.text.words
+  pub place : StandsAt x.job.text.words x.ahead v.at v.loops
   pub column : v.registers.column ≡ column_now x.done
   pub index : v.registers.index ≡ stopped (index_now x.job.base x.done)
   pub plane : v.registers.plane ≡ plane_now x.done
-  pub place : v.registers.place ≡ place_now x.done
+  pub buffer_place : v.registers.place ≡ place_now x.done
   pub status : v.registers.status ≡ status_now x.done
   pub code : v.code ≡ x.code
 

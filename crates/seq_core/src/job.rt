@@ -1,6 +1,7 @@
 //! A job: a verified text that is to run on a LUN, from a base on, with its buffer.
 ghost use Rattle.std.specs.Prelude.{◌≡◌, ◌↔◌, ◌≤◌, IsOk, IfOk, IfErr, Some, None, length, true};
-ghost use Rattle.micro_verify.specs.Lines.{continues_cache_read, is_command_31, all_lead_on};
+ghost use Rattle.micro_verify.specs.Lines.{continues_cache_read, is_command_31};
+ghost use Rattle.micro_verify.specs.Places.{IsShaped};
 ghost use Rattle.micro_verify.specs.Safe.{IsSafe};
 ghost use Rattle.micro_verify.specs.Program.{Job as JobValue};
 ghost use Rattle.seq_core.specs.Job.{job_fault, job_of};
@@ -24,9 +25,8 @@ pub struct Job<A: Allocator = Global> {
 }
 
 impl<A: Allocator> Model for Job<A> {
-    ghost use Rattle.std.specs.Prelude.{◌≡◌, true};
     ghost use Rattle.micro_verify.specs.Program.{Job as JobValue};
-    ghost use Rattle.micro_verify.specs.Lines.{all_lead_on};
+    ghost use Rattle.micro_verify.specs.Places.{IsShaped};
     ghost use Rattle.seq_core.specs.Event.{IsVerified};
     ghost use Rattle.seq_core.specs.Job.{job_of};
 
@@ -34,7 +34,7 @@ impl<A: Allocator> Model for Job<A> {
 
     ghost view = { λ j. job_of j.lun j.base j.verified j.buffer.items };
 
-    ghost invariant = { λ j. IsVerified (job_of j.lun j.base j.verified j.buffer.items) × (all_lead_on j.verified.text.words ≡ true) };
+    ghost invariant = { λ j. IsVerified (job_of j.lun j.base j.verified j.buffer.items) × IsShaped j.verified.text.words };
 }
 
 // Some word continues a cache read.
@@ -123,9 +123,10 @@ impl<A: Allocator> Job<A> {
         self.verified.geometry()
     }
 
-    /// The text.
+    /// The text. Its loops pair, two deep at most, and its branches lead on inside their loop.
     pub fn text(&self) -> &Text<A>
-        ensures { result.now ≡ self.now.text }
+        ensures value { result.now ≡ self.now.text }
+        ensures shaped { IsShaped self.now.text.words }
     {
         self.verified.text()
     }

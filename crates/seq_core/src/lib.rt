@@ -10,6 +10,7 @@ mod answers;
 mod event_list;
 mod job;
 pub mod laws;
+mod loops;
 mod playing;
 mod registers;
 mod sequencer;

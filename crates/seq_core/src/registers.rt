@@ -1,6 +1,6 @@
 //! The registers of a program: what its words have set, and the address bytes that they give.
 ghost use Rattle.std.specs.Prelude.{◌≡◌, ◌+◌, ◌^◌, ◌<◌, ◌≤◌};
-ghost use Rattle.seq_core.specs.Progress.{five_bytes, registers_after, fresh_registers, moves_on};
+ghost use Rattle.seq_core.specs.Progress.{five_bytes, registers_after, fresh_registers, reaches};
 
 use micro_word::Word;
 use nand_geometry::Geometry;
@@ -44,7 +44,7 @@ impl Registers {
 
     /// Behind a word of a job with this base; a poll has brought this status.
     pub(crate) fn after(self, base: u32, word: Word, status: u8) -> Registers
-        requires { moves_on self.place word < 2 ^ 32 }
+        requires { reaches self.place word < 2 ^ 32 }
         ensures { result ≡ registers_after base self word status }
     {
         match word {

@@ -1,17 +1,22 @@
 //! A slot: a program in progress on its LUN.
-ghost use Rattle.std.specs.Prelude.{◌≡◌, ◌<◌, ◌^◌, ◌≤◌, Some, None, IfOk, OnOk, OnErr, true, slice_get};
-ghost use Rattle.micro_verify.specs.Lines.{all_lead_on};
+ghost use Rattle.std.specs.Prelude.{◌≡◌, ◌<◌, ◌^◌, ◌≤◌, List, Some, None, IfOk, OnOk, OnErr, length, slice_get};
+ghost use Rattle.onfi_cycle.specs.declared.Item.{Item};
+ghost use Rattle.onfi_cycle.specs.Channel.{Channel};
+ghost use Rattle.micro_verify.specs.Places.{IsShaped};
 ghost use Rattle.micro_verify.specs.Program.{Job as JobValue};
 ghost use Rattle.target_bus.specs.Bus.{Traced, channel_of};
 ghost use Rattle.seq_core.specs.Event.{IsVerified};
-ghost use Rattle.seq_core.specs.Progress.{fresh_progress, moves_on, outcome_of, is_done, code_of, with_buffer, behind_word};
+ghost use Rattle.seq_core.specs.Loops.{loops_behind};
+ghost use Rattle.seq_core.specs.Progress.{fresh_progress, reaches, outcome_of, is_done, code_of, with_buffer, behind_word};
 ghost use Rattle.seq_core.specs.Calls.{CanStep, DidPlay, Steps};
-ghost use Rattle.seq_core.specs.Playing.{IsSame};
+ghost use Rattle.seq_core.specs.Playing.{EndsWithFive, IsSame};
 
 use crate::answers::Stepped;
 use crate::job::Job;
+use crate::loops::{DEPTH, OpenLoop, go_behind};
 use crate::playing::play;
 use crate::registers::Registers;
+use arrayvec::ArrayVec;
 use micro_verify::Verified;
 use micro_word::Word;
 use onfi_cycle::{Lun, Status};
@@ -19,30 +24,37 @@ use std::alloc::{AllocError, Allocator};
 use std::marker::Model;
 use target_bus::Bus;
 
-/// A job in progress: its buffer as it is now, the place of its next word, its registers, and its code if it has ended.
+/// How far a program is: the place of its next word, the loops around that, its registers, and its code if it has ended.
+#[derive(Drop)]
+struct Position {
+    at: usize,
+    loops: ArrayVec<OpenLoop, DEPTH>,
+    registers: Registers,
+    code: Option<u8>,
+}
+
+/// A job in progress: its buffer as it is now, and how far it is.
 #[derive(Drop)]
 pub(crate) struct Slot<A: Allocator> {
     lun: Lun,
     base: u32,
     verified: Verified<A>,
     buffer: Vec<u8, A>,
-    at: usize,
-    registers: Registers,
-    code: Option<u8>,
+    position: Position,
 }
 
 impl<A: Allocator> Model for Slot<A> {
-    ghost use Rattle.std.specs.Prelude.{◌≡◌, true};
-    ghost use Rattle.micro_verify.specs.Lines.{all_lead_on};
+    ghost use Rattle.std.specs.Prelude.{reverse};
+    ghost use Rattle.micro_verify.specs.Places.{IsShaped};
     ghost use Rattle.seq_core.specs.Event.{IsVerified};
     ghost use Rattle.seq_core.specs.Job.{job_of};
     ghost use Rattle.seq_core.specs.Progress.{Progress};
 
     ghost Value = { Progress };
 
-    ghost view = { λ s. record { job = job_of s.lun s.base s.verified s.buffer.items; at = s.at; registers = s.registers; code = s.code } };
+    ghost view = { λ s. record { job = job_of s.lun s.base s.verified s.buffer.items; at = s.position.at; loops = reverse s.position.loops.items; registers = s.position.registers; code = s.position.code } };
 
-    ghost invariant = { λ s. IsVerified (job_of s.lun s.base s.verified s.buffer.items) × (all_lead_on s.verified.text.words ≡ true) };
+    ghost invariant = { λ s. IsVerified (job_of s.lun s.base s.verified s.buffer.items) × IsShaped s.verified.text.words };
 }
 
 // How the step of a word is answered, with the status that its poll brought.
@@ -79,7 +91,7 @@ impl<A: Allocator> Slot<A> {
     pub(crate) fn new(job: Job<A>) -> Slot<A>
         ensures value { result ≡ fresh_progress job }
         ensures verified { IsVerified job }
-        ensures in_order { all_lead_on job.text.words ≡ true }
+        ensures shaped { IsShaped job.text.words }
         ensures base { job.base < 2 ^ 32 }
     {
         let Job {
@@ -93,9 +105,12 @@ impl<A: Allocator> Slot<A> {
             base,
             verified,
             buffer,
-            at: 0,
-            registers: Registers::fresh(base),
-            code: None,
+            position: Position {
+                at: 0,
+                loops: ArrayVec::new(),
+                registers: Registers::fresh(base),
+                code: None,
+            },
         }
     }
 
@@ -103,7 +118,7 @@ impl<A: Allocator> Slot<A> {
     pub(crate) fn code(&self) -> Option<u8>
         ensures { result ≡ self.now.code }
     {
-        self.code
+        self.position.code
     }
 
     /// The job, with the buffer as it is now.
@@ -118,6 +133,17 @@ impl<A: Allocator> Slot<A> {
         }
     }
 
+    // The next word.
+    fn next_word(&self) -> Word
+        requires { (word : Word) × (slice_get self.now.job.text.words self.now.at ≡ Some word) }
+        ensures word { slice_get self.now.job.text.words self.now.at ≡ Some result }
+        ensures inside { self.now.at < 1024 }
+        ensures range { EndsWithFive result }
+        ensures buffer { length self.now.job.buffer < 2 ^ 32 }
+    {
+        self.verified.text().words()[self.position.at]
+    }
+
     // Plays the next word: it, and the status that it brought.
     fn play_next(&mut self, bus: &mut Bus<A>) -> Result<(Word, u8), AllocError>
         requires { CanStep (channel_of bus.old) bus.old.past self.old }
@@ -125,15 +151,16 @@ impl<A: Allocator> Slot<A> {
         ensures word { IfOk result (λ r. slice_get self.old.job.text.words self.old.at ≡ Some r.0) }
         ensures played { IfOk result (λ r. DidPlay (channel_of bus.old) bus.old.past self.old.job.lun self.old.job.buffer self.old.registers r.0 bus.new.past self.new.job.buffer r.1) }
         ensures slot { OnOk result (self.new ≡ with_buffer self.old self.new.job.buffer) }
-        ensures place { IfOk result (λ r. moves_on self.old.registers.place r.0 < 2 ^ 32) }
+        ensures place { IfOk result (λ r. reaches self.old.registers.place r.0 < 2 ^ 32) }
         ensures inside { OnOk result (self.new.at < 1024) }
+        ensures room { IfOk result (λ r. length (loops_behind self.new.at self.new.loops r.0) ≤ 2) }
         ensures err { OnErr result ((bus.new.past ≡ bus.old.past) × (self.new ≡ self.old)) }
     {
-        let word = self.verified.text().words()[self.at];
+        let word = self.next_word();
         let status = play(
             bus,
             self.lun,
-            self.registers,
+            self.position.registers,
             self.buffer.as_mut_slice(),
             word,
         )?;
@@ -142,16 +169,23 @@ impl<A: Allocator> Slot<A> {
 
     // Goes on behind a word that brought this status, if that is done.
     fn go_on(&mut self, word: Word, status: u8) -> Stepped
-        requires place { moves_on self.old.registers.place word < 2 ^ 32 }
+        requires place { reaches self.old.registers.place word < 2 ^ 32 }
         requires inside { self.old.at < 1024 }
+        requires room { length (loops_behind self.old.at self.old.loops word) ≤ 2 }
         ensures answer { result ≡ outcome_of word status }
         ensures slot { self.new ≡ behind_word self.old word status }
     {
         let answer = outcome_of(word, status);
         if is_done(answer) {
-            self.registers = self.registers.after(self.base, word, status);
-            self.at += 1;
-            self.code = code_of(word);
+            let position = &mut self.position;
+            position.at = go_behind(
+                position.at,
+                &mut position.loops,
+                position.registers.status,
+                word,
+            );
+            position.registers = position.registers.after(self.base, word, status);
+            position.code = code_of(word);
         }
         answer
     }

@@ -15,7 +15,7 @@ unreachable-requires g c = admitted_there c.args.self.now c.args.l c.args.job c.
 
 pub returns : goal.returns
 returns g c =
-    let event = loaded_now c.self.inside.bus c.self.inside.slots.items _ c.self.inside.holder c.args.l c.in-Some.k c.args.job c.self.invariant c.new.ensures.verified c.new.ensures.in_order c.new.ensures.base
+    let event = loaded_now c.self.inside.bus c.self.inside.slots.items _ c.self.inside.holder c.args.l c.in-Some.k c.args.job c.self.invariant c.new.ensures.verified c.new.ensures.shaped c.new.ensures.base
     (subst (λ (x : CoreView). load_fault_at x c.args.l c.args.job ≡ None) (sym c.self.view_is) c.requires)
     (subst (λ (x : CoreView). Some c.in-Some.k ≡ place_of x c.args.l) (sym c.self.view_is) c.in-Some.ensures.value)
     (refilled (length c.self.inside.slots.items) c.self.inside.slots.items c.put_in.new.slots (c.put_in.auto.slots ∙ ap length c.as_mut_slice.ensures.value) refl ∙
