@@ -1,6 +1,7 @@
 pub mod World
 pub mod Event
 pub mod Reply
+pub mod Names
 pub mod After
 pub mod Lawful
 pub mod Headline

@@ -1,4 +1,6 @@
 //! What loads, steps and unloads are answered.
+ghost use Rattle.std.specs.Prelude.{◌≡◌};
+ghost use Rattle.seq_core.specs.Names.{step_name};
 
 use std::fmt;
 use thiserror::Error;
@@ -43,16 +45,29 @@ pub enum Stepped {
     Went,
 }
 
-impl fmt::Display for Stepped {
-    fn fmt<W: fmt::Write>(&self, f: &mut fmt::Formatter<W>) -> fmt::Result {
-        f.write_str(match self {
+impl Stepped {
+    // How it is shown.
+    fn name(self) -> &'static str
+        ensures { result.now ≡ step_name self }
+    {
+        match self {
             Stepped::Empty => "empty",
             Stepped::Ended => "ended",
             Stepped::Held => "held",
             Stepped::HandedOver => "handed over",
             Stepped::NotReady => "not ready",
             Stepped::Went => "went",
-        })
+        }
+    }
+}
+
+impl fmt::Display for Stepped {
+    ghost use Rattle.std.specs.Prelude.{Some};
+
+    ghost output = { λ answer. Some (step_name answer) };
+
+    fn fmt<W: fmt::Write>(&self, f: &mut fmt::Formatter<W>) -> fmt::Result {
+        f.write_str(self.name())
     }
 }
 
