@@ -4,11 +4,8 @@ use Rattle.std.specs.List.{slice_get}
 use Rattle.micro_word.specs.declared.word.Word.{Word}
 use Rattle.micro_word.specs.declared.word.Word.TheVariants.{BranchOnStatus, Loop, Next, Jump}
 use Rattle.micro_verify.specs.Lines.{Line, Unrolling, word_before, unrolling, leads_on, all_lead_on}
+use Rattle.micro_verify.proofs.Basics.{and_parts}
 use Rattle.micro_verify.specs.Places.{from_word, FitsAt, IsShaped}
-
-both : (a b : Bool) → (a && b) ≡ true → (a ≡ true) × (b ≡ true)
-both true b h = (refl, h)
-both false b h = cc
 
 outer_before : (line : Line) (u : Unrolling) (word : Word) → leads_on word ≡ true → (word_before line u word).outer ≡ u.outer
 outer_before line u (BranchOnStatus mask target) h = cc
@@ -20,13 +17,13 @@ outer_before line u _ h = refl
 no_outer : (words : List Word) (at : ℕ) → all_lead_on words ≡ true → (unrolling words at).outer ≡ []
 no_outer [] at h = refl
 no_outer (word ∷ words) at h =
-    let parts = both (leads_on word) (all_lead_on words) h in
+    let parts = and_parts (leads_on word) (all_lead_on words) h in
     outer_before (record { at = at; word = word }) (unrolling words (at + 1)) word parts.0 ∙ no_outer words (at + 1) parts.1
 
 leading_drop : (words : List Word) (at : ℕ) → all_lead_on words ≡ true → all_lead_on (drop at words) ≡ true
 leading_drop words zero h = h
 leading_drop [] (suc at) h = refl
-leading_drop (word ∷ words) (suc at) h = leading_drop words at (both (leads_on word) (all_lead_on words) h).1
+leading_drop (word ∷ words) (suc at) h = leading_drop words at (and_parts (leads_on word) (all_lead_on words) h).1
 
 shallow : (words : List Word) (at : ℕ) → all_lead_on words ≡ true → length (from_word words at).outer ≤ 2
 shallow words at h =
@@ -37,8 +34,8 @@ word_leads : (words : List Word) (at : ℕ) (word : Word) → all_lead_on words 
 word_leads [] at word h e = absurd cc
 word_leads (first ∷ words) zero word h e =
     let same : first ≡ word = cc in
-    subst (λ (w : Word). leads_on w ≡ true) same (both (leads_on first) (all_lead_on words) h).0
-word_leads (first ∷ words) (suc at) word h e = word_leads words at word (both (leads_on first) (all_lead_on words) h).1 e
+    subst (λ (w : Word). leads_on w ≡ true) same (and_parts (leads_on first) (all_lead_on words) h).0
+word_leads (first ∷ words) (suc at) word h e = word_leads words at word (and_parts (leads_on first) (all_lead_on words) h).1 e
 
 fits_leading : (words : List Word) (at : ℕ) (word : Word) → leads_on word ≡ true → FitsAt words at word
 fits_leading words at (BranchOnStatus mask target) h = absurd cc

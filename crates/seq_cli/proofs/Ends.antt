@@ -26,6 +26,7 @@ use Rattle.seq_core.specs.Calls.{Came, IsEvent}
 use Rattle.seq_core.specs.Alone.{HasEndedAlone, alone_on}
 use Rattle.seq_core.proofs.Main.{fresh_is_lawful}
 use Rattle.seq_core.proofs.Alone.{alone_programs_end}
+use Rattle.seq_core.proofs.Calls.{some_same}
 use Rattle.seq_cli.specs.Once.{one_lun, the_lun, the_channel}
 use Rattle.seq_cli.specs.Runs.{IsForTheLun, IsLoaded, RanAlone, EndsWithin, HasRun}
 
@@ -56,9 +57,6 @@ behind_load j = record { world = loaded_world j; reply = ToLoad Loaded }
 
 load_is : (j : Job) → IsForTheLun j → after the_channel (fresh the_channel) (Load the_lun j) ≡ Some (behind_load j)
 load_is j h = ap (λ (o : Option LoadFault). Some (after_load the_channel (fresh the_channel) the_lun j o)) (no_fault j h)
-
-some_same : (a b : After) → Some a ≡ Some b → a ≡ b
-some_same a b e = cc
 
 -- the event of the fresh world that a call was
 came : (c later : CoreView) (j : Job) (reply : Reply) → channel_in c ≡ the_channel → IsAt c (fresh the_channel) → IsEvent c (Load the_lun j) reply later → Came c (fresh the_channel) (Load the_lun j) reply later

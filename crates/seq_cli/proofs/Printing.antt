@@ -14,12 +14,8 @@ use Rattle.onfi_cycle.specs.Sequence.{target_of, tail, facts_of}
 use Rattle.onfi_cycle.specs.Lun.{lun_view, luns_of}
 use Rattle.onfi_cycle.specs.Permitted.{judge_item, is_permitted, is_legal}
 use Rattle.trace_text.specs.Line.{IsPrintable}
+use Rattle.seq_core.proofs.Below.{and_parts}
 use Rattle.seq_cli.specs.Once.{one_lun}
-
-both : (a b : Bool) → (a && b) ≡ true → (a ≡ true) × (b ≡ true)
-both true true e = (refl, refl)
-both true false e = absurd cc
-both false b e = absurd cc
 
 neither : (a b : Bool) → (a || b) ≡ false → (a ≡ false) × (b ≡ false)
 neither false false e = (refl, refl)
@@ -52,5 +48,5 @@ permitted_is_printable past i h =
 pub legal_is_printable : (past : List Item) → is_legal one_lun 1 past ≡ true → All IsPrintable (reverse past)
 legal_is_printable [] h = All-from_recursion IsPrintable [] tt
 legal_is_printable (i ∷ past) h =
-    let k = both (is_permitted one_lun 1 past i) (is_legal one_lun 1 past) h in
+    let k = and_parts (is_permitted one_lun 1 past i) (is_legal one_lun 1 past) h in
     subst (All IsPrintable) (sym (reverse-append (i ∷ []) past)) (All-push IsPrintable (reverse past) i (legal_is_printable past k.1) (permitted_is_printable past i k.0))

@@ -4,7 +4,6 @@ ghost use Rattle.std.specs.Option.{option_map};
 ghost use Rattle.seq_cli.specs.Exits.{status, message, exit_of};
 
 use crate::fault::StreamFault;
-use std::alloc::AllocError;
 
 /// How a run of the program ends, where its command line could be read.
 #[derive(Clone, Copy, Debug, PartialEq, Eq)]
@@ -52,15 +51,5 @@ impl From<StreamFault> for Exit {
             StreamFault::Fault => Exit::FileFault,
             StreamFault::OutOfMemory => Exit::OutOfMemory,
         }
-    }
-}
-
-impl From<AllocError> for Exit {
-    ghost use Rattle.seq_cli.specs.declared.exit.Exit.TheVariants.{OutOfMemory};
-
-    ghost from_gives = { λ _ exit. exit ≡ OutOfMemory };
-
-    fn from(_error: AllocError) -> Exit {
-        Exit::OutOfMemory
     }
 }
