@@ -32,11 +32,17 @@ pub fn own_cycles_pass_others()
     ensures { OwnCyclesPassOthers }
 {}
 
-ghost use Rattle.micro_verify.specs.Erase.{EraseIsSafe};
+ghost use Rattle.micro_verify.specs.Erase.{EraseIsSafe, ErasesAreAccepted};
 
 /// An erase of one block is safe on every geometry, and among whatever other LUNs do.
 pub fn erase_is_safe()
     ensures { EraseIsSafe }
+{}
+
+/// A text of erases, with a `wait` after each and `end 0` behind them, is accepted on every geometry, however many there are, with
+/// a budget of five cycles for each.
+pub fn erases_are_accepted()
+    ensures { ErasesAreAccepted }
 {}
 
 ghost use Rattle.micro_verify.specs.Unsafe.{SomeAreUnsafe};

@@ -11,8 +11,8 @@ use Rattle.micro_verify.specs.Actions.{WalkGivesActs}
 use Rattle.micro_verify.proofs.Acts.{walk_gives_acts}
 use Rattle.micro_verify.specs.Erase.{EraseIsSafe}
 use Rattle.micro_verify.proofs.Erase.{erase_is_safe}
-use Rattle.micro_verify.specs.Moves.{BufferKeepsLength}
-use Rattle.micro_verify.proofs.Costs.{buffer_len}
+use Rattle.micro_verify.specs.Moves.{BufferKeepsLength, CostsCountMoves}
+use Rattle.micro_verify.proofs.Costs.{buffer_len, cost_is}
 pub use Rattle.micro_verify.proofs.Tracking.{StepParts, step_parts}
 pub use Rattle.micro_verify.proofs.Basics.{and_parts, and_true, eqb_self, there_lun}
 
@@ -36,6 +36,9 @@ erase_safe = erase_is_safe
 
 pub keeps_length : BufferKeepsLength
 keeps_length = buffer_len
+
+pub costs_count : CostsCountMoves
+costs_count = cost_is
 
 pub unready_busy : UnreadyIsBusy
 unready_busy = unready_is_busy

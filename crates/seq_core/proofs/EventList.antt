@@ -1,5 +1,5 @@
 -- Lists of events: the run of those done, one event more at its end.
-use Rattle.std.proofs.Common.{◌≡◌, ℕ, ◌-◌, true, take, List, [], ◌∷◌, ◌++◌, Option, Some, None, Result, Ok, Err, IfOk, IfErr, map, reverse, refl, sym, ap, ◌∙◌, subst}
+use Rattle.std.proofs.Common.{◌≡◌, ℕ, ◌-◌, take, List, [], ◌∷◌, ◌++◌, Option, Some, None, Result, Ok, Err, IfOk, IfErr, map, reverse, refl, sym, ap, ◌∙◌, subst}
 use Rattle.std.proofs.lemmas.List.{map-append, append-nil, append_assoc, reverse-append, reverse-reverse}
 use Rattle.onfi_cycle.specs.declared.Lun.{Lun}
 use Rattle.onfi_cycle.specs.Channel.{Channel}
@@ -18,8 +18,9 @@ use Rattle.seq_core.specs.Lawful.{LawfulWorld}
 use Rattle.seq_core.specs.Shows.{CoreView, IsAt, channel_in}
 use Rattle.seq_core.specs.Headline.{AddsItsOwn, EventsAreOwn, GoesWell}
 use Rattle.seq_core.specs.Calls.{IsEvent}
-use Rattle.seq_core.specs.EventList.{IsRun, DidEvents, event_of, reply_of, loading_of, unloading_of, is_step, stops_at_step, stops_after}
+use Rattle.seq_core.specs.EventList.{IsRun, DidEvents, event_of, reply_of, loading_of, unloading_of, WantsMemory, StopsAt, LeftFor, shortage_of}
 use Rattle.seq_core.proofs.Main.{fresh_is_lawful, lawful_slot}
+use Rattle.seq_core.proofs.Making.{runs_as_told}
 
 same_ran : (r q : Ran) → Some r ≡ Some q → r ≡ q
 same_ran r q e = cc
@@ -80,6 +81,7 @@ run_goes_well c later events replies is at =
       own = r.own;
       within = λ l x e. (lawful_slot s r.ran.world r.lawful l x e).within;
       text = λ l x e. (lawful_slot s r.ran.world r.lawful l x e).text;
+      cycles = runs_as_told s events r.ran r.is_ran (λ l x e. (lawful_slot s r.ran.world r.lawful l x e).within);
       lawful = r.lawful;
     }
 
@@ -129,17 +131,19 @@ unload_answered c later l (Ok done) ok err = ok
 unload_answered c later l (Err fault) ok err = err.1
 
 -- the event that wanted memory comes first again
-pub stops_there : {A : Type 0} (left again : List (Asked A)) (undone : Asked A) → again ≡ left ++ (undone ∷ []) → is_step undone ≡ true → stops_at_step (reverse again) ≡ true
-stops_there {A} left again undone is step =
-    ap (λ (x : List (Asked A)). stops_at_step (reverse x)) is ∙ (ap stops_at_step (reverse-append left (undone ∷ [])) ∙ step)
+pub stops_there : {A : Type 0} (before after : CoreView) (left again : List (Asked A)) (undone : Asked A) → again ≡ left ++ (undone ∷ []) → after ≡ before → WantsMemory before undone → StopsAt after (reverse again)
+stops_there {A} before after left again undone is same wants =
+    let turned : reverse again ≡ undone ∷ reverse left = ap reverse is ∙ reverse-append left (undone ∷ []) in
+    subst (λ (x : List (Asked A)). StopsAt after x) (sym turned) (subst (λ (c : CoreView). WantsMemory c undone) (sym same) wants)
 
-pub stops_at_end : {A : Type 0} (todo left : List (Asked A)) (n : ℕ) → left ≡ take (n - 1) todo → n ≡ 0 → stops_at_step (reverse left) ≡ true
-stops_at_end {A} todo left n is none =
-    ap (λ (x : List (Asked A)). stops_at_step (reverse x)) (is ∙ ap (λ (m : ℕ). take (m - 1) todo) none)
+pub stops_at_end : {A : Type 0} (c : CoreView) (todo left : List (Asked A)) (n : ℕ) → left ≡ take (n - 1) todo → n ≡ 0 → StopsAt c (reverse left)
+stops_at_end {A} c todo left n is none =
+    subst (λ (x : List (Asked A)). StopsAt c (reverse x)) (sym (is ∙ ap (λ (m : ℕ). take (m - 1) todo) none)) tt
 
-pub stops_behind : {A : Type 0} (replies : List (Answered A)) (rest : List (Asked A)) → stops_at_step rest ≡ true → stops_after replies rest ≡ true
-stops_behind [] rest h = refl
-stops_behind (reply ∷ replies) rest h = h
+pub stops_turned : {A : Type 0} (c : CoreView) (left rest : List (Asked A)) → StopsAt c (reverse left) → rest ≡ reverse left → StopsAt c rest
+stops_turned {A} c left rest h is = subst (λ (x : List (Asked A)). StopsAt c x) (sym is) h
 
-pub stops_before : {A : Type 0} (replies : List (Answered A)) (rest : List (Asked A)) → replies ≡ [] → stops_after replies rest ≡ true
-stops_before replies rest none = ap (λ (x : List (Answered _)). stops_after x rest) none
+-- what is left is short of a step's memory
+pub left_for : {A : Type 0} (old new : CoreView) (events rest : List (Asked A)) (replies : List (Answered A)) → StopsAt new rest → LeftFor old new events replies rest (shortage_of rest)
+left_for old new events [] replies h = refl
+left_for old new events (e ∷ rest) replies h = h

@@ -20,6 +20,7 @@ use Rattle.seq_core.specs.Reply.{Reply, ToStep}
 use Rattle.seq_core.specs.After.{After, is_held, stands, after_stride, after_slot_step, after_step, after_item}
 use Rattle.seq_core.specs.Lawful.{IsWithin, DoesItsText, HasSeat, LawfulSlot, LawfulAt, has_bus, has_bus_on, LawfulWorld}
 use Rattle.seq_core.proofs.Below.{facts, readies_leave, fine_steps, own_cycles_pass, walk_gives}
+use Rattle.seq_core.proofs.Buffers.{step_keeps}
 use Rattle.seq_core.proofs.Texts.{ended_text}
 use Rattle.seq_core.proofs.Slots.{same_lun_is, same_lun_self, slot_same, slot_other, there_of_slot}
 
@@ -128,7 +129,7 @@ strides s is w law j (line ∷ rest) done there free made safe within reach fine
     own_slot : LawfulAt s f.r.past (has_bus holder j.lun) j.lun (Some x)
     own_slot =
         subst (λ (b : Bool). LawfulSlot s f.r.past b j.lun x) (sym (new_bus (keeps_bus f.r.outcome) j.lun))
-        (record { lun = refl; made = made; safe = safe; within = record { inside = f.inside within.inside; budget = f.budget within.budget }; text = text f.r.code refl; seat = here f.r.code refl })
+        (record { lun = refl; made = made; safe = safe; within = record { inside = f.inside within.inside; others = step_keeps s j w.past line rest done f.r f.is_r within.others; budget = f.budget within.budget }; text = text f.r.code refl; seat = here f.r.code refl })
 
     at_lun : (m : Lun) → is_there s m ≡ true → (b : Bool) → same_lun j.lun m ≡ b → LawfulAt s f.r.past (has_bus holder m) m (slot_of s (after_stride s w j.lun j f.r).world m)
     at_lun m m_there true e =

@@ -73,7 +73,7 @@ empty_slot : (o : Option Slot) → is_some o ≡ false → o ≡ None
 empty_slot None h = refl
 empty_slot (Some x) h = cc
 
-loadable : (s : Channel) (w : World) (l : Lun) (j : Job) → load_fault s w l j ≡ None → Loadable s w l j
+pub loadable : (s : Channel) (w : World) (l : Lun) (j : Job) → load_fault s w l j ≡ None → Loadable s w l j
 loadable s w l j h = at (is_some (slot_of s w l)) (is_there s l && same_lun l j.lun) (same_parts s.geometry j.geometry) refl refl refl h
   where
     at : (a b c : Bool) → is_some (slot_of s w l) ≡ a → (is_there s l && same_lun l j.lun) ≡ b → same_parts s.geometry j.geometry ≡ c → cond a (Some S1) (cond (not b) (Some S2) (cond (not c) (Some S5) None)) ≡ None → Loadable s w l j
@@ -96,7 +96,7 @@ load_lawful s is w l j None law v h =
       lun = sym k.lun;
       made = v.made;
       safe = v.safe s j (record { is_channel = is; of_channel = k.geometry; of_geometry = refl; of_text = refl; there = there; made = v.made });
-      within = record { inside = refl; budget = omega arith };
+      within = record { inside = refl; others = record { size = refl; bytes = λ k h. refl }; budget = omega arith };
       text = λ more. refl;
       seat = subst (λ (b : Bool). HasSeat s w.past b (fresh_slot j) None) (sym before.1) (starts w.past law.legal idle);
     })

@@ -17,6 +17,7 @@ use Rattle.seq_core.specs.Headline.{EventsGoWell, HoldersGoOn, AddsAtMost, Fresh
 use Rattle.seq_core.proofs.Slots.{same_lun_self, none_of_fresh, there_of_slot}
 use Rattle.seq_core.proofs.Events.{item_lawful, step_lawful}
 use Rattle.seq_core.proofs.Loads.{load_lawful, unload_lawful}
+use Rattle.seq_core.proofs.Making.{runs_as_told}
 
 load_adds : (s : Channel) (w : World) (l : Lun) (j : Job) (fault : Option LoadFault) → (after_load s w l j fault).world.past ≡ w.past
 load_adds s w l j None = refl
@@ -47,13 +48,13 @@ events_go_well s w (Unload l) is law v =
     record { then = _; is_then = refl; own = unload_adds s w l (slot_of s w l); lawful = unload_lawful s w l (slot_of s w l) law refl }
 
 -- a run from a lawful world
-record RunGoesWell (s : Channel) (events : List Event) (w : World) : Type 0 where
-  ran : Ran
-  is_ran : run s events w ≡ Some ran
-  own : EventsAreOwn s events w
-  lawful : LawfulWorld s ran.world
+pub record RunGoesWell (s : Channel) (events : List Event) (w : World) : Type 0 where
+  pub ran : Ran
+  pub is_ran : run s events w ≡ Some ran
+  pub own : EventsAreOwn s events w
+  pub lawful : LawfulWorld s ran.world
 
-run_goes_well : (s : Channel) → IsChannel s → (events : List Event) (w : World) → LawfulWorld s w → AllLoadVerified events → RunGoesWell s events w
+pub run_goes_well : (s : Channel) → IsChannel s → (events : List Event) (w : World) → LawfulWorld s w → AllLoadVerified events → RunGoesWell s events w
 run_goes_well s is [] w law v = record { ran = record { world = w; replies = [] }; is_ran = refl; own = tt; lawful = law }
 run_goes_well s is (e ∷ events) w law v =
     let a = events_go_well s w e is law v.0 in
@@ -102,5 +103,6 @@ headline s events is v =
       own = r.own;
       within = λ l x e. (lawful_slot s r.ran.world r.lawful l x e).within;
       text = λ l x e. (lawful_slot s r.ran.world r.lawful l x e).text;
+      cycles = runs_as_told s events r.ran r.is_ran (λ l x e. (lawful_slot s r.ran.world r.lawful l x e).within);
       lawful = r.lawful;
     }

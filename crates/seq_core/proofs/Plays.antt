@@ -23,14 +23,14 @@ same_played past later bytes more h =
     record { same_past = ap (λ (p : Played). p.past) same; same_bytes = ap (λ (p : Played). p.bytes) same }
 
 -- an output that was played
-record TookByte (s : Channel) (ce : ℕ) (rest : List Move) (past later : List Item) (bytes : List ℕ) : Type 0 where
-  byte : ℕ
-  is_byte : bus_byte s past ce ≡ Some byte
-  more : List ℕ
-  plays : Plays s ce rest (cycle ce Dout byte ∷ past) later more
-  bytes_are : byte ∷ more ≡ bytes
+pub record TookByte (s : Channel) (ce : ℕ) (rest : List Move) (past later : List Item) (bytes : List ℕ) : Type 0 where
+  pub byte : ℕ
+  pub is_byte : bus_byte s past ce ≡ Some byte
+  pub more : List ℕ
+  pub plays : Plays s ce rest (cycle ce Dout byte ∷ past) later more
+  pub bytes_are : byte ∷ more ≡ bytes
 
-took : (s : Channel) (ce : ℕ) (rest : List Move) (past later : List Item) (bytes : List ℕ) → Plays s ce (Take ∷ rest) past later bytes → TookByte s ce rest past later bytes
+pub took : (s : Channel) (ce : ℕ) (rest : List Move) (past later : List Item) (bytes : List ℕ) → Plays s ce (Take ∷ rest) past later bytes → TookByte s ce rest past later bytes
 took s ce rest past later bytes e = at (bus_byte s past ce) refl e
   where
     behind : (byte : ℕ) (o : Option Played) → bus_byte s past ce ≡ Some byte → played s ce rest (cycle ce Dout byte ∷ past) ≡ o → and_then o (with_byte byte) ≡ Some (record { past = later; bytes = bytes }) → TookByte s ce rest past later bytes

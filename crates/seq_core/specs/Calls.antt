@@ -17,7 +17,7 @@ use Rattle.seq_core.specs.declared.registers.Registers.{Registers}
 use Rattle.seq_core.specs.World.{World, number}
 use Rattle.seq_core.specs.Event.{Event}
 use Rattle.seq_core.specs.Reply.{Reply}
-use Rattle.seq_core.specs.After.{After, after, same_parts}
+use Rattle.seq_core.specs.After.{After, after, is_held, same_parts}
 use Rattle.seq_core.specs.Lawful.{LawfulWorld}
 use Rattle.seq_core.specs.Headline.{AddsItsOwn}
 use Rattle.seq_core.specs.Loops.{loops_behind}
@@ -125,3 +125,8 @@ abbrev pub all_are_empty : List (Option Progress) → Bool
 all_are_empty [] = true
 all_are_empty (None ∷ slots) = all_are_empty slots
 all_are_empty (Some v ∷ slots) = false
+
+-- a LUN has a program that goes on, and no other LUN has the bus: its next word can be stepped
+pub record CanGoOn (c : CoreView) (l : Lun) : Type 0 where
+  pub running : Some None ≡ slot_code (slot_at c l)
+  pub free : is_held c.holder l ≡ false

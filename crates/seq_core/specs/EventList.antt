@@ -1,5 +1,5 @@
 -- What doing a list of events is: the run of the events that were done.
-use Rattle.std.specs.Prelude.{◌≡◌, Bool, true, false, List, [], ◌∷◌, ◌++◌, map, Result, Ok, Err, Some}
+use Rattle.std.specs.Prelude.{◌≡◌, List, [], ◌∷◌, ◌++◌, map, Result, Ok, Err, Option, Some, None}
 use Rattle.micro_verify.specs.Program.{Job}
 use Rattle.seq_core.specs.declared.answers.LoadFault.{LoadFault}
 use Rattle.seq_core.specs.declared.answers.UnloadFault.{UnloadFault}
@@ -8,6 +8,8 @@ use Rattle.seq_core.specs.declared.event_list.Event.{Event as Asked}
 use Rattle.seq_core.specs.declared.event_list.Event.TheVariants.{Load as AskLoad, Step as AskStep, Ready as AskReady, ArrayReady as AskArrayReady, Unload as AskUnload}
 use Rattle.seq_core.specs.declared.event_list.Reply.{Reply as Answered}
 use Rattle.seq_core.specs.declared.event_list.Reply.TheVariants.{Load as OfLoad, Step as OfStep, Ready as OfReady, ArrayReady as OfArrayReady, Unload as OfUnload}
+use Rattle.seq_core.specs.declared.event_list.Shortage.{Shortage}
+use Rattle.seq_core.specs.declared.event_list.Shortage.TheVariants.{ForReplies, ForStep}
 use Rattle.seq_core.specs.World.{World, fresh}
 use Rattle.seq_core.specs.Event.{Event, Load, Step, Ready, ArrayReady, Unload}
 use Rattle.seq_core.specs.Reply.{Reply, Loading, Unloading, ToLoad, ToStep, ToReady, ToArrayReady, ToUnload, Loaded, NotLoaded, Unloaded, NotUnloaded}
@@ -15,6 +17,7 @@ use Rattle.seq_core.specs.After.{Ran, run}
 use Rattle.seq_core.specs.Lawful.{LawfulWorld}
 use Rattle.seq_core.specs.Shows.{CoreView, IsAt, channel_in}
 use Rattle.seq_core.specs.Headline.{EventsAreOwn, GoesWell}
+use Rattle.seq_core.specs.Calls.{CanGoOn}
 
 -- the event that is asked for
 abbrev pub event_of : {A : Type 0} → Asked A → Event
@@ -62,17 +65,29 @@ pub record DidEvents {A : Type 0} (c : CoreView) (events : List (Asked A)) (repl
   pub is_run : IsRun c (map event_of done) (map reply_of replies) later
   pub goes_well : IsAt c (fresh (channel_in c)) → GoesWell (channel_in c) (map event_of done)
 
--- a step is the one event that wants memory
-abbrev pub is_step : {A : Type 0} → Asked A → Bool
-is_step (AskStep l) = true
-is_step _ = false
+-- an event that wants memory: the step of a LUN whose program goes on, while no other LUN has the bus
+abbrev pub WantsMemory : {A : Type 0} → CoreView → Asked A → Type 0
+WantsMemory c (AskStep l) = CanGoOn c l
+WantsMemory c _ = ⊥
 
--- all were done, or those that weren't begin with a step
-abbrev pub stops_at_step : {A : Type 0} → List (Asked A) → Bool
-stops_at_step [] = true
-stops_at_step (e ∷ events) = is_step e
+-- all were done, or the first that wasn't wants memory
+abbrev pub StopsAt : {A : Type 0} → CoreView → List (Asked A) → Type 0
+StopsAt c [] = Unit {0}
+StopsAt c (e ∷ events) = WantsMemory c e
 
--- the same, where some were answered
-abbrev pub stops_after : {A : Type 0} → List (Answered A) → List (Asked A) → Bool
-stops_after [] rest = true
-stops_after (reply ∷ replies) rest = stops_at_step rest
+-- what there was no memory for, if the first of these events wanted some
+abbrev pub shortage_of : {A : Type 0} → List (Asked A) → Option Shortage
+shortage_of [] = None
+shortage_of (e ∷ events) = Some ForStep
+
+-- some are left, and the first of them wants memory
+abbrev pub WaitsAt : {A : Type 0} → CoreView → List (Asked A) → Type 0
+WaitsAt c [] = ⊥
+WaitsAt c (e ∷ events) = WantsMemory c e
+
+-- what the events that are left are short of: nothing is left; or there was no memory for the replies, and nothing was done; or there
+-- is none for the step that comes first
+abbrev pub LeftFor : {A : Type 0} → (old new : CoreView) → (events : List (Asked A)) → List (Answered A) → (rest : List (Asked A)) → Option Shortage → Type 0
+LeftFor old new events replies rest None = rest ≡ []
+LeftFor old new events replies rest (Some ForReplies) = (new ≡ old) × (replies ≡ []) × (rest ≡ events)
+LeftFor old new events replies rest (Some ForStep) = WaitsAt new rest

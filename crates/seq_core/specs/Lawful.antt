@@ -5,14 +5,16 @@ use Rattle.onfi_cycle.specs.declared.Item.{Item}
 use Rattle.onfi_cycle.specs.Permitted.{is_legal}
 use Rattle.onfi_cycle.specs.Channel.{Channel, IsIdle, is_there, is_open_on, same_lun}
 use Rattle.micro_word.specs.declared.word.Word.TheVariants.{End}
-use Rattle.micro_verify.specs.Program.{Done, Answer, Nothing, all_fit, cost_now}
+use Rattle.micro_verify.specs.Program.{Done, Answer, Nothing, buffer_now, all_fit, cost_now}
 use Rattle.micro_verify.specs.Actions.{acts, acts_from, answers_of, actions_of}
 use Rattle.micro_verify.specs.Safe.{Reaches, IsMade, StaysFine}
 use Rattle.seq_core.specs.World.{Slot, World, slot_of}
+use Rattle.seq_core.specs.Buffer.{KeepsOthers}
 
--- the program of a slot has stayed inside its buffer and its budget
+-- the program of a slot has stayed inside its buffer, of which it has changed nothing but what its `get`s fill, and inside its budget
 pub record IsWithin (s : Channel) (x : Slot) : Type 0 where
   pub inside : all_fit x.job.text.buffer x.done ≡ true
+  pub others : KeepsOthers x.done x.job.buffer (buffer_now x.job.buffer x.done)
   pub budget : cost_now s.geometry x.done ≤ x.job.text.budget
 
 -- a program that goes on is at a seat that its job reaches; where it has ended its LUN is idle and hasn't the bus

@@ -3,6 +3,8 @@ pub mod Event
 pub mod Reply
 pub mod Names
 pub mod After
+pub mod Buffer
+pub mod Made
 pub mod Lawful
 pub mod Headline
 pub mod Loops

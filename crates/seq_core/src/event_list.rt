@@ -1,8 +1,8 @@
 //! Lists of events: a sequencer does them one after another.
-ghost use Rattle.std.specs.Prelude.{◌≡◌, ◌+◌, ◌≤◌, true, [], IfOk, IfErr, reverse};
+ghost use Rattle.std.specs.Prelude.{◌≡◌, ◌+◌, ◌≤◌, [], IfOk, IfErr, reverse};
 ghost use Rattle.std.specs.Vec.{vec_len, vec_capacity};
 ghost use Rattle.seq_core.specs.Calls.{IsEvent};
-ghost use Rattle.seq_core.specs.EventList.{event_of, reply_of, is_step, stops_at_step, stops_after, DidEvents};
+ghost use Rattle.seq_core.specs.EventList.{event_of, reply_of, WantsMemory, StopsAt, LeftFor, DidEvents, shortage_of};
 
 use crate::answers::{LoadFault, Stepped, UnloadFault};
 use crate::job::Job;
@@ -40,20 +40,32 @@ pub enum Reply<A: Allocator = Global> {
     Unload(Result<Done<A>, UnloadFault>),
 }
 
+/// What there was no memory for, where a list of events wasn't done to its end.
+#[derive(Clone, Copy, Debug, PartialEq, Eq)]
+pub enum Shortage {
+    /// The replies: no event was done.
+    ForReplies,
+    /// The step that comes first among the events that are left.
+    ForStep,
+}
+
 /// What came of a list of events.
 #[derive(Drop)]
 pub struct Ran<A: Allocator> {
     /// The reply of each event that was done.
     pub replies: Vec<Reply<A>, A>,
-    /// The events that weren't done for want of memory, in order.
+    /// The events that weren't done, for want of memory, in order.
     pub rest: Vec<Event<A>, A>,
+    /// What memory was wanted for, None where all were done.
+    pub shortage: Option<Shortage>,
 }
 
-/// Does an event. Without memory for it the event, a step, is handed back, and all stays as it was.
+/// Does an event. Without memory for it the event is handed back, and all stays as it was: it is the step of a LUN whose program
+/// goes on, while no other LUN has the bus.
 pub fn do_event<A: Allocator>(core: &mut Core<A>, event: Event<A>) -> Result<Reply<A>, Event<A>>
     ensures ok { IfOk result (λ reply. IsEvent core.old (event_of event) (reply_of reply) core.new) }
     ensures err { IfErr result (λ undone. (undone ≡ event) × (core.new ≡ core.old)) }
-    ensures memory { IfErr result (λ undone. is_step undone ≡ true) }
+    ensures memory { IfErr result (λ undone. WantsMemory core.old undone) }
 {
     match event {
         Event::Load(l, job) => Ok(Reply::Load(core.load(l, job))),
@@ -76,7 +88,7 @@ fn do_from_end<A: Allocator>(
     requires none { replies.old.items ≡ [] }
     requires room { vec_len replies.old + vec_len todo.old ≤ vec_capacity replies.old }
     ensures did { DidEvents core.old (reverse todo.old.items) replies.new.items (reverse todo.new.items) core.new }
-    ensures stops { stops_at_step (reverse todo.new.items) ≡ true }
+    ensures stops { StopsAt core.new (reverse todo.new.items) }
 {
     while let Some(event) = todo.pop() {
         match do_event(core, event) {
@@ -98,26 +110,46 @@ fn do_in_order<A: Allocator>(
     requires none { replies.old.items ≡ [] }
     requires room { vec_len replies.old + vec_len todo.old ≤ vec_capacity replies.old }
     ensures did { DidEvents core.old todo.old.items replies.new.items todo.new.items core.new }
-    ensures stops { stops_at_step todo.new.items ≡ true }
+    ensures stops { StopsAt core.new todo.new.items }
 {
     todo.reverse();
     do_from_end(core, replies, todo);
     todo.reverse();
 }
 
-/// Does events one after another. Where a step wants memory that isn't there, it and those behind it are handed back as
-/// `rest`, and so are all of them without memory for the replies. Those that were done are a run (`DidEvents`).
+// What there was no memory for, if the first of these events wanted some.
+fn shortage_of<A: Allocator>(rest: &[Event<A>]) -> Option<Shortage>
+    ensures { result ≡ shortage_of rest.now }
+{
+    match rest {
+        [] => None,
+        _ => Some(Shortage::ForStep),
+    }
+}
+
+/// Does events one after another. Where a step wants memory that isn't there, it and those after it are handed back as
+/// `rest`; without memory for the replies all are, and nothing was done. `shortage` tells which. Those that were done are a run
+/// (`DidEvents`).
 pub fn run_events<A: Allocator>(core: &mut Core<A>, alloc: A, events: Vec<Event<A>, A>) -> Ran<A>
     ensures did { DidEvents core.old events.items result.replies.items result.rest.items core.new }
-    ensures stops { stops_after result.replies.items result.rest.items ≡ true }
+    ensures left { LeftFor core.old core.new events.items result.replies.items result.rest.items result.shortage }
 {
     let mut replies = Vec::new(alloc);
     let mut rest = events;
     match replies.reserve(rest.len()) {
         Ok(()) => {
             do_in_order(core, &mut replies, &mut rest);
-            Ran { replies, rest }
+            let shortage = shortage_of(rest.as_slice());
+            Ran {
+                replies,
+                rest,
+                shortage,
+            }
         }
-        Err(_) => Ran { replies, rest },
+        Err(_) => Ran {
+            replies,
+            rest,
+            shortage: Some(Shortage::ForReplies),
+        },
     }
 }

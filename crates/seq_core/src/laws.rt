@@ -1,6 +1,6 @@
 //! What always holds of a channel that runs programs: each function here does nothing, and its contract is a law.
 
-ghost use Rattle.seq_core.specs.Headline.{RefusalsChangeNothing, FreshIsLawful, EventsGoWell, HoldersGoOn, Headline};
+ghost use Rattle.seq_core.specs.Headline.{RefusalsChangeNothing, FreshIsLawful, EventsGoWell, HoldersGoOn, Headline, BeginningsGoWell, UnloadsGiveBack};
 
 /// A load, a ready, an array ready or an unload that is refused, and a step that finds no job or another slot with the
 /// bus, changes nothing.
@@ -36,8 +36,23 @@ pub fn alone_programs_end()
 /// loads, steps, readies, array readies and unloads in every interleaving, if each job that it loads is verified: the
 /// run is defined (each output has a byte), and its trace is legal. What a step adds to the trace are permitted cycles
 /// of its LUN alone: their rows name that LUN, and that LUN is the one driver of their outputs. Each program is inside
-/// its buffer and its budget, and has done a beginning of what its text means, all of it if it has ended. The world is
-/// lawful.
+/// its buffer, of which it has changed nothing but what its `get`s fill, and inside its budget; it has done a beginning of
+/// what its text means, all of it if it has ended. The cycles that its steps have put into the trace since it was loaded are
+/// those of that beginning, in order, the poll of a `wait` once for each step that made it; at most budget of them are no
+/// such polls. The world is lawful.
 pub fn headline()
     ensures { Headline }
+{}
+
+/// The first events of a list go well whatever follows them, and the run of the whole list goes on from the world that they
+/// leave. So what the main theorem says of the programs at the end of a list holds of each program that was loaded, at
+/// every place of the list.
+pub fn beginnings_go_well()
+    ensures { BeginningsGoWell }
+{}
+
+/// An unload gives the job that was loaded, with the buffer as its program left it: the program has ended with this code and
+/// has done all that its text means, inside buffer and budget, and each byte that no `get` filled is as it was handed over.
+pub fn unloads_give_back()
+    ensures { UnloadsGiveBack }
 {}

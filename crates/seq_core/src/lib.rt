@@ -3,7 +3,8 @@
 //! The definitions stand in `specs/`: the slots of a channel (`World`), what happens on it and how that is answered
 //! (`Event`, `Reply`), what an event leaves and what a run comes to (`After`), what each event keeps (`Lawful`), and the
 //! laws (`Headline`), the main theorem last. They are proved as the contracts of `laws`. `Core` runs programs: each call is
-//! an event (`Calls`), and `run_events` does a list of them (`EventList`).
+//! an event (`Calls`), and `run_events` does a list of them (`EventList`). What a program does to its buffer and which cycles it
+//! makes have their own definitions (`Buffer`, `Made`).
 #![tactic(auto)]
 
 mod answers;
@@ -19,6 +20,6 @@ mod slot;
 mod tests;
 
 pub use answers::{LoadFault, Stepped, UnloadFault};
-pub use event_list::{Event, Ran, Reply, do_event, run_events};
+pub use event_list::{Event, Ran, Reply, Shortage, do_event, run_events};
 pub use job::Job;
 pub use sequencer::{Core, Done};

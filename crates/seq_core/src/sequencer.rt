@@ -10,7 +10,7 @@ ghost use Rattle.seq_core.specs.After.{is_held};
 ghost use Rattle.seq_core.specs.Lawful.{LawfulWorld};
 ghost use Rattle.seq_core.specs.Progress.{Progress};
 ghost use Rattle.seq_core.specs.Shows.{CoreView, IsAt, channel_in};
-ghost use Rattle.seq_core.specs.Calls.{IsCore, IsEvent, CanStep, Steps, slot_at, slot_code, all_are_empty, holder_after, fault_by, load_fault_at};
+ghost use Rattle.seq_core.specs.Calls.{IsCore, IsEvent, CanGoOn, CanStep, Steps, slot_at, slot_code, all_are_empty, holder_after, fault_by, load_fault_at};
 ghost use Rattle.seq_core.specs.Playing.{IsSame};
 
 use crate::answers::{LoadFault, Stepped, UnloadFault};
@@ -250,10 +250,11 @@ impl<A: Allocator> Core<A> {
     /// Steps a LUN: the next word of its program, with all its cycles. `Empty`: it has no job, or isn't there. `Ended`: the
     /// word was `end`, or the job had ended before. `Held`: another LUN has the bus. `HandedOver`: the word was `yield`, and
     /// the bus is let go. `NotReady`: the word was `wait` and its poll says busy; it comes again, and the bus is let go.
-    /// `Went`: any other word; the LUN has the bus. Without memory for it all stays as it was.
+    /// `Went`: any other word; the LUN has the bus. Without memory for it all stays as it was; that comes after every other
+    /// answer, so the program goes on and no other LUN has the bus.
     pub fn step(&mut self, l: Lun) -> Result<Stepped, AllocError>
         ensures came { IfOk result (λ answer. IsEvent self.old (Step l) (ToStep answer) self.new) }
-        ensures err { OnErr result (self.new ≡ self.old) }
+        ensures err { OnErr result ((self.new ≡ self.old) × CanGoOn self.old l) }
     {
         match self.code_at(l) {
             None => Ok(Stepped::Empty),
@@ -268,7 +269,7 @@ impl<A: Allocator> Core<A> {
         requires running { Some None ≡ slot_code (slot_at self.old l) }
         requires free { is_held self.old.holder l ≡ false }
         ensures came { IfOk result (λ answer. IsEvent self.old (Step l) (ToStep answer) self.new) }
-        ensures err { OnErr result (self.new ≡ self.old) }
+        ensures err { OnErr result ((self.new ≡ self.old) × CanGoOn self.old l) }
     {
         match self.place(l) {
             None => unreachable!(),

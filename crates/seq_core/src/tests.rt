@@ -1,12 +1,12 @@
-use crate::{Core, Done, Event, Job, LoadFault, Ran, Reply, Stepped, UnloadFault, run_events};
+use crate::{
+    Core, Done, Event, Job, LoadFault, Ran, Reply, Shortage, Stepped, UnloadFault, run_events,
+};
 use die_model::LunDie;
 use linked_list_allocator::LocalHeap;
 use micro_verify::{Verified, verify};
 use micro_word::{Text, Word};
 use nand_geometry::{Geometry, Parts};
-use onfi_cycle::effects::output_column;
-use onfi_cycle::{BusState, Cycle, Item, Kind, Latch, Lun, LunState, Register, WorkQueue};
-use onfi_lookback::past::{is_caching, lun_facts};
+use onfi_cycle::{BusState, Cycle, Item, Kind, Latch, Lun, LunState, Register};
 use std::alloc::{AllocError, Allocator, Global};
 use std::process::Abort;
 use std::test::Fail;
@@ -34,8 +34,8 @@ const TWO_LUNS: Parts = Parts {
     ..ONE_LUN
 };
 
-// The bytes of a heap that holds a sequencer, a job and a trace.
-const HEAP: usize = 2048;
+// The bytes of a heap that holds a sequencer, a job, a trace, and a list of events with its replies.
+const HEAP: usize = 8192;
 
 // The erase of a block.
 const ERASE: [Word; 5] = [
@@ -120,14 +120,11 @@ fn is_erase<A: Allocator>(done: &Done<A>, l: Lun) -> bool {
         && done.job.buffer().is_empty()
 }
 
-// The code of what is unloaded, if it is the erase on its LUN with no buffer.
-fn unloaded<A: Allocator>(core: &mut Core<A>, l: Lun) -> Result<u8, UnloadFault> {
+// The code of what is unloaded, which is the erase on its LUN with no buffer.
+fn unloaded<A: Allocator>(rt: &impl Abort, core: &mut Core<A>, l: Lun) -> Result<u8, UnloadFault> {
     let done = core.unload(l)?;
-    if is_erase(&done, l) {
-        Ok(done.code)
-    } else {
-        Ok(255)
-    }
+    assert!(rt; is_erase(&done, l));
+    Ok(done.code)
 }
 
 fn readied<A: Allocator>(core: &mut Core<A>, l: Lun, fail: bool) -> bool {
@@ -251,7 +248,7 @@ fn one_block_is_erased(rt: HostRuntime) -> Result<(), Fail> {
     assert!(rt; readied(&mut core, ZERO, false));
     end(&rt, &mut core, ZERO)?;
     assert_eq!(rt; trace_of(&core), erase_of_block_1().as_slice());
-    assert_eq!(rt; unloaded(&mut core, ZERO), Ok(0));
+    assert_eq!(rt; unloaded(&rt, &mut core, ZERO), Ok(0));
     assert_eq!(rt; step(&mut core, ZERO)?, Stepped::Empty);
     Ok(())
 }
@@ -282,7 +279,7 @@ fn a_block_of_lun_1_is_erased(rt: HostRuntime) -> Result<(), Fail> {
         output(0xe0),
     ];
     assert_eq!(rt; trace_of(&core), expected.as_slice());
-    assert_eq!(rt; unloaded(&mut core, ONE), Ok(0));
+    assert_eq!(rt; unloaded(&rt, &mut core, ONE), Ok(0));
     Ok(())
 }
 
@@ -325,8 +322,8 @@ fn two_luns_in_turn(rt: HostRuntime) -> Result<(), Fail> {
     in_turn(&rt, &mut core, ZERO, ONE)?;
     assert_eq!(rt; trace_of(&core).len(), 32);
     assert!(rt; is_legal(TWO_LUNS, 1, trace_of(&core))?);
-    assert_eq!(rt; unloaded(&mut core, ONE), Ok(0));
-    assert_eq!(rt; unloaded(&mut core, ZERO), Ok(0));
+    assert_eq!(rt; unloaded(&rt, &mut core, ONE), Ok(0));
+    assert_eq!(rt; unloaded(&rt, &mut core, ZERO), Ok(0));
     Ok(())
 }
 
@@ -339,8 +336,8 @@ fn two_targets_in_turn(rt: HostRuntime) -> Result<(), Fail> {
     in_turn(&rt, &mut core, ZERO, NEXT)?;
     assert_eq!(rt; trace_of(&core).len(), 20);
     assert!(rt; is_legal(ONE_LUN, 2, trace_of(&core))?);
-    assert_eq!(rt; unloaded(&mut core, ZERO), Ok(0));
-    assert_eq!(rt; unloaded(&mut core, NEXT), Ok(0));
+    assert_eq!(rt; unloaded(&rt, &mut core, ZERO), Ok(0));
+    assert_eq!(rt; unloaded(&rt, &mut core, NEXT), Ok(0));
     Ok(())
 }
 
@@ -354,7 +351,7 @@ fn a_failure_is_shown(rt: HostRuntime) -> Result<(), Fail> {
     let last = [ready(0, true), command(0x70), output(0xe1)];
     assert_eq!(rt; trace_of(&core).len(), 10);
     assert_eq!(rt; trace_of(&core).get(7..), Some(last.as_slice()));
-    assert_eq!(rt; unloaded(&mut core, ZERO), Ok(0));
+    assert_eq!(rt; unloaded(&rt, &mut core, ZERO), Ok(0));
     Ok(())
 }
 
@@ -457,18 +454,18 @@ fn what_is_not_there_and_not_ended(rt: HostRuntime) -> Result<(), Fail> {
     let mut core = core_of(rt.alloc(), ONE_LUN, 1)?;
     for lun in [ZERO, ONE, NEXT] {
         assert_eq!(rt; step(&mut core, lun)?, Stepped::Empty);
-        assert_eq!(rt; unloaded(&mut core, lun), Err(UnloadFault::U1));
+        assert_eq!(rt; unloaded(&rt, &mut core, lun), Err(UnloadFault::U1));
         assert!(rt; !readied(&mut core, lun, false));
     }
     assert_eq!(rt; numbers(&core), (Some(0), None));
     load(&mut core, job_of(rt.alloc(), ONE_LUN, ZERO, 4)?)?;
-    assert_eq!(rt; unloaded(&mut core, ZERO), Err(UnloadFault::U2));
+    assert_eq!(rt; unloaded(&rt, &mut core, ZERO), Err(UnloadFault::U2));
     begin(&rt, &mut core, ZERO)?;
-    assert_eq!(rt; unloaded(&mut core, ZERO), Err(UnloadFault::U2));
+    assert_eq!(rt; unloaded(&rt, &mut core, ZERO), Err(UnloadFault::U2));
     assert!(rt; readied(&mut core, ZERO, false) && !readied(&mut core, ZERO, false));
     assert_eq!(rt; step(&mut core, ZERO)?, Stepped::Went);
     assert!(rt; has_bus(&core, ZERO));
-    assert_eq!(rt; unloaded(&mut core, ZERO), Err(UnloadFault::U2));
+    assert_eq!(rt; unloaded(&rt, &mut core, ZERO), Err(UnloadFault::U2));
     Ok(())
 }
 
@@ -537,7 +534,7 @@ fn refused_with(
     assert!(rt; readied(&mut core, ZERO, false));
     end(rt, &mut core, ZERO)?;
     assert_eq!(rt; trace_of(&core).len(), 10);
-    assert_eq!(rt; unloaded(&mut core, ZERO), Ok(0));
+    assert_eq!(rt; unloaded(rt, &mut core, ZERO), Ok(0));
     Ok(refused)
 }
 
@@ -569,7 +566,7 @@ fn is_fresh_until_something_happens(rt: HostRuntime) -> Result<(), Fail> {
     begin(&rt, &mut core, ONE)?;
     assert!(rt; !is_fresh(&core) && readied(&mut core, ONE, false));
     end(&rt, &mut core, ONE)?;
-    assert_eq!(rt; unloaded(&mut core, ONE), Ok(0));
+    assert_eq!(rt; unloaded(&rt, &mut core, ONE), Ok(0));
     assert!(rt; !is_fresh(&core) && trace_of(&core).len() == 16);
     Ok(())
 }
@@ -673,29 +670,9 @@ fn the_bus_is_handed_back(rt: HostRuntime) -> Result<(), Fail> {
     Ok(())
 }
 
-// Two LUNs are loaded with an erase of block 1 each, stepped in turn with both ready behind their first polls, and unloaded.
-fn events_in_turn(alloc: Global, parts: Parts, a: Lun, b: Lun) -> Result<Vec<Event>, Fail> {
-    let mut events = Vec::new(alloc);
-    events.push(Event::Load(a, job_of(alloc, parts, a, 4)?))?;
-    events.push(Event::Load(b, job_of(alloc, parts, b, 4)?))?;
-    for _ in 0..7 {
-        events.push(Event::Step(a))?;
-        events.push(Event::Step(b))?;
-    }
-    events.push(Event::Ready(a, false))?;
-    events.push(Event::Ready(b, false))?;
-    for _ in 0..3 {
-        events.push(Event::Step(a))?;
-        events.push(Event::Step(b))?;
-    }
-    events.push(Event::Unload(a))?;
-    events.push(Event::Unload(b))?;
-    Ok(events)
-}
-
 // An erase of block 1 of the one LUN, from its load to its unload.
-fn events_of_one(alloc: Global) -> Result<Vec<Event>, Fail> {
-    let mut events = Vec::new(alloc);
+fn events_of_one<A: Allocator + Copy>(alloc: A) -> Result<Vec<Event<A>, A>, Fail> {
+    let mut events = Vec::with_capacity(alloc, 9)?;
     events.push(Event::Load(ZERO, job_of(alloc, ONE_LUN, ZERO, 4)?))?;
     for _ in 0..4 {
         events.push(Event::Step(ZERO))?;
@@ -741,66 +718,61 @@ fn are_of_one(replies: &[Reply]) -> bool {
 fn a_list_of_events_is_done(rt: HostRuntime) -> Result<(), Fail> {
     let mut core = core_of(rt.alloc(), ONE_LUN, 1)?;
     let told = ran(&mut core, rt.alloc(), events_of_one(rt.alloc())?);
-    assert!(rt; told.rest.is_empty());
+    assert!(rt; told.rest.is_empty() && told.shortage.is_none());
     assert!(rt; are_of_one(told.replies.as_slice()));
     assert_eq!(rt; trace_of(&core), erase_of_block_1().as_slice());
     assert_eq!(rt; step(&mut core, ZERO)?, Stepped::Empty);
     Ok(())
 }
 
-// The running state of a LUN is what the look back at the trace tells of it.
-fn lun_agrees(
+// What a list of events that was cut short is short of, where it is told so.
+fn shortage_of<A: Allocator>(
     rt: &impl Abort,
-    alloc: Global,
-    bus: &Bus,
-    past: &[Item],
-    l: Lun,
-) -> Result<(), Fail> {
-    let Some(told) = bus.lun_state(l) else {
-        return Err(Fail::from("a LUN is missing"));
-    };
-    let geometry = bus.geometry();
-    let facts = lun_facts(alloc, &geometry, past, l)?;
-    assert_eq!(rt; told.busy, facts.busy);
-    assert_eq!(rt; told.latch, facts.latch);
-    assert_eq!(rt; told.register, facts.register);
-    assert_eq!(rt; told.column.map(u64::from), output_column(facts.column));
-    assert_eq!(rt; told.queued, facts.queue.works().len());
-    assert_eq!(rt; told.caching, is_caching(alloc, &geometry, past, l)?);
-    assert_eq!(rt; told.array_busy, facts.array_busy);
-    Ok(())
+    core: &Core<A>,
+    told: &Ran<A>,
+    count: usize,
+) -> Option<Shortage> {
+    match told.shortage {
+        None => assert!(rt; told.rest.is_empty() && told.replies.len() == count),
+        Some(Shortage::ForReplies) => {
+            assert!(rt; told.replies.is_empty() && told.rest.len() == count && is_fresh(core));
+        }
+        Some(Shortage::ForStep) => assert!(rt; matches!(told.rest.first(), Some(Event::Step(_)))),
+    }
+    told.shortage
 }
 
-// Does the first so many events of two LUNs, and looks at both. How many items they leave.
-fn agrees_behind(
-    rt: &impl Abort,
-    alloc: Global,
-    parts: Parts,
-    other: Lun,
-    count: usize,
-) -> Result<usize, Fail> {
-    let mut core = core_of(alloc, parts, 2)?;
-    let mut events = events_in_turn(alloc, parts, ZERO, other)?;
-    events.truncate(count);
-    let told = ran(&mut core, alloc, events);
-    assert!(rt; told.rest.is_empty() && told.replies.len() == count);
-    let bus = core.into_bus();
-    let mut past = bus.trace().to_vec(alloc)?;
-    past.reverse();
-    lun_agrees(rt, alloc, &bus, &past, ZERO)?;
-    lun_agrees(rt, alloc, &bus, &past, other)?;
-    Ok(past.len())
+// Does the events of an erase where so many bytes of the heap are left, and then, with all of them, the rest. What there was no
+// memory for at first.
+fn cut_short(rt: &impl Abort, heap: &LocalHeap, left: usize) -> Result<Option<Shortage>, Fail> {
+    let mut core = core_of(heap, ONE_LUN, 1)?;
+    let events = events_of_one(heap)?;
+    let count = events.len();
+    let rest = largest(heap).saturating_sub(left);
+    let taken: Vec<u8, &LocalHeap> = Vec::with_capacity(heap, rest)?;
+    let told = run_events(&mut core, heap, events);
+    let shortage = shortage_of(rt, &core, &told, count);
+    drop(taken);
+    let again = run_events(&mut core, heap, told.rest);
+    assert!(rt; again.rest.is_empty());
+    assert_eq!(rt; core.trace(), erase_of_block_1().as_slice());
+    Ok(shortage)
 }
 
 #[test]
-fn the_state_agrees_with_a_look_back(rt: HostRuntime) -> Result<(), Fail> {
-    for (parts, other, items) in [(TWO_LUNS, ONE, 32), (ONE_LUN, NEXT, 20)] {
-        let mut last = 0;
-        for count in 0..=26 {
-            last = agrees_behind(&rt, rt.alloc(), parts, other, count)?;
+fn events_are_cut_short(rt: HostRuntime) -> Result<(), Fail> {
+    let mut for_replies = false;
+    let mut for_step = false;
+    let mut sufficed = false;
+    for places in 0..200usize {
+        let heap = LocalHeap::new(rt.alloc(), HEAP)?;
+        match cut_short(&rt, &heap, 16 * places)? {
+            Some(Shortage::ForReplies) => for_replies = true,
+            Some(Shortage::ForStep) => for_step = true,
+            None => sufficed = true,
         }
-        assert_eq!(rt; last, items);
     }
+    assert!(rt; for_replies && for_step && sufficed);
     Ok(())
 }
 

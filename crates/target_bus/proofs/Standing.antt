@@ -30,7 +30,7 @@ use Rattle.onfi_cycle.proofs.Following.{count_of}
 use Rattle.die_model.specs.declared.Work.{Work}
 use Rattle.die_model.specs.declared.Work.TheVariants.{Erase}
 use Rattle.die_model.specs.Die.{Die, page_of, IsBegun, IsFinished}
-use Rattle.target_bus.specs.Bus.{channel_on, numbered, number_of, IsDieOf, StandFor, work_begun, BeginsAt, IsStanding, IsRunning, IsNext, Traced, busy_count}
+use Rattle.target_bus.specs.Bus.{channel_on, numbered, number_of, IsDieOf, StandFor, work_begun, BeginsAt, IsStanding, IsRunning, IsNext, Traced, busy_count, spent}
 use Rattle.target_bus.proofs.Numbers.{lun_there, numbered_number, number_apart, number_below, set_here, set_other, count_finished, slice_get_none}
 
 -- 1. one die, by what the item does to its LUN
@@ -300,9 +300,9 @@ abbrev pub traced : BusView → List Item → ℕ → Traced
 traced state items room = record { geometry = state.geometry; targets = length state.targets; past = reverse items; room = room }
 
 -- what has happened is one item more
-pub is_next : (state next : BusView) (items more : List Item) (i : Item) (room left : ℕ) → Follows state.geometry (length state.targets) next (i ∷ reverse items) → more ≡ items ++ (i ∷ []) → room ≤ left + 1 → IsNext (traced state items room) (traced next more left) i
+pub is_next : (state next : BusView) (items more : List Item) (i : Item) (room left : ℕ) → Follows state.geometry (length state.targets) next (i ∷ reverse items) → more ≡ items ++ (i ∷ []) → room ≤ left + spent i → IsNext (traced state items room) (traced next more left) i
 is_next state next items more i room left f is enough =
-    record { channel = same_channel state next (i ∷ reverse items) f; past = sym (reversed items more i is); room = λ idle. enough }
+    record { channel = same_channel state next (i ∷ reverse items) f; past = sym (reversed items more i is); room = enough }
 
 pub not_some : {X : Type 0} (o : Option X) → is_some o ≡ false → o ≡ None
 not_some None h = refl

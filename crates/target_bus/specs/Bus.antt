@@ -1,5 +1,5 @@
 -- A channel with its dies: what has happened on it, and how each die stands for its LUN.
-use Rattle.std.specs.Prelude.{◌≡◌, ℕ, ◌+◌, ◌*◌, ◌/◌, ◌%◌, ◌<◌, ◌≤◌, ◌==◌, Bool, true, false, ◌||◌, ◌&&◌, not, if◌then◌else◌, List, [], ◌∷◌, Option, Some, None, length, reverse, slice_get}
+use Rattle.std.specs.Prelude.{◌≡◌, ℕ, ◌+◌, ◌-◌, ◌*◌, ◌/◌, ◌%◌, ◌<◌, ◌≤◌, ◌==◌, Bool, true, false, ◌||◌, ◌&&◌, not, if◌then◌else◌, List, [], ◌∷◌, Option, Some, None, length, reverse, slice_get}
 use Rattle.std.specs.Bool.{beq}
 use Rattle.nand_geometry.specs.declared.Parts.{Parts}
 use Rattle.nand_geometry.specs.Limits.{InLimits}
@@ -90,11 +90,19 @@ abbrev pub Refuses : BusRefusal → Option Rule → Type 0
 Refuses (Forbidden f) r = r ≡ Some f
 Refuses OutOfMemory r = r ≡ None
 
+-- how many works an item may start
+abbrev pub starting : Item → ℕ
+starting i = if starts_work i then 1 else 0
+
+-- how many of the places that are kept an item takes: a cycle that starts work brings its own
+abbrev pub spent : Item → ℕ
+spent i = 1 - starting i
+
 -- the item has happened on the channel, and nothing else
 pub record IsNext (old new : Traced) (i : Item) : Type 0 where
   pub channel : channel_of new ≡ channel_of old
   pub past : new.past ≡ i ∷ old.past
-  pub room : starts_work i ≡ false → old.room ≤ new.room + 1
+  pub room : old.room ≤ new.room + spent i
 
 abbrev pub is_output : Kind → Bool
 is_output Dout = true
@@ -104,10 +112,6 @@ is_output _ = false
 abbrev pub busy_count : List Die → ℕ
 busy_count [] = 0
 busy_count (d ∷ dies) = if d.busy then busy_count dies + 1 else busy_count dies
-
--- how many works an item may start
-abbrev pub starting : Item → ℕ
-starting i = if starts_work i then 1 else 0
 
 -- the work that an effect begins
 abbrev pub work_begun : Effect → Option Work

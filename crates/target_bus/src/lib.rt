@@ -143,8 +143,9 @@ impl<A: Allocator> Bus<A> {
         if let Some(rule) = self.state.judge(item) {
             return Err(BusRefusal::Forbidden(rule));
         }
-        let left = self.room.saturating_sub(1);
-        let places = 1 + left + busy_dies(self.dies.as_slice()) + starting(item);
+        let works = starting(item);
+        let left = self.room.saturating_sub(1 - works);
+        let places = 1 + left + busy_dies(self.dies.as_slice()) + works;
         self.trace.reserve(places)?;
         begin_work(&self.state, self.dies.as_mut_slice(), item)?;
         self.state.apply(item);
@@ -203,15 +204,17 @@ impl<A: Allocator> Bus<A> {
         ensures came { result ≡ is_permitted self.old.geometry self.old.targets self.old.past (Ard l.ce l.lun) }
         ensures yes { IsTrue result → IsNext self.old self.new (Ard l.ce l.lun) }
         ensures no { result ≡ false → self.new ≡ self.old }
+        ensures room { self.new.room ≡ self.old.room }
     {
         let _ = &self.trace;
         let _ = l;
         false
     }
 
-    /// Keeps places for so many cycles to come, if they start no work. Without memory for that all stays as it was.
+    /// Keeps places for so many cycles to come: the next `n` that start no work meet no want of memory, whatever cycles that start
+    /// work come between. Places that were kept before stay. Without memory for that all stays as it was.
     pub fn reserve(&mut self, n: usize) -> Result<(), AllocError>
-        ensures ok { IfOk result (λ _. (channel_of self.new ≡ channel_of self.old) × (self.new.past ≡ self.old.past) × (n ≤ self.new.room)) }
+        ensures ok { IfOk result (λ _. (channel_of self.new ≡ channel_of self.old) × (self.new.past ≡ self.old.past) × (n ≤ self.new.room) × (self.old.room ≤ self.new.room)) }
         ensures err { IfErr result (λ _. self.new ≡ self.old) }
     {
         let room = self.room.max(n);
@@ -228,6 +231,7 @@ impl<A: Allocator> Bus<A> {
         ensures count { length result.items ≡ self.targets * self.geometry.luns }
         ensures dies { StandFor (channel_of self) self.past result.items }
     {
-        self.dies
+        let Bus { dies, .. } = self;
+        dies
     }
 }

@@ -34,7 +34,7 @@ returns-clause-did g c =
 
 pub returns-in-Err-clause-stops : goal.returns-in-Err-clause-stops
 returns-in-Err-clause-stops g c =
-    stops_there c.pop.new.self.items c.push_reserved-in-Err.new.self.items c.in-Err.undone c.push_reserved-in-Err.ensures.items c.in-Err.ensures.memory
+    stops_there c.loop-event.core c.do_event.new.core c.pop.new.self.items c.push_reserved-in-Err.new.self.items c.in-Err.undone c.push_reserved-in-Err.ensures.items c.in-Err.ensures.err.1 c.in-Err.ensures.memory
 
 pub returns-clause-stops : goal.returns-clause-stops
-returns-clause-stops g c = stops_at_end c.loop-event.todo.items c.pop.new.self.items (vec_len c.loop-event.todo) c.pop.ensures.rest c.in_default.ensures.cases.0
+returns-clause-stops g c = stops_at_end c.loop-event.core c.loop-event.todo.items c.pop.new.self.items (vec_len c.loop-event.todo) c.pop.ensures.rest c.in_default.ensures.cases.0

@@ -24,7 +24,7 @@ invariant_of-self-2 g c =
     (ap length after ∙ same)
     (subst (StandFor (channel_on state.geometry (length state.targets)) (Cyc c.args.cycle ∷ past)) (sym after) stand)
     (c.push_reserved.ensures.items ∙ ap (λ (xs : List Item). xs ++ (Cyc c.args.cycle ∷ [])) c.reserve.ensures.items)
-    (omega (arith, ap busy_count after, ap busy_count before, ap busy_count c.as_slice.ensures.value, c.busy_dies.ensures.value, c.starting.ensures.value, c.begin_work.ensures.busy, c.push_reserved.ensures.len, c.push_reserved.ensures.capacity, c.in_ok-reserve.ensures.ok))
+    (omega (arith, ap busy_count after, ap busy_count before, ap busy_count c.as_slice.ensures.value, c.busy_dies.ensures.value, c.starting-works.ensures.value, c.starting-works.ensures.most, c.begin_work.ensures.busy, c.push_reserved.ensures.len, c.push_reserved.ensures.capacity, c.in_ok-reserve.ensures.ok))
 
 pub returns-clause-ok : goal.returns-clause-ok
 returns-clause-ok g c =
@@ -34,4 +34,4 @@ returns-clause-ok g c =
     let follows = c.apply.ensures.past state.geometry (length state.targets) past c.self.invariant.standing.follows in
     let is = c.push_reserved.ensures.items ∙ ap (λ (xs : List Item). xs ++ (Cyc c.args.cycle ∷ [])) c.reserve.ensures.items in
     subst (λ (b : Traced). (broken b.geometry b.targets b.past (Cyc c.args.cycle) ≡ None) × IsNext b (traced c.apply.new.self c.push_reserved.new.self.items c.saturating_sub-left.result) (Cyc c.args.cycle)) c.self.view_is
-    (permitted, is_next state c.apply.new.self c.self.inside.trace.items c.push_reserved.new.self.items (Cyc c.args.cycle) c.self.inside.room c.saturating_sub-left.result follows is (omega (arith, c.saturating_sub-left.ensures)))
+    (permitted, is_next state c.apply.new.self c.self.inside.trace.items c.push_reserved.new.self.items (Cyc c.args.cycle) c.self.inside.room c.saturating_sub-left.result follows is (omega (arith, c.starting-works.ensures.value, c.starting-works.ensures.most, c.saturating_sub-left.ensures)))

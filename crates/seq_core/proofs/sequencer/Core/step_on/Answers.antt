@@ -23,9 +23,11 @@ step_in-requires-clause-can g c =
     (can.0, ap (λ (ss : List (Option Progress)). get_or ss c.in-Some.k None) c.as_mut_slice.ensures.value ∙ can.1, can.2)
 
 pub returns-in-Err-clause-err : goal.returns-in-Err-clause-err
-returns-in-Err-clause-err g c =
-    untouched c.self.inside.bus c.step_in.new.bus c.self.inside.slots.items _ c.self.inside.holder c.step_in.ensures.same c.in-Err.ensures.err.0
-    (refilled (length c.self.inside.slots.items) c.self.inside.slots.items c.step_in.new.slots (c.step_in.auto.slots ∙ ap length c.as_mut_slice.ensures.value) refl ∙ (c.in-Err.ensures.err.1 ∙ c.as_mut_slice.ensures.value)) ∙ c.self.view_is
+returns-in-Err-clause-err g c = (
+  untouched c.self.inside.bus c.step_in.new.bus c.self.inside.slots.items _ c.self.inside.holder c.step_in.ensures.same c.in-Err.ensures.err.0
+      (refilled (length c.self.inside.slots.items) c.self.inside.slots.items c.step_in.new.slots (c.step_in.auto.slots ∙ ap length c.as_mut_slice.ensures.value) refl ∙ (c.in-Err.ensures.err.1 ∙ c.as_mut_slice.ensures.value)) ∙ c.self.view_is,
+  record { running = c.requires.running; free = c.requires.free },
+)
 
 pub invariant_of-self : goal.invariant_of-self
 invariant_of-self g c =

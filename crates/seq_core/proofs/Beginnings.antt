@@ -1,0 +1,92 @@
+-- A list of events with more behind it, and what an unload gives.
+use Rattle.std.proofs.Common.{◌≡◌, ℕ, List, [], ◌∷◌, ◌++◌, Option, Some, None, refl, sym, ap, ◌∙◌, subst}
+use Rattle.onfi_cycle.specs.declared.Lun.{Lun}
+use Rattle.onfi_cycle.specs.Channel.{Channel}
+use Rattle.micro_verify.specs.Program.{Job, buffer_now}
+use Rattle.micro_verify.specs.Moves.{and_then}
+use Rattle.seq_core.specs.World.{Slot, World, slot_of, fresh}
+use Rattle.seq_core.specs.Event.{Event, AllLoadVerified}
+use Rattle.seq_core.specs.Reply.{Reply, ToUnload, Unloaded, NotUnloaded}
+use Rattle.seq_core.specs.After.{After, Ran, after, after_slot_unload, after_unload, run}
+use Rattle.seq_core.specs.Buffer.{KeepsOthers}
+use Rattle.seq_core.specs.Lawful.{LawfulSlot, LawfulWorld, DoesItsText, has_bus}
+use Rattle.seq_core.specs.Headline.{BeginningsGoWell, UnloadsGiveBack, GivesBack}
+use Rattle.seq_core.proofs.Main.{headline, run_goes_well, lawful_slot}
+
+-- 1. more behind a list
+
+first_verified : (events more : List Event) → AllLoadVerified (events ++ more) → AllLoadVerified events
+first_verified [] more v = tt
+first_verified (e ∷ events) more v = (v.0, first_verified events more v.1)
+
+rest_verified : (events more : List Event) → AllLoadVerified (events ++ more) → AllLoadVerified more
+rest_verified [] more v = v
+rest_verified (e ∷ events) more v = rest_verified events more v.1
+
+same_ran : (r q : Ran) → Some r ≡ Some q → r ≡ q
+same_ran r q e = cc
+
+-- a first event before a run
+abbrev before : After → Option Ran → Option Ran
+before a o = and_then o (λ r. Some (record { world = r.world; replies = a.reply ∷ r.replies }))
+
+abbrev run_of : Ran → Ran → Ran
+run_of first rest = record { world = rest.world; replies = first.replies ++ rest.replies }
+
+-- a run, and another from where it ends
+abbrev Extends : Channel → List Event → List Event → Ran → World → Type 0
+Extends s events more rest w = (first : Ran) → run s events w ≡ Some first → run s more first.world ≡ Some rest → run s (events ++ more) w ≡ Some (run_of first rest)
+
+run_on : (s : Channel) (events more : List Event) (rest : Ran) (w : World) → Extends s events more rest w
+run_on s [] more rest w first is is_rest =
+    subst (λ (r : Ran). run s more r.world ≡ Some rest → run s more w ≡ Some (run_of r rest)) (same_ran (record { world = w; replies = [] }) first is) (λ h. h) is_rest
+run_on s (e ∷ events) more rest w first is is_rest = of (after s w e) (λ a. run_on s events more rest a.world) is
+  where
+    then_run : (a : After) (o : Option Ran) → Extends s events more rest a.world → run s events a.world ≡ o → before a o ≡ Some first → before a (run s (events ++ more) a.world) ≡ Some (run_of first rest)
+    then_run a None later e is = cc
+    then_run a (Some r) later e is =
+        subst (λ (q : Ran). run s more q.world ≡ Some rest → before a (run s (events ++ more) a.world) ≡ Some (run_of q rest)) (same_ran (record { world = r.world; replies = a.reply ∷ r.replies }) first is)
+        (λ h. rw (later r e h) refl) is_rest
+
+    of : (o : Option After) → ((a : After) → Extends s events more rest a.world) → and_then o (λ a. before a (run s events a.world)) ≡ Some first → and_then o (λ a. before a (run s (events ++ more) a.world)) ≡ Some (run_of first rest)
+    of None later is = cc
+    of (Some a) later is = then_run a (run s events a.world) (later a) refl is
+
+pub beginnings_go_well : BeginningsGoWell
+beginnings_go_well s events more is v =
+    let first = headline s events is (first_verified events more v) in
+    let rest = run_goes_well s is more first.ran.world first.lawful (rest_verified events more v) in
+    record { first = first; rest = rest.ran; is_rest = rest.is_ran; whole = run_on s events more rest.ran (fresh s) first.ran first.is_ran rest.is_ran }
+
+-- 2. an unload
+
+same_after : (a b : After) → Some a ≡ Some b → a ≡ b
+same_after a b h = cc
+
+record SameGiven (j k : Job) (code other : ℕ) : Type 0 where
+  job : j ≡ k
+  is_code : code ≡ other
+
+same_given : (j k : Job) (code other : ℕ) → ToUnload (Unloaded j code) ≡ ToUnload (Unloaded k other) → SameGiven j k code other
+same_given j k code other h = record { job = cc; is_code = cc }
+
+given_back : (s : Channel) (w : World) (l : Lun) (j : Job) (code : ℕ) (x : Slot) (ended : Option ℕ) → LawfulSlot s w.past (has_bus w.holder l) l x → slot_of s w l ≡ Some x → x.code ≡ ended → DoesItsText s x ended → (after_slot_unload s w l x ended).reply ≡ ToUnload (Unloaded j code) → GivesBack s w l j code
+given_back s w l j code x None law is c text e = cc
+given_back s w l j code x (Some n) law is c text e =
+    let same = same_given (record x.job { buffer = buffer_now x.job.buffer x.done }) j n code e in
+    record {
+      slot = x;
+      is_slot = is;
+      is_code = c ∙ ap Some same.is_code;
+      ended = subst (λ (m : ℕ). DoesItsText s x (Some m)) same.is_code text;
+      within = law.within;
+      job = sym same.job;
+      others = subst (λ (k : Job). KeepsOthers x.done x.job.buffer k.buffer) same.job law.within.others;
+    }
+
+pub unloads_give_back : UnloadsGiveBack
+unloads_give_back s w l j code a law is reply = of (slot_of s w l) refl (ap (λ (b : After). b.reply) (same_after _ a is) ∙ reply)
+  where
+    of : (slot : Option Slot) → slot_of s w l ≡ slot → (after_unload s w l slot).reply ≡ ToUnload (Unloaded j code) → GivesBack s w l j code
+    of None e h = cc
+    of (Some x) e h = let k = lawful_slot s w law l x e in given_back s w l j code x x.code k e refl k.text h
