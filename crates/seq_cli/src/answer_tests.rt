@@ -1,3 +1,5 @@
+ghost use Rattle.std.specs.Prelude.{◌<◌};
+
 use crate::tests::{ERASE, RUN, reader, writer};
 use crate::{Refusal, answer, run_file};
 use linked_list_allocator::LocalHeap;
@@ -63,11 +65,11 @@ fn a_run(rt: HostRuntime) -> Result<(), Fail> {
 }
 
 // A file with one byte turned into another.
-fn changed(place: usize, byte: u8) -> [u8; 36] {
+fn changed(place: usize, byte: u8) -> [u8; 36]
+    requires { place < 36 }
+{
     let mut file = ERASE;
-    if place < 36 {
-        file[place] = byte;
-    }
+    file[place] = byte;
     file
 }
 
@@ -124,7 +126,9 @@ fn files_that_are_refused(rt: HostRuntime) -> Result<(), Fail> {
 }
 
 // The same with a budget of 100, and one byte turned into another.
-fn with_budget(place: usize, byte: u8) -> [u8; 36] {
+fn with_budget(place: usize, byte: u8) -> [u8; 36]
+    requires { place < 36 }
+{
     let mut file = changed(place, byte);
     file[12] = 100;
     file

@@ -1,13 +1,11 @@
 -- The fields of a line, one after another.
-use Rattle.std.proofs.Common.{◌≡◌, ℕ, ◌<◌, Bool, true, false, cond, eqb, Option, Some, None, List, [], ◌∷◌, length, get_or, Result, Err, refl, ap, ◌∙◌, Bor, lit<}
+use Rattle.std.proofs.Common.{◌≡◌, ℕ, ◌<◌, Bool, true, false, cond, eqb, Option, Some, None, List, [], ◌∷◌, length, get_or, Err, refl, ap, ◌∙◌, Bor, lit<}
 use Rattle.std.specs.Prelude.{IfSome, IfNone}
 use Rattle.std.proofs.lemmas.Bool.{ne_eqb}
 use Rattle.std.specs.List.{All, onto_first}
 use Rattle.std.proofs.lemmas.List.Elements.{All-from_get_or}
 use Rattle.std.proofs.lemmas.List.Splits.{slice_split_none, slice_split_at}
 use Rattle.std.proofs.lemmas.Str.Pattern.{IsSplitOnceResult, split_parts}
-use Rattle.onfi_cycle.specs.declared.Item.{Item}
-use Rattle.trace_text.specs.declared.refusal.TraceFault.{TraceFault}
 use Rattle.trace_text.specs.declared.refusal.TraceFault.TheVariants.{X1}
 use Rattle.trace_text.specs.Reading.{fields, line_item}
 

@@ -1,5 +1,5 @@
 -- A line that is read is the line of its item, and the line of an item is read.
-use Rattle.std.proofs.Common.{◌≡◌, ℕ, ◌<◌, ◌≤◌, ◌/◌, ◌%◌, Bool, true, false, cond, eqb, List, [], ◌∷◌, ◌++◌, Option, Some, None, Result, Ok, Err, refl, subst, ◌∙◌, arith}
+use Rattle.std.proofs.Common.{◌≡◌, ℕ, ◌<◌, ◌≤◌, ◌/◌, ◌%◌, Bool, false, eqb, List, [], ◌∷◌, ◌++◌, Option, Some, None, Ok, refl, subst, ◌∙◌, arith}
 use Rattle.std.specs.Prelude.{ok_or}
 use Rattle.std.specs.List.{AllByRecursion, join_with_byte}
 use Rattle.std.proofs.lemmas.Option.{same_Some}
@@ -7,8 +7,7 @@ use Rattle.std.proofs.lemmas.List.Splits.{join_with_byte-slice_split}
 use Rattle.onfi_cycle.specs.declared.Kind.{Kind}
 use Rattle.onfi_cycle.specs.declared.Item.{Item}
 use Rattle.onfi_cycle.specs.declared.Item.TheVariants.{Cyc, Rdy, Ard}
-use Rattle.trace_text.specs.declared.refusal.TraceFault.{TraceFault}
-use Rattle.trace_text.specs.declared.refusal.TraceFault.TheVariants.{X1, X2}
+use Rattle.trace_text.specs.declared.refusal.TraceFault.TheVariants.{X2}
 use Rattle.trace_text.specs.declared.line.Letter.{Letter}
 use Rattle.trace_text.specs.declared.line.Letter.TheVariants.{CycleOf, Ready, ArrayReady}
 use Rattle.trace_text.specs.Line.{digit, hex_digit, kind_letter, fail_digit, line, IsPrintable, HasByte}
