@@ -1,5 +1,5 @@
 //! What the program does with its words, what it says on standard error, and its status.
-ghost use Rattle.std.specs.Prelude.{◌≡◌, ◌++◌, ◌∷◌, [], List, ℕ, OnOk, IfSome, Option, Some, None};
+ghost use Rattle.std.specs.Prelude.{◌≡◌, List, ℕ, IfSome, Some};
 ghost use Rattle.std.specs.Io.KnownBytes.{Appends};
 ghost use Rattle.seq_cli.specs.Exits.{status};
 ghost use Rattle.seq_cli.specs.Once.{refused, IsRun};
