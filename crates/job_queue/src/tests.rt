@@ -185,6 +185,53 @@ fn take_many<R: Wait + Abort>(rt: &R, taker: &mut Taker<Job>) -> [u64; 2]
     taken
 }
 
+// A queue of this capacity stores so many jobs and no more; once one is taken it stores one more, and no more.
+fn expect_capacity<R: Wait + Abort + AllocGlobal>(rt: &R, capacity: usize) -> Result<(), Fail>
+    requires { (0 < capacity) × (capacity ≤ 65536) }
+{
+    let most = capacity as u64;
+    let (queue, first, second, mut taker) = two_hosts(rt.alloc(), capacity)?;
+    let first = store_many(rt, &queue, first, most);
+    let second = store_too_much(rt, &queue, second, 0);
+    assert_eq!(rt; next(rt, &mut taker), Some((0, 0, 0)));
+    let _second = store(rt, &queue, second, 0);
+    let _first = store_too_much(rt, &queue, first, most);
+    Ok(())
+}
+
+#[test]
+fn as_many_places_as_the_capacity(rt: HostRuntime) -> Result<(), Fail> {
+    expect_capacity(&rt, 1)?;
+    expect_capacity(&rt, 2)?;
+    expect_capacity(&rt, 3)?;
+    expect_capacity(&rt, 4)?;
+    expect_capacity(&rt, 1_000)?;
+    expect_capacity(&rt, 65_536)
+}
+
+// Stores so many jobs of host 0, each of which is taken before the next is stored.
+fn store_and_take<R: Wait + Abort>(
+    rt: &R,
+    queue: &JobQueue<Job>,
+    mut pass: HostPass<Job>,
+    taker: &mut Taker<Job>,
+    count: u64,
+)
+    requires { owns queue.now pass }
+{
+    for job in 0..count {
+        pass = store(rt, queue, pass, job);
+        assert_eq!(rt; next(rt, taker), Some((0, job, job)));
+    }
+}
+
+#[test]
+fn a_host_stores_more_jobs_than_a_queue_has_places(rt: HostRuntime) -> Result<(), Fail> {
+    let (queue, first, _second, mut taker) = two_hosts(rt.alloc(), 4)?;
+    store_and_take(&rt, &queue, first, &mut taker, 70_000);
+    Ok(())
+}
+
 #[test]
 fn two_threads_store_in_order(rt: HostRuntime) -> Result<(), Fail> {
     let (queue, first, second, mut taker) = two_hosts(rt.alloc(), 1000)?;

@@ -5,7 +5,7 @@ use crate::worked::{ONE_LUN, TWO_LUNS, trace};
 use nand_geometry::Geometry;
 use onfi_cycle::effects::output_column;
 use onfi_cycle::{BusState, Item, Lun, WorkQueue};
-use std::alloc::{AllocError, Global};
+use std::alloc::Global;
 use std::process::Abort;
 use std::test::Fail;
 
@@ -55,7 +55,7 @@ fn on_target(item: Item, ce: u8) -> Item {
 }
 
 // The items of some parts, each on a target: mostly on the first, at times on the second, seldom on one that isn't there.
-fn made(alloc: Global, seed: &mut u32) -> Result<Vec<Item>, AllocError> {
+fn made(alloc: Global, seed: &mut u32) -> Result<Vec<Item>, Fail> {
     let mut items = Vec::new(alloc);
     for _ in 0..2 {
         let part = PARTS[(next(seed) % 16) as usize];

@@ -1,4 +1,6 @@
 //! What the worked traces share: two geometries, a short way to write traces, and a walk that judges them.
+ghost use Rattle.std.specs.Prelude.{◌<◌, IfOk};
+
 use crate::past::{luns_of, tail_facts};
 use nand_geometry::{Geometry, Parts};
 use onfi_cycle::sequences::{target_cycle, target_of};
@@ -55,33 +57,39 @@ pub const UNEVEN: Parts = Parts {
     ..TWO_LUNS
 };
 
-fn digit(letter: u8) -> u8 {
+fn digit(letter: u8) -> Result<u8, Fail>
+    ensures { IfOk result (λ digit. digit < 16) }
+{
     match letter {
-        b'0'..=b'9' => letter - b'0',
-        b'a'..=b'f' => letter - b'a' + 10,
-        _ => 0,
+        b'0'..=b'9' => Ok(letter - b'0'),
+        b'a'..=b'f' => Ok(letter - b'a' + 10),
+        _ => Err(Fail::from("no hexadecimal digit")),
     }
 }
 
-fn cycle(kind: Kind, high: u8, low: u8) -> Item {
-    Item::Cyc(Cycle {
+fn cycle(kind: Kind, high: u8, low: u8) -> Result<Item, Fail> {
+    let high = digit(high)?;
+    let low = digit(low)?;
+    Ok(Item::Cyc(Cycle {
         ce: 0,
         kind,
-        byte: digit(high) % 16 * 16 + digit(low) % 16,
-    })
+        byte: high * 16 + low,
+    }))
 }
 
-fn ready(lun: u8, fail: bool) -> Item {
-    Item::Rdy {
-        ce: 0,
-        lun: digit(lun),
-        fail,
-    }
+fn ready(lun: u8, fail: bool) -> Result<Item, Fail> {
+    let lun = digit(lun)?;
+    Ok(Item::Rdy { ce: 0, lun, fail })
+}
+
+fn array_ready(lun: u8) -> Result<Item, Fail> {
+    let lun = digit(lun)?;
+    Ok(Item::Ard { ce: 0, lun })
 }
 
 /// `C60` is a command, `A04` an address, `Ia5` an input, `Oe0` an output, `R0` a ready of LUN 0, `F0` one with
-/// failure, and `Y0` one of its array.
-fn item(word: &[u8]) -> Item {
+/// failure, and `Y0` one of its array. There are no other words.
+fn item(word: &[u8]) -> Result<Item, Fail> {
     match word {
         [b'C', high, low] => cycle(Kind::Cmd, *high, *low),
         [b'A', high, low] => cycle(Kind::Adr, *high, *low),
@@ -89,29 +97,30 @@ fn item(word: &[u8]) -> Item {
         [b'O', high, low] => cycle(Kind::Dout, *high, *low),
         [b'R', lun] => ready(*lun, false),
         [b'F', lun] => ready(*lun, true),
-        [b'Y', lun] => Item::Ard {
-            ce: 0,
-            lun: digit(*lun),
-        },
-        _ => Item::Ard { ce: 9, lun: 9 },
+        [b'Y', lun] => array_ready(*lun),
+        _ => Err(Fail::from("no item")),
     }
 }
 
 /// A word and how often it stands: `A00x5` is five times `A00`.
-fn counted(word: &[u8]) -> (&[u8], u8) {
+fn counted(word: &[u8]) -> Result<(&[u8], u8), Fail> {
     match word {
-        [once @ .., b'x', times] => (once, digit(*times)),
-        _ => (word, 1),
+        [once @ .., b'x', times] => {
+            let times = digit(*times)?;
+            Ok((once, times))
+        }
+        _ => Ok((word, 1)),
     }
 }
 
 /// The items of a text, in the order of time.
-pub fn trace(alloc: Global, text: &str) -> Result<Vec<Item>, AllocError> {
+pub fn trace(alloc: Global, text: &str) -> Result<Vec<Item>, Fail> {
     let mut items = Vec::new(alloc);
     for word in text.split_whitespace() {
-        let (once, times) = counted(word.as_bytes());
+        let (once, times) = counted(word.as_bytes())?;
+        let item = item(once)?;
         for _ in 0..times {
-            items.push(item(once))?;
+            items.push(item)?;
         }
     }
     Ok(items)

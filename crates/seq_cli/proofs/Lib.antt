@@ -1,4 +1,5 @@
 pub mod Ends
 pub mod Printing
+pub mod Statuses
 pub mod Told
 pub mod Turns

@@ -5,7 +5,7 @@ use Rattle.std.specs.declared.io.ErrorKind.TheVariants.{Interrupted, OutOfMemory
 use Rattle.seq_cli.specs.declared.fault.StreamFault.{StreamFault}
 use Rattle.seq_cli.specs.declared.fault.StreamFault.TheVariants.{Fault, OutOfMemory}
 use Rattle.seq_cli.specs.declared.exit.Exit.{Exit}
-use Rattle.seq_cli.specs.declared.exit.Exit.TheVariants.{Done, Refused, FileFault, OutOfMemory as NoMemory}
+use Rattle.seq_cli.specs.declared.exit.Exit.TheVariants.{Done, Refused, FileFault, Usage, OutOfMemory as NoMemory}
 
 -- want of memory is told apart from all other failures of a read or a write
 abbrev pub fault_of : ErrorKind → StreamFault
@@ -23,16 +23,19 @@ abbrev pub exit_of : StreamFault → Exit
 exit_of Fault = FileFault
 exit_of OutOfMemory = NoMemory
 
--- the status of the process; a command line that can't be read has 3
+-- the status of the process
 abbrev pub status : Exit → ℕ
 status Done = 0
-status Refused = 1
+status (Refused refusal) = 1
 status FileFault = 2
+status Usage = 3
 status NoMemory = 4
 
--- the line on standard error, without its line feed
+-- the line on standard error of a fault of a stream or of memory, without its line feed; what is refused is said in other words,
+-- and so is a command line that can't be read
 abbrev pub message : Exit → Option (List ℕ)
 message Done = None
-message Refused = None
+message (Refused refusal) = None
 message FileFault = Some (codes "file fault -")
+message Usage = None
 message NoMemory = Some (codes "out of memory")

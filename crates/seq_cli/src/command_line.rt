@@ -10,6 +10,9 @@ pub enum Command {
     Once { base: u32 },
 }
 
+const ONCE: &str =
+    "Runs the word file on standard input once, and prints the trace. It runs on an erased die: 1 LUN, 1 plane, 8 blocks of 4 pages of 512 + 16 bytes";
+
 // The command line, as it is declared. It has its name in usage, however the program was called.
 fn declared<'a>(alloc: Global) -> Result<clap::Command<'a>, Error> {
     let base = Arg::new(alloc, "base")
@@ -17,10 +20,8 @@ fn declared<'a>(alloc: Global) -> Result<clap::Command<'a>, Error> {
         .value_name("n")
         .default_value("0")
         .value_parser(clap::value_parser!(u32))
-        .help("The index that row 0 of the program stands for");
-    let once = clap::Command::new(alloc, "once")
-        .about("Runs the word file on standard input once, on an erased die, and prints the trace")
-        .arg(base)?;
+        .help("The row of the die that row 0 of the program stands for, 0 to 31");
+    let once = clap::Command::new(alloc, "once").about(ONCE).arg(base)?;
     Ok(
         clap::Command::new(alloc, "onfiseq")
             .bin_name("onfiseq")?

@@ -4,39 +4,44 @@ ghost use Rattle.std.specs.Option.{option_map};
 ghost use Rattle.seq_cli.specs.Exits.{status, message, exit_of};
 
 use crate::fault::StreamFault;
+use crate::refusal::Refusal;
 
-/// How a run of the program ends, where its command line could be read.
+/// How a run of the program ends.
 #[derive(Clone, Copy, Debug, PartialEq, Eq)]
 pub enum Exit {
     /// It is done.
     Done,
-    /// What was read is refused, which standard output says.
-    Refused,
+    /// What was read is refused, which standard output says by its code, and standard error in words.
+    Refused(Refusal),
     /// A stream couldn't be read or written.
     FileFault,
+    /// The command line couldn't be read, which standard error says.
+    Usage,
     /// Memory was refused.
     OutOfMemory,
 }
 
 impl Exit {
-    /// The status that the process ends with. 3 is that of a command line that can't be read.
+    /// The status that the process ends with.
     pub fn status(self) -> u8
         ensures { result ≡ status self }
     {
         match self {
             Exit::Done => 0,
-            Exit::Refused => 1,
+            Exit::Refused(_) => 1,
             Exit::FileFault => 2,
+            Exit::Usage => 3,
             Exit::OutOfMemory => 4,
         }
     }
 
-    /// What standard error says, in a line of its own. The path of standard input and output is `-`.
+    /// What standard error says of a stream or of memory, in a line of its own. The path of standard input and output
+    /// is `-`.
     pub fn message(self) -> Option<&'static str>
         ensures { option_map (λ text. text.now) result ≡ message self }
     {
         match self {
-            Exit::Done | Exit::Refused => None,
+            Exit::Done | Exit::Refused(_) | Exit::Usage => None,
             Exit::FileFault => Some("file fault -"),
             Exit::OutOfMemory => Some("out of memory"),
         }

@@ -6,6 +6,7 @@ ghost use Rattle.std.specs.String.{string_bytes};
 ghost use Rattle.micro_word.specs.Reading.{reading};
 ghost use Rattle.micro_verify.specs.Lines.{unrolled};
 ghost use Rattle.micro_verify.specs.State.{fault_of};
+ghost use Rattle.seq_cli.specs.declared.refusal.Refusal.{Refusal};
 ghost use Rattle.seq_cli.specs.Refusals.{line_of, Tells};
 ghost use Rattle.micro_word.specs.Text.{IsFileOf};
 ghost use Rattle.seq_core.specs.World.{fresh};
@@ -225,8 +226,8 @@ fn run<A: Allocator, R: Read, W: Write>(
 ) -> Result<Exit, StreamFault>
     ensures done { result ≡ Ok Exit.Done → IfSome (R.remaining input.old) (λ bytes. (written : List ℕ) × IsRun base bytes written
         × Appends (W.contents output.old) (W.contents output.new) written) }
-    ensures refused { result ≡ Ok Exit.Refused → IfSome (R.remaining input.old) (λ bytes. (line : List ℕ) × (refused base bytes ≡ Some line)
-        × Appends (W.contents output.old) (W.contents output.new) line) }
+    ensures refused { (refusal : Refusal) → result ≡ Ok (Exit.Refused refusal) → IfSome (R.remaining input.old) (λ bytes.
+        (refused base bytes ≡ Some (line_of refusal)) × Appends (W.contents output.old) (W.contents output.new) (line_of refusal)) }
 {
     let bytes = read_all(alloc, input)?;
     match made_job(alloc, bytes.as_slice(), base) {
@@ -237,14 +238,14 @@ fn run<A: Allocator, R: Read, W: Write>(
         }
         Err(NotRun::Refused(refusal)) => {
             refuse(alloc, output, refusal)?;
-            Ok(Exit::Refused)
+            Ok(Exit::Refused(refusal))
         }
         Err(NotRun::OutOfMemory) => Err(StreamFault::OutOfMemory),
     }
 }
 
-/// Reads a word file from an input, and runs it on a channel of one LUN of 8 blocks of 4 pages of 512 + 16 bytes, whose pages
-/// are all FF. Its rows are counted from the index `base`; its buffer is all 00. The LUN becomes ready without failure after
+/// Reads a word file from an input, and runs it on a channel of one LUN of 8 blocks of 4 pages of 512 + 16 bytes, in one plane,
+/// whose pages are all FF. Its rows are counted from the index `base`; its buffer is all 00. The LUN becomes ready without failure after
 /// each poll that says busy.
 ///
 /// `Done`: the output has the lines of the trace (docs/TRACES.md) and then `end CODE`. `Refused`: it has the line
@@ -259,8 +260,8 @@ pub fn once_on<A: Allocator, R: Read, W: Write>(
 ) -> Exit
     ensures done { result ≡ Exit.Done → IfSome (R.remaining input.old) (λ bytes. (written : List ℕ) × IsRun base bytes written
         × Appends (W.contents output.old) (W.contents output.new) written) }
-    ensures refused { result ≡ Exit.Refused → IfSome (R.remaining input.old) (λ bytes. (line : List ℕ) × (refused base bytes ≡ Some line)
-        × Appends (W.contents output.old) (W.contents output.new) line) }
+    ensures refused { (refusal : Refusal) → result ≡ Exit.Refused refusal → IfSome (R.remaining input.old) (λ bytes.
+        (refused base bytes ≡ Some (line_of refusal)) × Appends (W.contents output.old) (W.contents output.new) (line_of refusal)) }
 {
     match run(alloc, input, output, base) {
         Ok(exit) => exit,

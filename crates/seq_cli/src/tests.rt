@@ -5,8 +5,11 @@ use crate::input::read_all;
 use crate::lines::{push_end_line, refusal_line};
 use crate::once::once_on;
 use crate::output::write_text;
+use crate::refusal::Refusal;
 use clap::error::ErrorKind as UsageKind;
 use linked_list_allocator::LocalHeap;
+use micro_verify::Reason;
+use seq_core::LoadFault;
 use std::alloc::{AllocError, Global};
 use std::io;
 use std::io::{Read, Write, repeat};
@@ -14,24 +17,20 @@ use std::process::Abort;
 use std::test::Fail;
 
 // The erase of one block: cmd 60, addr 2 3, cmd d0, wait, end 0; rows 1, budget 5.
-const ERASE: [u8; 36] = [
+pub(crate) const ERASE: [u8; 36] = [
     0x4e, 0x4d, 0x50, 0x31, 0x05, 0x00, 0x01, 0x00, 0x00, 0x00, 0x00, 0x00, 0x05, 0x00, 0x00, 0x00,
     0x01, 0x60, 0x00, 0x00, 0x02, 0x02, 0x03, 0x00, 0x01, 0xd0, 0x00, 0x00, 0x0a, 0x00, 0x00, 0x00,
     0x00, 0x00, 0x00, 0x00,
 ];
 
-// The same without its `wait`, and a file of no words.
+// The same without its `wait`.
 const NO_WAIT: [u8; 32] = [
     0x4e, 0x4d, 0x50, 0x31, 0x04, 0x00, 0x01, 0x00, 0x00, 0x00, 0x00, 0x00, 0x05, 0x00, 0x00, 0x00,
     0x01, 0x60, 0x00, 0x00, 0x02, 0x02, 0x03, 0x00, 0x01, 0xd0, 0x00, 0x00, 0x00, 0x00, 0x00, 0x00,
 ];
 
-const NO_WORDS: [u8; 16] = [
-    0x4e, 0x4d, 0x50, 0x31, 0x00, 0x00, 0x01, 0x00, 0x00, 0x00, 0x00, 0x00, 0x05, 0x00, 0x00, 0x00,
-];
-
 // The lines of the run of the erase from page 0 of block 1, and from page 3 of block 7.
-const RUN: &str =
+pub(crate) const RUN: &str =
     "0 C 60\n0 A 04\n0 A 00\n0 A 00\n0 C d0\n0 C 70\n0 O 80\n0 R 0 0\n0 C 70\n0 O e0\nend 0\n";
 
 const RUN_AT_31: &str =
@@ -39,7 +38,7 @@ const RUN_AT_31: &str =
 
 // Gives a byte a call; the call numbered `bad` fails.
 #[derive(Drop)]
-struct SlowReader<'a> {
+pub(crate) struct SlowReader<'a> {
     bytes: &'a [u8],
     calls: usize,
     bad: usize,
@@ -64,8 +63,8 @@ impl<'a> Read for SlowReader<'a> {
 
 // Takes three bytes a call; the call numbered `bad` fails, and so does the flush if it has that number.
 #[derive(Drop)]
-struct SlowWriter {
-    bytes: Vec<u8>,
+pub(crate) struct SlowWriter {
+    pub(crate) bytes: Vec<u8>,
     calls: usize,
     bad: usize,
     kind: io::ErrorKind,
@@ -95,7 +94,7 @@ impl Write for SlowWriter {
     }
 }
 
-fn reader(bytes: &[u8], bad: usize, kind: io::ErrorKind) -> SlowReader<'_> {
+pub(crate) fn reader(bytes: &[u8], bad: usize, kind: io::ErrorKind) -> SlowReader<'_> {
     SlowReader {
         bytes,
         calls: 0,
@@ -104,7 +103,7 @@ fn reader(bytes: &[u8], bad: usize, kind: io::ErrorKind) -> SlowReader<'_> {
     }
 }
 
-fn writer(alloc: Global, bad: usize, kind: io::ErrorKind) -> SlowWriter {
+pub(crate) fn writer(alloc: Global, bad: usize, kind: io::ErrorKind) -> SlowWriter {
     SlowWriter {
         bytes: Vec::new(alloc),
         calls: 0,
@@ -195,12 +194,23 @@ fn lines(rt: HostRuntime) -> Result<(), Fail> {
     Ok(())
 }
 
+// No `wait` before the `end`, and a row that isn't there.
+const ENDS_BUSY: Refusal = Refusal::Text {
+    reason: Reason::V14,
+    word: 3,
+};
+
+const ROW_OUTSIDE: Refusal = Refusal::Job {
+    fault: LoadFault::S3,
+};
+
 #[test]
 fn exits(rt: HostRuntime) {
     let exits = [
         (Exit::Done, 0, None),
-        (Exit::Refused, 1, None),
+        (Exit::Refused(ENDS_BUSY), 1, None),
         (Exit::FileFault, 2, Some("file fault -")),
+        (Exit::Usage, 3, None),
         (Exit::OutOfMemory, 4, Some("out of memory")),
     ];
     for (exit, status, message) in exits {
@@ -223,34 +233,31 @@ fn expect(rt: &(impl Abort + AllocGlobal), file: &[u8], base: u32, exit: Exit, l
     assert_eq!(rt; output.as_slice(), lines.as_bytes());
 }
 
-fn expect_refusal(rt: &(impl Abort + AllocGlobal), file: &[u8], line: &str) {
-    expect(rt, file, 4, Exit::Refused, line);
-}
-
 #[test]
 fn erases(rt: HostRuntime) {
     expect(&rt, &ERASE, 4, Exit::Done, RUN);
     expect(&rt, &ERASE, 31, Exit::Done, RUN_AT_31);
-    expect(&rt, &ERASE, 32, Exit::Refused, "refused S3 at 0\n");
-    expect(&rt, &ERASE, u32::MAX, Exit::Refused, "refused S3 at 0\n");
-}
-
-#[test]
-fn refusals(rt: HostRuntime) -> Result<(), Fail> {
-    let mut budget = ERASE;
-    budget[12] = 4;
-    let mut stray = ERASE;
-    stray[29] = 1;
-    let mut longer = ERASE.to_vec(rt.alloc())?;
-    longer.push(0)?;
-    expect_refusal(&rt, &budget, "refused V15 at 2\n");
-    expect_refusal(&rt, &NO_WAIT, "refused V14 at 3\n");
-    expect_refusal(&rt, &NO_WORDS, "refused V1 at 0\n");
-    expect_refusal(&rt, &ERASE[..15], "refused M1 at 0\n");
-    expect_refusal(&rt, &stray, "refused M5 at 3\n");
-    expect_refusal(&rt, longer.as_slice(), "refused M7 at 0\n");
-    expect_refusal(&rt, &ERASE[..35], "refused M3 at 0\n");
-    Ok(())
+    expect(
+        &rt,
+        &ERASE,
+        32,
+        Exit::Refused(ROW_OUTSIDE),
+        "refused S3 at 0\n",
+    );
+    expect(
+        &rt,
+        &ERASE,
+        u32::MAX,
+        Exit::Refused(ROW_OUTSIDE),
+        "refused S3 at 0\n",
+    );
+    expect(
+        &rt,
+        &NO_WAIT,
+        4,
+        Exit::Refused(ENDS_BUSY),
+        "refused V14 at 3\n",
+    );
 }
 
 #[test]
@@ -315,7 +322,12 @@ fn over_heaps(
 
 #[test]
 fn refused_memory(rt: HostRuntime) -> Result<(), Fail> {
-    over_heaps(&rt, &NO_WAIT, Exit::Refused, "refused V14 at 3\n")?;
+    over_heaps(
+        &rt,
+        &NO_WAIT,
+        Exit::Refused(ENDS_BUSY),
+        "refused V14 at 3\n",
+    )?;
     over_heaps(&rt, &ERASE, Exit::Done, RUN)
 }
 

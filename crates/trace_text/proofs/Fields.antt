@@ -1,15 +1,13 @@
 -- The fields of a line, one after another.
-use Rattle.std.proofs.Common.{◌≡◌, ℕ, ◌<◌, Bool, true, false, cond, eqb, Option, Some, None, List, [], ◌∷◌, length, get_or, Result, Err, refl, ap, ◌∙◌, Bor, lit<}
+use Rattle.std.proofs.Common.{◌≡◌, ℕ, ◌<◌, Bool, true, false, cond, eqb, Option, Some, None, List, [], ◌∷◌, length, get_or, Err, refl, ap, ◌∙◌, Bor, lit<}
 use Rattle.std.specs.Prelude.{IfSome, IfNone}
 use Rattle.std.proofs.lemmas.Bool.{ne_eqb}
-use Rattle.std.specs.List.{All, list_all, onto_first}
+use Rattle.std.specs.List.{All, onto_first}
 use Rattle.std.proofs.lemmas.List.Elements.{All-from_get_or}
 use Rattle.std.proofs.lemmas.List.Splits.{slice_split_none, slice_split_at}
 use Rattle.std.proofs.lemmas.Str.Pattern.{IsSplitOnceResult, split_parts}
-use Rattle.onfi_cycle.specs.declared.Item.{Item}
-use Rattle.trace_text.specs.declared.refusal.TraceFault.{TraceFault}
 use Rattle.trace_text.specs.declared.refusal.TraceFault.TheVariants.{X1}
-use Rattle.trace_text.specs.Reading.{fields, is_field, line_item}
+use Rattle.trace_text.specs.Reading.{fields, line_item}
 
 abbrev is_space : ℕ → Bool
 is_space b = eqb b 32
@@ -30,20 +28,13 @@ first_none bs None h = slice_split_none is_space bs (no_space bs (split_parts 32
 
 -- ---- too few or too many
 
-abbrev refused : Result Item TraceFault
-refused = Err X1
-
-either_way : (b : Bool) → cond b refused refused ≡ refused
-either_way true = refl
-either_way false = refl
-
 pub one_field : (bs : List ℕ) (a : List ℕ) → fields bs ≡ a ∷ [] → line_item bs ≡ Err X1
 unfolding line_item
-one_field bs a e = rw e (either_way (list_all is_field (a ∷ [])))
+one_field bs a e = rw e refl
 
 pub two_fields : (bs : List ℕ) (a b : List ℕ) → fields bs ≡ a ∷ b ∷ [] → line_item bs ≡ Err X1
 unfolding line_item
-two_fields bs a b e = rw e (either_way (list_all is_field (a ∷ b ∷ [])))
+two_fields bs a b e = rw e refl
 
 -- a line has a field, though it may be empty
 some_field : (bs : List ℕ) → (a : List ℕ) × (more : List (List ℕ)) × (fields bs ≡ a ∷ more)
@@ -60,4 +51,4 @@ unfolding line_item
 five_fields bs a b c d rest e =
     let fifth = some_field rest in
     let all : fields bs ≡ a ∷ b ∷ c ∷ d ∷ fifth.0 ∷ fifth.1 = e ∙ ap (λ (fs : List (List ℕ)). a ∷ b ∷ c ∷ d ∷ fs) fifth.2 in
-    rw all (either_way (list_all is_field (a ∷ b ∷ c ∷ d ∷ fifth.0 ∷ fifth.1)))
+    rw all refl

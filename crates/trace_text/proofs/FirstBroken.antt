@@ -25,15 +25,19 @@ not_permitted : (o : Option Forbidden) (rule : Forbidden) → o ≡ Some rule �
 not_permitted None rule e h = cc
 not_permitted (Some f) rule e h = cc
 
-pub broken_isn't_legal : (g : Parts) (n : ℕ) (items : List Item) (k : ℕ) (rule : Forbidden) → IsFirstBroken g n items k rule → is_legal g n (reverse items) ≡ true → ⊥
-broken_isn't_legal g n items k rule f legal =
+not_true : (b : Bool) → (b ≡ true → ⊥) → b ≡ false
+not_true true h = absurd (h refl)
+not_true false h = refl
+
+pub broken_isn't_legal : (g : Parts) (n : ℕ) (items : List Item) (k : ℕ) (rule : Forbidden) → IsFirstBroken g n items k rule → is_legal g n (reverse items) ≡ false
+broken_isn't_legal g n items k rule f = not_true (is_legal g n (reverse items)) (λ legal.
     let inside = slice_get_within items k f.item f.there in
     let here : get_or items k f.item ≡ f.item = get_or_from_slice_get items k f.item f.item f.there in
     let split : reverse items ≡ reverse (drop (k + 1) items) ++ reverse (take (k + 1) items) = ap reverse (sym (take-append-drop (k + 1) items)) ∙ reverse-append (take (k + 1) items) (drop (k + 1) items) in
     let part = legal_before g n (reverse (drop (k + 1) items)) (reverse (take (k + 1) items)) (sym (ap (is_legal g n) split) ∙ legal) in
     let first = ap (λ (i : Item). i ∷ reverse (take k items)) (sym here) ∙ next_past items k f.item inside in
     let permitted = (both_true (is_permitted g n (reverse (take k items)) f.item) (is_legal g n (reverse (take k items))) (ap (is_legal g n) first ∙ part)).0 in
-    not_permitted (broken g n (reverse (take k items)) f.item) rule f.breaks permitted
+    not_permitted (broken g n (reverse (take k items)) f.item) rule f.breaks permitted)
 
-pub first_broken : (g : Parts) (n : ℕ) (items : List Item) (k : ℕ) (d : Item) (rule : Forbidden) (told : Option Forbidden) → k < length items → is_legal g n (reverse (take k items)) ≡ true → told ≡ broken g n (reverse (take k items)) (get_or items k d) → told ≡ Some rule → IsFirstBroken g n items k rule
-first_broken g n items k d rule told inside legal is some = record { item = get_or items k d; there = slice_get-get_or items k d inside; legal = legal; breaks = sym is ∙ some }
+pub is_first_broken : (g : Parts) (n : ℕ) (items : List Item) (k : ℕ) (d : Item) (rule : Forbidden) (told : Option Forbidden) → k < length items → is_legal g n (reverse (take k items)) ≡ true → told ≡ broken g n (reverse (take k items)) (get_or items k d) → told ≡ Some rule → IsFirstBroken g n items k rule
+is_first_broken g n items k d rule told inside legal is some = record { item = get_or items k d; there = slice_get-get_or items k d inside; legal = legal; breaks = sym is ∙ some }

@@ -1,18 +1,17 @@
 -- A line that is read is the line of its item, and the line of an item is read.
-use Rattle.std.proofs.Common.{◌≡◌, ℕ, ◌<◌, ◌≤◌, ◌/◌, ◌%◌, Bool, true, false, cond, eqb, List, [], ◌∷◌, ◌++◌, Option, Some, None, Result, Ok, Err, refl, subst, ◌∙◌, arith}
+use Rattle.std.proofs.Common.{◌≡◌, ℕ, ◌<◌, ◌≤◌, ◌/◌, ◌%◌, Bool, false, eqb, List, [], ◌∷◌, ◌++◌, Option, Some, None, Ok, refl, subst, ◌∙◌, arith}
 use Rattle.std.specs.Prelude.{ok_or}
-use Rattle.std.specs.List.{AllByRecursion, list_all, join_with_byte}
+use Rattle.std.specs.List.{AllByRecursion, join_with_byte}
 use Rattle.std.proofs.lemmas.Option.{same_Some}
 use Rattle.std.proofs.lemmas.List.Splits.{join_with_byte-slice_split}
 use Rattle.onfi_cycle.specs.declared.Kind.{Kind}
 use Rattle.onfi_cycle.specs.declared.Item.{Item}
 use Rattle.onfi_cycle.specs.declared.Item.TheVariants.{Cyc, Rdy, Ard}
-use Rattle.trace_text.specs.declared.refusal.TraceFault.{TraceFault}
-use Rattle.trace_text.specs.declared.refusal.TraceFault.TheVariants.{X1, X2}
+use Rattle.trace_text.specs.declared.refusal.TraceFault.TheVariants.{X2}
 use Rattle.trace_text.specs.declared.line.Letter.{Letter}
 use Rattle.trace_text.specs.declared.line.Letter.TheVariants.{CycleOf, Ready, ArrayReady}
 use Rattle.trace_text.specs.Line.{digit, hex_digit, kind_letter, fail_digit, line, IsPrintable, HasByte}
-use Rattle.trace_text.specs.Reading.{and_then, fields, is_field, place_of, byte_of, fail_of, letter_of, cycle, ready, array_ready, of_three, of_four, item_of, line_item}
+use Rattle.trace_text.specs.Reading.{and_then, fields, place_of, byte_of, fail_of, letter_of, cycle, ready, array_ready, of_three, of_four, item_of, line_item}
 use Rattle.trace_text.proofs.Ranges.{and_then_some, IsPlain, place_takes, place_again, plain_digit, is_hex, byte_takes, byte_again, fail_takes, fail_again, plain_fail, letter_takes, letter_again, plain_letter}
 
 -- the front of a line, up to its line feed, is the item's
@@ -91,14 +90,10 @@ item_takes (a ∷ b ∷ c ∷ []) item e = three_take a b c (letter_of b) item r
 item_takes (a ∷ b ∷ c ∷ d ∷ []) item e = four_take a b c d (letter_of b) item refl e
 item_takes (a ∷ b ∷ c ∷ d ∷ f ∷ fs) item e = absurd cc
 
-passed : (t : Bool) (r : Result Item TraceFault) (item : Item) → cond t r (Err X1) ≡ Ok item → r ≡ Ok item
-passed true r item e = e
-passed false r item e = absurd cc
-
 pub line_takes : (front : List ℕ) (item : Item) → line_item front ≡ Ok item → IsLineOf front item
 unfolding line_item
 line_takes front item e =
-    let taken = item_takes (fields front) item (passed (list_all is_field (fields front)) (item_of (fields front)) item e) in
+    let taken = item_takes (fields front) item e in
     subst (λ (bs : List ℕ). IsLineOf bs item) (join_with_byte-slice_split 32 front) taken
 
 -- ---- from the item to the line
@@ -112,17 +107,17 @@ pub record HasLine (item : Item) : Type 0 where
 -- three fields, of one, one and two characters
 read_cycle : (a k h l : ℕ) → IsPlain a → IsPlain k → IsPlain h → IsPlain l → line_item (a ∷ 32 ∷ k ∷ 32 ∷ h ∷ l ∷ []) ≡ of_three (letter_of (k ∷ [])) (a ∷ []) (h ∷ l ∷ [])
 unfolding line_item
-read_cycle a k h l pa pk ph pl = rw (pa.no_space, pk.no_space, ph.no_space, pl.no_space, pa.graphic, pk.graphic, ph.graphic, pl.graphic) refl
+read_cycle a k h l pa pk ph pl = rw (pa.no_space, pk.no_space, ph.no_space, pl.no_space) refl
 
 -- three of one
 read_three : (a k l : ℕ) → IsPlain a → IsPlain k → IsPlain l → line_item (a ∷ 32 ∷ k ∷ 32 ∷ l ∷ []) ≡ of_three (letter_of (k ∷ [])) (a ∷ []) (l ∷ [])
 unfolding line_item
-read_three a k l pa pk pl = rw (pa.no_space, pk.no_space, pl.no_space, pa.graphic, pk.graphic, pl.graphic) refl
+read_three a k l pa pk pl = rw (pa.no_space, pk.no_space, pl.no_space) refl
 
 -- four of one
 read_four : (a k l f : ℕ) → IsPlain a → IsPlain k → IsPlain l → IsPlain f → line_item (a ∷ 32 ∷ k ∷ 32 ∷ l ∷ 32 ∷ f ∷ []) ≡ of_four (letter_of (k ∷ [])) (a ∷ []) (l ∷ []) (f ∷ [])
 unfolding line_item
-read_four a k l f pa pk pl pf = rw (pa.no_space, pk.no_space, pl.no_space, pf.no_space, pa.graphic, pk.graphic, pl.graphic, pf.graphic) refl
+read_four a k l f pa pk pl pf = rw (pa.no_space, pk.no_space, pl.no_space, pf.no_space) refl
 
 cycle_again : (ce : ℕ) (kind : Kind) (byte : ℕ) → ce ≤ 3 → byte < 256 → HasLine (Cyc (record { ce = ce; kind = kind; byte = byte }))
 unfolding cycle

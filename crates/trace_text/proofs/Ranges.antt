@@ -3,7 +3,6 @@ use Rattle.std.proofs.Common.{◌≡◌, ℕ, ◌+◌, ◌-◌, ◌*◌, ◌/◌
 use Rattle.std.proofs.lemmas.Bool.{eqb-true, leb-true, le-leb, ltb-true, ltb-false, lt-ltb, le-ltb, ne_eqb}
 use Rattle.std.proofs.lemmas.Option.{cond_some, same_Some}
 use Rattle.std.proofs.lemmas.Bool.Decides.{nat_tests}
-use Rattle.std.specs.Char.{is_ascii_graphic}
 use Rattle.onfi_cycle.specs.declared.Kind.TheVariants.{Cmd, Adr, Din, Dout}
 use Rattle.trace_text.specs.declared.line.Letter.{Letter}
 use Rattle.trace_text.specs.declared.line.Letter.TheVariants.{CycleOf, Ready, ArrayReady}
@@ -44,14 +43,13 @@ between low n high e = let t = both_true (leb low n) (leb n high) e in (leb-true
 is_between : (low n high : ℕ) → low ≤ n → n ≤ high → (leb low n && leb n high) ≡ true
 is_between low n high h k = let first = le-leb low n h in let second = le-leb n high k in rw (first, second) refl
 
--- a visible character that is neither a space nor a line feed
+-- a character that is neither a space nor a line feed
 pub record IsPlain (b : ℕ) : Type 0 where
-  pub graphic : is_ascii_graphic b ≡ true
   pub no_space : eqb b 32 ≡ false
   pub no_feed : eqb b 10 ≡ false
 
-plain : (b : ℕ) → 33 ≤ b → b ≤ 126 → IsPlain b
-plain b low high = record { graphic = is_between 33 b 126 low high; no_space = ne_eqb b 32 (λ e. absurd (omega arith)); no_feed = ne_eqb b 10 (λ e. absurd (omega arith)) }
+plain : (b : ℕ) → 33 ≤ b → IsPlain b
+plain b low = record { no_space = ne_eqb b 32 (λ e. absurd (omega arith)); no_feed = ne_eqb b 10 (λ e. absurd (omega arith)) }
 
 -- ---- a chip enable or a LUN
 
@@ -76,7 +74,7 @@ place_again n h =
     rw (test, value) refl
 
 pub plain_digit : (n : ℕ) → n ≤ 3 → IsPlain (digit n)
-plain_digit n h = plain (48 + n) (omega arith) (omega arith)
+plain_digit n h = plain (48 + n) (omega arith)
 
 -- ---- a byte
 
@@ -115,13 +113,13 @@ is_hex n h = at (ltb n 10) refl
         let below : n < 10 = ltb-true n 10 is in
         let test = is_between 48 (48 + n) 57 (omega arith) (omega arith) in
         let back : 48 + n - 48 ≡ n = omega arith in
-        record { value = rw (is, test, back) refl; plain = rw is (plain (48 + n) (omega arith) (omega arith)) }
+        record { value = rw (is, test, back) refl; plain = rw is (plain (48 + n) (omega arith)) }
     at false is =
         let above : 10 ≤ n = ltb-false n 10 is in
         let past : (leb 48 (87 + n) && leb (87 + n) 57) ≡ false = grind (arith, nat_tests) in
         let test = is_between 97 (87 + n) 102 (omega arith) (omega arith) in
         let back : 87 + n - 87 ≡ n = omega arith in
-        record { value = rw (is, past, test, back) refl; plain = rw is (plain (87 + n) (omega arith) (omega arith)) }
+        record { value = rw (is, past, test, back) refl; plain = rw is (plain (87 + n) (omega arith)) }
 
 pub byte_takes : (f : List ℕ) (n : ℕ) → byte_of f ≡ Some n → (f ≡ hex_digit (n / 16) ∷ hex_digit (n % 16) ∷ []) × (n < 256)
 unfolding byte_of
@@ -169,8 +167,8 @@ fail_again true = refl
 fail_again false = refl
 
 pub plain_fail : (fail : Bool) → IsPlain (fail_digit fail)
-plain_fail true = plain 49 (omega arith) (omega arith)
-plain_fail false = plain 48 (omega arith) (omega arith)
+plain_fail true = plain 49 (omega arith)
+plain_fail false = plain 48 (omega arith)
 
 -- ---- a letter
 
@@ -205,9 +203,9 @@ letter_again Ready = refl
 letter_again ArrayReady = refl
 
 pub plain_letter : (letter : Letter) → IsPlain (code letter)
-plain_letter (CycleOf Cmd) = plain 67 (omega arith) (omega arith)
-plain_letter (CycleOf Adr) = plain 65 (omega arith) (omega arith)
-plain_letter (CycleOf Din) = plain 73 (omega arith) (omega arith)
-plain_letter (CycleOf Dout) = plain 79 (omega arith) (omega arith)
-plain_letter Ready = plain 82 (omega arith) (omega arith)
-plain_letter ArrayReady = plain 89 (omega arith) (omega arith)
+plain_letter (CycleOf Cmd) = plain 67 (omega arith)
+plain_letter (CycleOf Adr) = plain 65 (omega arith)
+plain_letter (CycleOf Din) = plain 73 (omega arith)
+plain_letter (CycleOf Dout) = plain 79 (omega arith)
+plain_letter Ready = plain 82 (omega arith)
+plain_letter ArrayReady = plain 89 (omega arith)

@@ -44,9 +44,28 @@ three_digits : line_item (codes "0 C 600") ≡ Err X2
 unfolding line_item letter_of cycle place_of byte_of
 three_digits = refl
 
+-- the second field is empty, which is no letter
 two_spaces : line_item (codes "0  C 60") ≡ Err X1
-unfolding line_item
+unfolding line_item letter_of
 two_spaces = refl
+
+-- a number field is X2 whatever its bytes: a carriage return (13) or nothing
+carriage_return : line_item (codes "0 C 60" ++ 13 ∷ []) ≡ Err X2
+unfolding line_item letter_of cycle place_of byte_of
+carriage_return = refl
+
+empty_third : line_item (codes "0 C ") ≡ Err X2
+unfolding line_item letter_of cycle place_of byte_of
+empty_third = refl
+
+empty_first : line_item (codes " C 60") ≡ Err X2
+unfolding line_item letter_of cycle place_of byte_of
+empty_first = refl
+
+-- the letter wants another number of fields
+four_of_three : line_item (codes "0 C  60") ≡ Err X1
+unfolding line_item letter_of
+four_of_three = refl
 
 small_letter : line_item (codes "0 c 60") ≡ Err X1
 unfolding line_item letter_of
@@ -57,7 +76,7 @@ unfolding line_item
 no_line = refl
 
 space_at_the_end : line_item (codes "0 Y 1 ") ≡ Err X1
-unfolding line_item
+unfolding line_item letter_of
 space_at_the_end = refl
 
 five_fields : line_item (codes "9 R 2 1 0") ≡ Err X1

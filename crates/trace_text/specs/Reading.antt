@@ -1,7 +1,6 @@
 -- Reading a text: the items, or the first fault with its line.
-use Rattle.std.specs.Prelude.{◌≡◌, ℕ, ◌+◌, ◌-◌, ◌*◌, ◌<◌, Bool, true, false, not, ◌&&◌, ◌==◌, nat_le, if◌then◌else◌, List, [], ◌∷◌, ◌++◌, length, slice_index, Option, Some, None, Result, Ok, Err, IsOk, ok_or}
-use Rattle.std.specs.List.{slice_split, list_all}
-use Rattle.std.specs.Char.{is_ascii_graphic}
+use Rattle.std.specs.Prelude.{◌≡◌, ℕ, ◌+◌, ◌-◌, ◌*◌, ◌<◌, Bool, true, false, ◌&&◌, ◌==◌, nat_le, if◌then◌else◌, List, [], ◌∷◌, ◌++◌, length, slice_index, Option, Some, None, Result, Ok, Err, IsOk, ok_or}
+use Rattle.std.specs.List.{slice_split}
 use Rattle.onfi_cycle.specs.declared.Kind.{Kind}
 use Rattle.onfi_cycle.specs.declared.Kind.TheVariants.{Cmd, Adr, Din, Dout}
 use Rattle.onfi_cycle.specs.declared.Item.{Item}
@@ -24,13 +23,9 @@ and_then None f = None
 
 -- ---- the fields of a line
 
--- a line is split at each of its spaces
+-- a line is split at each of its spaces (32), so two in a row have an empty field between them
 abbrev pub fields : List ℕ → List (List ℕ)
 fields line = slice_split (λ b. b == 32) line
-
--- a field has visible characters alone, and at least one
-abbrev pub is_field : List ℕ → Bool
-is_field field = not (length field == 0) && list_all is_ascii_graphic field
 
 -- a chip enable or a LUN: one digit from 0 to 3
 abbrev pub place_of_digit : ℕ → Option ℕ
@@ -76,7 +71,8 @@ ready ce lun fail = and_then (place_of ce) (λ ce. and_then (place_of lun) (λ l
 unfoldable pub array_ready : List ℕ → List ℕ → Option Item
 array_ready ce lun = and_then (place_of ce) (λ ce. and_then (place_of lun) (λ lun. Some (Ard ce lun)))
 
--- C, A, I, O and Y want three fields, and R four; each number field has its form
+-- C, A, I, O and Y want three fields, and R four. Only then are the number fields looked at: one that hasn't its form
+-- is X2, whatever bytes it has, none at all included
 abbrev pub of_three : Option Letter → List ℕ → List ℕ → Result Item TraceFault
 of_three (Some (CycleOf kind)) ce byte = ok_or (cycle ce kind byte) X2
 of_three (Some Ready) ce third = Err X1
@@ -96,7 +92,7 @@ item_of _ = Err X1
 
 -- the item of a line, or its fault
 unfoldable pub line_item : List ℕ → Result Item TraceFault
-line_item line = if list_all is_field (fields line) then item_of (fields line) else Err X1
+line_item line = item_of (fields line)
 
 -- ---- the items of a text
 

@@ -1,7 +1,7 @@
 //! The check of a trace.
 
-ghost use Rattle.std.specs.Prelude.{◌≡◌, ◌≤◌, ◌↔◌, true, reverse, IsOk, IfErr};
-ghost use Rattle.onfi_cycle.specs.Permitted.{is_legal};
+ghost use Rattle.std.specs.Prelude.{◌≡◌, ◌≤◌, ◌↔◌, true, false, reverse, IsOk, IfErr, IfSome, IfNone};
+ghost use Rattle.onfi_cycle.specs.Permitted.{is_legal, IsFirstBroken};
 ghost use Rattle.trace_text.specs.Checking.{TellsFirst};
 
 use nand_geometry::Geometry;
@@ -21,6 +21,23 @@ pub enum CheckRefusal {
     OutOfMemory,
 }
 
+// The place of the first item that isn't permitted after those before it, with the first rule that it breaks.
+fn first_broken(geometry: &Geometry, targets: u8, items: &[Item]) -> Option<(usize, Forbidden)>
+    requires { targets ≤ 4 }
+    ensures none { IfNone result (is_legal geometry.now targets (reverse items.now) ≡ true) }
+    ensures some { IfSome result (λ found. IsFirstBroken geometry.now targets items.now found.0 found.1) }
+    ensures illegal { IfSome result (λ found. is_legal geometry.now targets (reverse items.now) ≡ false) }
+{
+    let mut state = BusState::new(*geometry, targets);
+    for (place, item) in items.iter().enumerate() {
+        if let Some(rule) = state.judge(*item) {
+            return Some((place, rule));
+        }
+        state.apply(*item);
+    }
+    None
+}
+
 /// Whether a trace is legal on a channel of so many targets of this geometry, 4 at most: whether each item is permitted
 /// after those before it (docs/MODEL.md, "Rules"). The items stand in the order of time. The byte of an output isn't
 /// judged. Takes no memory, and a time that grows with the number of items alone.
@@ -29,12 +46,8 @@ pub fn check(geometry: &Geometry, targets: u8, items: &[Item]) -> Result<(), Che
     ensures legal { IsOk result ↔ (is_legal geometry.now targets (reverse items.now) ≡ true) }
     ensures first { IfErr result (TellsFirst geometry.now targets items.now) }
 {
-    let mut state = BusState::new(*geometry, targets);
-    for (place, item) in items.iter().enumerate() {
-        if let Some(rule) = state.judge(*item) {
-            return Err(CheckRefusal::At(place, rule));
-        }
-        state.apply(*item);
+    match first_broken(geometry, targets, items) {
+        Some((place, rule)) => Err(CheckRefusal::At(place, rule)),
+        None => Ok(()),
     }
-    Ok(())
 }

@@ -2,10 +2,8 @@
 
 ghost use Rattle.std.specs.Prelude.{◌≡◌, [], ◌∷◌, ◌<◌, IfSome, IfNone};
 ghost use Rattle.std.specs.Option.{option_copied, option_to_list};
-ghost use Rattle.std.specs.List.{list_all};
-ghost use Rattle.std.specs.Char.{is_ascii_graphic};
 ghost use Rattle.trace_text.specs.declared.refusal.TraceFault.TheVariants.{X1};
-ghost use Rattle.trace_text.specs.Reading.{fields, is_field, place_of, hex_value, byte_of, fail_of, letter_of, cycle, ready, array_ready, line_item};
+ghost use Rattle.trace_text.specs.Reading.{fields, place_of, hex_value, byte_of, fail_of, letter_of, cycle, ready, array_ready, line_item};
 
 use crate::refusal::TraceFault;
 use onfi_cycle::{Cycle, Item, Kind};
@@ -111,20 +109,6 @@ fn array_ready(ce: &str, lun: &str) -> Option<Item>
     Some(Item::Ard { ce, lun })
 }
 
-// Whether each character is a visible one.
-fn is_visible(text: &str) -> bool
-    ensures { result ≡ list_all is_ascii_graphic text.now }
-{
-    text.bytes().all(|b| b.is_ascii_graphic())
-}
-
-// Whether the text is one or more visible characters.
-fn is_field(text: &str) -> bool
-    ensures { result ≡ is_field text.now }
-{
-    !text.is_empty() && is_visible(text)
-}
-
 // The field before the first space, and what stands behind that space.
 fn first_field(line: &str) -> Option<(&str, &str)>
     ensures some { IfSome result (λ x. fields line.entry.now ≡ x.0.now ∷ fields x.1.now) }
@@ -169,27 +153,15 @@ impl<'a> Fields<'a> {
             Some(_) => None,
         }
     }
-
-    // Whether each of them is a field.
-    fn are_fields(self) -> bool
-        ensures { result ≡ list_all is_field (self.entry.ce.now ∷ self.entry.letter.now ∷ self.entry.third.now ∷ option_to_list (option_copied self.entry.fourth)) }
-    {
-        is_field(self.ce)
-            && is_field(self.letter)
-            && is_field(self.third)
-            && self.fourth.is_none_or(is_field)
-    }
 }
 
-// The item of a line, which is given without its line feed.
+// The item of a line, which is given without its line feed. The number of fields is wanted by the letter, and the number
+// fields are looked at last.
 #[tactic(auto, unfolding(crate::specs::Reading::line_item))]
 pub(crate) fn line_item(line: &str) -> Result<Item, TraceFault>
     ensures { result ≡ line_item line.now }
 {
     let fields = Fields::of(line).ok_or(TraceFault::X1)?;
-    if !fields.are_fields() {
-        return Err(TraceFault::X1);
-    }
     let letter = letter_of(fields.letter).ok_or(TraceFault::X1)?;
     let item = match (letter, fields.fourth) {
         (Letter::CycleOf(kind), None) => cycle(fields.ce, kind, fields.third),

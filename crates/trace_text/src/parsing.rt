@@ -73,10 +73,10 @@ fn all<A: Allocator>(alloc: A, text: &str) -> Result<Vec<Item, A>, TraceRefusal>
 }
 
 /// The items of a text, which is one that [`print`](crate::print) writes. Of any other text the lowest line with
-/// a fault is told, counted from 1, and its first fault: X1 if the line isn't ended, has a field other than one or
-/// more visible ASCII characters between single spaces, a letter other than C, A, I, O, R and Y, or other than the
-/// number of fields that its letter wants; then X2 if a number field isn't of its form. Memory is taken once there
-/// is no fault, and `OutOfMemory` is answered only where it was refused.
+/// a fault is told, counted from 1, and its first fault: X1 if the line isn't ended by a line feed, its second field,
+/// of those that stand between its spaces, isn't one of C, A, I, O, R and Y, or the letter wants another number of
+/// fields; then X2 if a number field isn't of its form, whatever characters it has. Memory is taken once there is no
+/// fault, and `OutOfMemory` is answered only where it was refused.
 pub fn parse<A: Allocator>(alloc: A, text: &str) -> Result<Vec<Item, A>, TraceRefusal>
     // What is read are items whose text this is, each chip enable and each LUN at most 3.
     ensures found { IfOk result (λ v. IsTextOf text.now v.items) }

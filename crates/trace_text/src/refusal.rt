@@ -9,10 +9,11 @@ use thiserror::Error;
 /// What is wrong with a line of a text. A line is judged by its shape first, and then by its numbers.
 #[derive(Clone, Copy, Debug, PartialEq, Eq, Error)]
 pub enum TraceFault {
-    /// The line isn't ended, has an unknown letter, or not the fields that its letter wants.
+    /// The line isn't ended, its second field is none of the letters, or it has another number of fields than its
+    /// letter wants.
     #[error("the line hasn't the shape of an item")]
     X1,
-    /// A number field isn't a number of its form.
+    /// A number field isn't a number of its form, whatever characters it has.
     #[error("a field isn't a number of its form")]
     X2,
 }

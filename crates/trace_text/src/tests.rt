@@ -122,7 +122,6 @@ fn lines_of_the_wrong_shape(rt: HostRuntime) -> Result<(), Fail> {
         " ",
         "0",
         "0 C",
-        "0 C ",
         "0 C 60 ",
         " 0 C 60",
         "0  C 60",
@@ -135,15 +134,17 @@ fn lines_of_the_wrong_shape(rt: HostRuntime) -> Result<(), Fail> {
         "0 R 0 0 0",
         "0 Y",
         "0 Y 1 0",
-        "0 C 60\r",
+        "0 C\r 60",
         "0\tC 60",
-        "0 C 6\u{e9}",
         "C 60",
         "0 60",
         "0 \u{0} 60",
-        "0 C 6\u{7f}",
+        "0 \u{e9} 60",
         "7 X zz",
         "0 C 60 0 0",
+        "0 R 0 0 ",
+        "0 Y 0 \r",
+        "\r",
     ];
     for line in lines {
         let mut text = String::from_str(rt.alloc(), line)?;
@@ -181,6 +182,21 @@ fn numbers_of_the_wrong_form(rt: HostRuntime) {
         "0 Y 4\n",
         "0 Y 01\n",
         "/ Y 0\n",
+        // Whatever characters the field has: a carriage return, a tab, a control character, one of two bytes, or none.
+        "0 C 60\r\n",
+        "0 R 0 0\r\n",
+        "0 Y 0\r\n",
+        "0 C 6\t\n",
+        "\t0 C 60\n",
+        "0 C 6\u{7f}\n",
+        "0 C 6\u{e9}\n",
+        "0 C \u{e9}\n",
+        "0 C \n",
+        " C 60\n",
+        "0 Y \n",
+        "0 R  0\n",
+        "0 R 0 \n",
+        " R  \n",
     ];
     for text in texts {
         assert_eq!(rt;
@@ -223,6 +239,8 @@ fn lowest_fault_is_told(rt: HostRuntime) {
         ("9 C D0 7\n", TraceFault::X1, 1),
         ("9 C D0", TraceFault::X1, 1),
         ("9 C  D0\n", TraceFault::X1, 1),
+        ("0 C 60\r\n0 X 60\n", TraceFault::X2, 1),
+        ("0 C 60\r", TraceFault::X1, 1),
     ];
     for (text, code, line) in texts {
         assert_eq!(rt; refusal(rt.alloc(), text), fault(code, line), "{text:?}");

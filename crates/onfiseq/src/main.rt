@@ -1,0 +1,22 @@
+//! The program `onfiseq`: its words and its streams are handed to [`seq_cli::answer`], which does the rest.
+#![tactic(auto)]
+
+use seq_cli::answer;
+use std::env;
+use std::io::{self, Input};
+use std::process::ExitCode;
+
+// The words of the command line, if each is UTF-8.
+fn words_given(rt: &HostRuntime) -> io::Result<Vec<String>> {
+    Ok(env::args(rt)?.collect(rt.alloc())?)
+}
+
+fn main(rt: HostRuntime) -> ExitCode {
+    ExitCode::from(answer(
+        rt.alloc(),
+        words_given(&rt),
+        &mut rt.reader(),
+        &mut rt.stdout(),
+        &mut rt.stderr(),
+    ))
+}

@@ -1,0 +1,367 @@
+ghost use Rattle.std.specs.Prelude.{◌<◌};
+
+use crate::tests::{ERASE, RUN, reader, writer};
+use crate::{Refusal, answer, run_file};
+use linked_list_allocator::LocalHeap;
+use micro_verify::Reason;
+use micro_word::WordFault;
+use seq_core::LoadFault;
+use std::alloc::{AllocError, Global};
+use std::io;
+use std::process::Abort;
+use std::test::Fail;
+
+// What the program answers: its status, and what it writes on standard output and on standard error.
+#[derive(Drop)]
+struct Answer {
+    status: u8,
+    output: Vec<u8>,
+    errors: Vec<u8>,
+}
+
+fn answer_to(alloc: Global, words: io::Result<Vec<String>>, file: &[u8]) -> Answer {
+    let mut input = file;
+    let mut output = Vec::new(alloc);
+    let mut errors = Vec::new(alloc);
+    let status = answer(alloc, words, &mut input, &mut output, &mut errors);
+    Answer {
+        status,
+        output,
+        errors,
+    }
+}
+
+fn owned(alloc: Global, words: &[&str]) -> Result<Vec<String>, AllocError> {
+    let mut owned = Vec::new(alloc);
+    for word in words {
+        owned.push(String::from_str(alloc, word)?)?;
+    }
+    Ok(owned)
+}
+
+fn expect(rt: &impl Abort, answer: Answer, status: u8, output: &str, errors: &str) {
+    assert_eq!(rt; answer.output.as_slice(), output.as_bytes());
+    assert_eq!(rt; answer.errors.as_slice(), errors.as_bytes(), "{output}");
+    assert_eq!(rt; answer.status, status, "{output}");
+}
+
+// Runs a file at base 4, where it must be refused so, with these words.
+fn expect_refusal(
+    rt: &(impl Abort + AllocGlobal),
+    file: &[u8],
+    line: &str,
+    words: &str,
+) -> Result<(), AllocError> {
+    let asked = owned(rt.alloc(), &["onfiseq", "once", "--base", "4"])?;
+    expect(rt, answer_to(rt.alloc(), Ok(asked), file), 1, line, words);
+    Ok(())
+}
+
+#[test]
+fn a_run(rt: HostRuntime) -> Result<(), Fail> {
+    let words = owned(rt.alloc(), &["onfiseq", "once", "--base", "4"])?;
+    expect(&rt, answer_to(rt.alloc(), Ok(words), &ERASE), 0, RUN, "");
+    Ok(())
+}
+
+// A file with one byte turned into another.
+fn changed(place: usize, byte: u8) -> [u8; 36]
+    requires { place < 36 }
+{
+    let mut file = ERASE;
+    file[place] = byte;
+    file
+}
+
+#[test]
+fn files_that_are_refused(rt: HostRuntime) -> Result<(), Fail> {
+    let mut longer = ERASE.to_vec(rt.alloc())?;
+    longer.push(0)?;
+    let files = [
+        (
+            &ERASE[..15],
+            "refused M1 at 0\n",
+            "the file is shorter than its header of 16 bytes\n",
+        ),
+        (
+            &changed(3, 0x33),
+            "refused M2 at 0\n",
+            "the file begins with neither NMP1 nor NMP2\n",
+        ),
+        (
+            &ERASE[..35],
+            "refused M3 at 0\n",
+            "the header names more than 1024 words, or more than the file has\n",
+        ),
+        (
+            &changed(24, 0x11),
+            "refused M4 at 2\n",
+            "word 2: no word has this code\n",
+        ),
+        (
+            &changed(29, 1),
+            "refused M5 at 3\n",
+            "word 3: a byte that this word doesn't use isn't 0\n",
+        ),
+        (
+            &changed(22, 0),
+            "refused M6 at 1\n",
+            "word 1: a number is out of its range\n",
+        ),
+        (
+            &changed(6, 0),
+            "refused M6 at 0\n",
+            "word 0 or the header: a number is out of its range\n",
+        ),
+        (
+            longer.as_slice(),
+            "refused M7 at 0\n",
+            "the file goes on after its last word\n",
+        ),
+    ];
+    for (file, line, words) in files {
+        expect_refusal(&rt, file, line, words)?;
+    }
+    Ok(())
+}
+
+// The same with a budget of 100, and one byte turned into another.
+fn with_budget(place: usize, byte: u8) -> [u8; 36]
+    requires { place < 36 }
+{
+    let mut file = changed(place, byte);
+    file[12] = 100;
+    file
+}
+
+#[test]
+fn texts_that_are_refused(rt: HostRuntime) -> Result<(), Fail> {
+    let mut get = with_budget(28, 0x03);
+    get[30] = 1;
+    let files = [
+        (
+            &changed(32, 0x0a),
+            "refused V5 at 4\n",
+            "word 4: the last word isn't `end`\n",
+        ),
+        (
+            &changed(25, 0x60),
+            "refused V7 at 2\n",
+            "word 2: this cycle isn't permitted here: the open command doesn't want it, or the LUN may be busy\n",
+        ),
+        (
+            &changed(21, 1),
+            "refused V8 at 1\n",
+            "word 1: these aren't the address bytes that the open command wants next\n",
+        ),
+        (
+            &changed(28, 0),
+            "refused V14 at 3\n",
+            "word 3: the program may end while its LUN is busy, or in the middle of a command sequence\n",
+        ),
+        (
+            &changed(12, 4),
+            "refused V15 at 2\n",
+            "word 2: the bus cycles up to here are more than the budget in the header\n",
+        ),
+        (
+            &with_budget(17, 0x00),
+            "refused V16 at 0\n",
+            "word 0: not supported yet: programs may use `end`, `cmd 60`, `cmd d0`, `addr` and `wait`\n",
+        ),
+        (
+            &get,
+            "refused V16 at 3\n",
+            "word 3: not supported yet: programs may use `end`, `cmd 60`, `cmd d0`, `addr` and `wait`\n",
+        ),
+    ];
+    for (file, line, words) in files {
+        expect_refusal(&rt, file, line, words)?;
+    }
+    Ok(())
+}
+
+#[test]
+fn the_bus_let_go_too_soon_and_no_words(rt: HostRuntime) -> Result<(), Fail> {
+    // `wait` in the place of `cmd d0`, and a header of no words.
+    let mut wait = changed(24, 0x0a);
+    wait[25] = 0;
+    let mut header = changed(4, 0);
+    header[5] = 0;
+    expect_refusal(
+        &rt,
+        &wait,
+        "refused V9 at 2\n",
+        "word 2: the bus would be let go in the middle of a command sequence\n",
+    )?;
+    expect_refusal(
+        &rt,
+        &header[..16],
+        "refused V1 at 0\n",
+        "the program has no words\n",
+    )?;
+    Ok(())
+}
+
+#[test]
+fn a_base_outside_the_die(rt: HostRuntime) -> Result<(), Fail> {
+    let words = owned(rt.alloc(), &["onfiseq", "once", "--base", "32"])?;
+    expect(
+        &rt,
+        answer_to(rt.alloc(), Ok(words), &ERASE),
+        1,
+        "refused S3 at 0\n",
+        "the rows are outside the die: --base and the rows in the header come to more than 32\n",
+    );
+    Ok(())
+}
+
+// What no file of today is refused for.
+#[test]
+fn the_other_refusals(rt: HostRuntime) -> Result<(), Fail> {
+    let text = |reason| Refusal::Text { reason, word: 7 };
+    let job = |fault| Refusal::Job { fault };
+    let refusals = [
+        (
+            text(Reason::V2),
+            "word 7: a `loop` or a `next` has no partner",
+        ),
+        (text(Reason::V3), "word 7: loops are nested deeper than two"),
+        (
+            text(Reason::V4),
+            "word 7: the branch leads back, or into or out of a loop",
+        ),
+        (
+            text(Reason::V10),
+            "word 7: the program may go past the end of its buffer",
+        ),
+        (
+            text(Reason::V11),
+            "word 7: a row or a plane may be outside the die",
+        ),
+        (
+            text(Reason::V12),
+            "word 7: a column may be past the end of the page",
+        ),
+        (
+            text(Reason::V13),
+            "word 7: no status may have been read before this branch",
+        ),
+        (job(LoadFault::S1), "the LUN has a program already"),
+        (job(LoadFault::S2), "there is no such LUN"),
+        (
+            job(LoadFault::S4),
+            "the buffer isn't as long as the header says",
+        ),
+        (
+            job(LoadFault::S5),
+            "the program was checked for another die",
+        ),
+        (
+            job(LoadFault::S6),
+            "the program continues a cache read, and --base isn't the first row of a block",
+        ),
+    ];
+    for (refusal, words) in refusals {
+        let told = format!(in rt.alloc(); "{refusal}")?;
+        assert_eq!(rt; told.as_str(), words);
+    }
+    // A fault of a file that isn't a word's tells no word.
+    let file = Refusal::File {
+        fault: WordFault::M3,
+        word: 0,
+    };
+    assert!(rt; !format!(in rt.alloc(); "{file}")?.starts_with("word"));
+    Ok(())
+}
+
+#[test]
+fn command_lines_that_cannot_be_read(rt: HostRuntime) -> Result<(), Fail> {
+    let alloc = rt.alloc();
+    let lines: [&[&str]; 4] = [
+        &["onfiseq"],
+        &["onfiseq", "twice"],
+        &["onfiseq", "once", "file"],
+        &["onfiseq", "once", "--base", "-1"],
+    ];
+    for words in lines {
+        let got = answer_to(alloc, Ok(owned(alloc, words)?), &ERASE);
+        assert_eq!(rt; got.status, 3);
+        assert!(rt; got.output.is_empty() && !got.errors.is_empty());
+    }
+    let other = answer_to(
+        alloc,
+        Err(io::Error::from(io::ErrorKind::InvalidData)),
+        &ERASE,
+    );
+    expect(&rt, other, 3, "", "error: the command line isn't UTF-8\n");
+    let memory = answer_to(
+        alloc,
+        Err(io::Error::from(io::ErrorKind::OutOfMemory)),
+        &ERASE,
+    );
+    expect(&rt, memory, 4, "", "out of memory\n");
+    Ok(())
+}
+
+#[test]
+fn help_names_the_die(rt: HostRuntime) -> Result<(), Fail> {
+    let words = owned(rt.alloc(), &["onfiseq", "help", "once"])?;
+    let help = answer_to(rt.alloc(), Ok(words), &[]);
+    assert_eq!(rt; help.status, 0);
+    assert!(rt; help.errors.is_empty());
+    let text = str::from_utf8(help.output.as_slice())?;
+    for part in [
+        "1 LUN",
+        "1 plane",
+        "8 blocks of 4 pages of 512 + 16 bytes",
+        "0 to 31",
+    ] {
+        assert!(rt; text.contains(part), "{text}");
+    }
+    Ok(())
+}
+
+#[test]
+fn streams_that_fail_are_told(rt: HostRuntime) {
+    let alloc = rt.alloc();
+    let mut output = Vec::new(alloc);
+    let mut errors = Vec::new(alloc);
+    let mut input = reader(&ERASE, 5, io::ErrorKind::Other);
+    assert_eq!(rt;
+        run_file(&alloc, 4, &mut input, &mut output, &mut errors),
+        2
+    );
+    assert_eq!(rt; errors.as_slice(), b"file fault -\n".as_slice());
+    assert!(rt; output.is_empty());
+
+    let mut errors = Vec::new(alloc);
+    let mut file = ERASE.as_slice();
+    let mut output = writer(alloc, 3, io::ErrorKind::BrokenPipe);
+    assert_eq!(rt; run_file(&alloc, 4, &mut file, &mut output, &mut errors), 2);
+    assert_eq!(rt; errors.as_slice(), b"file fault -\n".as_slice());
+
+    // Where standard error takes nothing, the status still says it.
+    for (base, status) in [(4, 0), (32, 1)] {
+        let mut file = ERASE.as_slice();
+        let mut output = Vec::new(alloc);
+        let mut errors = writer(alloc, 0, io::ErrorKind::BrokenPipe);
+        assert_eq!(rt;
+            run_file(&alloc, base, &mut file, &mut output, &mut errors),
+            status
+        );
+        assert!(rt; errors.bytes.is_empty() && !output.is_empty());
+    }
+}
+
+#[test]
+fn out_of_memory_is_told(rt: HostRuntime) -> Result<(), Fail> {
+    let heap = LocalHeap::new(rt.alloc(), 0)?;
+    let mut file = ERASE.as_slice();
+    let mut output = Vec::new(rt.alloc());
+    let mut errors = Vec::new(rt.alloc());
+    assert_eq!(rt; run_file(&&heap, 4, &mut file, &mut output, &mut errors), 4);
+    assert_eq!(rt; errors.as_slice(), b"out of memory\n".as_slice());
+    assert!(rt; output.is_empty());
+    Ok(())
+}

@@ -1,6 +1,0 @@
-use Rattle.std.proofs.Common.{reverse, take}
-use Rattle.onfi_cycle.specs.State.{Follows}
-use Rattle.trace_text.proofs.checking.check.Given as goal
-
-abbrev pub invariant-loop-place : goal.invariant-loop-place
-invariant-loop-place l = Follows l.geometry l.targets l.state (reverse (take l.place l.items))
