@@ -1,5 +1,7 @@
+pub mod ChecksumLemmas
 pub mod FieldLemmas
 pub mod LimitLemmas
 pub mod PageLemmas
+pub mod ReadingLemmas
 pub mod RowLemmas
 mod Worked
