@@ -1,12 +1,12 @@
 -- The checksum a byte at a time: what a byte does to the register is one entry of a table, and what was in the register moves up.
-use Rattle.std.proofs.Common.{◌≡◌, ℕ, zero, suc, ◌+◌, ◌*◌, ◌/◌, ◌%◌, ◌^◌, ◌<◌, ◌==◌, Bool, true, false, cond, refl, sym, ap, ◌∙◌, arith, if◌then◌else◌, bit_xor, get_or}
+use Rattle.std.proofs.Common.{List, [], ◌∷◌, ◌≡◌, ℕ, zero, suc, ◌+◌, ◌*◌, ◌/◌, ◌%◌, ◌^◌, ◌<◌, ◌==◌, Bool, true, false, cond, refl, sym, ap, ◌∙◌, arith, if◌then◌else◌, bit_xor, get_or}
 use native.Mathlib.Numerals.{unary_clauses}
 use Rattle.std.specs.Int.Bits.{xor_assoc, xor_self, xor_zero_l, xor_zero_r}
 use Rattle.std.proofs.lemmas.Nat.{xor_comm, xor_lt, xor_shr, xor_mod, xor_block}
 use Rattle.std.proofs.lemmas.Nat.Bits.{bit_at_xor, same_from_bits}
 use Rattle.std.proofs.lemmas.Bool.{agree_below_at, eqb-true}
 use Rattle.nand_geometry.specs.declared.checksum.TheConstants.{TABLE}
-use Rattle.nand_geometry.specs.Page.{crc_bit, crc_bits}
+use Rattle.nand_geometry.specs.Page.{crc_bit, crc_bits, crc_from, crc}
 
 -- four numbers are combined in pairs, whichever pairs
 xor_pairs : (a b c d : ℕ) → bit_xor (bit_xor a b) (bit_xor c d) ≡ bit_xor (bit_xor a c) (bit_xor b d)
@@ -130,3 +130,16 @@ by_table register byte hr hb =
     let fits : index < 256 = xor_lt 8 (register / 256) byte (omega arith) hb in
     let moved : register * 256 % 65536 ≡ register % 256 * 256 = omega arith in
     ap (λ (n : ℕ). bit_xor n (get_or TABLE index 0)) moved ∙ ap (bit_xor (register % 256 * 256)) (entry index fits) ∙ sym (by_byte register byte hr hb)
+
+crc_bits_fits : (count byte register : ℕ) → register < 2 ^ 16 → crc_bits count byte register < 2 ^ 16
+unfolding crc_bits
+crc_bits_fits zero byte register h = h
+crc_bits_fits (suc count) byte register h = crc_bits_fits count byte (crc_bit register (byte / 2 ^ count % 2)) (crc_bit_fits register (byte / 2 ^ count % 2))
+
+crc_from_fits : (bytes : List ℕ) (register : ℕ) → register < 2 ^ 16 → crc_from bytes register < 2 ^ 16
+crc_from_fits [] register h = h
+crc_from_fits (byte ∷ bytes) register h = crc_from_fits bytes (crc_bits 8 byte register) (crc_bits_fits 8 byte register h)
+
+-- a checksum has 16 bits
+pub crc_fits : (bytes : List ℕ) → crc bytes < 2 ^ 16
+crc_fits bytes = crc_from_fits bytes 0x4f4e (omega arith)

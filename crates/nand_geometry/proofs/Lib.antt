@@ -3,5 +3,6 @@ pub mod FieldLemmas
 pub mod LimitLemmas
 pub mod PageLemmas
 pub mod ReadingLemmas
+pub mod RoundTripLemmas
 pub mod RowLemmas
 mod Worked

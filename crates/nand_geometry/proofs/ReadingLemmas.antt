@@ -1,5 +1,5 @@
 -- How a parameter page is read: the faults of a copy by the steps of the code, and the copies one after another.
-use Rattle.std.proofs.Common.{◌≡◌, ℕ, suc, ◌/◌, ◌<◌, ◌≤◌, Bool, true, false, cond, not, ◌&&◌, ◌||◌, nat_lt, if◌then◌else◌, List, [], ◌∷◌, ◌++◌, length, find, Option, Some, None, unwrap_or, Result, Ok, Err, MatchResult, refl, sym, ap, ◌∙◌, arith, lt-ltb, length-append}
+use Rattle.std.proofs.Common.{◌≡◌, ℕ, suc, ◌+◌, ◌%◌, ◌==◌, slice_index, ◌/◌, ◌<◌, ◌≤◌, Bool, true, false, cond, not, ◌&&◌, ◌||◌, nat_lt, if◌then◌else◌, List, [], ◌∷◌, ◌++◌, length, find, Option, Some, None, unwrap_or, Result, Ok, Err, MatchResult, refl, sym, ap, ◌∙◌, arith, lt-ltb, length-append}
 use Rattle.std.specs.List.{list_any}
 use Rattle.std.proofs.lemmas.Bool.{le-ltb}
 use Rattle.std.proofs.lemmas.List.{take_at, drop_at}
@@ -7,7 +7,7 @@ use Rattle.nand_geometry.specs.declared.Parts.{Parts}
 use Rattle.nand_geometry.specs.declared.PageFault.{PageFault}
 use Rattle.nand_geometry.specs.declared.PageFault.TheVariants.{P2, P3, P4, P5, P6, P7, P8, P9}
 use Rattle.nand_geometry.specs.Limits.{has_size_fault, has_lun_fault, has_plane_fault, has_status_fault, fault_of}
-use Rattle.nand_geometry.specs.Reading.{whole_copies, is_signed, is_sound, is_good, declared_by, has_wide_bus, has_address_cycles, has_lun_operations, copy_fault, or_fault, read_of}
+use Rattle.nand_geometry.specs.Reading.{is_field, has_bit, u16_at, u32_at, FieldsDecide, whole_copies, is_signed, is_sound, is_good, declared_by, has_wide_bus, has_address_cycles, has_lun_operations, copy_fault, or_fault, read_of}
 
 -- the first of two faults
 abbrev or_else : Option PageFault → Option PageFault → Option PageFault
@@ -59,7 +59,7 @@ scan signed [] = Err (if signed then P3 else P2)
 scan signed (copy ∷ rest) = if is_signed copy then (if is_sound copy then read_copy copy else scan true rest) else scan signed rest
 
 -- the whole copies behind a first one
-copies_of_append : (copy rest : List ℕ) → length copy ≡ 256 → whole_copies (copy ++ rest) ≡ copy ∷ whole_copies rest
+pub copies_of_append : (copy rest : List ℕ) → length copy ≡ 256 → whole_copies (copy ++ rest) ≡ copy ∷ whole_copies rest
 copies_of_append copy rest h =
     let count : length (copy ++ rest) / 256 ≡ suc (length rest / 256) = omega (arith, length-append copy rest) in
     rw count (rw (take_at copy rest 256 h, drop_at copy rest 256 h) refl)
@@ -129,3 +129,53 @@ pub given : (result : Result Parts PageFault) (copy : List ℕ) (all : Result Pa
     → MatchResult result (λ g. all ≡ Ok g) (λ e. all ≡ Err e)
 given (Ok g) copy all same h = sym same ∙ rw (h.0, h.1) refl
 given (Err e) copy all same h = sym same ∙ rw h refl
+
+-- the numbers that a copy declares, from its bytes in those places
+same_numbers : (copy other : List ℕ) → ((place : ℕ) → is_field place ≡ true → slice_index copy place ≡ slice_index other place) → declared_by copy ≡ declared_by other
+unfolding declared_by
+same_numbers copy other same =
+    let features : slice_index copy 6 ≡ slice_index other 6 = same 6 refl in
+    let commands : slice_index copy 8 ≡ slice_index other 8 = same 8 refl in
+    let page_bytes : u32_at copy 80 ≡ u32_at other 80 = same_u32 80 (same 80 refl) (same 81 refl) (same 82 refl) (same 83 refl) in
+    let spare_bytes : u16_at copy 84 ≡ u16_at other 84 = same_u16 84 (same 84 refl) (same 85 refl) in
+    let pages : u32_at copy 92 ≡ u32_at other 92 = same_u32 92 (same 92 refl) (same 93 refl) (same 94 refl) (same 95 refl) in
+    let blocks : u32_at copy 96 ≡ u32_at other 96 = same_u32 96 (same 96 refl) (same 97 refl) (same 98 refl) (same 99 refl) in
+    let luns : slice_index copy 100 ≡ slice_index other 100 = same 100 refl in
+    let plane_bits : slice_index copy 113 ≡ slice_index other 113 = same 113 refl in
+    λ i. record {
+      page_bytes = page_bytes i;
+      spare_bytes = spare_bytes i;
+      pages = pages i;
+      blocks = blocks i;
+      luns = luns i;
+      plane_bits = plane_bits i % 16;
+      enhanced = has_bit (commands i) 3;
+      multi_plane = has_bit (features i) 3;
+      cache = has_bit (commands i) 1;
+    }
+  where
+    same_u16 : (place : ℕ) → slice_index copy place ≡ slice_index other place → slice_index copy (place + 1) ≡ slice_index other (place + 1) → u16_at copy place ≡ u16_at other place
+    same_u16 place a b = omega (arith, a, b)
+
+    same_u32 : (place : ℕ) → slice_index copy place ≡ slice_index other place → slice_index copy (place + 1) ≡ slice_index other (place + 1) → slice_index copy (place + 2) ≡ slice_index other (place + 2) → slice_index copy (place + 2 + 1) ≡ slice_index other (place + 2 + 1) → u32_at copy place ≡ u32_at other place
+    same_u32 place a b c d = omega (arith, a, b, c, d)
+
+-- and so its fault
+same_faults : (copy other : List ℕ) → declared_by copy ≡ declared_by other → slice_index copy 6 ≡ slice_index other 6 → slice_index copy 101 ≡ slice_index other 101 → copy_fault copy ≡ copy_fault other
+unfolding copy_fault
+same_faults copy other numbers features cycles = λ i. fault_at (numbers i) (features i) (cycles i)
+  where
+    fault_at : Parts → ℕ → ℕ → Option PageFault
+    fault_at parts features cycles =
+        if has_bit features 0 then Some P4
+        else (if not (cycles == 0x23) then Some P5
+        else (if has_size_fault parts then Some P6
+        else (if has_lun_fault parts then Some P7
+        else (if has_plane_fault parts then Some P8
+        else (if has_status_fault parts || nat_lt 1 parts.luns && not (has_bit features 1) then Some P9
+        else None)))))
+
+pub fields_decide : FieldsDecide
+fields_decide copy other same =
+    let numbers = same_numbers copy other same in
+    (numbers, same_faults copy other numbers (same 6 refl) (same 101 refl))

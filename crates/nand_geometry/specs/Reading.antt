@@ -1,11 +1,11 @@
 -- How a parameter page is read (ONFI 4.x, Read Parameter Page Definition): which copy is used, what it declares, and the first fault.
-use Rattle.std.specs.Prelude.{ℕ, zero, suc, ◌+◌, ◌*◌, ◌/◌, ◌%◌, ◌^◌, ◌==◌, Bool, ◌||◌, ◌&&◌, not, if◌then◌else◌, nat_eq, nat_lt, codes, List, [], ◌∷◌, length, take, drop, slice_index, find, Option, Some, None, unwrap_or, Result, Ok, Err}
-use Rattle.std.specs.List.{list_any, starts_with}
+use Rattle.std.specs.Prelude.{◌≡◌, ℕ, zero, suc, ◌+◌, ◌*◌, ◌/◌, ◌%◌, ◌^◌, ◌==◌, Bool, true, false, ◌||◌, ◌&&◌, not, if◌then◌else◌, nat_eq, nat_lt, codes, List, [], ◌∷◌, ◌++◌, All, length, take, drop, slice_index, find, Option, Some, None, unwrap_or, Result, Ok, Err}
+use Rattle.std.specs.List.{concat, list_any, starts_with}
 use Rattle.nand_geometry.specs.declared.Parts.{Parts}
 use Rattle.nand_geometry.specs.declared.PageFault.{PageFault}
 use Rattle.nand_geometry.specs.declared.PageFault.TheVariants.{P1, P2, P3, P4, P5, P6, P7, P8, P9}
-use Rattle.nand_geometry.specs.Limits.{has_size_fault, has_lun_fault, has_plane_fault, has_status_fault}
-use Rattle.nand_geometry.specs.Page.{crc}
+use Rattle.nand_geometry.specs.Limits.{is_within, has_size_fault, has_lun_fault, has_plane_fault, has_status_fault, InLimits}
+use Rattle.nand_geometry.specs.Page.{crc, page, parameter_bytes}
 
 -- so many copies of 256 bytes each, from the beginning
 abbrev pub first_copies : ℕ → List ℕ → List (List ℕ)
@@ -100,3 +100,28 @@ or_fault parts (Some fault) = Err fault
 -- what a parameter page is read as: the numbers of the copy that is used, or else the first fault
 abbrev pub read_of : List ℕ → Result Parts PageFault
 read_of bytes = or_fault (declared_by (used bytes)) (page_fault bytes)
+
+-- a place of a copy that has a field which is read, but for signature and checksum
+abbrev pub is_field : ℕ → Bool
+is_field place = is_within 6 9 place || is_within 80 85 place || is_within 92 101 place || place == 113
+
+-- the law: copies with the same bytes in those places declare the same numbers and have the same fault
+abbrev pub FieldsDecide : Type 0
+FieldsDecide =
+    (copy other : List ℕ) → ((place : ℕ) → is_field place ≡ true → slice_index copy place ≡ slice_index other place)
+    → (declared_by copy ≡ declared_by other) × (copy_fault copy ≡ copy_fault other)
+
+-- a whole copy that can't be used
+pub record IsDamaged (copy : List ℕ) : Type 0 where
+  pub whole : length copy ≡ 256
+  pub not_good : is_good copy ≡ false
+
+-- the law: the page of a geometry is read as that geometry, whatever comes behind it and whatever damaged copies stand before it
+abbrev pub PagesReadBack : Type 0
+PagesReadBack =
+    (g : Parts) (damaged : List (List ℕ)) (behind : List ℕ) → InLimits g → All IsDamaged damaged
+    → read_of (concat damaged ++ (page g ++ behind)) ≡ Ok g
+
+-- the law: so are the three copies in the register of the parameter page
+abbrev pub ParametersReadBack : Type 0
+ParametersReadBack = (g : Parts) → InLimits g → read_of (parameter_bytes g) ≡ Ok g

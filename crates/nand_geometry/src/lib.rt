@@ -17,6 +17,8 @@ use writing::{features_block, organization_block};
 mod checksum;
 mod field;
 pub mod laws;
+#[cfg(test)]
+mod page_tests;
 mod reading;
 #[cfg(test)]
 mod tests;

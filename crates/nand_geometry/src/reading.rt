@@ -51,7 +51,8 @@ pub fn is_sound(copy: &[u8]) -> bool
     requires { length copy.now ≡ COPY_LEN }
     ensures { result ≡ is_sound copy.now }
 {
-    u16_at(copy, CHECKSUM_PLACE) == checksum(&copy[..CHECKSUM_PLACE])
+    let (covered, _) = copy.split_at(CHECKSUM_PLACE);
+    u16_at(copy, CHECKSUM_PLACE) == checksum(covered)
 }
 
 /// A bus of 16 bits is declared.
