@@ -93,6 +93,7 @@ page_fault bytes =
     else (if not (list_any is_good (whole_copies bytes)) then Some P3
     else copy_fault (used bytes)))
 
+-- the numbers, unless there is a fault
 abbrev pub or_fault : Parts → Option PageFault → Result Parts PageFault
 or_fault parts None = Ok parts
 or_fault parts (Some fault) = Err fault

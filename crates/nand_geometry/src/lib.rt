@@ -1,4 +1,5 @@
-//! The geometry of a NAND channel: how many LUNs, blocks, pages and bytes a target has, and the rows that address them.
+//! The geometry of a NAND channel: how many LUNs, blocks, pages and bytes a target has, the parameter page that declares
+//! them, and the rows that address them.
 #![tactic(auto)]
 
 ghost use Rattle.std.specs.Prelude.{◌≡◌, ◌+◌, ◌*◌, ◌^◌, ◌<◌, Some, None, Ok, Err, MatchResult, length, slice_index};
@@ -164,10 +165,11 @@ impl Geometry {
     /// The geometry that a chip's parameter page declares.
     ///
     /// The page is the first whole copy of 256 bytes that begins with `ONFI` and ends with its checksum; a rest shorter
-    /// than a copy is left alone. Of that copy these ONFI fields are read: the signature (bytes 0 to 3), features (6, 7),
-    /// optional commands (8, 9), data bytes and spare bytes of a page (80 to 85), pages of a block and blocks of a LUN (92
-    /// to 99), LUNs (100), address cycles (101), the plane bits in 113, and the checksum (254, 255). Nothing else is
-    /// looked at, so a page of any revision is taken.
+    /// than a copy is left alone. Of that copy these ONFI fields are read: the signature (bytes 0 to 3), features (6, 7)
+    /// and optional commands (8, 9), whose bit places are our own choice, data bytes and spare bytes of a page (80 to 85),
+    /// pages of a block and blocks of a LUN (92 to 99), LUNs (100), address cycles (101), the plane bits in 113, and the
+    /// checksum (254, 255). Nothing else is looked at, so a page of any revision is taken, also one that `page` wrote: its
+    /// revision (4, 5) is zero, so Linux, which asks for one that it knows, wouldn't take it from a real chip.
     ///
     /// Errors, the first that stands, in this order: `P1` fewer than 256 bytes; `P2` no whole copy has the signature; `P3`
     /// some have it, and none of those has the right checksum; `P4` a 16-bit bus; `P5` address cycles other than two and
@@ -191,7 +193,7 @@ impl Geometry {
     }
 
     /// The geometry that a copy of the parameter page declares, whose signature and checksum are right.
-    #[tactic(auto, using(crate::proofs::ReadingLemmas::wide_fault, crate::proofs::ReadingLemmas::cycles_fault, crate::proofs::ReadingLemmas::numbers_fault, crate::proofs::ReadingLemmas::several_fault, crate::proofs::ReadingLemmas::no_copy_fault))]
+    #[tactic(auto, using(crate::proofs::ReadingLemmas::wide_fault, crate::proofs::ReadingLemmas::cycles_fault, crate::proofs::ReadingLemmas::several_fault, crate::proofs::ReadingLemmas::no_copy_fault))]
     fn of_copy(copy: &[u8]) -> Result<Geometry, PageFault>
         requires { length copy.now ≡ COPY_LEN }
         ensures { MatchResult result (λ g. (copy_fault copy.now ≡ None) × (g ≡ declared_by copy.now)) (λ e. copy_fault copy.now ≡ Some e) }
@@ -217,7 +219,7 @@ impl Geometry {
     /// declared exactly where there are several LUNs, optional commands (8, 9), data bytes and spare bytes of a page (80
     /// to 85), pages of a block and blocks of a LUN (92 to 99), LUNs (100), address cycles (101), plane bits (113) and the
     /// checksum (254, 255). All other bytes and bits are zero, the revision (4, 5) among them. So Linux, which asks for a
-    /// revision, wouldn't take such a page from a real chip; `read` takes any.
+    /// revision that it knows, wouldn't take such a page from a real chip; `read` takes any revision.
     pub fn page(&self) -> [u8; 256]
         ensures { result ≡ page self.now }
     {
