@@ -1,5 +1,8 @@
+pub mod ChecksumLemmas
 pub mod FieldLemmas
 pub mod LimitLemmas
 pub mod PageLemmas
+pub mod ReadingLemmas
+pub mod RoundTripLemmas
 pub mod RowLemmas
 mod Worked

@@ -1,8 +1,10 @@
--- Rows and faults worked by hand, on two geometries.
-use Rattle.std.proofs.Common.{◌≡◌, true, false, [], ◌∷◌, Some, None, refl}
+-- Rows, faults and parameter pages worked by hand, on two geometries.
+use Rattle.std.proofs.Common.{◌≡◌, true, false, List, ℕ, [], ◌∷◌, ◌++◌, Some, None, Ok, slice_set, refl}
 use Rattle.nand_geometry.specs.declared.Parts.{Parts}
-use Rattle.nand_geometry.specs.declared.PageFault.TheVariants.{P7, P8, P9}
+use Rattle.nand_geometry.specs.declared.PageFault.TheVariants.{P1, P2, P3, P7, P8, P9}
 use Rattle.nand_geometry.specs.Limits.{width, page_len, planes, indices, fault_of}
+use Rattle.nand_geometry.specs.Page.{crc_bits, page}
+use Rattle.nand_geometry.specs.Reading.{is_signed, is_sound, declared_by, copy_fault, page_fault, read_of}
 use Rattle.nand_geometry.specs.Row.{row_bytes_of, row_parts_of, row_of}
 
 -- one LUN of 8 blocks of 4 pages of 512 + 16 bytes, in one plane
@@ -74,3 +76,25 @@ row_of_24_bits = refl
 row_too_wide : fault_of (record two_luns { luns = 4; blocks = 65536; pages = 4096 }) ≡ Some P7
 unfolding width
 row_too_wide = refl
+
+-- no bytes are too few
+nothing_to_read : page_fault [] ≡ Some P1
+nothing_to_read = refl
+
+-- the page of the first geometry, with another byte 80
+abbrev damaged : List ℕ
+damaged = slice_set (page one_lun) 80 1
+
+damaged_page : page_fault damaged ≡ Some P3
+unfolding crc_bits is_signed is_sound
+damaged_page = refl
+
+-- a good copy behind it is read
+good_copy_behind : read_of (damaged ++ page one_lun) ≡ Ok one_lun
+unfolding crc_bits is_signed is_sound declared_by copy_fault width
+good_copy_behind = refl
+
+-- a first copy without the signature isn't used
+unsigned_page : page_fault (slice_set (page two_luns) 0 0) ≡ Some P2
+unfolding crc_bits is_signed is_sound
+unsigned_page = refl

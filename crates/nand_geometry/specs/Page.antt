@@ -1,5 +1,5 @@
 -- The parameter page of a geometry (ONFI 4.x, Read Parameter Page Definition).
-use Rattle.std.specs.Prelude.{◌≡◌, ℕ, zero, suc, ◌+◌, ◌*◌, ◌/◌, ◌%◌, ◌^◌, ◌==◌, Bool, true, false, not, nat_lt, if◌then◌else◌, List, [], ◌∷◌, ◌++◌, replicate, bit_xor, length}
+use Rattle.std.specs.Prelude.{◌≡◌, ℕ, zero, suc, ◌+◌, ◌*◌, ◌/◌, ◌%◌, ◌^◌, ◌==◌, Bool, nat_lt, if◌then◌else◌, List, [], ◌∷◌, ◌++◌, replicate, bit_xor, length}
 use Rattle.nand_geometry.specs.declared.Parts.{Parts}
 
 -- so many bytes of a number, the least significant first
@@ -35,7 +35,7 @@ crc_bit register bit =
     if register / 2 ^ 15 == bit then register * 2 % 2 ^ 16 else bit_xor (register * 2 % 2 ^ 16) 0x8005
 
 -- so many bits of a byte, from the most significant of them on
-abbrev pub crc_bits : ℕ → ℕ → ℕ → ℕ
+unfoldable pub crc_bits : ℕ → ℕ → ℕ → ℕ
 crc_bits zero byte register = register
 crc_bits (suc count) byte register = crc_bits count byte (crc_bit register (byte / 2 ^ count % 2))
 

@@ -34,3 +34,21 @@ ghost use Rattle.nand_geometry.specs.Page.{ParametersHaveTheirLength};
 pub fn parameters_have_their_length()
     ensures { ParametersHaveTheirLength }
 {}
+
+ghost use Rattle.nand_geometry.specs.Reading.{FieldsDecide, PagesReadBack, ParametersReadBack};
+
+/// What a copy declares, and its fault, depend on bytes 6 to 9, 80 to 85, 92 to 101 and 113 alone.
+pub fn fields_decide()
+    ensures { FieldsDecide }
+{}
+
+/// The page of a geometry is read as that geometry, whatever comes behind it, and whatever whole copies stand before it
+/// that have no signature or another checksum.
+pub fn read_of_page()
+    ensures { PagesReadBack }
+{}
+
+/// The three copies in the register of the parameter page are read as the geometry.
+pub fn read_of_parameters()
+    ensures { ParametersReadBack }
+{}

@@ -1,16 +1,29 @@
-//! The geometry of a NAND channel: how many LUNs, blocks, pages and bytes a target has, and the rows that address them.
+//! The geometry of a NAND channel: how many LUNs, blocks, pages and bytes a target has, the parameter page that declares
+//! them, and the rows that address them.
 #![tactic(auto)]
 
-ghost use Rattle.std.specs.Prelude.{◌≡◌, ◌+◌, ◌*◌, ◌^◌, ◌<◌, Some, None, MatchResult, slice_index};
+ghost use Rattle.std.specs.Prelude.{◌≡◌, ◌+◌, ◌*◌, ◌^◌, ◌<◌, Some, None, Ok, Err, MatchResult, length, slice_index};
 
+use byteorder::{ByteOrder, LittleEndian};
+use checksum::checksum;
 use field::{three_fields, width};
+use reading::{
+    CHECKSUM_PLACE, COPY_LEN, declared_by, has_address_cycles, has_lun_operations, has_wide_bus,
+    is_signed, is_sound,
+};
 use std::marker::Model;
 use thiserror::Error;
+use writing::{features_block, organization_block};
 
+mod checksum;
 mod field;
 pub mod laws;
 #[cfg(test)]
+mod page_tests;
+mod reading;
+#[cfg(test)]
 mod tests;
+mod writing;
 
 /// The numbers of a geometry, as a parameter page declares them (ONFI 4.x, Parameter Page Data Structure Definition).
 /// The ranges are our own choice.
@@ -106,6 +119,8 @@ impl Model for Geometry {
 
 impl Geometry {
     ghost use Rattle.nand_geometry.specs.Limits.{InLimits, fault_of, page_len, planes, indices};
+    ghost use Rattle.nand_geometry.specs.Page.{page};
+    ghost use Rattle.nand_geometry.specs.Reading.{declared_by, copy_fault, read_of};
     ghost use Rattle.nand_geometry.specs.Row.{row_number, row_of, row_bytes_of, parts_of, is_inside, row_parts_of};
 
     /// The geometry of these numbers.
@@ -145,6 +160,76 @@ impl Geometry {
             block_width,
             page_width,
         })
+    }
+
+    /// The geometry that a chip's parameter page declares.
+    ///
+    /// The page is the first whole copy of 256 bytes that begins with `ONFI` and ends with its checksum; a rest shorter
+    /// than a copy is left alone. Of that copy these ONFI fields are read: the signature (bytes 0 to 3), features (6, 7)
+    /// and optional commands (8, 9), whose bit places are our own choice, data bytes and spare bytes of a page (80 to 85),
+    /// pages of a block and blocks of a LUN (92 to 99), LUNs (100), address cycles (101), the plane bits in 113, and the
+    /// checksum (254, 255). Nothing else is looked at, so a page of any revision is taken, also one that `page` wrote: its
+    /// revision (4, 5) is zero, so Linux, which asks for one that it knows, wouldn't take it from a real chip.
+    ///
+    /// Errors, the first that stands, in this order: `P1` fewer than 256 bytes; `P2` no whole copy has the signature; `P3`
+    /// some have it, and none of those has the right checksum; `P4` a 16-bit bus; `P5` address cycles other than two and
+    /// three; then those of `of`, where `P9` also stands for several LUNs without multiple LUN operations.
+    pub fn read(bytes: &[u8]) -> Result<Geometry, PageFault>
+        ensures { MatchResult result (λ g. read_of bytes.now ≡ Ok g) (λ e. read_of bytes.now ≡ Err e) }
+    {
+        if bytes.len() < COPY_LEN {
+            return Err(PageFault::P1);
+        }
+        let mut signed = false;
+        for copy in bytes.chunks_exact(COPY_LEN) {
+            if is_signed(copy) {
+                if is_sound(copy) {
+                    return Geometry::of_copy(copy);
+                }
+                signed = true;
+            }
+        }
+        Err(if signed { PageFault::P3 } else { PageFault::P2 })
+    }
+
+    /// The geometry that a copy of the parameter page declares, whose signature and checksum are right.
+    #[tactic(auto, using(crate::proofs::ReadingLemmas::wide_fault, crate::proofs::ReadingLemmas::cycles_fault, crate::proofs::ReadingLemmas::several_fault, crate::proofs::ReadingLemmas::no_copy_fault))]
+    fn of_copy(copy: &[u8]) -> Result<Geometry, PageFault>
+        requires { length copy.now ≡ COPY_LEN }
+        ensures { MatchResult result (λ g. (copy_fault copy.now ≡ None) × (g ≡ declared_by copy.now)) (λ e. copy_fault copy.now ≡ Some e) }
+    {
+        if has_wide_bus(copy) {
+            return Err(PageFault::P4);
+        }
+        if !has_address_cycles(copy) {
+            return Err(PageFault::P5);
+        }
+        match Geometry::of(declared_by(copy)) {
+            Ok(geometry) if geometry.parts().luns > 1 && !has_lun_operations(copy) => {
+                Err(PageFault::P9)
+            }
+            Ok(geometry) => Ok(geometry),
+            Err(fault) => Err(fault),
+        }
+    }
+
+    /// The parameter page that declares this geometry; `read` gives the geometry back.
+    ///
+    /// These ONFI fields are written: the signature (bytes 0 to 3), features (6, 7), where operations of several LUNs are
+    /// declared exactly where there are several LUNs, optional commands (8, 9), data bytes and spare bytes of a page (80
+    /// to 85), pages of a block and blocks of a LUN (92 to 99), LUNs (100), address cycles (101), plane bits (113) and the
+    /// checksum (254, 255). All other bytes and bits are zero, the revision (4, 5) among them. So Linux, which asks for a
+    /// revision that it knows, wouldn't take such a page from a real chip; `read` takes any revision.
+    pub fn page(&self) -> [u8; 256]
+        ensures { result ≡ page self.now }
+    {
+        let parts = self.parts;
+        let mut page = [0; COPY_LEN];
+        page[..32].copy_from_slice(&features_block(parts));
+        page[80..128].copy_from_slice(&organization_block(parts));
+        let sum = checksum(&page[..CHECKSUM_PLACE]);
+        LittleEndian::write_u16(&mut page[CHECKSUM_PLACE..], sum);
+        page
     }
 
     /// The numbers of the geometry, which are inside the limits.

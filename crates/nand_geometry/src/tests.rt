@@ -4,7 +4,7 @@ use super::*;
 use std::test::Fail;
 
 /// One LUN of 8 blocks of 4 pages of 512 + 16 bytes, in one plane.
-const ONE_LUN: Parts = Parts {
+pub(crate) const ONE_LUN: Parts = Parts {
     page_bytes: 512,
     spare_bytes: 16,
     pages: 4,
@@ -17,7 +17,7 @@ const ONE_LUN: Parts = Parts {
 };
 
 /// Two such LUNs, each in two planes.
-const TWO_LUNS: Parts = Parts {
+pub(crate) const TWO_LUNS: Parts = Parts {
     luns: 2,
     plane_bits: 1,
     enhanced: true,
@@ -26,7 +26,7 @@ const TWO_LUNS: Parts = Parts {
 };
 
 /// 2 bits of LUN, 16 of block and 6 of page: a row takes all its 24 bits.
-const LARGEST: Parts = Parts {
+pub(crate) const LARGEST: Parts = Parts {
     pages: 64,
     blocks: 65536,
     luns: 4,

@@ -1,0 +1,63 @@
+//! The blocks of a parameter page (ONFI 4.x, Parameter Page Data Structure Definition), all but its checksum.
+
+ghost use Rattle.std.specs.Prelude.{◌≡◌, ◌<◌, take, slice_range};
+ghost use Rattle.nand_geometry.specs.Page.{low_bytes, flag, features, optional_commands, page_body};
+
+use crate::Parts;
+use byteorder::{ByteOrder, LittleEndian};
+
+/// The four bytes of a number, the least significant first.
+fn u32_bytes(number: u32) -> [u8; 4]
+    ensures { result ≡ low_bytes 4 number }
+{
+    number.to_le_bytes()
+}
+
+/// A bit of a field, where it is set.
+fn flag(bit: u32, set: bool) -> u16
+    requires { bit < 8 }
+    ensures value { result ≡ flag bit set }
+    ensures small { result < 256 }
+{
+    if set { 1 << bit } else { 0 }
+}
+
+/// Bit 1: operations of several LUNs; bit 3: program and erase of several planes.
+fn features(parts: Parts) -> u16
+    ensures { result ≡ features parts }
+{
+    flag(1, parts.luns > 1) + flag(3, parts.multi_plane)
+}
+
+/// Bit 1: read cache; bit 3: Read Status Enhanced.
+fn optional_commands(parts: Parts) -> u16
+    ensures { result ≡ optional_commands parts }
+{
+    flag(1, parts.cache) + flag(3, parts.enhanced)
+}
+
+/// Bytes 0 to 31: the revision information and features block, whose revision bytes are zero.
+pub fn features_block(parts: Parts) -> [u8; 32]
+    ensures { result ≡ take 32 (page_body parts) }
+{
+    let mut block = [0; 32];
+    block[..4].copy_from_slice(b"ONFI");
+    LittleEndian::write_u16(&mut block[6..], features(parts));
+    LittleEndian::write_u16(&mut block[8..], optional_commands(parts));
+    block
+}
+
+/// Bytes 80 to 127: the memory organization block. 23h are two address bytes of the column and three of the row.
+pub fn organization_block(parts: Parts) -> [u8; 48]
+    ensures { result ≡ slice_range (page_body parts) 80 128 }
+{
+    let mut block = [0; 48];
+    block[..4].copy_from_slice(&u32_bytes(parts.page_bytes));
+    block[4..6].copy_from_slice(&u32_bytes(parts.spare_bytes)[..2]);
+    block[12..16].copy_from_slice(&u32_bytes(parts.pages));
+    block[16..20].copy_from_slice(&u32_bytes(parts.blocks));
+    block[20] = parts.luns;
+    block[21] = 0x23;
+    block[33] = parts.plane_bits;
+    block
+}
