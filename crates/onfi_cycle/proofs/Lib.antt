@@ -18,3 +18,4 @@ pub mod EffectBounds
 pub mod RowBounds
 pub mod Following
 pub mod OfToday
+pub mod Applied

@@ -16,3 +16,4 @@ pub mod State
 pub mod Bounds
 pub mod Look
 pub mod Today
+pub mod Applied

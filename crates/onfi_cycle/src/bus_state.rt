@@ -1,27 +1,31 @@
 //! The running state of a channel: the facts that the rules see, kept item by item.
-ghost use Rattle.std.specs.Prelude.{◌≡◌, ℕ, ◌+◌, ◌^◌, ◌<◌, ◌≤◌, ◌∷◌, List, [], Some, None, IfSome, length, slice_get};
+ghost use Rattle.std.specs.Prelude.{◌≡◌, ℕ, ◌+◌, ◌^◌, ◌<◌, ◌≤◌, ◌∷◌, List, [], Some, None, IfSome, length, slice_get, if◌then◌else◌};
 ghost use Rattle.std.specs.Option.{option_copied};
 ghost use Rattle.nand_geometry.specs.declared.Parts.{Parts};
 ghost use Rattle.onfi_cycle.specs.declared.Item.{Item};
 ghost use Rattle.onfi_cycle.specs.declared.Lun.{Lun};
+ghost use Rattle.onfi_cycle.specs.declared.Latch.TheVariants.{Off};
 ghost use Rattle.onfi_cycle.specs.LunView.{LunView};
-ghost use Rattle.onfi_cycle.specs.Sequence.{AreSmall};
+ghost use Rattle.onfi_cycle.specs.Effect.{cycle_effect, is_data};
+ghost use Rattle.onfi_cycle.specs.Rules.{some_lun_is};
+ghost use Rattle.onfi_cycle.specs.Applied.{luns_after_cycle, asks_driver, one_after, needs_no_row, acts_by_address, may_act};
+ghost use Rattle.onfi_cycle.specs.Sequence.{facts_after};
 ghost use Rattle.onfi_cycle.specs.Lun.{effect_on, view_after, queue_after, lun_view};
 ghost use Rattle.onfi_cycle.specs.Permitted.{broken};
 ghost use Rattle.nand_geometry.specs.Limits.{InLimits};
-ghost use Rattle.onfi_cycle.specs.State.{TargetView, BusView, Follows, target_view, judged, tail_after, effect_alone, has_driver, luns_after, target_after, bus_after, bus};
+ghost use Rattle.onfi_cycle.specs.State.{TargetView, BusView, Follows, target_view, judged, effect_alone, has_driver, target_after, bus_after, bus};
 ghost use Rattle.onfi_cycle.specs.Look.{look_at, look_at_some, looked, look_after};
 ghost use Rattle.onfi_cycle.specs.Bounds.{LunFits, LunsFit, TargetFits, BusFits};
 
 use crate::effects::{
-    array_busy_after, array_page_after, busy_after, closer_after, is_cache_read, item_effect,
-    latch_after, output_column, read_column_after, register_after,
+    array_busy_after, array_page_after, busy_after, closer_after, cycle_effect, is_cache_read,
+    is_data, item_effect, latch_after, output_column, read_column_after, register_after,
 };
 use crate::rules::{driver, judge};
-use crate::sequences::{facts_after, no_tail, target_cycle, target_of};
+use crate::sequences::{extend, no_tail, target_cycle, target_of, wants_command};
 use crate::{
-    Effect, Forbidden, Item, Latch, Lun, LunFacts, PageAddress, Queued, ReadColumn, Register,
-    TailFacts, WorkQueue,
+    Command, Effect, Forbidden, Item, Latch, Lun, LunFacts, PageAddress, Queued, ReadColumn,
+    Register, TailFacts, TargetCycle, WorkQueue,
 };
 use arrayvec::ArrayVec;
 use nand_geometry::Geometry;
@@ -124,8 +128,9 @@ fn apply_to_queue(queue: &mut ArrayVec<Queued, 16>, effect: Effect)
     }
 }
 
-// What an effect leaves of a LUN.
-fn apply_to_lun(lun: &mut LunFacts<ArrayVec<Queued, 16>>, effect: Effect)
+// What an effect that may change everything leaves of a LUN.
+#[inline(always)]
+fn renew_lun(lun: &mut LunFacts<ArrayVec<Queued, 16>>, effect: Effect)
     requires outputs { lun.old.column.outputs ≤ 2 ^ 16 }
     requires array_page { lun.old.array_page.page < 2 ^ 32 }
     requires queue { length lun.old.queue ≤ 4 }
@@ -141,56 +146,186 @@ fn apply_to_lun(lun: &mut LunFacts<ArrayVec<Queued, 16>>, effect: Effect)
     lun.latch = latch_after(effect, lun.latch);
 }
 
-// What an item leaves of the LUN of number n of its target.
-fn apply_item(
+// What an effect leaves of a LUN: most change little of it.
+fn apply_to_lun(lun: &mut LunFacts<ArrayVec<Queued, 16>>, effect: Effect)
+    requires outputs { lun.old.column.outputs ≤ 2 ^ 16 }
+    requires array_page { lun.old.array_page.page < 2 ^ 32 }
+    requires queue { length lun.old.queue ≤ 4 }
+    ensures { lun.new ≡ view_after effect lun.old }
+{
+    match effect {
+        Effect::Unaffected => {}
+        Effect::DataOutputEnabled | Effect::SelectedForStatus | Effect::Deselected => {
+            lun.latch = latch_after(effect, lun.latch);
+        }
+        Effect::StatusSelected | Effect::StatusRowAwaited => {
+            lun.column = read_column_after(effect, lun.column);
+            lun.latch = latch_after(effect, lun.latch);
+        }
+        Effect::DataOutput | Effect::ReadColumnChanged { .. } => {
+            lun.column = read_column_after(effect, lun.column);
+        }
+        // an arm of its own, so that LLVM makes it for this effect alone
+        Effect::EraseStarted { .. } => renew_lun(lun, effect),
+        _ => renew_lun(lun, effect),
+    }
+}
+
+// The effect of the cycle hangs on whether its target has one driver.
+fn asks_driver(cycle: TargetCycle) -> bool
+    ensures { result ≡ asks_driver cycle }
+{
+    matches!(
+        cycle,
+        TargetCycle::OutputCycle
+            | TargetCycle::CommandCycle(
+                Command::ReadCacheSequential
+                    | Command::ReadCacheEnd
+                    | Command::ChangeReadColumnConfirm
+            )
+    )
+}
+
+// Some LUN shows data.
+fn some_shows_data(luns: &[LunFacts<ArrayVec<Queued, 16>>]) -> bool
+    ensures { result ≡ some_lun_is (λ v. is_data v.latch) luns.now }
+{
+    match luns {
+        [] => false,
+        [first, rest @ ..] => is_data(first.latch) || some_shows_data(rest),
+    }
+}
+
+// The command may do something to a LUN without a row that names it.
+fn needs_no_row(command: Command) -> bool
+    ensures { result ≡ needs_no_row command }
+{
+    matches!(
+        command,
+        Command::Read
+            | Command::ReadStatus
+            | Command::ReadStatusEnhanced
+            | Command::Reset
+            | Command::ReadCacheSequential
+            | Command::ReadCacheEnd
+            | Command::ChangeReadColumnConfirm
+    )
+}
+
+// An address behind the opener may do something to a LUN.
+fn acts_by_address(opener: Command) -> bool
+    ensures { result ≡ acts_by_address opener }
+{
+    matches!(
+        opener,
+        Command::ReadStatusEnhanced | Command::ReadId | Command::ReadParameterPage
+    )
+}
+
+// The cycle may do something to a LUN of its target.
+fn may_act(tail: &TailFacts, luns: &[LunFacts<ArrayVec<Queued, 16>>], cycle: TargetCycle) -> bool
+    ensures { result ≡ may_act tail.now luns.now cycle }
+{
+    match cycle {
+        TargetCycle::CommandCycle(command) => {
+            needs_no_row(command) || wants_command(*tail, command)
+        }
+        TargetCycle::AddressCycle(_) => match tail.opening {
+            None => false,
+            Some(o) => acts_by_address(o.opener),
+        },
+        TargetCycle::InputCycle(_) => false,
+        TargetCycle::OutputCycle => some_shows_data(luns),
+    }
+}
+
+// What a cycle leaves of the LUN of number n of its target.
+fn apply_to_one(
     lun: &mut LunFacts<ArrayVec<Queued, 16>>,
     geometry: &Geometry,
-    tail: TailFacts,
+    tail: &TailFacts,
     has_driver: bool,
-    item: Item,
+    cycle: TargetCycle,
     n: u8,
 )
     requires { LunFits geometry.now lun.old }
-    ensures { lun.new ≡ view_after (effect_alone geometry.now tail has_driver item n lun.old) lun.old }
+    ensures { lun.new ≡ view_after (cycle_effect geometry.now tail.now (if has_driver then lun.old.latch else Off) cycle n) lun.old }
 {
     let latch_alone = if has_driver { lun.latch } else { Latch::Off };
-    let at = Lun {
-        ce: target_of(item),
-        lun: n,
-    };
-    apply_to_lun(lun, item_effect(geometry, tail, latch_alone, item, at));
+    apply_to_lun(lun, cycle_effect(geometry, *tail, latch_alone, cycle, n));
 }
 
-// What an item leaves of the LUNs of its target, from number n on.
-fn apply_to_luns(
+// What a cycle leaves of the LUNs of its target, from number n on.
+fn apply_from(
     luns: &mut [LunFacts<ArrayVec<Queued, 16>>],
     geometry: &Geometry,
-    tail: TailFacts,
+    tail: &TailFacts,
     has_driver: bool,
-    item: Item,
+    cycle: TargetCycle,
     n: u8,
 )
     requires count { n + length luns.old ≤ 4 }
-    requires luns { LunsFit geometry.now tail n luns.old }
-    ensures { luns.new ≡ luns_after geometry.now tail has_driver item n luns.old }
+    requires luns { LunsFit geometry.now tail.now n luns.old }
+    ensures { luns.new ≡ luns_after_cycle geometry.now tail.now has_driver cycle n luns.old }
 {
     if luns.is_empty() {
         return;
     }
     let (first, rest) = luns.split_at_mut(1);
-    apply_item(&mut first[0], geometry, tail, has_driver, item, n);
-    apply_to_luns(rest, geometry, tail, has_driver, item, n + 1);
+    apply_to_one(&mut first[0], geometry, tail, has_driver, cycle, n);
+    apply_from(rest, geometry, tail, has_driver, cycle, n + 1);
 }
 
-// What an item leaves of the tail of its target.
-fn tail_after(item: Item, t: TailFacts) -> TailFacts
-    requires { AreSmall (2 ^ 63) t }
-    ensures value { result ≡ tail_after item t }
-    ensures column { result.column < 2 ^ 16 }
+// What a cycle leaves of the LUNs of its target.
+fn apply_to_luns(
+    luns: &mut [LunFacts<ArrayVec<Queued, 16>>],
+    geometry: &Geometry,
+    tail: &TailFacts,
+    cycle: TargetCycle,
+)
+    requires count { length luns.old ≤ 4 }
+    requires luns { LunsFit geometry.now tail.now 0 luns.old }
+    ensures { luns.new ≡ luns_after_cycle geometry.now tail.now (has_driver luns.old) cycle 0 luns.old }
 {
-    match item {
-        Item::Cyc(cycle) => facts_after(target_cycle(cycle.kind, cycle.byte), t),
-        Item::Rdy { .. } | Item::Ard { .. } => t,
+    if may_act(tail, luns, cycle) {
+        let has_driver = asks_driver(cycle) && driver(luns).is_some();
+        apply_from(luns, geometry, tail, has_driver, cycle, 0);
+    }
+}
+
+// The LUN becomes ready.
+fn become_ready(lun: &mut LunFacts<ArrayVec<Queued, 16>>, failed: bool)
+    ensures { lun.new ≡ view_after (Effect.BecameReady failed) lun.old }
+{
+    let effect = Effect::BecameReady { failed };
+    lun.array_busy = array_busy_after(effect, lun.busy, is_cache_read(lun.closer), lun.array_busy);
+    lun.busy = busy_after(effect, lun.busy);
+}
+
+// The array of the LUN becomes ready.
+fn become_array_ready(lun: &mut LunFacts<ArrayVec<Queued, 16>>)
+    ensures { lun.new ≡ view_after Effect.ArrayBecameReady lun.old }
+{
+    lun.array_busy = false;
+}
+
+// The LUN of this number becomes ready, if it is there.
+fn end_work(luns: &mut [LunFacts<ArrayVec<Queued, 16>>], n: u8, failed: bool)
+    ensures { luns.new ≡ one_after (Effect.BecameReady failed) n luns.old }
+{
+    let place = usize::from(n);
+    if place < luns.len() {
+        become_ready(&mut luns[place], failed);
+    }
+}
+
+// The array of the LUN of this number becomes ready, if it is there.
+fn end_array_work(luns: &mut [LunFacts<ArrayVec<Queued, 16>>], n: u8)
+    ensures { luns.new ≡ one_after Effect.ArrayBecameReady n luns.old }
+{
+    let place = usize::from(n);
+    if place < luns.len() {
+        become_array_ready(&mut luns[place]);
     }
 }
 
@@ -210,6 +345,18 @@ impl TargetState {
         }
     }
 
+    // What a cycle leaves of its target.
+    fn apply_cycle(&mut self, geometry: &Geometry, cycle: TargetCycle)
+        requires limits { InLimits geometry.now }
+        requires fits { TargetFits geometry.now self.old }
+        ensures tail { self.new.tail ≡ facts_after cycle self.old.tail }
+        ensures luns { self.new.luns ≡ luns_after_cycle geometry.now self.old.tail (has_driver self.old.luns) cycle 0 self.old.luns }
+        ensures column { self.new.tail.column < 2 ^ 16 }
+    {
+        apply_to_luns(self.luns.as_mut_slice(), geometry, &self.tail, cycle);
+        extend(&mut self.tail, cycle);
+    }
+
     // What an item leaves of its target.
     fn apply(&mut self, geometry: &Geometry, item: Item)
         requires limits { InLimits geometry.now }
@@ -217,17 +364,11 @@ impl TargetState {
         ensures value { self.new ≡ target_after geometry.now item self.old }
         ensures column { self.new.tail.column < 2 ^ 16 }
     {
-        let has_driver = driver(self.luns.as_slice()).is_some();
-        let tail = self.tail;
-        apply_to_luns(
-            self.luns.as_mut_slice(),
-            geometry,
-            tail,
-            has_driver,
-            item,
-            0,
-        );
-        self.tail = tail_after(item, tail);
+        match item {
+            Item::Cyc(cycle) => self.apply_cycle(geometry, target_cycle(cycle.kind, cycle.byte)),
+            Item::Rdy { lun, fail, .. } => end_work(self.luns.as_mut_slice(), lun, fail),
+            Item::Ard { lun, .. } => end_array_work(self.luns.as_mut_slice(), lun),
+        }
     }
 }
 

@@ -2,6 +2,7 @@
 ghost use Rattle.std.specs.Prelude.{◌≡◌, ◌+◌, ◌^◌, ◌<◌, ◌≤◌, length, true, false, not, slice_get};
 ghost use Rattle.std.specs.Option.{option_copied};
 ghost use Rattle.nand_geometry.specs.Row.{parts_of};
+ghost use Rattle.onfi_cycle.specs.declared.TargetCycle.{TargetCycle};
 ghost use Rattle.onfi_cycle.specs.Command.{addresses_the_array, is_change_read_column};
 ghost use Rattle.onfi_cycle.specs.Rules.{breaks_F1, breaks_F2, breaks_F3, breaks_F4, breaks_F5, breaks_F6, breaks_F7, breaks_F8, breaks_F9, breaks_F10, breaks_F11, breaks_F12, breaks_F13, breaks_F14, breaks_F15, driving, are_none, driver, some_lun_is, ends_row, is_undeclared, register_len, planes_clash, some_queued_clashes, refused_by, is_refused_by, may_change_column, has_no_byte, is_past_register, second_column, second_of_page, caching, continues_cache, ends_cache, has_some};
 ghost use Rattle.onfi_cycle.specs.Permitted.{judge, judge_cycle, judge_known_cycle};
@@ -475,6 +476,134 @@ fn breaks_f15<Q: WorkQueue>(
     }
 }
 
+/// The first of F3 to F15 that a command breaks. A closer can break F6 alone.
+#[tactic(auto, unfolding(crate::specs::Rules::breaks_F3, crate::specs::Rules::breaks_F4, crate::specs::Rules::breaks_F5, crate::specs::Rules::breaks_F6, crate::specs::Rules::breaks_F7, crate::specs::Rules::breaks_F8, crate::specs::Rules::breaks_F9, crate::specs::Rules::breaks_F10, crate::specs::Rules::breaks_F11, crate::specs::Rules::breaks_F12, crate::specs::Rules::breaks_F13, crate::specs::Rules::breaks_F14, crate::specs::Rules::breaks_F15))]
+fn judge_command<Q: WorkQueue>(
+    geometry: &Geometry,
+    t: TailFacts,
+    luns: &[LunFacts<Q>],
+    command: Command,
+) -> Option<Forbidden>
+    ensures { result ≡ judge_known_cycle geometry.now t luns.now (TargetCycle.CommandCycle command) }
+{
+    let cycle = TargetCycle::CommandCycle(command);
+    if !is_opener(command) {
+        if breaks_f6(t, cycle) {
+            Some(Forbidden::F6)
+        } else {
+            None
+        }
+    } else if breaks_f3(t, cycle) {
+        Some(Forbidden::F3)
+    } else if breaks_f4(geometry, cycle) {
+        Some(Forbidden::F4)
+    } else if breaks_f5(luns, cycle) {
+        Some(Forbidden::F5)
+    } else if breaks_f9(geometry, t, luns, cycle) {
+        Some(Forbidden::F9)
+    } else if breaks_f10(geometry, t, luns, cycle) {
+        Some(Forbidden::F10)
+    } else if breaks_f15(geometry, t, luns, cycle) {
+        Some(Forbidden::F15)
+    } else {
+        None
+    }
+}
+
+/// The first of F8 to F15 that the last address of a row breaks.
+#[tactic(auto, unfolding(crate::specs::Rules::breaks_F3, crate::specs::Rules::breaks_F4, crate::specs::Rules::breaks_F5, crate::specs::Rules::breaks_F6, crate::specs::Rules::breaks_F11, crate::specs::Rules::breaks_F12, crate::specs::Rules::breaks_F13))]
+fn judge_end_of_row<Q: WorkQueue>(
+    geometry: &Geometry,
+    t: TailFacts,
+    luns: &[LunFacts<Q>],
+    byte: u8,
+) -> Option<Forbidden>
+    requires small { (t.column < 2 ^ 16) × (t.inputs < 2 ^ 63) }
+    requires wanted { breaks_F7 t (TargetCycle.AddressCycle byte) ≡ false }
+    ensures { result ≡ judge_known_cycle geometry.now t luns.now (TargetCycle.AddressCycle byte) }
+{
+    let cycle = TargetCycle::AddressCycle(byte);
+    if breaks_f8(geometry, t, cycle) {
+        Some(Forbidden::F8)
+    } else if breaks_f9(geometry, t, luns, cycle) {
+        Some(Forbidden::F9)
+    } else if breaks_f10(geometry, t, luns, cycle) {
+        Some(Forbidden::F10)
+    } else if breaks_f14(geometry, t, luns, cycle) {
+        Some(Forbidden::F14)
+    } else if breaks_f15(geometry, t, luns, cycle) {
+        Some(Forbidden::F15)
+    } else {
+        None
+    }
+}
+
+/// The first of F3 to F15 that an address breaks. One that isn't the last of a row can break F7 and F14 alone.
+#[tactic(auto, unfolding(crate::specs::Rules::breaks_F3, crate::specs::Rules::breaks_F4, crate::specs::Rules::breaks_F5, crate::specs::Rules::breaks_F6, crate::specs::Rules::breaks_F8, crate::specs::Rules::breaks_F9, crate::specs::Rules::breaks_F10, crate::specs::Rules::breaks_F11, crate::specs::Rules::breaks_F12, crate::specs::Rules::breaks_F13, crate::specs::Rules::breaks_F15))]
+fn judge_address<Q: WorkQueue>(
+    geometry: &Geometry,
+    t: TailFacts,
+    luns: &[LunFacts<Q>],
+    byte: u8,
+) -> Option<Forbidden>
+    requires { (t.column < 2 ^ 16) × (t.inputs < 2 ^ 63) }
+    ensures { result ≡ judge_known_cycle geometry.now t luns.now (TargetCycle.AddressCycle byte) }
+{
+    let cycle = TargetCycle::AddressCycle(byte);
+    if breaks_f7(t, cycle) {
+        Some(Forbidden::F7)
+    } else if ends_row(t) {
+        judge_end_of_row(geometry, t, luns, byte)
+    } else if breaks_f14(geometry, t, luns, cycle) {
+        Some(Forbidden::F14)
+    } else {
+        None
+    }
+}
+
+/// The first of F3 to F15 that an input breaks.
+#[tactic(auto, unfolding(crate::specs::Rules::breaks_F3, crate::specs::Rules::breaks_F4, crate::specs::Rules::breaks_F5, crate::specs::Rules::breaks_F6, crate::specs::Rules::breaks_F7, crate::specs::Rules::breaks_F8, crate::specs::Rules::breaks_F9, crate::specs::Rules::breaks_F10, crate::specs::Rules::breaks_F12, crate::specs::Rules::breaks_F13, crate::specs::Rules::breaks_F15))]
+fn judge_input<Q: WorkQueue>(
+    geometry: &Geometry,
+    t: TailFacts,
+    luns: &[LunFacts<Q>],
+    byte: u8,
+) -> Option<Forbidden>
+    requires { (t.column < 2 ^ 16) × (t.inputs < 2 ^ 63) }
+    ensures { result ≡ judge_known_cycle geometry.now t luns.now (TargetCycle.InputCycle byte) }
+{
+    let cycle = TargetCycle::InputCycle(byte);
+    if breaks_f11(t, cycle) {
+        Some(Forbidden::F11)
+    } else if breaks_f14(geometry, t, luns, cycle) {
+        Some(Forbidden::F14)
+    } else {
+        None
+    }
+}
+
+/// The first of F3 to F15 that an output breaks.
+#[tactic(auto, unfolding(crate::specs::Rules::breaks_F3, crate::specs::Rules::breaks_F4, crate::specs::Rules::breaks_F5, crate::specs::Rules::breaks_F6, crate::specs::Rules::breaks_F7, crate::specs::Rules::breaks_F8, crate::specs::Rules::breaks_F9, crate::specs::Rules::breaks_F10, crate::specs::Rules::breaks_F11, crate::specs::Rules::breaks_F15))]
+fn judge_output<Q: WorkQueue>(
+    geometry: &Geometry,
+    t: TailFacts,
+    luns: &[LunFacts<Q>],
+) -> Option<Forbidden>
+    requires { (t.column < 2 ^ 16) × (t.inputs < 2 ^ 63) }
+    ensures { result ≡ judge_known_cycle geometry.now t luns.now TargetCycle.OutputCycle }
+{
+    let cycle = TargetCycle::OutputCycle;
+    if breaks_f12(t, luns, cycle) {
+        Some(Forbidden::F12)
+    } else if breaks_f13(luns, cycle) {
+        Some(Forbidden::F13)
+    } else if breaks_f14(geometry, t, luns, cycle) {
+        Some(Forbidden::F14)
+    } else {
+        None
+    }
+}
+
 /// The first of F3 to F15 that a cycle breaks: what is forbidden of a cycle whose command F2 lets pass.
 pub fn judge_known_cycle<Q: WorkQueue>(
     geometry: &Geometry,
@@ -485,34 +614,11 @@ pub fn judge_known_cycle<Q: WorkQueue>(
     requires { (t.column < 2 ^ 16) × (t.inputs < 2 ^ 63) }
     ensures { result ≡ judge_known_cycle geometry.now t luns.now cycle }
 {
-    if breaks_f3(t, cycle) {
-        Some(Forbidden::F3)
-    } else if breaks_f4(geometry, cycle) {
-        Some(Forbidden::F4)
-    } else if breaks_f5(luns, cycle) {
-        Some(Forbidden::F5)
-    } else if breaks_f6(t, cycle) {
-        Some(Forbidden::F6)
-    } else if breaks_f7(t, cycle) {
-        Some(Forbidden::F7)
-    } else if breaks_f8(geometry, t, cycle) {
-        Some(Forbidden::F8)
-    } else if breaks_f9(geometry, t, luns, cycle) {
-        Some(Forbidden::F9)
-    } else if breaks_f10(geometry, t, luns, cycle) {
-        Some(Forbidden::F10)
-    } else if breaks_f11(t, cycle) {
-        Some(Forbidden::F11)
-    } else if breaks_f12(t, luns, cycle) {
-        Some(Forbidden::F12)
-    } else if breaks_f13(luns, cycle) {
-        Some(Forbidden::F13)
-    } else if breaks_f14(geometry, t, luns, cycle) {
-        Some(Forbidden::F14)
-    } else if breaks_f15(geometry, t, luns, cycle) {
-        Some(Forbidden::F15)
-    } else {
-        None
+    match cycle {
+        TargetCycle::CommandCycle(command) => judge_command(geometry, t, luns, command),
+        TargetCycle::AddressCycle(byte) => judge_address(geometry, t, luns, byte),
+        TargetCycle::InputCycle(byte) => judge_input(geometry, t, luns, byte),
+        TargetCycle::OutputCycle => judge_output(geometry, t, luns),
     }
 }
 

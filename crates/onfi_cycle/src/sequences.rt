@@ -227,6 +227,60 @@ pub fn facts_after(cycle: TargetCycle, t: TailFacts) -> TailFacts
     }
 }
 
+// A byte more of an address, in a tail that isn't empty.
+fn extend_by_address(tail: &mut TailFacts, byte: u8)
+    requires { AreSmall (2 ^ 63) tail.old }
+    ensures value { tail.new ≡ extended_facts (TargetCycle.AddressCycle byte) tail.old }
+    ensures column { tail.new.column < 2 ^ 16 }
+{
+    let place = next_address_place(tail.opening, tail.phase);
+    tail.column = column_after_address(place, byte, tail.column);
+    tail.phase = phase_after_address(tail.opening, tail.phase);
+    tail.inputs = 0;
+    tail.is_empty = false;
+    if let Some(o) = tail.opening {
+        tail.opening = Some(Opening {
+            opener: o.opener,
+            addresses: o.addresses + 1,
+        });
+        tail.row = RowBytes {
+            r1: tail.row.r2,
+            r2: tail.row.r3,
+            r3: byte,
+        };
+    }
+}
+
+/// Goes on with a tail by one cycle, as [`facts_after`] does.
+pub fn extend(tail: &mut TailFacts, cycle: TargetCycle)
+    requires { AreSmall (2 ^ 63) tail.old }
+    ensures value { tail.new ≡ facts_after cycle tail.old }
+    ensures column { tail.new.column < 2 ^ 16 }
+{
+    if begins_sequence(cycle) {
+        *tail = facts_after(cycle, *tail);
+    } else if !tail.is_empty {
+        match cycle {
+            TargetCycle::AddressCycle(byte) => extend_by_address(tail, byte),
+            TargetCycle::CommandCycle(command) => {
+                tail.opening = None;
+                tail.phase = phase_after_command(command, tail.phase);
+                tail.inputs = 0;
+            }
+            TargetCycle::InputCycle(_) => {
+                tail.opening = None;
+                tail.phase = phase_after_input(tail.phase);
+                tail.inputs += 1;
+            }
+            TargetCycle::OutputCycle => {
+                tail.opening = None;
+                tail.phase = DataPhase::Outside;
+                tail.inputs = 0;
+            }
+        }
+    }
+}
+
 /// The next cycle may be an input.
 pub fn takes_inputs(phase: DataPhase) -> bool
     ensures { result ≡ takes_inputs phase }
@@ -296,6 +350,7 @@ fn is_proper_beginning(opener: Command, addresses: usize) -> bool
 }
 
 /// The tail is a proper beginning of a sequence, and not the command 00h alone.
+#[inline(always)]
 pub fn is_open(t: TailFacts) -> bool
     ensures { result ≡ is_open t }
 {
