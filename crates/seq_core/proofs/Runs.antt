@@ -10,10 +10,10 @@ use Rattle.onfi_cycle.specs.Command.{command}
 use Rattle.onfi_cycle.specs.Lun.{effect_on}
 use Rattle.onfi_cycle.specs.Rules.{breaks_F1}
 use Rattle.onfi_cycle.specs.Channel.{Channel}
-use Rattle.micro_word.specs.declared.word.Word.TheVariants.{End, Command, Address, Get, Wait, Yield, ReadStatus}
+use Rattle.micro_word.specs.declared.word.Word.TheVariants.{End, Command, Address, Get, Seek, Wait, Yield, ReadStatus}
 use Rattle.micro_word.specs.Text.{Microprogram}
 use Rattle.micro_verify.specs.Lines.{unrolled}
-use Rattle.micro_verify.specs.Program.{Job}
+use Rattle.micro_verify.specs.Program.{Job, Done, Nothing, Got, buffer_now}
 use Rattle.micro_verify.specs.Erase.{erase_words}
 use Rattle.seq_core.specs.declared.answers.LoadFault.TheVariants.{S1, S2, S5}
 use Rattle.seq_core.specs.declared.answers.Stepped.TheVariants.{Empty, Held, Ended, HandedOver, NotReady, Went}
@@ -22,6 +22,8 @@ use Rattle.seq_core.specs.World.{fresh}
 use Rattle.seq_core.specs.Event.{Event, Load, Step, Ready, ArrayReady, Unload}
 use Rattle.seq_core.specs.Reply.{Reply, ToLoad, ToStep, ToReady, ToArrayReady, ToUnload, Loaded, NotLoaded, Unloaded, NotUnloaded}
 use Rattle.seq_core.specs.After.{Ran, run}
+use Rattle.seq_core.specs.Buffer.{is_filled}
+use Rattle.seq_core.specs.Made.{Running, running_on}
 
 -- one LUN; two LUNs with Read Status Enhanced; one LUN with read cache
 abbrev pub one_lun : Parts
@@ -82,6 +84,21 @@ erase_replies : replies_of (ran one_lun erase_events) ≡ ToLoad Loaded ∷ (ToS
 unfolding unrolled command width effect_on breaks_F1
 erase_replies = refl
 
+-- what the erase has put into the trace by its end: its own cycles, both polls of its `wait` among them, and no ready
+abbrev erase_to_end : List Event
+erase_to_end = Load (lun 0) (job one_lun 0 4 erase []) ∷ (steps 4 0 ++ (Ready (lun 0) false ∷ steps 3 0))
+
+abbrev made_on : Parts → ℕ → List Event → Option Running
+made_on g l events = running_on (on g) (lun l) events (fresh (on g)) None
+
+erase_made : made_on one_lun 0 erase_to_end ≡ Some (record { job = job one_lun 0 4 erase []; made = reverse (c 0x60 ∷ (a 4 ∷ (a 0 ∷ (a 0 ∷ (c 0xd0 ∷ (c 0x70 ∷ (o 0x80 ∷ (c 0x70 ∷ (o 0xe0 ∷ []))))))))) })
+unfolding unrolled command width effect_on breaks_F1
+erase_made = refl
+
+erase_taken_away : made_on one_lun 0 erase_events ≡ None
+unfolding unrolled command width effect_on breaks_F1
+erase_taken_away = refl
+
 -- erases on two LUNs of one target, stepped in turn; both become ready after fourteen steps
 abbrev in_turn : List ℕ → List Event → List Event
 in_turn [] rest = rest
@@ -96,6 +113,11 @@ two_events = Load (lun 0) (job two_luns 0 0 erase []) ∷ (Load (lun 1) (job two
 two_luns_trace : trace_of (ran two_luns two_events) ≡ c 0x60 ∷ (a 0 ∷ (a 0 ∷ (a 0 ∷ (c 0xd0 ∷ (c 0x78 ∷ (a 0 ∷ (a 0 ∷ (a 0 ∷ (o 0x80 ∷ (c 0x60 ∷ (a 0x20 ∷ (a 0 ∷ (a 0 ∷ (c 0xd0 ∷ (c 0x78 ∷ (a 0x20 ∷ (a 0 ∷ (a 0 ∷ (o 0x80 ∷ (Rdy 0 0 false ∷ (Rdy 0 1 false ∷ (c 0x78 ∷ (a 0 ∷ (a 0 ∷ (a 0 ∷ (o 0xe0 ∷ (c 0x78 ∷ (a 0x20 ∷ (a 0 ∷ (a 0 ∷ (o 0xe0 ∷ [])))))))))))))))))))))))))))))))
 unfolding unrolled command width effect_on breaks_F1
 two_luns_trace = refl
+
+-- each has made its own cycles, and none of the other's
+second_made : made_on two_luns 1 two_events ≡ Some (record { job = job two_luns 1 0 erase []; made = reverse (c 0x60 ∷ (a 0x20 ∷ (a 0 ∷ (a 0 ∷ (c 0xd0 ∷ (c 0x78 ∷ (a 0x20 ∷ (a 0 ∷ (a 0 ∷ (o 0x80 ∷ (c 0x78 ∷ (a 0x20 ∷ (a 0 ∷ (a 0 ∷ (o 0xe0 ∷ []))))))))))))))) })
+unfolding unrolled command width effect_on breaks_F1
+second_made = refl
 
 abbrev two_replies : List Reply
 two_replies = ToLoad Loaded ∷ (ToLoad Loaded ∷ (ToStep Went ∷ (ToStep Held ∷ (ToStep Went ∷ (ToStep Held ∷ (ToStep Went ∷ (ToStep Held ∷ (ToStep NotReady ∷ (ToStep Went ∷ (ToStep Held ∷ (ToStep Went ∷ (ToStep Held ∷ (ToStep Went ∷ (ToStep Held ∷ (ToStep NotReady ∷ (ToReady true ∷ (ToReady true ∷ (ToStep Went ∷ (ToStep Held ∷ (ToStep Ended ∷ (ToStep Went ∷ (ToStep Ended ∷ (ToStep Ended ∷ [])))))))))))))))))))))))
@@ -154,3 +176,13 @@ occupied_events = Load (lun 0) (at_two 0) ∷ (Load (lun 0) other_geometry ∷ (
 occupied_refuse : replies_of (ran two_luns occupied_events) ≡ ToLoad Loaded ∷ (ToLoad (NotLoaded S1 other_geometry) ∷ (ToUnload (NotUnloaded U2) ∷ []))
 unfolding unrolled command width effect_on breaks_F1
 occupied_refuse = refl
+
+-- a `get` of four bytes from place 2 on fills those, and no other
+abbrev got_four : List Done
+got_four = record { word = Get 4; answer = Got (1 ∷ (2 ∷ (3 ∷ (4 ∷ [])))) } ∷ (record { word = Seek 2; answer = Nothing } ∷ [])
+
+fills_its_own : is_filled got_four 1 ∷ (is_filled got_four 2 ∷ (is_filled got_four 5 ∷ (is_filled got_four 6 ∷ []))) ≡ false ∷ (true ∷ (true ∷ (false ∷ [])))
+fills_its_own = refl
+
+kept_beside : buffer_now (replicate 8 9) got_four ≡ 9 ∷ (9 ∷ (1 ∷ (2 ∷ (3 ∷ (4 ∷ (9 ∷ (9 ∷ [])))))))
+kept_beside = refl
