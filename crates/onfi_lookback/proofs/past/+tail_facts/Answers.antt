@@ -1,4 +1,4 @@
-use Rattle.std.proofs.Common.{◌≡◌, ◌∙◌, ap}
+use Rattle.std.proofs.Common.{◌∙◌, ap}
 use Rattle.onfi_cycle.specs.declared.TargetCycle.{TargetCycle}
 use Rattle.onfi_cycle.specs.Sequence.{facts_after}
 use Rattle.onfi_cycle.proofs.Steps.{facts_after_first}
