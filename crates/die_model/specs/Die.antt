@@ -1,72 +1,231 @@
--- One LUN's array and register: what it holds, what it works on, and how its last work ended.
-use Rattle.std.specs.Prelude.{◌≡◌, ℕ, Bool, true, false, ◌&&◌, not, if◌then◌else◌, List, [], ◌∷◌, Option, Some, None, is_some, replicate}
+-- One LUN's array and registers: what its pages hold, what it works on, and how its last work ended.
+use Rattle.std.specs.Prelude.{◌≡◌, ℕ, ◌%◌, ◌^◌, ◌<◌, Bool, true, false, ◌||◌, ◌&&◌, not, nat_lt, if◌then◌else◌, List, [], ◌∷◌, Option, Some, None, length, replicate, slice_get, slice_index_or}
+use Rattle.std.specs.Option.{IsSome}
 use Rattle.nand_geometry.specs.declared.Parts.{Parts}
-use Rattle.nand_geometry.specs.Limits.{page_len}
+use Rattle.nand_geometry.specs.Limits.{InLimits, page_len, planes}
 use Rattle.onfi_cycle.specs.declared.PageAddress.{PageAddress}
+use Rattle.onfi_cycle.specs.declared.Queued.{Queued}
+use Rattle.onfi_cycle.specs.declared.Queued.TheVariants.{Erase, Program}
 use Rattle.onfi_cycle.specs.declared.Register.{Register}
 use Rattle.onfi_cycle.specs.declared.Register.TheVariants.{Empty}
-use Rattle.onfi_cycle.specs.Content.{ArrayWork, ErasesBlock, left_by_all, is_some_work}
-use Rattle.onfi_cycle.specs.Rules.{is_empty}
+use Rattle.onfi_cycle.specs.declared.Effect.{Effect}
+use Rattle.onfi_cycle.specs.declared.Effect.TheVariants.{ReadStarted, EraseStarted, ProgramStarted, IdRead, ParameterPageReadStarted, CacheReadContinued, CacheReadEnded, ResetStarted}
+use Rattle.onfi_cycle.specs.Lun.{busy_after, array_busy_after, array_page_after, register_after, queue_after}
+use Rattle.onfi_cycle.specs.Content.{ArrayWork, ErasesBlock, ProgramsPage, queued_work_after, pending_work_after, content_after, failed_after, register_bytes}
+use Rattle.onfi_cycle.specs.Rules.{is_empty, has_some, some_queued_clashes}
 use Rattle.die_model.specs.declared.Work.{Work}
-use Rattle.die_model.specs.declared.Work.TheVariants.{Erase}
+use Rattle.die_model.specs.declared.Work.TheVariants as w
+use Rattle.die_model.specs.Pages.{kept, page_in}
 
--- a die: what its register holds, the works that are queued, and those that its next ready ends.
--- No page is written today, so none is kept: `page_of` tells what a page holds
+-- a die: the pages that it keeps, the page register of each plane, what its register shows, the page that its array was last told to read,
+-- what it is busy with, the rows that are queued (the newest first), and those that its next ready ends
 pub record Die : Type 0 where
   pub geometry : Parts
-  pub busy : Bool
+  pub pages : List ((ℕ × ℕ) × List ℕ)
+  pub planes : List (List ℕ)
   pub register : Register
-  pub queued : List ArrayWork
-  pub pending : List ArrayWork
+  pub array_page : PageAddress
+  pub busy : Bool
+  pub caching : Bool
+  pub array_busy : Bool
+  pub queued : List Queued
+  pub pending : List Queued
   pub failed : Bool
-
--- every byte FF
-abbrev pub erased_page : Parts → List ℕ
-erased_page g = replicate (page_len g) 0xff
 
 -- the bytes of a page
 abbrev pub page_of : Die → PageAddress → List ℕ
-page_of d p = erased_page d.geometry
+page_of d p = page_in (page_len d.geometry) d.pages p
 
-abbrev pub array_work : Work → ArrayWork
-array_work (Erase at) = ErasesBlock at
+-- the page register of the plane in which a page lies
+abbrev pub plane_bytes : Parts → List (List ℕ) → PageAddress → List ℕ
+plane_bytes g registers at = slice_index_or registers (at.block % planes g) []
 
-abbrev pub works_of : Option Work → List ArrayWork
-works_of None = []
-works_of (Some work) = array_work work ∷ []
+-- what a row is to do: a program takes its bytes from the register of its plane
+abbrev pub work_of : Parts → List (List ℕ) → Queued → ArrayWork
+work_of g registers (Erase at) = ErasesBlock at
+work_of g registers (Program at) = ProgramsPage at (plane_bytes g registers at)
 
--- a die at this work
-abbrev pub die_at : Parts → Option Work → Bool → Die
-die_at g work failed = record { geometry = g; busy = is_some work; register = Empty; queued = []; pending = works_of work; failed = failed }
+abbrev pub works_of : Parts → List (List ℕ) → List Queued → List ArrayWork
+works_of g registers [] = []
+works_of g registers (q ∷ queue) = work_of g registers q ∷ works_of g registers queue
 
--- a die fresh from the factory
-abbrev pub new_die : Parts → Die
-new_die g = die_at g None false
+abbrev pub queued_of : Die → List ArrayWork
+queued_of d = works_of d.geometry d.planes d.queued
+
+abbrev pub pending_of : Die → List ArrayWork
+pending_of d = works_of d.geometry d.planes d.pending
+
+-- the effect that a work stands for
+abbrev pub effect_of : Work → Effect
+effect_of (w.Read at) = ReadStarted at 0
+effect_of (w.Program at) = ProgramStarted false at
+effect_of (w.Erase at) = EraseStarted false at
+effect_of (w.Queue (Erase at)) = EraseStarted true at
+effect_of (w.Queue (Program at)) = ProgramStarted true at
+effect_of w.Identifier = IdRead
+effect_of w.Parameters = ParameterPageReadStarted
+effect_of w.Reset = ResetStarted
+effect_of w.Cache = CacheReadContinued
+effect_of w.CacheEnd = CacheReadEnded
+
+-- the work of an effect on a LUN; None where its die stays as it is or only ends something
+abbrev pub work_begun : Effect → Option Work
+work_begun (ReadStarted at column) = Some (w.Read at)
+work_begun (ProgramStarted queued at) = Some (if queued then w.Queue (Program at) else w.Program at)
+work_begun (EraseStarted queued at) = Some (if queued then w.Queue (Erase at) else w.Erase at)
+work_begun IdRead = Some w.Identifier
+work_begun ParameterPageReadStarted = Some w.Parameters
+work_begun ResetStarted = Some w.Reset
+work_begun CacheReadContinued = Some w.Cache
+work_begun CacheReadEnded = Some w.CacheEnd
+work_begun _ = None
+
+abbrev pub caching_after : Effect → Bool → Bool
+caching_after CacheReadContinued caching = true
+caching_after (ReadStarted _ _) caching = false
+caching_after (EraseStarted _ _) caching = false
+caching_after (ProgramStarted _ _) caching = false
+caching_after IdRead caching = false
+caching_after ParameterPageReadStarted caching = false
+caching_after CacheReadEnded caching = false
+caching_after ResetStarted caching = false
+caching_after _ caching = caching
+
+-- the bytes that a program takes
+abbrev pub bytes_taken : Die → Effect → List ℕ
+bytes_taken d (ProgramStarted queued at) = plane_bytes d.geometry d.planes at
+bytes_taken d _ = []
+
+-- the die behind an effect: each fact by the step that the definitions of a channel take
+pub record IsAfter (e : Effect) (old new : Die) : Type 0 where
+  pub geometry : new.geometry ≡ old.geometry
+  pub planes : new.planes ≡ old.planes
+  pub pages : (p : PageAddress) → page_of new p ≡ content_after old.geometry e (pending_of old) p (page_of old p)
+  pub register : new.register ≡ register_after e old.array_page old.register
+  pub array_page : new.array_page ≡ array_page_after e old.array_page
+  pub busy : new.busy ≡ busy_after e old.busy
+  pub caching : new.caching ≡ caching_after e old.caching
+  pub array_busy : new.array_busy ≡ array_busy_after e old.busy old.caching old.array_busy
+  pub queue : new.queued ≡ queue_after e old.queued
+  pub queued : queued_of new ≡ queued_work_after e (bytes_taken old e) (queued_of old)
+  pub pending : pending_of new ≡ pending_work_after e (bytes_taken old e) (queued_of old) (pending_of old)
+  pub failed : new.failed ≡ failed_after e (pending_of old) old.failed
+
+abbrev pub status_of : Die → ℕ
+status_of d = if d.busy then 0x80 else (if d.array_busy then 0xc0 else (if d.failed then 0xe1 else 0xe0))
+
+-- the bytes of its register; parameters are those of the parameter page, three copies
+abbrev pub bytes_shown : List ℕ → Die → List ℕ
+bytes_shown parameters d = register_bytes parameters (page_of d) d.register
 
 -- nothing is going on, waits or has failed
 abbrev pub is_new : Die → Bool
-is_new d = not d.busy && (is_empty d.register && (not (is_some_work d.queued) && (not (is_some_work d.pending) && not d.failed)))
+is_new d =
+    not d.busy && (not d.array_busy && (not d.caching && (is_empty d.register && (not (has_some d.queued) && (not (has_some d.pending) && not d.failed)))))
 
--- a work has begun, and the queue goes with it
-pub record IsBegun (work : Work) (old new : Die) : Type 0 where
-  pub geometry : new.geometry ≡ old.geometry
-  pub pages : (p : PageAddress) → page_of new p ≡ page_of old p
-  pub busy : new.busy ≡ true
-  pub register : new.register ≡ Empty
-  pub queued : new.queued ≡ []
-  pub pending : new.pending ≡ array_work work ∷ old.queued
-  pub failed : new.failed ≡ old.failed
+-- the row is inside the geometry
+abbrev pub is_row : Parts → PageAddress → Bool
+is_row g p = nat_lt p.block g.blocks && nat_lt p.page g.pages
 
--- a ready has come: without failure the works have taken effect
-pub record IsFinished (fail : Bool) (old new : Die) : Type 0 where
-  pub geometry : new.geometry ≡ old.geometry
-  pub pages : (p : PageAddress) → page_of new p ≡ (if fail then page_of old p else left_by_all (page_len old.geometry) old.pending p (page_of old p))
-  pub busy : new.busy ≡ false
-  pub register : new.register ≡ old.register
-  pub queued : new.queued ≡ old.queued
-  pub pending : new.pending ≡ []
-  pub failed : new.failed ≡ (fail && is_some_work old.pending)
+abbrev pub row_of_work : Work → Option PageAddress
+row_of_work (w.Read at) = Some at
+row_of_work (w.Program at) = Some at
+row_of_work (w.Erase at) = Some at
+row_of_work (w.Queue (Erase at)) = Some at
+row_of_work (w.Queue (Program at)) = Some at
+row_of_work _ = None
 
--- the status byte: 80 while it works, else E1 where the last work failed, and E0
-abbrev pub status_of : Die → ℕ
-status_of d = if d.busy then 0x80 else (if d.failed then 0xe1 else 0xe0)
+abbrev pub is_row_of : Parts → Option PageAddress → Bool
+is_row_of g None = true
+is_row_of g (Some p) = is_row g p
+
+-- the work goes together with the rows that are queued
+abbrev pub goes_with : Parts → Work → List Queued → Bool
+goes_with g (w.Program at) queue = not (some_queued_clashes g false at queue)
+goes_with g (w.Erase at) queue = not (some_queued_clashes g true at queue)
+goes_with g (w.Queue (Erase at)) queue = not (some_queued_clashes g true at queue)
+goes_with g (w.Queue (Program at)) queue = not (some_queued_clashes g false at queue)
+goes_with g _ queue = true
+
+abbrev pub is_reset : Work → Bool
+is_reset w.Reset = true
+is_reset _ = false
+
+-- what a caller of `begin` sees to: a row inside the geometry that goes together with the queue, and a ready die, if it isn't a reset
+pub record CanBegin (work : Work) (d : Die) : Type 0 where
+  pub row : is_row_of d.geometry (row_of_work work) ≡ true
+  pub together : goes_with d.geometry work d.queued ≡ true
+  pub ready : is_reset work || not d.busy ≡ true
+  pub room : length d.queued < 16
+  pub next : d.array_page.page < 2 ^ 32
+
+-- what a work makes of the rows that wait
+abbrev pub members_after : Work → List Queued → List Queued
+members_after (w.Program at) members = Program at ∷ members
+members_after (w.Erase at) members = Erase at ∷ members
+members_after (w.Queue q) members = q ∷ members
+members_after w.Reset members = []
+members_after _ members = members
+
+-- the rows that wait are those that the next ready ends
+abbrev pub closes : Work → Bool
+closes (w.Program at) = true
+closes (w.Erase at) = true
+closes _ = false
+
+abbrev pub page_to_keep : Work → Option PageAddress
+page_to_keep (w.Program at) = Some at
+page_to_keep (w.Queue (Program at)) = Some at
+page_to_keep _ = None
+
+-- the programs of a list have their pages in place
+abbrev pub AreKept : List ((ℕ × ℕ) × List ℕ) → List Queued → Type 0
+AreKept pages [] = Unit {0}
+AreKept pages (Erase at ∷ queue) = AreKept pages queue
+AreKept pages (Program at ∷ queue) = IsSome (kept pages at) × AreKept pages queue
+
+abbrev pub is_erase : Queued → Bool
+is_erase (Erase at) = true
+is_erase (Program at) = false
+
+-- each is an erase, or none is
+abbrev pub are_erases : List Queued → Bool
+are_erases [] = true
+are_erases (q ∷ queue) = is_erase q && are_erases queue
+
+abbrev pub are_programs : List Queued → Bool
+are_programs [] = true
+are_programs (q ∷ queue) = not (is_erase q) && are_programs queue
+
+-- kept pages lie inside the geometry, and have the length of a page; so has the register of each plane
+pub record HasRows (g : Parts) (pages : List ((ℕ × ℕ) × List ℕ)) (registers : List (List ℕ)) : Type 0 where
+  pub inside : (p : PageAddress) → is_row g p ≡ false → kept pages p ≡ None
+  pub lengths : (p : PageAddress) (bytes : List ℕ) → kept pages p ≡ Some bytes → length bytes ≡ page_len g
+  pub count : length registers ≡ planes g
+  pub widths : (k : ℕ) (bytes : List ℕ) → slice_get registers k ≡ Some bytes → length bytes ≡ page_len g
+
+-- what is true of every die, by its parts; members are the rows queued, or where they are closed those that the next ready ends
+pub record IsDie (g : Parts) (pages : List ((ℕ × ℕ) × List ℕ)) (registers : List (List ℕ)) (members : List Queued) (closed busy : Bool) : Type 0 where
+  pub limits : InLimits g
+  pub rows : HasRows g pages registers
+  pub there : AreKept pages members
+  pub alike : are_erases members || are_programs members ≡ true
+  pub works : closed ≡ true → busy ≡ true
+  pub some : closed ≡ true → has_some members ≡ true
+
+-- a die fresh from the factory: every byte of every page and register is FF
+abbrev pub new_die : Parts → Die
+new_die g =
+    record {
+      geometry = g;
+      pages = [];
+      planes = replicate (planes g) (replicate (page_len g) 0xff);
+      register = Empty;
+      array_page = record { block = 0; page = 0 };
+      busy = false;
+      caching = false;
+      array_busy = false;
+      queued = [];
+      pending = [];
+      failed = false;
+    }

@@ -1,1 +1,4 @@
+pub mod Pages
 pub mod Die
+pub mod Standing
+pub mod Image

@@ -1,56 +1,166 @@
-//! A die as it stands behind the bus: one LUN's array, what it works on, and how its last work ended.
-//!
-//! Today the one work is an erase, and every page of every die is FF: so no page is stored.
+//! A die as it stands behind the bus: one LUN's pages, what it works on, and how its last work ended.
 #![tactic(auto)]
 
-ghost use Rattle.std.specs.Prelude.{◌≡◌, IfOk, OnErr};
-ghost use Rattle.die_model.specs.Die.{new_die, is_new, status_of, IsBegun, IsFinished};
+mod effects;
+mod image;
+pub mod page_registers;
+pub mod laws;
+mod page;
+mod pages;
+#[cfg(test)]
+mod tests;
 
+ghost use Rattle.std.specs.Prelude.{◌≡◌, ℕ, ◌%◌, ◌<◌, true, false, List, [], ◌∷◌, slice_set, slice_index_or, if◌then◌else◌, IfOk, OnErr, length, slice_get, replicate};
+ghost use Rattle.nand_geometry.specs.Limits.{page_len, planes};
+ghost use Rattle.onfi_cycle.specs.declared.Effect.TheVariants.{BecameReady, ArrayBecameReady};
+ghost use Rattle.die_model.specs.Standing.{WorkedBy, CanWork};
+ghost use Rattle.die_model.specs.Die.{CanBegin, IsAfter, effect_of, status_of, bytes_shown, is_new, new_die, page_of};
+
+use arrayvec::ArrayVec;
+use effects::{caching_after, effect_of, end_works, join, page_to_keep, plane_of, work_begun};
 use nand_geometry::Geometry;
-use onfi_cycle::{PageAddress, Status};
-use std::alloc::AllocError;
+use onfi_cycle::effects::{array_busy_after, array_page_after, busy_after, register_after};
+use onfi_cycle::{Effect, PageAddress, Queued, Register, Status};
+use page::Page;
+use pages::Pages;
+use std::alloc::{AllocError, Global};
 use std::marker::Model;
 
-/// What an array works on. More kinds of work come with more commands.
+/// What an array is told to do.
 #[derive(Clone, Copy, Debug, PartialEq, Eq)]
 pub enum Work {
-    /// The block of this row is erased.
+    /// A page is read into the register.
+    Read(PageAddress),
+    /// The register of its plane goes into a page, and the queue with it.
+    Program(PageAddress),
+    /// The block of this row is erased, and the queue goes with it.
     Erase(PageAddress),
+    /// A row waits for the last one of its queue.
+    Queue(Queued),
+    /// The identifier is put into the register; that ends at once.
+    Identifier,
+    /// The parameter page is read into the register.
+    Parameters,
+    /// All work stops, and nothing stays queued.
+    Reset,
+    /// The page that the array has read is put into the register, and the array reads the next.
+    Cache,
+    /// The page that the array has read is put into the register.
+    CacheEnd,
 }
 
-/// One LUN: its pages, and what its array does.
-#[derive(Debug, Drop)]
+/// What an item does to a page register: nothing, or it clears that of the plane of a page, or sets one byte of it.
+#[derive(Clone, Copy, Debug, PartialEq, Eq)]
+pub enum Filling {
+    Leaves,
+    Clears(PageAddress),
+    Fills(PageAddress, usize, u8),
+}
+
+/// One LUN: its pages, its registers, and what its array does.
+#[derive(Drop)]
 pub struct LunDie {
     geometry: Geometry,
-    work: Option<Work>,
+    pages: Pages,
+    /// The page register of each plane.
+    planes: Vec<Page>,
+    register: Register,
+    array_page: PageAddress,
+    busy: bool,
+    caching: bool,
+    array_busy: bool,
+    /// The rows that are queued, the newest first.
+    members: ArrayVec<Queued, 16>,
+    /// The next ready ends them.
+    closed: bool,
     failed: bool,
 }
 
 impl Model for LunDie {
-    ghost use Rattle.die_model.specs.Die.{Die, die_at};
+    ghost use Rattle.die_model.specs.Die.{Die, IsDie};
+    ghost use Rattle.std.specs.Prelude.{[], if◌then◌else◌};
 
     ghost Value = { Die };
 
-    ghost view = { λ d. die_at d.geometry d.work d.failed };
+    ghost view = { λ d. record { geometry = d.geometry; pages = d.pages; planes = d.planes.items; register = d.register; array_page = d.array_page; busy = d.busy; caching = d.caching; array_busy = d.array_busy; queued = if d.closed then [] else d.members.items; pending = if d.closed then d.members.items else []; failed = d.failed } };
+
+    ghost invariant = { λ d. IsDie d.geometry d.pages d.planes.items d.members.items d.closed d.busy };
 }
 
 /// The status while the array works: WP_N alone.
 const BUSY: Status = Status::WP_N;
-/// RDY and ARDY too.
-const READY: Status = Status(BUSY.0 | Status::RDY.0 | Status::ARDY.0);
+/// RDY too: the array alone works.
+const ARRAY_BUSY: Status = Status(BUSY.0 | Status::RDY.0);
+/// ARDY too.
+const READY: Status = Status(ARRAY_BUSY.0 | Status::ARDY.0);
 /// FAIL too: the last work failed.
 const FAILED: Status = Status(READY.0 | Status::FAIL.0);
 
+/// What Read ID gives, "ONFI".
+const IDENTIFIER: [u8; 4] = [0x4f, 0x4e, 0x46, 0x49];
+
+// So many registers of FF.
+fn registers(alloc: Global, count: usize, len: usize) -> Result<Vec<Page>, AllocError>
+    ensures { IfOk result (λ v. v.items ≡ replicate count (replicate len 0xff)) }
+{
+    let mut all = Vec::new(alloc);
+    for _ in 0..count {
+        all.push(Page::blank(alloc, len)?)?;
+    }
+    Ok(all)
+}
+
 impl LunDie {
     /// A die fresh from the factory: every byte of every page is FF.
-    pub fn new(geometry: Geometry) -> Result<LunDie, AllocError>
+    pub fn new(alloc: Global, geometry: Geometry) -> Result<LunDie, AllocError>
         ensures { IfOk result (λ d. d ≡ new_die geometry) }
     {
+        let _limits = geometry.parts();
+        let planes = geometry.planes() as usize;
+        let len = geometry.page_len() as usize;
         Ok(LunDie {
             geometry,
-            work: None,
+            pages: Pages::new(alloc),
+            planes: registers(alloc, planes, len)?,
+            register: Register::Empty,
+            array_page: PageAddress { block: 0, page: 0 },
+            busy: false,
+            caching: false,
+            array_busy: false,
+            members: ArrayVec::new(),
+            closed: false,
             failed: false,
         })
+    }
+
+    // A byte of a page, if it has that column.
+    fn page_byte(&self, at: PageAddress, column: usize) -> Option<u8>
+        ensures { result ≡ slice_get (page_of self.now at) column }
+    {
+        match self.pages.get(at) {
+            Some(page) => page.bytes().get(column).copied(),
+            None if column < self.geometry.page_len() as usize => Some(0xff),
+            None => None,
+        }
+    }
+
+    /// The byte of its register at a column, if there is one.
+    pub fn shown(&self, parameters: &[u8], column: usize) -> Option<u8>
+        ensures { result ≡ slice_get (bytes_shown parameters.now self.now) column }
+    {
+        match self.register {
+            Register::Empty => None,
+            Register::Page(at) => self.page_byte(at, column),
+            Register::ParameterPage => parameters.get(column).copied(),
+            Register::Identifier => IDENTIFIER.get(column).copied(),
+        }
+    }
+
+    /// Its array becomes ready behind a cache read.
+    pub fn array_ready(&mut self)
+        ensures { IsAfter ArrayBecameReady self.old self.new }
+    {
+        self.array_busy = false;
     }
 
     /// The geometry of its target.
@@ -60,54 +170,121 @@ impl LunDie {
         self.geometry
     }
 
-    /// Nothing is going on, waits or has failed.
-    pub fn is_new(&self) -> bool
-        ensures { result ≡ is_new self.now }
-    {
-        self.work.is_none() && !self.failed
-    }
-
-    /// The array works: a ready is still to come.
-    pub fn is_busy(&self) -> bool
-        ensures { result ≡ self.now.busy }
-    {
-        self.work.is_some()
-    }
-
-    /// The last work failed.
-    pub fn has_failed(&self) -> bool
-        ensures { result ≡ self.now.failed }
-    {
-        self.failed
-    }
-
     /// The status byte that it shows.
     pub fn status(&self) -> Status
         ensures { result.0 ≡ status_of self.now }
     {
-        if self.is_busy() {
+        if self.busy {
             BUSY
-        } else if self.has_failed() {
+        } else if self.array_busy {
+            ARRAY_BUSY
+        } else if self.failed {
             FAILED
         } else {
             READY
         }
     }
 
-    /// Begins a work, and whatever is queued goes with it. Without memory for that all stays as it was.
-    pub fn begin(&mut self, work: Work) -> Result<(), AllocError>
-        ensures ok { IfOk result (λ _. IsBegun work self.old self.new) }
+    /// Nothing is going on, waits or has failed.
+    pub fn is_new(&self) -> bool
+        ensures { result ≡ is_new self.now }
+    {
+        !self.busy
+            && !self.array_busy
+            && !self.caching
+            && self.register == Register::Empty
+            && self.members.is_empty()
+            && !self.failed
+    }
+
+    /// Becomes ready, with failure or without. Without failure the works have taken effect. It takes no memory.
+    pub fn finish(&mut self, fail: bool)
+        ensures { IsAfter (BecameReady fail) self.old self.new }
+    {
+        self.array_busy = array_busy_after(
+            Effect::BecameReady { failed: fail },
+            self.busy,
+            self.caching,
+            self.array_busy,
+        );
+        self.busy = false;
+        if self.closed {
+            end_works(
+                &mut self.pages,
+                self.geometry.parts(),
+                self.planes.as_slice(),
+                self.members.as_slice(),
+                fail,
+            );
+            self.members.clear();
+            self.closed = false;
+            self.failed = fail;
+        } else {
+            self.failed = false;
+        }
+    }
+
+    /// Begins a work. Without memory for its end all stays as it was.
+    pub fn begin(&mut self, alloc: Global, work: Work) -> Result<(), AllocError>
+        requires { CanBegin work self.old }
+        ensures ok { IfOk result (λ _. IsAfter (effect_of work) self.old self.new) }
         ensures err { OnErr result (self.new ≡ self.old) }
     {
-        self.work = Some(work);
+        let effect = effect_of(work);
+        let len = self.geometry.page_len() as usize;
+        self.pages.keep_some(alloc, page_to_keep(work), len)?;
+        self.array_busy = array_busy_after(effect, self.busy, self.caching, self.array_busy);
+        self.caching = caching_after(effect, self.caching);
+        self.register = register_after(effect, self.array_page, self.register);
+        self.array_page = array_page_after(effect, self.array_page);
+        self.busy = busy_after(effect, self.busy);
+        self.closed = join(&mut self.members, work);
         Ok(())
     }
 
-    /// Becomes ready, with failure or without. Without failure the work has taken effect.
-    pub fn finish(&mut self, fail: bool)
-        ensures { IsFinished fail self.old self.new }
+    /// Fills the register of a plane with FF.
+    pub fn clear(&mut self, plane: usize)
+        requires { plane < planes self.old.geometry }
+        ensures { self.new ≡ record self.old { planes = slice_set self.old.planes plane (replicate (page_len self.old.geometry) 0xff) } }
     {
-        self.failed = fail && self.is_busy();
-        self.work = None;
+        let register = &mut self.planes[plane];
+        register.clear();
+    }
+
+    /// Sets one byte of the register of a plane.
+    pub fn fill(&mut self, plane: usize, column: usize, byte: u8)
+        requires plane { plane < planes self.old.geometry }
+        requires column { column < page_len self.old.geometry }
+        ensures { self.new ≡ record self.old { planes = slice_set self.old.planes plane (slice_set (slice_index_or self.old.planes plane []) column byte) } }
+    {
+        let register = &mut self.planes[plane];
+        register.set(column, byte);
+    }
+
+    /// Works what an item does, if that is no ready. Without memory for it all stays as it was.
+    pub fn work(
+        &mut self,
+        alloc: Global,
+        filling: Filling,
+        effect: Effect,
+    ) -> Result<(), AllocError>
+        requires { CanWork filling effect self.old }
+        ensures ok { IfOk result (λ _. WorkedBy self.old.geometry filling effect self.old self.new) }
+        ensures err { OnErr result (self.new ≡ self.old) }
+    {
+        match filling {
+            Filling::Leaves => match work_begun(effect) {
+                None => Ok(()),
+                Some(work) => self.begin(alloc, work),
+            },
+            Filling::Clears(at) => {
+                self.clear(plane_of(self.geometry().parts(), at));
+                Ok(())
+            }
+            Filling::Fills(at, column, byte) => {
+                self.fill(plane_of(self.geometry().parts(), at), column, byte);
+                Ok(())
+            }
+        }
     }
 }

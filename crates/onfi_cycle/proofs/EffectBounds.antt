@@ -1,5 +1,5 @@
 -- The effects of a permitted item keep what fits.
-use Rattle.std.proofs.Common.{◌≡◌, ℕ, zero, suc, ◌+◌, ◌%◌, ◌^◌, ◌<◌, ◌≤◌, ◌==◌, Bool, true, false, ◌&&◌, ◌||◌, cond, not, List, [], ◌∷◌, Option, Some, None, refl, sym, ap, ◌∙◌, arith}
+use Rattle.std.proofs.Common.{◌≡◌, ℕ, zero, suc, ◌+◌, ◌%◌, ◌^◌, ◌<◌, ◌≤◌, ◌==◌, Bool, true, false, ◌&&◌, ◌||◌, cond, not, ltb, List, [], ◌∷◌, Option, Some, None, refl, sym, ap, ◌∙◌, arith}
 use Rattle.std.proofs.Math.Nat.{mod-lt, pow-le-pow_right}
 use Rattle.std.proofs.lemmas.Nat.{pow_pos}
 use Rattle.std.proofs.lemmas.Bool.Decides.{nat_tests}
@@ -23,14 +23,14 @@ use Rattle.onfi_cycle.specs.declared.TargetCycle.TheVariants.{CommandCycle, Addr
 use Rattle.onfi_cycle.specs.declared.Effect.{Effect}
 use Rattle.onfi_cycle.specs.declared.Effect.TheVariants.{Unaffected, SelectedForStatus, Deselected, IdRead, ParameterPageReadStarted, CacheReadContinued, CacheReadEnded, ReadColumnChanged, DataOutput, BecameReady, ArrayBecameReady}
 use Rattle.onfi_cycle.specs.LunView.{LunView}
-use Rattle.onfi_cycle.specs.Command.{closes, address_cycles}
+use Rattle.onfi_cycle.specs.Command.{closes, address_cycles, is_opener, takes_address, reads_identity}
 use Rattle.onfi_cycle.specs.Sequence.{target_cycle, opened, takes_inputs, wants_column, wants_command, wants_address, row, row_with}
 use Rattle.onfi_cycle.specs.Effect.{is_off, is_data, names_lun, page_address, confirm_effect, command_effect, address_effect, opening_address_effect, cycle_effect}
 use Rattle.onfi_cycle.specs.Lun.{is_page_read, output_column, option_plus}
-use Rattle.onfi_cycle.specs.Rules.{driving, are_none, only, driver, is_some_and, driver_is, lacks, is_past, is_empty, register_len, has_no_byte, is_past_register, continues_cache, breaks_F1, breaks_F13, breaks_F14, breaks_F15}
+use Rattle.onfi_cycle.specs.Rules.{driving, are_none, only, driver, is_some_and, driver_is, lacks, is_past, is_empty, register_len, has_no_byte, is_past_register, continues_cache, ends_cache, some_queued_clashes, breaks_F1, breaks_F13, breaks_F14, breaks_F15}
 use Rattle.onfi_cycle.specs.Permitted.{judge, judge_cycle}
 use Rattle.onfi_cycle.specs.State.{effect_alone, has_driver}
-use Rattle.onfi_cycle.specs.Bounds.{TailFits, RowFits, EffectFits, is_block_erase}
+use Rattle.onfi_cycle.specs.Bounds.{TailFits, RowFits, RowStands, CanStart, EffectFits, is_read, is_block_erase, names_read, names_erase, names_program, names_row, names_identity}
 use Rattle.onfi_cycle.proofs.Others.{first_passed}
 use Rattle.onfi_cycle.proofs.Passed.{KeepsRules, keeps_rules}
 
@@ -110,6 +110,10 @@ not_false : (b : Bool) → not b ≡ false → b ≡ true
 not_false true h = refl
 not_false false h = cc
 
+not_true : (b : Bool) → not b ≡ true → b ≡ false
+not_true true h = cc
+not_true false h = refl
+
 -- an effect that comes or not
 choice : (g : Parts) (v : LunView) (b : Bool) (x y : Effect) → (b ≡ true → EffectFits g v x) → (b ≡ false → EffectFits g v y) → EffectFits g v (cond b x y)
 choice g v true x y f h = f refl
@@ -122,61 +126,126 @@ page_is_small g limits row =
     let most : 2 ^ page_bits g ≤ 2 ^ 24 = pow-le-pow_right {n = 2} (omega arith) bits in
     omega arith
 
--- a tail that wants D1 names the row of an erase
+-- a tail that wants a closer names the row of its opener
+wants_read : (c : Command) (n : ℕ) → (closes c ReadConfirm && n == address_cycles c) ≡ true → (is_read c && n == 5) ≡ true
+wants_read Read n h = h
+wants_read c n h = cc
+
+wants_erase : (c : Command) (n : ℕ) → (closes c BlockEraseConfirm && n == address_cycles c) ≡ true → (is_block_erase c && n == 3) ≡ true
+wants_erase BlockErase n h = h
+wants_erase c n h = cc
+
 wants_plane_erase : (c : Command) (n : ℕ) → (closes c BlockErasePlane && n == address_cycles c) ≡ true → (is_block_erase c && n == 3) ≡ true
 wants_plane_erase BlockErase n h = h
 wants_plane_erase c n h = cc
 
-erase_named : (o : Option Opening) → opened (λ c n. closes c BlockErasePlane && n == address_cycles c) o ≡ true → opened (λ c n. is_block_erase c && n == 3) o ≡ true
-erase_named None h = cc
-erase_named (Some o) h = wants_plane_erase o.opener o.addresses h
+opened_too : (test other : Command → ℕ → Bool) → ((c : Command) (n : ℕ) → test c n ≡ true → other c n ≡ true) → (o : Option Opening) → opened test o ≡ true → opened other o ≡ true
+opened_too test other follows None h = cc
+opened_too test other follows (Some o) h = follows o.opener o.addresses h
 
-program_named : (a b : Bool) → a ≡ true → (a || b) ≡ true
-program_named true b h = refl
-program_named false b h = cc
+or_left : (a b : Bool) → a ≡ true → (a || b) ≡ true
+or_left true b h = refl
+or_left false b h = cc
+
+or_right : (a b : Bool) → b ≡ true → (a || b) ≡ true
+or_right true b h = refl
+or_right false b h = h
+
+read_named : (t : TailFacts) → names_read t ≡ true → names_row t ≡ true
+read_named t h = or_left (names_read t) _ h
+
+erase_named : (t : TailFacts) → names_erase t ≡ true → names_row t ≡ true
+erase_named t h = or_right (names_read t) _ (or_left (names_erase t) _ h)
+
+program_named : (t : TailFacts) → names_program t ≡ true → names_row t ≡ true
+program_named t h = or_right (names_read t) _ (or_right (names_erase t) _ h)
+
+can_start : (g : Parts) (t : TailFacts) (n : ℕ) (v : LunView) → RowStands g t n v → names_lun g (row t) n ≡ true → names_row t ≡ true → CanStart g v (page_address g (row t))
+can_start g t n v rs named is = record { inside = rs.inside named is; ready = rs.ready named is }
+
+erase_fits : (g : Parts) (t : TailFacts) (n : ℕ) (v : LunView) → RowFits g t n v → RowStands g t n v → names_lun g (row t) n ≡ true → names_erase t ≡ true → (some_queued_clashes g true (page_address g (row t)) v.queue ≡ false) × CanStart g v (page_address g (row t))
+erase_fits g t n v rf rs named is = (rf.erase named is, can_start g t n v rs named (erase_named t is))
+
+program_fits : (g : Parts) (t : TailFacts) (n : ℕ) (v : LunView) → RowFits g t n v → RowStands g t n v → names_lun g (row t) n ≡ true → takes_inputs t.phase ≡ true → (some_queued_clashes g false (page_address g (row t)) v.queue ≡ false) × CanStart g v (page_address g (row t))
+program_fits g t n v rf rs named is =
+    let whole : names_program t ≡ true = or_left (takes_inputs t.phase) (wants_column t.phase) is in
+    (rf.program named whole, can_start g t n v rs named (program_named t whole))
 
 -- the closer of a row
-confirm_fits : (g : Parts) → InLimits g → (t : TailFacts) (n : ℕ) (v : LunView) → TailFits g t → RowFits g t n v → (c : Command) → (wants_command t c && names_lun g (row t) n) ≡ true → EffectFits g v (confirm_effect g t c)
-confirm_fits g limits t n v tf rf ReadConfirm h = (page_is_small g limits (row t), tf.column)
-confirm_fits g limits t n v tf rf BlockEraseConfirm h = λ e. cc
-confirm_fits g limits t n v tf rf BlockErasePlane h = let parts = both (wants_command t BlockErasePlane) _ h in λ e. rf.erase parts.1 (erase_named t.opening parts.0)
-confirm_fits g limits t n v tf rf ProgramConfirm h = λ e. cc
-confirm_fits g limits t n v tf rf ProgramPlane h = let parts = both (wants_command t ProgramPlane) _ h in λ e. rf.program parts.1 (program_named (takes_inputs t.phase) (wants_column t.phase) parts.0)
-confirm_fits g limits t n v tf rf c h = tt
+confirm_fits : (g : Parts) → InLimits g → (t : TailFacts) (n : ℕ) (v : LunView) → TailFits g t → RowFits g t n v → RowStands g t n v → (c : Command) → (wants_command t c && names_lun g (row t) n) ≡ true → EffectFits g v (confirm_effect g t c)
+confirm_fits g limits t n v tf rf rs ReadConfirm h =
+    let parts = both (wants_command t ReadConfirm) _ h in
+    (page_is_small g limits (row t), tf.column, can_start g t n v rs parts.1 (read_named t (opened_too _ _ wants_read t.opening parts.0)))
+confirm_fits g limits t n v tf rf rs BlockEraseConfirm h = let parts = both (wants_command t BlockEraseConfirm) _ h in erase_fits g t n v rf rs parts.1 (opened_too _ _ wants_erase t.opening parts.0)
+confirm_fits g limits t n v tf rf rs BlockErasePlane h = let parts = both (wants_command t BlockErasePlane) _ h in erase_fits g t n v rf rs parts.1 (opened_too _ _ wants_plane_erase t.opening parts.0)
+confirm_fits g limits t n v tf rf rs ProgramConfirm h = let parts = both (wants_command t ProgramConfirm) _ h in program_fits g t n v rf rs parts.1 parts.0
+confirm_fits g limits t n v tf rf rs ProgramPlane h = let parts = both (wants_command t ProgramPlane) _ h in program_fits g t n v rf rs parts.1 parts.0
+confirm_fits g limits t n v tf rf rs c h = tt
 
 -- a cache read goes on inside its block
-continued_fits : (g : Parts) → InLimits g → (t : TailFacts) (luns : List LunView) (v : LunView) → breaks_F15 g t luns (CommandCycle ReadCacheSequential) ≡ false → IsDriver luns v → v.array_page.page + 1 < 2 ^ 32
+continued_fits : (g : Parts) → InLimits g → (t : TailFacts) (luns : List LunView) (v : LunView) → breaks_F15 g t luns (CommandCycle ReadCacheSequential) ≡ false → IsDriver luns v → (v.array_page.page + 1 < 2 ^ 32) × (v.busy ≡ false)
 unfolding breaks_F15
 continued_fits g limits t luns v f15 d =
     let passes : continues_cache g v ≡ true = sym (driver_passes (continues_cache g) luns v d) ∙ not_false _ f15 in
     let inside = (both (is_page_read v.closer) _ (both (not v.busy) _ passes).1).1 in
     let pages = limits.pages_most in
-    grind (arith, nat_tests)
+    let low : v.array_page.page + 1 < 2 ^ 32 = grind (arith, nat_tests) in
+    (low, not_true v.busy (both (not v.busy) _ passes).0)
 
-command_fits : (g : Parts) → InLimits g → (t : TailFacts) (luns : List LunView) (n : ℕ) (v : LunView) → TailFits g t → RowFits g t n v → slice_get luns n ≡ Some v → (c : Command) → breaks_F15 g t luns (CommandCycle c) ≡ false → EffectFits g v (command_effect g t (cond (has_driver luns) v.latch Off) c n)
-command_fits g limits t luns n v tf rf found Read f15 = tt
-command_fits g limits t luns n v tf rf found ReadStatus f15 = tt
-command_fits g limits t luns n v tf rf found ReadStatusEnhanced f15 = tt
-command_fits g limits t luns n v tf rf found Reset f15 = tt
-command_fits g limits t luns n v tf rf found ReadCacheSequential f15 =
+-- one that ends
+ended_fits : (g : Parts) (t : TailFacts) (luns : List LunView) (v : LunView) → breaks_F15 g t luns (CommandCycle ReadCacheEnd) ≡ false → IsDriver luns v → v.busy ≡ false
+unfolding breaks_F15
+ended_fits g t luns v f15 d =
+    let passes : ends_cache v ≡ true = sym (driver_passes ends_cache luns v d) ∙ not_false _ f15 in
+    not_true v.busy (both (not v.busy) _ passes).0
+
+command_fits : (g : Parts) → InLimits g → (t : TailFacts) (luns : List LunView) (n : ℕ) (v : LunView) → TailFits g t → RowFits g t n v → RowStands g t n v → slice_get luns n ≡ Some v → (c : Command) → breaks_F15 g t luns (CommandCycle c) ≡ false → EffectFits g v (command_effect g t (cond (has_driver luns) v.latch Off) c n)
+command_fits g limits t luns n v tf rf rs found Read f15 = tt
+command_fits g limits t luns n v tf rf rs found ReadStatus f15 = tt
+command_fits g limits t luns n v tf rf rs found ReadStatusEnhanced f15 = tt
+command_fits g limits t luns n v tf rf rs found Reset f15 = tt
+command_fits g limits t luns n v tf rf rs found ReadCacheSequential f15 =
     choice g v (is_off (cond (has_driver luns) v.latch Off)) Unaffected CacheReadContinued (λ e. tt) (λ e. continued_fits g limits t luns v f15 (alone_drives luns n v found e))
-command_fits g limits t luns n v tf rf found ReadCacheEnd f15 = choice g v (is_off (cond (has_driver luns) v.latch Off)) Unaffected CacheReadEnded (λ e. tt) (λ e. tt)
-command_fits g limits t luns n v tf rf found ChangeReadColumnConfirm f15 =
+command_fits g limits t luns n v tf rf rs found ReadCacheEnd f15 = choice g v (is_off (cond (has_driver luns) v.latch Off)) Unaffected CacheReadEnded (λ e. tt) (λ e. ended_fits g t luns v f15 (alone_drives luns n v found e))
+command_fits g limits t luns n v tf rf rs found ChangeReadColumnConfirm f15 =
     choice g v (wants_command t ChangeReadColumnConfirm && not (is_off (cond (has_driver luns) v.latch Off))) (ReadColumnChanged t.column) Unaffected (λ e. tf.column) (λ e. tt)
-command_fits g limits t luns n v tf rf found c f15 =
-    choice g v (wants_command t c && names_lun g (row t) n) (confirm_effect g t c) Unaffected (confirm_fits g limits t n v tf rf c) (λ e. tt)
+command_fits g limits t luns n v tf rf rs found c f15 =
+    choice g v (wants_command t c && names_lun g (row t) n) (confirm_effect g t c) Unaffected (confirm_fits g limits t n v tf rf rs c) (λ e. tt)
 
--- an address leaves all that fits
-address_kind_fits : (g : Parts) (t : TailFacts) (byte : ℕ) (n : ℕ) (v : LunView) (c : Command) (m : ℕ) → EffectFits g v (address_effect g t byte c m n)
-address_kind_fits g t byte n v ReadStatusEnhanced m =
+-- the address of an identity comes at a ready LUN
+pub identity_waits : (t : TailFacts) (byte : ℕ) (o : Opening) → t.opening ≡ Some o → wants_column t.phase ≡ false → reads_identity o.opener ≡ true → wants_address t byte ≡ true → names_identity t ≡ true
+identity_waits t byte o is none reads h = at (wants_column t.phase) none (ap (λ (q : Option Opening). opened (λ c n. is_opener c && ltb n (address_cycles c) && takes_address c byte) q || wants_column t.phase) (sym is) ∙ h)
+  where
+    low : (c : Command) (n : ℕ) → reads_identity c ≡ true → (is_opener c && ltb n (address_cycles c) && takes_address c byte) ≡ true → (reads_identity c && n == 0) ≡ true
+    low ReadId n r h = let below = (both (ltb n 1) _ h).0 in let same : n ≡ 0 = grind (arith, nat_tests) in rw same refl
+    low ReadParameterPage n r h = let below = (both (ltb n 1) _ h).0 in let same : n ≡ 0 = grind (arith, nat_tests) in rw same refl
+    low _ n r h = cc
+
+    at : (b : Bool) → b ≡ false → ((is_opener o.opener && ltb o.addresses (address_cycles o.opener) && takes_address o.opener byte) || b) ≡ true → names_identity t ≡ true
+    at true e h = cc
+    at false e h = ap (opened (λ c n. reads_identity c && n == 0)) is ∙ low o.opener o.addresses reads (of _ h)
+      where
+        of : (a : Bool) → (a || false) ≡ true → a ≡ true
+        of true h = refl
+        of false h = cc
+
+address_kind_fits : (g : Parts) (t : TailFacts) (byte : ℕ) (n : ℕ) (v : LunView) (c : Command) (m : ℕ) → (reads_identity c ≡ true → wants_address t byte ≡ true → v.busy ≡ false) → EffectFits g v (address_effect g t byte c m n)
+address_kind_fits g t byte n v ReadStatusEnhanced m ready =
     choice g v (m == 2) (cond (names_lun g (row_with t byte) n) SelectedForStatus Deselected) Unaffected (λ e. choice g v (names_lun g (row_with t byte) n) SelectedForStatus Deselected (λ e. tt) (λ e. tt)) (λ e. tt)
-address_kind_fits g t byte n v ReadId m = choice g v (wants_address t byte) IdRead Unaffected (λ e. tt) (λ e. tt)
-address_kind_fits g t byte n v ReadParameterPage m = choice g v (wants_address t byte) ParameterPageReadStarted Unaffected (λ e. tt) (λ e. tt)
-address_kind_fits g t byte n v c m = tt
+address_kind_fits g t byte n v ReadId m ready = choice g v (wants_address t byte) IdRead Unaffected (λ e. ready refl e) (λ e. tt)
+address_kind_fits g t byte n v ReadParameterPage m ready = choice g v (wants_address t byte) ParameterPageReadStarted Unaffected (λ e. ready refl e) (λ e. tt)
+address_kind_fits g t byte n v c m ready = tt
 
-address_fits : (g : Parts) (t : TailFacts) (byte n : ℕ) (v : LunView) (o : Option Opening) → EffectFits g v (opening_address_effect g t byte o n)
-address_fits g t byte n v None = tt
-address_fits g t byte n v (Some o) = address_kind_fits g t byte n v o.opener o.addresses
+address_fits : (g : Parts) (t : TailFacts) (byte n : ℕ) (v : LunView) → TailFits g t → RowStands g t n v → EffectFits g v (opening_address_effect g t byte t.opening n)
+address_fits g t byte n v tf rs = at t.opening refl
+  where
+    outside : (o : Opening) → t.opening ≡ Some o → (b : Bool) → wants_column t.phase ≡ b → wants_column t.phase ≡ false
+    outside o is true e = let none = tf.in_column e in cc
+    outside o is false e = e
+
+    at : (q : Option Opening) → t.opening ≡ q → EffectFits g v (opening_address_effect g t byte q n)
+    at None e = tt
+    at (Some o) e = address_kind_fits g t byte n v o.opener o.addresses (λ reads h. rs.identity (identity_waits t byte o e (outside o e (wants_column t.phase) refl) reads h))
 
 -- an output lies in its register
 register_is_small : (g : Parts) → InLimits g → (r : Register) → register_len g r ≤ 20480
@@ -204,20 +273,20 @@ output_fits g limits t luns v f13 f14 d shows =
     let found = (neither (v.busy || is_empty v.register) _ (not_and (is_data v.latch) (v.busy || is_empty v.register || lacks (output_column v.column)) shows has_byte)).1 in
     outputs_are_small v.column (register_len g v.register) (register_is_small g limits v.register) found (not_and (is_data v.latch) _ shows is_inside)
 
-cycle_fits : (g : Parts) → InLimits g → (t : TailFacts) (luns : List LunView) (n : ℕ) (v : LunView) → TailFits g t → RowFits g t n v → slice_get luns n ≡ Some v → (cycle : TargetCycle) → KeepsRules g t luns cycle → EffectFits g v (cycle_effect g t (cond (has_driver luns) v.latch Off) cycle n)
-cycle_fits g limits t luns n v tf rf found (CommandCycle c) keeps = command_fits g limits t luns n v tf rf found c keeps.f15
-cycle_fits g limits t luns n v tf rf found (AddressCycle byte) keeps = address_fits g t byte n v t.opening
-cycle_fits g limits t luns n v tf rf found (InputCycle byte) keeps = tt
-cycle_fits g limits t luns n v tf rf found OutputCycle keeps =
+cycle_fits : (g : Parts) → InLimits g → (t : TailFacts) (luns : List LunView) (n : ℕ) (v : LunView) → TailFits g t → RowFits g t n v → RowStands g t n v → slice_get luns n ≡ Some v → (cycle : TargetCycle) → KeepsRules g t luns cycle → EffectFits g v (cycle_effect g t (cond (has_driver luns) v.latch Off) cycle n)
+cycle_fits g limits t luns n v tf rf rs found (CommandCycle c) keeps = command_fits g limits t luns n v tf rf rs found c keeps.f15
+cycle_fits g limits t luns n v tf rf rs found (AddressCycle byte) keeps = address_fits g t byte n v tf rs
+cycle_fits g limits t luns n v tf rf rs found (InputCycle byte) keeps = tt
+cycle_fits g limits t luns n v tf rf rs found OutputCycle keeps =
     choice g v (is_data (cond (has_driver luns) v.latch Off)) DataOutput Unaffected
     (λ e. output_fits g limits t luns v keeps.f13 keeps.f14 (alone_drives luns n v found (data_is_on _ e)) (alone_latch luns v e))
     (λ e. tt)
 
 -- the effect of a permitted item on a LUN of its target
-pub effect_fits : (g : Parts) → InLimits g → (targets : ℕ) (t : TailFacts) (luns : List LunView) (i : Item) (n : ℕ) (v : LunView) → judge g targets t luns i ≡ None → TailFits g t → RowFits g t n v → slice_get luns n ≡ Some v → EffectFits g v (effect_alone g t (has_driver luns) i n v)
-effect_fits g limits targets t luns (Cyc c) n v h tf rf found =
+pub effect_fits : (g : Parts) → InLimits g → (targets : ℕ) (t : TailFacts) (luns : List LunView) (i : Item) (n : ℕ) (v : LunView) → judge g targets t luns i ≡ None → TailFits g t → RowFits g t n v → RowStands g t n v → slice_get luns n ≡ Some v → EffectFits g v (effect_alone g t (has_driver luns) i n v)
+effect_fits g limits targets t luns (Cyc c) n v h tf rf rs found =
     let cycle = target_cycle c.kind c.byte in
     let keeps = keeps_rules g t luns cycle (first_passed (breaks_F1 targets luns (Cyc c)) F1 (judge_cycle g t luns cycle) h).1 in
-    choice g v (c.ce == c.ce) (cycle_effect g t (cond (has_driver luns) v.latch Off) cycle n) Unaffected (λ e. cycle_fits g limits t luns n v tf rf found cycle keeps) (λ e. tt)
-effect_fits g limits targets t luns (Rdy ce lun fail) n v h tf rf found = choice g v (ce == ce && lun == n) (BecameReady fail) Unaffected (λ e. tt) (λ e. tt)
-effect_fits g limits targets t luns (Ard ce lun) n v h tf rf found = choice g v (ce == ce && lun == n) ArrayBecameReady Unaffected (λ e. tt) (λ e. tt)
+    choice g v (c.ce == c.ce) (cycle_effect g t (cond (has_driver luns) v.latch Off) cycle n) Unaffected (λ e. cycle_fits g limits t luns n v tf rf rs found cycle keeps) (λ e. tt)
+effect_fits g limits targets t luns (Rdy ce lun fail) n v h tf rf rs found = choice g v (ce == ce && lun == n) (BecameReady fail) Unaffected (λ e. tt) (λ e. tt)
+effect_fits g limits targets t luns (Ard ce lun) n v h tf rf rs found = choice g v (ce == ce && lun == n) ArrayBecameReady Unaffected (λ e. tt) (λ e. tt)

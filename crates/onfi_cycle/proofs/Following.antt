@@ -27,7 +27,7 @@ use Rattle.onfi_cycle.specs.Lun.{latch, latch_alone, effect_on, drivers, is_only
 use Rattle.onfi_cycle.specs.Rules.{driver, is_some_and}
 use Rattle.onfi_cycle.specs.Permitted.{judge, broken}
 use Rattle.onfi_cycle.specs.State.{TargetView, BusView, Follows, target_view, targets_from, judged, judged_on, tail_after, effect_alone, luns_after, has_driver, target_after, changed_at, bus_after, target, bus}
-use Rattle.onfi_cycle.specs.Bounds.{TailFits, LunFits, LunsFit, TargetFits, BusFits}
+use Rattle.onfi_cycle.specs.Bounds.{TailFits, LunFits, RowFits, RowStands, EffectFits, LunsFit, TargetFits, BusFits}
 use Rattle.onfi_cycle.proofs.Others.{rests_elsewhere, targets_keep}
 use Rattle.onfi_cycle.proofs.Drivers.{driver_of_target}
 use Rattle.onfi_cycle.proofs.Latches.{one_by_views, sole_off}
@@ -38,6 +38,7 @@ use Rattle.onfi_cycle.proofs.TailBounds.{tail_fits, no_tail_fits}
 use Rattle.onfi_cycle.proofs.LunBounds.{lun_fits}
 use Rattle.onfi_cycle.proofs.EffectBounds.{effect_fits}
 use Rattle.onfi_cycle.proofs.RowBounds.{row_fits}
+use Rattle.onfi_cycle.proofs.RowStands.{row_stands}
 
 -- 1. what a LUN shows alone, by the views
 
@@ -63,7 +64,7 @@ alone_by_views g past l low = at (driver (luns_of g past l.ce)) refl (is_only (d
 
 -- 2. a target goes on by the items that happen on it
 
-effect_by_state : (g : Parts) (past : List Item) (i : Item) (n : ℕ) → n < g.luns → effect_on g past i (record { ce = target_of i; lun = n }) ≡ effect_alone g (facts_of (tail past (target_of i))) (has_driver (luns_of g past (target_of i))) i n (lun_view g past (record { ce = target_of i; lun = n }))
+pub effect_by_state : (g : Parts) (past : List Item) (i : Item) (n : ℕ) → n < g.luns → effect_on g past i (record { ce = target_of i; lun = n }) ≡ effect_alone g (facts_of (tail past (target_of i))) (has_driver (luns_of g past (target_of i))) i n (lun_view g past (record { ce = target_of i; lun = n }))
 unfolding effect_on
 effect_by_state g past i n low =
     ap (λ (s : Latch). effect_given g past s i (record { ce = target_of i; lun = n })) (alone_by_views g past (record { ce = target_of i; lun = n }) low)
@@ -125,15 +126,16 @@ targets_go_on g past i (suc count) n (suc k) h =
 
 -- 4. what fits goes on to fit
 
-luns_fit : (g : Parts) → InLimits g → (targets : ℕ) (t : TailFacts) (luns : List LunView) (i : Item) → judge g targets t luns i ≡ None → TailFits g t → (n : ℕ) (vs : List LunView) → ((k : ℕ) → slice_get luns (n + k) ≡ slice_get vs k) → LunsFit g t n vs → LunsFit g (tail_after i t) n (luns_after g t (has_driver luns) i n vs)
-luns_fit g limits targets t luns i h tf n [] at f = tt
-luns_fit g limits targets t luns i h tf n (v ∷ vs) at f =
+luns_fit : (g : Parts) → InLimits g → (targets : ℕ) (t : TailFacts) (luns : List LunView) (i : Item) → judge g targets t luns i ≡ None → length luns ≡ g.luns → TailFits g t → (n : ℕ) (vs : List LunView) → ((k : ℕ) → slice_get luns (n + k) ≡ slice_get vs k) → LunsFit g t n vs → LunsFit g (tail_after i t) n (luns_after g t (has_driver luns) i n vs)
+luns_fit g limits targets t luns i h count tf n [] at f = tt
+luns_fit g limits targets t luns i h count tf n (v ∷ vs) at f =
     let zeroth : n ≡ n + 0 = omega arith in
     let found : slice_get luns n ≡ Some v = ap (slice_get luns) zeroth ∙ at 0 in
-    let fits = effect_fits g limits targets t luns i n v h tf f.1 found in (
+    let fits = effect_fits g limits targets t luns i n v h tf f.1 f.2 found in (
       lun_fits g limits (effect_alone g t (has_driver luns) i n v) v fits f.0,
       row_fits g targets t luns i n v h found tf f.1,
-      luns_fit g limits targets t luns i h tf (n + 1) vs (λ k. ap (slice_get luns) (later k) ∙ at (suc k)) f.2,
+      row_stands g targets t luns i n v h count found tf f.2,
+      luns_fit g limits targets t luns i h count tf (n + 1) vs (λ k. ap (slice_get luns) (later k) ∙ at (suc k)) f.3,
     )
   where
     later : (k : ℕ) → n + 1 + k ≡ n + suc k
@@ -150,8 +152,8 @@ pub target_fits : (g : Parts) → InLimits g → (targets : ℕ) (i : Item) (s :
 target_fits g limits targets i s h small f =
     record {
       tail = tail_fits g targets s.luns i s.tail h small f.tail;
-      luns = luns_fit g limits targets s.tail s.luns i h f.tail 0 s.luns (zero_more s.luns) f.luns;
-      count = let same = luns_after_length g s.tail (has_driver s.luns) i 0 s.luns in omega (arith, f.count);
+      luns = luns_fit g limits targets s.tail s.luns i h f.count f.tail 0 s.luns (zero_more s.luns) f.luns;
+      count = luns_after_length g s.tail (has_driver s.luns) i 0 s.luns ∙ f.count;
     }
 
 -- 5. the state of a channel
@@ -267,7 +269,7 @@ applied_fits g targets i k d t h f place is small =
 pub lun_fits_at : (g : Parts) (t : TailFacts) (n : ℕ) (vs : List LunView) (k : ℕ) (v : LunView) → LunsFit g t n vs → slice_get vs k ≡ Some v → LunFits g v
 lun_fits_at g t n [] k v f found = cc
 lun_fits_at g t n (x ∷ vs) zero v f found = let same : x ≡ v = cc in subst (LunFits g) same f.0
-lun_fits_at g t n (x ∷ vs) (suc k) v f found = lun_fits_at g t (n + 1) vs k v f.2 found
+lun_fits_at g t n (x ∷ vs) (suc k) v f found = lun_fits_at g t (n + 1) vs k v f.3 found
 
 -- a look at a LUN, by the state and by the past
 lun_beyond : (g : Parts) (past : List Item) (ce k : ℕ) → g.luns ≤ k → slice_get (luns_of g past ce) k ≡ None
@@ -352,11 +354,12 @@ no_luns_fit g ce zero n = tt
 no_luns_fit g ce (suc count) n = (
   record { outputs = omega arith; given = tt; array_page = omega arith; queue = omega arith },
   record { erase = λ named h. cc; program = λ named h. cc },
+  record { inside = λ named h. cc; ready = λ named h. cc; identity = λ h. cc; alone = λ h. cc },
   no_luns_fit g ce count (n + 1),
 )
 
 beginning_fits : (g : Parts) (ce : ℕ) → g.luns ≤ 4 → TargetFits g (target_view g [] ce)
-beginning_fits g ce most = record { tail = no_tail_fits g; luns = no_luns_fit g ce g.luns 0; count = let same = views_length g [] ce g.luns 0 in omega (arith, most) }
+beginning_fits g ce most = record { tail = no_tail_fits g; luns = no_luns_fit g ce g.luns 0; count = views_length g [] ce g.luns 0 }
 
 all_fit : (g : Parts) → g.luns ≤ 4 → (count n : ℕ) → All (TargetFits g) (targets_from g [] count n)
 all_fit g most zero n k d h = absurd (omega arith)

@@ -16,6 +16,8 @@ pub mod TailBounds
 pub mod LunBounds
 pub mod EffectBounds
 pub mod RowBounds
+pub mod RowStands
 pub mod Following
+pub mod Working
 pub mod OfToday
 pub mod Applied

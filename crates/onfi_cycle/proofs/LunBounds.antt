@@ -76,14 +76,14 @@ queue_fits g limits q queue free low h = let taken = rooms_taken g (plane_of g q
 pub lun_fits : (g : Parts) → InLimits g → (e : Effect) (v : LunView) → EffectFits g v e → LunFits g v → LunFits g (view_after e v)
 lun_fits g limits (ReadStarted page column) v h f = record { outputs = omega arith; given = h.1; array_page = h.0; queue = f.queue }
 lun_fits g limits (EraseStarted true at) v h f =
-    record { outputs = f.outputs; given = f.given; array_page = f.array_page; queue = queue_fits g limits (Erase at) v.queue (not_in_use g true at v.queue (h refl)) (four_planes g.plane_bits at.block limits.plane_bits_most) f.queue }
+    record { outputs = f.outputs; given = f.given; array_page = f.array_page; queue = queue_fits g limits (Erase at) v.queue (not_in_use g true at v.queue h.0) (four_planes g.plane_bits at.block limits.plane_bits_most) f.queue }
 lun_fits g limits (EraseStarted false at) v h f = record { outputs = f.outputs; given = f.given; array_page = f.array_page; queue = omega arith }
 lun_fits g limits (ProgramStarted true at) v h f =
-    record { outputs = f.outputs; given = f.given; array_page = f.array_page; queue = queue_fits g limits (Program at) v.queue (not_in_use g false at v.queue (h refl)) (four_planes g.plane_bits at.block limits.plane_bits_most) f.queue }
+    record { outputs = f.outputs; given = f.given; array_page = f.array_page; queue = queue_fits g limits (Program at) v.queue (not_in_use g false at v.queue h.0) (four_planes g.plane_bits at.block limits.plane_bits_most) f.queue }
 lun_fits g limits (ProgramStarted false at) v h f = record { outputs = f.outputs; given = f.given; array_page = f.array_page; queue = omega arith }
 lun_fits g limits IdRead v h f = record { outputs = omega arith; given = omega arith; array_page = f.array_page; queue = f.queue }
 lun_fits g limits ParameterPageReadStarted v h f = record { outputs = omega arith; given = omega arith; array_page = f.array_page; queue = f.queue }
-lun_fits g limits CacheReadContinued v h f = record { outputs = omega arith; given = omega arith; array_page = h; queue = f.queue }
+lun_fits g limits CacheReadContinued v h f = record { outputs = omega arith; given = omega arith; array_page = h.0; queue = f.queue }
 lun_fits g limits CacheReadEnded v h f = record { outputs = omega arith; given = omega arith; array_page = f.array_page; queue = f.queue }
 lun_fits g limits (ReadColumnChanged column) v h f = record { outputs = omega arith; given = h; array_page = f.array_page; queue = f.queue }
 lun_fits g limits DataOutput v h f = record { outputs = omega arith; given = f.given; array_page = f.array_page; queue = f.queue }

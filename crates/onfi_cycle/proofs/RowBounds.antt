@@ -70,15 +70,15 @@ opening_keeps g t byte n None q = refl
 opening_keeps g t byte n (Some o) q = address_keeps g t byte o.opener o.addresses n q
 
 -- a command: an opener names no row yet; of the others a Change Write Column alone goes on with a program
-begun_outside : (c : Command) → phase_after_command c Outside ≡ Outside
+pub begun_outside : (c : Command) → phase_after_command c Outside ≡ Outside
 begun_outside ChangeWriteColumn = refl
 begun_outside c = refl
 
-record ChangesColumn (c : Command) (p : DataPhase) : Type 0 where
-  command : c ≡ ChangeWriteColumn
-  phase : p ≡ Inputs
+pub record ChangesColumn (c : Command) (p : DataPhase) : Type 0 where
+  pub command : c ≡ ChangeWriteColumn
+  pub phase : p ≡ Inputs
 
-goes_on_inside : (c : Command) (p : DataPhase) → (takes_inputs (phase_after_command c p) || wants_column (phase_after_command c p)) ≡ true → ChangesColumn c p
+pub goes_on_inside : (c : Command) (p : DataPhase) → (takes_inputs (phase_after_command c p) || wants_column (phase_after_command c p)) ≡ true → ChangesColumn c p
 goes_on_inside ChangeWriteColumn Inputs h = record { command = refl; phase = refl }
 goes_on_inside ChangeWriteColumn Outside h = cc
 goes_on_inside ChangeWriteColumn FirstColumn h = cc
@@ -110,7 +110,7 @@ command_row g t la n v c some f =
     kept d is named e = cc
 
 -- an address: the last one of a row was judged by the queue of its LUN
-judged_row : (g : Parts) (row : ℕ) (test : LunView → Bool) (luns : List LunView) (n : ℕ) (v : LunView) → named_lun_is g row test luns ≡ false → names_lun g row n ≡ true → slice_get luns n ≡ Some v → test v ≡ false
+pub judged_row : (g : Parts) (row : ℕ) (test : LunView → Bool) (luns : List LunView) (n : ℕ) (v : LunView) → named_lun_is g row test luns ≡ false → names_lun g row n ≡ true → slice_get luns n ≡ Some v → test v ≡ false
 judged_row g row test luns n v passed named found = at (slice_get luns (parts_of g row).lun) refl passed
   where
     same : (parts_of g row).lun ≡ n
@@ -120,7 +120,7 @@ judged_row g row test luns n v passed named found = at (slice_get luns (parts_of
     at None e h = let two : slice_get luns (parts_of g row).lun ≡ Some v = ap (slice_get luns) same ∙ found in cc
     at (Some w) e h = let two : slice_get luns (parts_of g row).lun ≡ Some v = ap (slice_get luns) same ∙ found in let is : w ≡ v = cc in sym (ap test is) ∙ h
 
-next_is : (m k : ℕ) → (m + 1 == suc k) ≡ true → m ≡ k
+pub next_is : (m k : ℕ) → (m + 1 == suc k) ≡ true → m ≡ k
 next_is m k h = grind (arith, nat_tests)
 
 -- the third address of an erase
@@ -146,14 +146,14 @@ in_data true h = refl
 in_data false h = cc
 
 -- where no opener stands alone, an address goes on in the data of a program
-later_address : (p : DataPhase) → (takes_inputs (phase_after_address None p) || wants_column (phase_after_address None p)) ≡ true → (takes_inputs p || wants_column p) ≡ true
+pub later_address : (p : DataPhase) → (takes_inputs (phase_after_address None p) || wants_column (phase_after_address None p)) ≡ true → (takes_inputs p || wants_column p) ≡ true
 later_address Outside h = cc
 later_address FirstColumn h = refl
 later_address SecondColumn h = refl
 later_address Inputs h = cc
 
 -- behind an opener, its last address
-last_address : (o : Opening) (p : DataPhase) → (wants_column p ≡ true → Some o ≡ None) → (takes_inputs (phase_after_address (Some o) p) || wants_column (phase_after_address (Some o) p)) ≡ true → (is_page_program o.opener && o.addresses == 4) ≡ true
+pub last_address : (o : Opening) (p : DataPhase) → (wants_column p ≡ true → Some o ≡ None) → (takes_inputs (phase_after_address (Some o) p) || wants_column (phase_after_address (Some o) p)) ≡ true → (is_page_program o.opener && o.addresses == 4) ≡ true
 last_address o Outside alone h = in_data (is_page_program o.opener && o.addresses == 4) h
 last_address o FirstColumn alone h = let never = alone refl in cc
 last_address o SecondColumn alone h = let never = alone refl in cc
@@ -207,7 +207,7 @@ address_row g t la luns n v byte f10 found tf f = at t.opening refl f10
         same_queue g next n v (view_after (cycle_effect g t la (AddressCycle byte) n) v) kept
         (first o e (ap one_address_more e) (ap (λ o. phase_after_address o t.phase) e) (ap (λ o. row_of (row_after_address o byte t.row).r1 (row_after_address o byte t.row).r2 (row_after_address o byte t.row).r3) e) passed)
 
-input_inside : (p : DataPhase) → (takes_inputs (phase_after_input p) || wants_column (phase_after_input p)) ≡ true → (takes_inputs p || wants_column p) ≡ true
+pub input_inside : (p : DataPhase) → (takes_inputs (phase_after_input p) || wants_column (phase_after_input p)) ≡ true → (takes_inputs p || wants_column p) ≡ true
 input_inside Outside h = cc
 input_inside FirstColumn h = cc
 input_inside SecondColumn h = cc

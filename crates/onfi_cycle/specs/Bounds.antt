@@ -1,9 +1,11 @@
 -- What stays small while only permitted items come, so that a running channel fits numbers and lists of fixed size.
-use Rattle.std.specs.Prelude.{◌≡◌, ℕ, ◌+◌, ◌^◌, ◌%◌, ◌<◌, ◌≤◌, ◌==◌, Bool, true, false, ◌||◌, ◌&&◌, if◌then◌else◌, List, [], ◌∷◌, None, length, IfSome, All}
+use Rattle.std.specs.Prelude.{◌≡◌, ℕ, ◌+◌, ◌^◌, ◌%◌, ◌<◌, ◌≤◌, ◌==◌, Bool, true, false, ◌||◌, ◌&&◌, nat_lt, if◌then◌else◌, List, [], ◌∷◌, None, length, IfSome, All}
 use Rattle.nand_geometry.specs.declared.Parts.{Parts}
 use Rattle.nand_geometry.specs.Limits.{InLimits, page_len, planes}
 use Rattle.onfi_cycle.specs.declared.Command.{Command}
-use Rattle.onfi_cycle.specs.declared.Command.TheVariants.{BlockErase}
+use Rattle.onfi_cycle.specs.declared.Command.TheVariants.{Read, BlockErase}
+use Rattle.onfi_cycle.specs.declared.PageAddress.{PageAddress}
+use Rattle.onfi_cycle.specs.Command.{reads_identity}
 use Rattle.onfi_cycle.specs.declared.Queued.{Queued}
 use Rattle.onfi_cycle.specs.declared.Queued.TheVariants.{Erase, Program}
 use Rattle.onfi_cycle.specs.declared.TailFacts.{TailFacts}
@@ -11,7 +13,7 @@ use Rattle.onfi_cycle.specs.declared.DataPhase.TheVariants.{Outside}
 use Rattle.onfi_cycle.specs.LunView.{LunView}
 use Rattle.onfi_cycle.specs.Sequence.{opened, takes_inputs, wants_column, row}
 use Rattle.onfi_cycle.specs.declared.Effect.{Effect}
-use Rattle.onfi_cycle.specs.declared.Effect.TheVariants.{DataOutput, EraseStarted, ProgramStarted, ReadStarted, ReadColumnChanged, CacheReadContinued}
+use Rattle.onfi_cycle.specs.declared.Effect.TheVariants.{DataOutput, EraseStarted, ProgramStarted, ReadStarted, ReadColumnChanged, IdRead, ParameterPageReadStarted, CacheReadContinued, CacheReadEnded}
 use Rattle.onfi_cycle.specs.Effect.{names_lun, page_address}
 use Rattle.onfi_cycle.specs.Rules.{some_queued_clashes}
 use Rattle.onfi_cycle.specs.State.{TargetView, BusView}
@@ -52,12 +54,38 @@ abbrev pub is_block_erase : Command → Bool
 is_block_erase BlockErase = true
 is_block_erase _ = false
 
--- the tail has the whole row of an erase, or of a program
+abbrev pub is_read : Command → Bool
+is_read Read = true
+is_read _ = false
+
+-- the tail has the whole row of a read, of an erase, or of a program
+abbrev pub names_read : TailFacts → Bool
+names_read t = opened (λ c n. is_read c && n == 5) t.opening
+
 abbrev pub names_erase : TailFacts → Bool
 names_erase t = opened (λ c n. is_block_erase c && n == 3) t.opening
 
 abbrev pub names_program : TailFacts → Bool
 names_program t = takes_inputs t.phase || wants_column t.phase
+
+abbrev pub names_row : TailFacts → Bool
+names_row t = names_read t || (names_erase t || names_program t)
+
+-- a Read ID or a Read Parameter Page waits for its address
+abbrev pub names_identity : TailFacts → Bool
+names_identity t = opened (λ c n. reads_identity c && n == 0) t.opening
+
+-- the page lies inside a LUN
+abbrev pub is_row : Parts → PageAddress → Bool
+is_row g p = nat_lt p.block g.blocks && nat_lt p.page g.pages
+
+-- the row that the tail names is inside the geometry, and its LUN is ready; a Read ID or a Read Parameter Page waits at the one LUN of its
+-- target, and that is ready
+pub record RowStands (g : Parts) (t : TailFacts) (n : ℕ) (v : LunView) : Type 0 where
+  pub inside : names_lun g (row t) n ≡ true → names_row t ≡ true → is_row g (page_address g (row t)) ≡ true
+  pub ready : names_lun g (row t) n ≡ true → names_row t ≡ true → v.busy ≡ false
+  pub identity : names_identity t ≡ true → v.busy ≡ false
+  pub alone : names_identity t ≡ true → n ≡ 0
 
 -- the row that the tail names goes together with the queue of its LUN
 pub record RowFits (g : Parts) (t : TailFacts) (n : ℕ) (v : LunView) : Type 0 where
@@ -67,24 +95,33 @@ pub record RowFits (g : Parts) (t : TailFacts) (n : ℕ) (v : LunView) : Type 0 
 -- of the LUNs of a target, from number n on
 abbrev pub LunsFit : Parts → TailFacts → ℕ → List LunView → Type 0
 LunsFit g t n [] = Unit {0}
-LunsFit g t n (v ∷ vs) = LunFits g v × RowFits g t n v × LunsFit g t (n + 1) vs
+LunsFit g t n (v ∷ vs) = LunFits g v × RowFits g t n v × RowStands g t n v × LunsFit g t (n + 1) vs
 
 pub record TargetFits (g : Parts) (s : TargetView) : Type 0 where
   pub tail : TailFits g s.tail
   pub luns : LunsFit g s.tail 0 s.luns
-  pub count : length s.luns ≤ 4
+  pub count : length s.luns ≡ g.luns
 
 pub record BusFits (state : BusView) : Type 0 where
   pub limits : InLimits state.geometry
   pub targets : All (TargetFits state.geometry) state.targets
   pub count : length state.targets ≤ 4
 
--- an effect keeps what fits: an output has its place, a queued row its plane, and columns and pages are small
+-- the page is inside the geometry, and the LUN is ready
+pub record CanStart (g : Parts) (v : LunView) (at : PageAddress) : Type 0 where
+  pub inside : is_row g at ≡ true
+  pub ready : v.busy ≡ false
+
+-- an effect comes where it can: an output has its place, work starts on a ready LUN and inside the geometry, a row goes together with
+-- the queue, and columns and pages are small
 abbrev pub EffectFits : Parts → LunView → Effect → Type 0
 EffectFits g v DataOutput = v.column.outputs < 2 ^ 16
-EffectFits g v (EraseStarted queued at) = queued ≡ true → some_queued_clashes g true at v.queue ≡ false
-EffectFits g v (ProgramStarted queued at) = queued ≡ true → some_queued_clashes g false at v.queue ≡ false
-EffectFits g v (ReadStarted page column) = (page.page < 2 ^ 32) × (column < 2 ^ 16)
+EffectFits g v (EraseStarted queued at) = (some_queued_clashes g true at v.queue ≡ false) × CanStart g v at
+EffectFits g v (ProgramStarted queued at) = (some_queued_clashes g false at v.queue ≡ false) × CanStart g v at
+EffectFits g v (ReadStarted page column) = (page.page < 2 ^ 32) × (column < 2 ^ 16) × CanStart g v page
 EffectFits g v (ReadColumnChanged column) = column < 2 ^ 16
-EffectFits g v CacheReadContinued = v.array_page.page + 1 < 2 ^ 32
+EffectFits g v IdRead = v.busy ≡ false
+EffectFits g v ParameterPageReadStarted = v.busy ≡ false
+EffectFits g v CacheReadContinued = (v.array_page.page + 1 < 2 ^ 32) × (v.busy ≡ false)
+EffectFits g v CacheReadEnded = v.busy ≡ false
 EffectFits g v _ = Unit {0}

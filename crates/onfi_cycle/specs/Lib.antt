@@ -5,6 +5,7 @@ pub mod Naming
 pub mod LunView
 pub mod Effect
 pub mod Lun
+pub mod Filling
 pub mod Content
 pub mod Rules
 pub mod Permitted
@@ -14,6 +15,7 @@ pub mod Channel
 pub mod Steps
 pub mod State
 pub mod Bounds
+pub mod Working
 pub mod Look
 pub mod Today
 pub mod Applied

@@ -9,7 +9,9 @@ ghost use Rattle.onfi_cycle.specs.LunView.{LunView};
 ghost use Rattle.onfi_cycle.specs.Effect.{cycle_effect, is_data};
 ghost use Rattle.onfi_cycle.specs.Rules.{some_lun_is};
 ghost use Rattle.onfi_cycle.specs.Applied.{luns_after_cycle, asks_driver, one_after, needs_no_row, acts_by_address, may_act};
-ghost use Rattle.onfi_cycle.specs.Sequence.{facts_after};
+ghost use Rattle.onfi_cycle.specs.Sequence.{facts_after, facts_of, tail};
+ghost use Rattle.onfi_cycle.specs.Filling.{filling};
+ghost use Rattle.onfi_cycle.specs.Working.{FactsFit};
 ghost use Rattle.onfi_cycle.specs.Lun.{effect_on, view_after, queue_after, lun_view};
 ghost use Rattle.onfi_cycle.specs.Permitted.{broken};
 ghost use Rattle.nand_geometry.specs.Limits.{InLimits};
@@ -21,10 +23,11 @@ use crate::effects::{
     array_busy_after, array_page_after, busy_after, closer_after, cycle_effect, is_cache_read,
     is_data, item_effect, latch_after, output_column, read_column_after, register_after,
 };
+use crate::fillings::filling;
 use crate::rules::{driver, judge};
 use crate::sequences::{extend, no_tail, target_cycle, target_of, wants_command};
 use crate::{
-    Command, Effect, Forbidden, Item, Latch, Lun, LunFacts, PageAddress, Queued, ReadColumn,
+    Command, Effect, Filling, Forbidden, Item, Latch, Lun, LunFacts, PageAddress, Queued, ReadColumn,
     Register, TailFacts, TargetCycle, WorkQueue,
 };
 use arrayvec::ArrayVec;
@@ -447,6 +450,15 @@ fn effect_at(geometry: &Geometry, target: &TargetState, item: Item, n: u8) -> Ef
     item_effect(geometry, target.tail, latch_alone, item, at)
 }
 
+// What an item does to the page registers of a LUN of this target.
+fn filling_at(geometry: &Geometry, target: &TargetState, item: Item, l: Lun) -> Filling
+    requires limits { InLimits geometry.now }
+    requires fits { TargetFits geometry.now target.now }
+    ensures { result ≡ filling geometry.now target.now.tail item l }
+{
+    filling(geometry, target.tail, item, l)
+}
+
 // Goes on by an item that is permitted on these targets.
 fn apply_on(geometry: &Geometry, targets: &mut [TargetState], item: Item)
     requires fits { BusFits (bus geometry.now targets.old) }
@@ -539,6 +551,23 @@ impl BusState {
             None => Effect::Unaffected,
             Some(target) => effect_at(&self.geometry, target, item, l.lun),
         }
+    }
+
+    /// What an item does to the page registers of a LUN that is there.
+    pub fn filling(&self, item: Item, l: Lun) -> Filling
+        ensures past { (g : Parts) (n : ℕ) (past : List Item) → Follows g n self.now past → l.ce < n → result ≡ filling g (facts_of (tail past l.ce)) item l }
+    {
+        match target_at(self.targets.as_slice(), l.ce) {
+            None => Filling::Leaves,
+            Some(target) => filling_at(&self.geometry, target, item, l),
+        }
+    }
+
+    /// A law: the facts that it keeps fit, a permitted item comes where its effect can, and works on one LUN at most.
+    pub fn facts_fit(&self)
+        ensures { (g : Parts) (n : ℕ) (past : List Item) → Follows g n self.now past → FactsFit g n past }
+    {
+        let _ = &self.targets;
     }
 
     /// A look at one LUN, None where it isn't there.

@@ -7,6 +7,7 @@
 pub mod bus_state;
 pub mod commands;
 pub mod effects;
+pub mod fillings;
 pub mod laws;
 pub mod rules;
 pub mod sequences;
@@ -206,6 +207,17 @@ pub enum Effect {
     BecameReady { failed: bool },
     /// Its array becomes ready.
     ArrayBecameReady,
+}
+
+/// What an item does to the page registers of a LUN.
+#[derive(Clone, Copy, Debug, PartialEq, Eq)]
+pub enum Filling {
+    /// Nothing.
+    Leaves,
+    /// The last row cycle of 80h: the register of this page's plane becomes FF.
+    Clears(PageAddress),
+    /// An input of a program: the register of this page's plane has this byte at this column.
+    Fills(PageAddress, usize, u8),
 }
 
 /// A row in the queue of a multi-plane operation.

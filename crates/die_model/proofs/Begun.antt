@@ -1,0 +1,286 @@
+-- What a work that begins, and one that ends, makes of a die's parts.
+use Rattle.std.proofs.Common.{◌≡◌, ℕ, ◌<◌, ◌==◌, Bool, true, false, ◌&&◌, ◌||◌, not, cond, eq-eqb, List, [], ◌∷◌, Option, Some, None, length, replicate, refl, sym, ap, subst, ◌∙◌}
+use Rattle.std.proofs.lemmas.List.{length-replicate}
+use Rattle.std.specs.Option.{unwrap_or, is_some}
+use Rattle.nand_geometry.specs.declared.Parts.{Parts}
+use Rattle.nand_geometry.specs.Limits.{page_len, planes}
+use Rattle.onfi_cycle.specs.declared.PageAddress.{PageAddress}
+use Rattle.onfi_cycle.specs.declared.Queued.{Queued}
+use Rattle.onfi_cycle.specs.declared.Queued.TheVariants.{Erase, Program}
+use Rattle.onfi_cycle.specs.Lun.{busy_after, queue_after}
+use Rattle.onfi_cycle.specs.Content.{ArrayWork, left_by_all, same_page, queued_work_after, pending_work_after, content_after, failed_after, is_some_work}
+use Rattle.onfi_cycle.specs.Rules.{has_some, some_queued_clashes}
+use Rattle.die_model.specs.declared.Work.{Work}
+use Rattle.die_model.specs.declared.Work.TheVariants as w
+use Rattle.die_model.specs.Pages.{kept, page_in, is_given}
+use Rattle.die_model.specs.Die.{Die, bytes_taken, plane_bytes, works_of, effect_of, is_row, is_row_of, row_of_work, goes_with, is_reset, members_after, closes, page_to_keep, AreKept, are_erases, are_programs, HasRows, IsDie}
+use Rattle.die_model.proofs.Kept.{Entries, same_parts}
+
+pub not_closed : (reset closed busy : Bool) → (closed ≡ true → busy ≡ true) → (reset || not busy) ≡ true → reset ≡ false → closed ≡ false
+not_closed reset false busy h k r = refl
+not_closed true true busy h k r = cc
+not_closed false true true h k r = cc
+not_closed false true false h k r = let x : false ≡ true = h refl in cc
+
+-- 1. the rows that wait
+
+pub queue_begun : (work : Work) (closed : Bool) (members : List Queued) → (is_reset work ≡ false → closed ≡ false) → cond (closes work) [] (members_after work members) ≡ queue_after (effect_of work) (cond closed [] members)
+queue_begun w.Reset closed members h = refl
+queue_begun (w.Program at) closed members h = refl
+queue_begun (w.Erase at) closed members h = refl
+queue_begun (w.Queue (Erase at)) closed members h = rw (h refl) refl
+queue_begun (w.Queue (Program at)) closed members h = rw (h refl) refl
+queue_begun (w.Read at) closed members h = rw (h refl) refl
+queue_begun w.Identifier closed members h = rw (h refl) refl
+queue_begun w.Parameters closed members h = rw (h refl) refl
+queue_begun w.Cache closed members h = rw (h refl) refl
+queue_begun w.CacheEnd closed members h = rw (h refl) refl
+
+abbrev pub taken : Parts → List (List ℕ) → Work → List ℕ
+taken g registers (w.Program at) = plane_bytes g registers at
+taken g registers (w.Queue (Program at)) = plane_bytes g registers at
+taken g registers _ = []
+
+pub queued_begun : (g : Parts) (registers : List (List ℕ)) (work : Work) (closed : Bool) (members : List Queued) → (is_reset work ≡ false → closed ≡ false) → works_of g registers (cond (closes work) [] (members_after work members)) ≡ queued_work_after (effect_of work) (taken g registers work) (works_of g registers (cond closed [] members))
+queued_begun g registers w.Reset closed members h = refl
+queued_begun g registers (w.Program at) closed members h = refl
+queued_begun g registers (w.Erase at) closed members h = refl
+queued_begun g registers (w.Queue (Erase at)) closed members h = rw (h refl) refl
+queued_begun g registers (w.Queue (Program at)) closed members h = rw (h refl) refl
+queued_begun g registers (w.Read at) closed members h = rw (h refl) refl
+queued_begun g registers w.Identifier closed members h = rw (h refl) refl
+queued_begun g registers w.Parameters closed members h = rw (h refl) refl
+queued_begun g registers w.Cache closed members h = rw (h refl) refl
+queued_begun g registers w.CacheEnd closed members h = rw (h refl) refl
+
+pub pending_begun : (g : Parts) (registers : List (List ℕ)) (work : Work) (closed : Bool) (members : List Queued) → (is_reset work ≡ false → closed ≡ false) → works_of g registers (cond (closes work) (members_after work members) []) ≡ pending_work_after (effect_of work) (taken g registers work) (works_of g registers (cond closed [] members)) (works_of g registers (cond closed members []))
+pending_begun g registers w.Reset closed members h = refl
+pending_begun g registers (w.Program at) closed members h = rw (h refl) refl
+pending_begun g registers (w.Erase at) closed members h = rw (h refl) refl
+pending_begun g registers (w.Queue (Erase at)) closed members h = refl
+pending_begun g registers (w.Queue (Program at)) closed members h = refl
+pending_begun g registers (w.Read at) closed members h = refl
+pending_begun g registers w.Identifier closed members h = rw (h refl) refl
+pending_begun g registers w.Parameters closed members h = refl
+pending_begun g registers w.Cache closed members h = refl
+pending_begun g registers w.CacheEnd closed members h = refl
+
+-- 2. pages and failure stay
+
+pub content_begun : (g : Parts) (work : Work) (q : List ArrayWork) (p : PageAddress) (old : List ℕ) → content_after g (effect_of work) q p old ≡ old
+content_begun g (w.Queue (Erase at)) q p old = refl
+content_begun g (w.Queue (Program at)) q p old = refl
+content_begun g w.Reset q p old = refl
+content_begun g (w.Program at) q p old = refl
+content_begun g (w.Erase at) q p old = refl
+content_begun g (w.Read at) q p old = refl
+content_begun g w.Identifier q p old = refl
+content_begun g w.Parameters q p old = refl
+content_begun g w.Cache q p old = refl
+content_begun g w.CacheEnd q p old = refl
+
+pub failed_begun : (work : Work) (q : List ArrayWork) (b : Bool) → failed_after (effect_of work) q b ≡ b
+failed_begun (w.Queue (Erase at)) q b = refl
+failed_begun (w.Queue (Program at)) q b = refl
+failed_begun w.Reset q b = refl
+failed_begun (w.Program at) q b = refl
+failed_begun (w.Erase at) q b = refl
+failed_begun (w.Read at) q b = refl
+failed_begun w.Identifier q b = refl
+failed_begun w.Parameters q b = refl
+failed_begun w.Cache q b = refl
+failed_begun w.CacheEnd q b = refl
+
+-- a page is kept that is read as before
+abbrev pub Keeps : ℕ → Option PageAddress → Entries → Entries → Type 0
+Keeps len at old new = (p : PageAddress) → kept new p ≡ cond (is_given p at) (Some (page_in len old p)) (kept old p)
+
+pub page_kept : (len : ℕ) (at : Option PageAddress) (old new : Entries) → Keeps len at old new → (p : PageAddress) → page_in len new p ≡ page_in len old p
+page_kept len at old new h p = ap (λ (o : Option (List ℕ)). unwrap_or o (replicate len 0xff)) (h p) ∙ of (is_given p at)
+  where
+    of : (b : Bool) → unwrap_or (cond b (Some (page_in len old p)) (kept old p)) (replicate len 0xff) ≡ page_in len old p
+    of true = refl
+    of false = refl
+
+-- 3. what is true of every die
+
+page_length : (len : ℕ) (o : Option (List ℕ)) → ((x : List ℕ) → o ≡ Some x → length x ≡ len) → length (unwrap_or o (replicate len 0xff)) ≡ len
+page_length len None f = length-replicate len 0xff
+page_length len (Some x) f = f x refl
+
+kept_rows : (g : Parts) (at : Option PageAddress) (registers : List (List ℕ)) (old new : Entries) → is_row_of g at ≡ true → Keeps (page_len g) at old new → HasRows g old registers → HasRows g new registers
+kept_rows g at registers old new row k h = record { inside = outside at row k; lengths = lengths; count = h.count; widths = h.widths }
+  where
+    outside : (at : Option PageAddress) → is_row_of g at ≡ true → Keeps (page_len g) at old new → (p : PageAddress) → is_row g p ≡ false → kept new p ≡ None
+    outside None row k p out = k p ∙ h.inside p out
+    outside (Some a) row k p out = k p ∙ of (same_page p a) refl
+      where
+        of : (b : Bool) → same_page p a ≡ b → cond b (Some (page_in (page_len g) old p)) (kept old p) ≡ None
+        of true e = let x : false ≡ true = sym out ∙ (ap (is_row g) (same_parts p a e) ∙ row) in cc
+        of false e = h.inside p out
+
+    lengths : (p : PageAddress) (bytes : List ℕ) → kept new p ≡ Some bytes → length bytes ≡ page_len g
+    lengths p bytes is = of (is_given p at) (sym (k p) ∙ is)
+      where
+        of : (b : Bool) → cond b (Some (page_in (page_len g) old p)) (kept old p) ≡ Some bytes → length bytes ≡ page_len g
+        of true e = let x : page_in (page_len g) old p ≡ bytes = cc in sym (ap (λ (z : List ℕ). length z) x) ∙ page_length (page_len g) (kept old p) (h.lengths p)
+        of false e = h.lengths p bytes e
+
+still : (len : ℕ) (at : Option PageAddress) (old new : Entries) → Keeps len at old new → (members : List Queued) → AreKept old members → AreKept new members
+still len at old new k [] h = tt
+still len at old new k (Erase q ∷ members) h = still len at old new k members h
+still len at old new k (Program q ∷ members) h = (ap is_some (k q) ∙ of (is_given q at), still len at old new k members h.1)
+  where
+    of : (b : Bool) → is_some (cond b (Some (page_in len old q)) (kept old q)) ≡ true
+    of true = refl
+    of false = h.0
+
+both : (x y : Bool) → x ≡ true → y ≡ true → (x && y) ≡ true
+both true y h k = k
+both false y h k = cc
+
+same_itself : (at : PageAddress) → same_page at at ≡ true
+same_itself at = of at.block at.page
+  where
+    of : (b m : ℕ) → (b == b && m == m) ≡ true
+    of b m = both (b == b) (m == m) (eq-eqb b b refl) (eq-eqb m m refl)
+
+placed : (len : ℕ) (at : PageAddress) (old new : Entries) → Keeps len (Some at) old new → is_some (kept new at) ≡ true
+placed len at old new k = ap is_some (k at) ∙ ap (λ (b : Bool). is_some (cond b (Some (page_in len old at)) (kept old at))) (same_itself at)
+
+pub kept_begun : (len : ℕ) (work : Work) (old new : Entries) (members : List Queued) → Keeps len (page_to_keep work) old new → AreKept old members → AreKept new (members_after work members)
+kept_begun len (w.Program at) old new members k h = (placed len at old new k, still len (page_to_keep (w.Program at)) old new k members h)
+kept_begun len (w.Erase at) old new members k h = still len (page_to_keep (w.Erase at)) old new k members h
+kept_begun len (w.Queue (Erase at)) old new members k h = still len (page_to_keep (w.Queue (Erase at))) old new k members h
+kept_begun len (w.Queue (Program at)) old new members k h = (placed len at old new k, still len (page_to_keep (w.Queue (Program at))) old new k members h)
+kept_begun len w.Reset old new members k h = tt
+kept_begun len (w.Read at) old new members k h = still len (page_to_keep (w.Read at)) old new k members h
+kept_begun len w.Identifier old new members k h = still len (page_to_keep w.Identifier) old new k members h
+kept_begun len w.Parameters old new members k h = still len (page_to_keep w.Parameters) old new k members h
+kept_begun len w.Cache old new members k h = still len (page_to_keep w.Cache) old new k members h
+kept_begun len w.CacheEnd old new members k h = still len (page_to_keep w.CacheEnd) old new k members h
+
+neither : (a b : Bool) → (a || b) ≡ false → (a ≡ false) × (b ≡ false)
+neither true b h = cc
+neither false b h = (refl, h)
+
+all_erases : (g : Parts) (at : PageAddress) (members : List Queued) → some_queued_clashes g true at members ≡ false → are_erases members ≡ true
+all_erases g at [] h = refl
+all_erases g at (Erase q ∷ members) h = all_erases g at members (neither _ _ h).1
+all_erases g at (Program q ∷ members) h = cc
+
+all_programs : (g : Parts) (at : PageAddress) (members : List Queued) → some_queued_clashes g false at members ≡ false → are_programs members ≡ true
+all_programs g at [] h = refl
+all_programs g at (Erase q ∷ members) h = cc
+all_programs g at (Program q ∷ members) h = all_programs g at members (neither _ _ h).1
+
+not_true : (b : Bool) → not b ≡ true → b ≡ false
+not_true true h = cc
+not_true false h = refl
+
+or_second : (a b : Bool) → b ≡ true → (a || b) ≡ true
+or_second true b h = refl
+or_second false b h = h
+
+or_first : (a b : Bool) → a ≡ true → (a || b) ≡ true
+or_first true b h = refl
+or_first false b h = cc
+
+pub alike_begun : (g : Parts) (work : Work) (members : List Queued) → goes_with g work members ≡ true → (are_erases members || are_programs members) ≡ true → (are_erases (members_after work members) || are_programs (members_after work members)) ≡ true
+alike_begun g (w.Program at) members t h = all_programs g at members (not_true _ t)
+alike_begun g (w.Erase at) members t h = or_first _ _ (all_erases g at members (not_true _ t))
+alike_begun g (w.Queue (Erase at)) members t h = or_first _ _ (all_erases g at members (not_true _ t))
+alike_begun g (w.Queue (Program at)) members t h = all_programs g at members (not_true _ t)
+alike_begun g w.Reset members t h = refl
+alike_begun g (w.Read at) members t h = h
+alike_begun g w.Identifier members t h = h
+alike_begun g w.Parameters members t h = h
+alike_begun g w.Cache members t h = h
+alike_begun g w.CacheEnd members t h = h
+
+closes_busy : (work : Work) (busy : Bool) → closes work ≡ true → busy_after (effect_of work) busy ≡ true
+closes_busy (w.Program at) busy h = refl
+closes_busy (w.Erase at) busy h = refl
+closes_busy _ busy h = cc
+
+closes_some : (work : Work) (members : List Queued) → closes work ≡ true → has_some (members_after work members) ≡ true
+closes_some (w.Program at) members h = refl
+closes_some (w.Erase at) members h = refl
+closes_some _ members h = cc
+
+row_to_keep : (g : Parts) (work : Work) → is_row_of g (row_of_work work) ≡ true → is_row_of g (page_to_keep work) ≡ true
+row_to_keep g (w.Program at) h = h
+row_to_keep g (w.Queue (Program at)) h = h
+row_to_keep g (w.Queue (Erase at)) h = refl
+row_to_keep g (w.Erase at) h = refl
+row_to_keep g w.Reset h = refl
+row_to_keep g (w.Read at) h = refl
+row_to_keep g w.Identifier h = refl
+row_to_keep g w.Parameters h = refl
+row_to_keep g w.Cache h = refl
+row_to_keep g w.CacheEnd h = refl
+
+goes_on : (g : Parts) (work : Work) (closed : Bool) (members : List Queued) → (is_reset work ≡ false → closed ≡ false) → goes_with g work (cond closed [] members) ≡ true → goes_with g work members ≡ true
+goes_on g w.Reset closed members h t = refl
+goes_on g (w.Read at) closed members h t = refl
+goes_on g w.Identifier closed members h t = refl
+goes_on g w.Parameters closed members h t = refl
+goes_on g w.Cache closed members h t = refl
+goes_on g w.CacheEnd closed members h t = refl
+goes_on g (w.Program at) closed members h t = sym (ap (λ (b : Bool). goes_with g (w.Program at) (cond b [] members)) (h refl)) ∙ t
+goes_on g (w.Erase at) closed members h t = sym (ap (λ (b : Bool). goes_with g (w.Erase at) (cond b [] members)) (h refl)) ∙ t
+goes_on g (w.Queue (Erase at)) closed members h t = sym (ap (λ (b : Bool). goes_with g (w.Queue (Erase at)) (cond b [] members)) (h refl)) ∙ t
+goes_on g (w.Queue (Program at)) closed members h t = sym (ap (λ (b : Bool). goes_with g (w.Queue (Program at)) (cond b [] members)) (h refl)) ∙ t
+
+pub die_begun : (g : Parts) (work : Work) (old new : Entries) (registers : List (List ℕ)) (members after : List Queued) (closed closing busy working : Bool) → IsDie g old registers members closed busy → is_row_of g (row_of_work work) ≡ true → goes_with g work (cond closed [] members) ≡ true → (is_reset work ≡ false → closed ≡ false) → Keeps (page_len g) (page_to_keep work) old new → after ≡ members_after work members → closing ≡ closes work → working ≡ busy_after (effect_of work) busy → IsDie g new registers after closing working
+die_begun g work old new registers members after closed closing busy working d row together free k ea ec eb =
+    record {
+      limits = d.limits;
+      rows = kept_rows g (page_to_keep work) registers old new (row_to_keep g work row) k d.rows;
+      there = subst (AreKept new) (sym ea) (kept_begun (page_len g) work old new members k d.there);
+      alike = ap (λ (m : List Queued). are_erases m || are_programs m) ea ∙ alike_begun g work members (goes_on g work closed members free together) d.alike;
+      works = λ h. eb ∙ closes_busy work busy (sym ec ∙ h);
+      some = λ h. ap has_some ea ∙ closes_some work members (sym ec ∙ h);
+    }
+
+-- 4. works that end
+
+pub ended_pages : (fail closed : Bool) (g parts : Parts) (planes ps : List (List ℕ)) (members rows : List Queued) (old new : Entries) → closed ≡ true → parts ≡ g → ps ≡ planes → rows ≡ members → ((p : PageAddress) → page_in (page_len parts) new p ≡ cond fail (page_in (page_len parts) old p) (left_by_all (page_len parts) (works_of parts ps rows) p (page_in (page_len parts) old p))) → (p : PageAddress) → page_in (page_len g) new p ≡ cond fail (page_in (page_len g) old p) (left_by_all (page_len g) (works_of g planes (cond closed members [])) p (page_in (page_len g) old p))
+ended_pages fail closed g parts planes ps members rows old new ec eg ep em h p =
+    let at_g = subst (λ (k : Parts). page_in (page_len k) new p ≡ cond fail (page_in (page_len k) old p) (left_by_all (page_len k) (works_of k ps rows) p (page_in (page_len k) old p))) eg (h p) in
+    let at_p = subst (λ (q : List (List ℕ)). page_in (page_len g) new p ≡ cond fail (page_in (page_len g) old p) (left_by_all (page_len g) (works_of g q rows) p (page_in (page_len g) old p))) ep at_g in
+    let at_m = subst (λ (q : List Queued). page_in (page_len g) new p ≡ cond fail (page_in (page_len g) old p) (left_by_all (page_len g) (works_of g planes q) p (page_in (page_len g) old p))) em at_p in
+    subst (λ (b : Bool). page_in (page_len g) new p ≡ cond fail (page_in (page_len g) old p) (left_by_all (page_len g) (works_of g planes (cond b members [])) p (page_in (page_len g) old p))) (sym ec) at_m
+
+pub ended_failed : (g : Parts) (planes : List (List ℕ)) (fail closed : Bool) (members : List Queued) → closed ≡ true → has_some members ≡ true → fail ≡ (fail && is_some_work (works_of g planes (cond closed members [])))
+ended_failed g planes fail false members h s = cc
+ended_failed g planes fail true [] h s = cc
+ended_failed g planes true true (q ∷ members) h s = refl
+ended_failed g planes false true (q ∷ members) h s = refl
+
+pub fewer : (closed : Bool) (members : List Queued) → closed ≡ false → length (cond closed [] members) < 16 → length members < 16
+fewer true members h l = cc
+fewer false members h l = l
+
+-- the same under the names of the code
+pub kept_so : (len n : ℕ) (at given : Option PageAddress) (old new : Entries) → n ≡ len → given ≡ at → ((p : PageAddress) → kept new p ≡ cond (is_given p given) (Some (page_in n old p)) (kept old p)) → Keeps len at old new
+kept_so len n at given old new en eg h p =
+    h p ∙ (ap (λ (m : ℕ). cond (is_given p given) (Some (page_in m old p)) (kept old p)) en ∙ ap (λ (o : Option PageAddress). cond (is_given p o) (Some (page_in len old p)) (kept old p)) eg)
+
+pub waits : {b c : Bool} {m n : List Queued} → b ≡ c → m ≡ n → cond b [] m ≡ cond c [] n
+waits {c = c} {m = m} e f = ap (λ (x : Bool). cond x [] m) e ∙ ap (λ (x : List Queued). cond c [] x) f
+
+pub ends : {b c : Bool} {m n : List Queued} → b ≡ c → m ≡ n → cond b m [] ≡ cond c n []
+ends {c = c} {m = m} e f = ap (λ (x : Bool). cond x m []) e ∙ ap (λ (x : List Queued). cond c x []) f
+
+pub taken_is : (d : Die) (work : Work) → taken d.geometry d.planes work ≡ bytes_taken d (effect_of work)
+taken_is d w.Reset = refl
+taken_is d (w.Program at) = refl
+taken_is d (w.Erase at) = refl
+taken_is d (w.Queue (Erase at)) = refl
+taken_is d (w.Queue (Program at)) = refl
+taken_is d (w.Read at) = refl
+taken_is d w.Identifier = refl
+taken_is d w.Parameters = refl
+taken_is d w.Cache = refl
+taken_is d w.CacheEnd = refl

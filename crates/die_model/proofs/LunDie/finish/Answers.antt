@@ -1,0 +1,26 @@
+use Rattle.std.proofs.Common.{◌≡◌, Bool, true, false, [], cond, sym, ap, subst, ◌∙◌, refl}
+use Rattle.onfi_cycle.specs.declared.Effect.TheVariants.{BecameReady}
+use Rattle.die_model.specs.Die.{Die, IsAfter, works_of}
+use Rattle.die_model.specs.contracts.LunDie.{the_view}
+use Rattle.die_model.proofs.Begun.{ended_pages, ended_failed}
+use Rattle.die_model.proofs.LunDie.finish.Goals as goal
+
+pub returns-then-self : goal.returns-then-self
+returns-then-self c =
+    let i = c.self.inside in
+    let closed : i.closed ≡ true = c.if-self.true in
+    subst (λ (o : Die). IsAfter (BecameReady c.args.fail) o (the_view (record { geometry = i.geometry; pages = c.end_works.new.pages; planes = i.planes; register = i.register; array_page = i.array_page; busy = false; caching = i.caching; array_busy = c.array_busy_after-self-inside.result; members = c.clear.new.self; closed = false; failed = c.args.fail }))) c.self.view_is
+    (record {
+      geometry = refl;
+      planes = refl;
+      pages = ended_pages c.args.fail i.closed i.geometry c.parts.result i.planes.items c.as_slice.result.now i.members.items c.as_slice-then-self.result.now i.pages c.end_works.new.pages closed c.parts.ensures.value c.as_slice.ensures.value c.as_slice-then-self.ensures.value c.end_works.ensures.pages;
+      register = refl;
+      array_page = refl;
+      busy = refl;
+      caching = refl;
+      array_busy = c.array_busy_after-self-inside.ensures;
+      queue = c.clear.ensures ∙ ap (λ (b : Bool). cond b [] i.members.items) (sym closed);
+      queued = ap (works_of i.geometry i.planes.items) (c.clear.ensures ∙ ap (λ (b : Bool). cond b [] i.members.items) (sym closed));
+      pending = refl;
+      failed = ended_failed i.geometry i.planes.items c.args.fail i.closed i.members.items closed (c.self.invariant.some closed);
+    })

@@ -1,0 +1,65 @@
+-- What a die shows that stands for its LUN.
+use Rattle.std.proofs.Common.{◌≡◌, ℕ, Bool, true, false, ◌&&◌, not, cond, List, [], ◌∷◌, refl, ap, ◌∙◌}
+use Rattle.onfi_cycle.specs.declared.PageAddress.{PageAddress}
+use Rattle.onfi_cycle.specs.declared.Queued.{Queued}
+use Rattle.onfi_cycle.specs.declared.Register.{Register}
+use Rattle.onfi_cycle.specs.declared.Register.TheVariants as r
+use Rattle.onfi_cycle.specs.Lun.{is_busy, is_array_busy}
+use Rattle.onfi_cycle.specs.Content.{content, register_bytes}
+use Rattle.onfi_cycle.specs.Rules.{is_empty, has_some}
+use Rattle.die_model.specs.Die.{page_of, works_of}
+use Rattle.die_model.specs.Standing.{DiesShow}
+
+same_bytes : (parameters : List ℕ) (f g : PageAddress → List ℕ) (x : Register) → ((p : PageAddress) → f p ≡ g p) → register_bytes parameters f x ≡ register_bytes parameters g x
+same_bytes parameters f g r.Empty h = refl
+same_bytes parameters f g (r.Page p) h = h p
+same_bytes parameters f g r.ParameterPage h = refl
+same_bytes parameters f g r.Identifier h = refl
+
+both : (a b : Bool) → (a && b) ≡ true → (a ≡ true) × (b ≡ true)
+both true b h = (refl, h)
+both false b h = cc
+
+no : (b : Bool) → not b ≡ true → b ≡ false
+no true h = cc
+no false h = refl
+
+empty_is : (x : Register) → is_empty x ≡ true → x ≡ r.Empty
+empty_is r.Empty h = refl
+empty_is _ h = cc
+
+none_is : (q : List Queued) → not (has_some q) ≡ true → q ≡ []
+none_is [] h = refl
+none_is (x ∷ q) h = cc
+
+pub dies_show : DiesShow
+dies_show =
+    record {
+      status = λ s past l d f.
+        ap (λ (b : Bool). cond b 0x80 (cond d.array_busy 0xc0 (cond d.failed 0xe1 0xe0))) f.busy
+        ∙ (ap (λ (b : Bool). cond (is_busy s.geometry past l) 0x80 (cond b 0xc0 (cond d.failed 0xe1 0xe0))) f.array_busy
+        ∙ ap (λ (b : Bool). cond (is_busy s.geometry past l) 0x80 (cond (is_array_busy s.geometry past l) 0xc0 (cond b 0xe1 0xe0))) f.failed);
+      bytes = λ s past l d f. same_bytes s.parameters (page_of d) (content s.geometry s.opening past l) d.register f.pages ∙ ap (register_bytes s.parameters (content s.geometry s.opening past l)) f.register;
+      first = λ s l d geometry pages new array_page count.
+        let a = both (not d.busy) _ new in
+        let b = both (not d.array_busy) _ a.1 in
+        let c = both (not d.caching) _ b.1 in
+        let e = both (is_empty d.register) _ c.1 in
+        let f = both (not (has_some d.queued)) _ e.1 in
+        let h = both (not (has_some d.pending)) (not d.failed) f.1 in
+        record {
+          geometry = geometry;
+          pages = pages;
+          register = empty_is d.register e.0;
+          array_page = array_page;
+          busy = no d.busy a.0;
+          caching = no d.caching c.0;
+          array_busy = no d.array_busy b.0;
+          queue = none_is d.queued f.0;
+          queued = ap (works_of d.geometry d.planes) (none_is d.queued f.0);
+          pending = ap (works_of d.geometry d.planes) (none_is d.pending h.0);
+          failed = no d.failed h.1;
+          count = count;
+          open_program = λ named here. let x : false ≡ true = named in cc;
+        };
+    }

@@ -1,0 +1,546 @@
+-- A die goes on standing for its LUN.
+use Rattle.std.proofs.Common.{◌≡◌, ◌≢◌, ℕ, ◌%◌, ◌<◌, ◌==◌, Bool, true, false, ◌&&◌, ◌||◌, cond, not, List, [], ◌∷◌, Option, Some, None, length, replicate, refl, sym, ap, subst, ◌∙◌, arith, set}
+use Rattle.nand_geometry.specs.declared.Parts.{Parts}
+use Rattle.nand_geometry.specs.Limits.{page_len, planes}
+use Rattle.onfi_cycle.specs.declared.Command.{Command}
+use Rattle.onfi_cycle.specs.declared.Command.TheVariants as k
+use Rattle.onfi_cycle.specs.declared.Effect.{Effect}
+use Rattle.onfi_cycle.specs.declared.Effect.TheVariants as e
+use Rattle.std.proofs.Common.{eq-eqb, length-set}
+use Rattle.std.proofs.lemmas.List.{get_or-set_same, get_or-set_other}
+use Rattle.std.proofs.lemmas.Nat.{pow_pos}
+use Rattle.std.proofs.Math.Nat.{mod-lt}
+use Rattle.onfi_cycle.specs.declared.Cycle.{Cycle}
+use Rattle.onfi_cycle.specs.Rules.{ends_row, some_queued_clashes, planes_clash, named_lun_is, is_some_and, refused_by, is_refused_by, breaks_F9, breaks_F10}
+use Rattle.onfi_cycle.specs.declared.Item.{Item}
+use Rattle.onfi_cycle.specs.declared.Item.TheVariants.{Cyc, Rdy, Ard}
+use Rattle.onfi_cycle.specs.declared.Lun.{Lun}
+use Rattle.onfi_cycle.specs.declared.Latch.{Latch}
+use Rattle.onfi_cycle.specs.declared.Opening.{Opening}
+use Rattle.onfi_cycle.specs.declared.PageAddress.{PageAddress}
+use Rattle.onfi_cycle.specs.declared.Queued.{Queued}
+use Rattle.onfi_cycle.specs.declared.Queued.TheVariants.{Erase, Program}
+use Rattle.onfi_cycle.specs.declared.TailFacts.{TailFacts}
+use Rattle.onfi_cycle.specs.declared.TargetCycle.{TargetCycle}
+use Rattle.onfi_cycle.specs.declared.TargetCycle.TheVariants.{CommandCycle, AddressCycle, InputCycle, OutputCycle}
+use Rattle.onfi_cycle.specs.Sequence.{opened, row_bytes, row_after_address, tail, with_cycle, begins_sequence, is_nil, input_column, opening, data_phase, phase_after_address, row_with, facts_of, filled, row, target_cycle, wants_command, wants_address, takes_inputs, wants_column}
+use Rattle.onfi_cycle.specs.Bounds.{names_program}
+use Rattle.onfi_cycle.specs.Effect.{names_lun, page_address, is_off, is_data, confirm_effect, command_effect, opening_address_effect, address_effect, cycle_effect}
+use Rattle.onfi_cycle.specs.Lun.{luns_of, effect_on, latch_alone, is_busy, busy_after, is_caching, is_cache_read, closer, closer_after, is_array_busy, array_busy_after, array_page, array_page_after, register, register_after, queue, queue_after, lun_view}
+use Rattle.onfi_cycle.specs.Content.{ArrayWork, ProgramsPage, queued_work, queued_work_after, pending_work, pending_work_after, has_failed, failed_after, content, content_after}
+use Rattle.onfi_cycle.specs.Permitted.{broken}
+use Rattle.onfi_cycle.specs.Channel.{Channel}
+use Rattle.die_model.specs.Die.{Die, IsAfter, page_of, plane_bytes, bytes_taken, caching_after, queued_of, pending_of, works_of}
+use Rattle.onfi_cycle.specs.declared.Filling.{Filling}
+use Rattle.onfi_cycle.specs.declared.Filling.TheVariants.{Leaves, Clears, Fills}
+use Rattle.onfi_cycle.specs.Filling.{cycle_filling, filling, filled_by}
+use Rattle.die_model.specs.Standing.{HasBytes, IsFilling, IsDieOf, WorkedBy, RowsFit, DiesGoOn}
+use Rattle.onfi_cycle.specs.declared.DataPhase.{DataPhase}
+use Rattle.onfi_cycle.specs.declared.DataPhase.TheVariants.{Outside, Inputs, FirstColumn, SecondColumn}
+use Rattle.onfi_cycle.specs.Command.{is_page_program, at_last_row, addresses_the_array}
+use Rattle.onfi_cycle.specs.LunView.{LunView}
+use Rattle.std.specs.List.{slice_get}
+use Rattle.std.proofs.lemmas.Bool.Decides.{nat_tests}
+use Rattle.nand_geometry.specs.Row.{parts_of}
+use Rattle.onfi_cycle.proofs.Passed.{permitted_keeps}
+use Rattle.onfi_cycle.proofs.Keeping.{view_at}
+use Rattle.die_model.proofs.Tails.{stays, no_opening, blank}
+
+-- 1. the bytes of a program that starts are those of its tail
+
+abbrev Programs : Parts → TailFacts → ℕ → Effect → Type 0
+Programs g t lun (e.ProgramStarted queued at) = record { named : names_program t ≡ true; here : names_lun g (row t) lun ≡ true; page : at ≡ page_address g (row t) }
+Programs g t lun _ = Unit {0}
+
+choice : (g : Parts) (t : TailFacts) (lun : ℕ) (b : Bool) (x y : Effect) → (b ≡ true → Programs g t lun x) → Programs g t lun y → Programs g t lun (cond b x y)
+choice g t lun true x y f h = f refl
+choice g t lun false x y f h = h
+
+both : (a b : Bool) → (a && b) ≡ true → (a ≡ true) × (b ≡ true)
+both true b h = (refl, h)
+both false b h = cc
+
+or_first : (a b : Bool) → a ≡ true → (a || b) ≡ true
+or_first true b h = refl
+or_first false b h = cc
+
+command_programs : (g : Parts) (t : TailFacts) (latch : Latch) (c : Command) (lun : ℕ) → Programs g t lun (command_effect g t latch c lun)
+command_programs g t latch k.Read lun = tt
+command_programs g t latch k.ReadStatus lun = tt
+command_programs g t latch k.ReadStatusEnhanced lun = tt
+command_programs g t latch k.Reset lun = tt
+command_programs g t latch k.ReadCacheSequential lun = choice g t lun (is_off latch) e.Unaffected e.CacheReadContinued (λ _. tt) tt
+command_programs g t latch k.ReadCacheEnd lun = choice g t lun (is_off latch) e.Unaffected e.CacheReadEnded (λ _. tt) tt
+command_programs g t latch k.ChangeReadColumnConfirm lun = choice g t lun (wants_command t k.ChangeReadColumnConfirm && not (is_off latch)) (e.ReadColumnChanged t.column) e.Unaffected (λ _. tt) tt
+command_programs g t latch k.ProgramConfirm lun =
+    choice g t lun (wants_command t k.ProgramConfirm && names_lun g (row t) lun) (e.ProgramStarted false (page_address g (row t))) e.Unaffected
+    (λ h. record { named = or_first (takes_inputs t.phase) (wants_column t.phase) (both _ _ h).0; here = (both _ _ h).1; page = refl }) tt
+command_programs g t latch k.ProgramPlane lun =
+    choice g t lun (wants_command t k.ProgramPlane && names_lun g (row t) lun) (e.ProgramStarted true (page_address g (row t))) e.Unaffected
+    (λ h. record { named = or_first (takes_inputs t.phase) (wants_column t.phase) (both _ _ h).0; here = (both _ _ h).1; page = refl }) tt
+command_programs g t latch c lun = choice g t lun (wants_command t c && names_lun g (row t) lun) (confirm_effect g t c) e.Unaffected (λ _. tt) tt
+
+address_programs : (g : Parts) (t : TailFacts) (byte : ℕ) (c : Command) (n lun : ℕ) → Programs g t lun (address_effect g t byte c n lun)
+address_programs g t byte k.ReadStatusEnhanced n lun = at (n == 2) (names_lun g _ lun)
+  where
+    at : (a b : Bool) → Programs g t lun (cond a (cond b e.SelectedForStatus e.Deselected) e.Unaffected)
+    at true true = tt
+    at true false = tt
+    at false b = tt
+address_programs g t byte k.ReadId n lun = choice g t lun (wants_address t byte) e.IdRead e.Unaffected (λ _. tt) tt
+address_programs g t byte k.ReadParameterPage n lun = choice g t lun (wants_address t byte) e.ParameterPageReadStarted e.Unaffected (λ _. tt) tt
+address_programs g t byte _ n lun = tt
+
+opening_programs : (g : Parts) (t : TailFacts) (byte : ℕ) (o : Option Opening) (lun : ℕ) → Programs g t lun (opening_address_effect g t byte o lun)
+opening_programs g t byte None lun = tt
+opening_programs g t byte (Some o) lun = address_programs g t byte o.opener o.addresses lun
+
+cycle_programs : (g : Parts) (t : TailFacts) (latch : Latch) (c : TargetCycle) (lun : ℕ) → Programs g t lun (cycle_effect g t latch c lun)
+cycle_programs g t latch (CommandCycle c) lun = command_programs g t latch c lun
+cycle_programs g t latch (AddressCycle byte) lun = opening_programs g t byte t.opening lun
+cycle_programs g t latch (InputCycle byte) lun = tt
+cycle_programs g t latch OutputCycle lun = choice g t lun (is_data latch) e.DataOutput e.Unaffected (λ _. tt) tt
+
+effect_programs : (g : Parts) (past : List Item) (i : Item) (l : Lun) → Programs g (facts_of (tail past l.ce)) l.lun (effect_on g past i l)
+unfolding effect_on
+effect_programs g past (Cyc c) l = choice g (facts_of (tail past l.ce)) l.lun (c.ce == l.ce) _ e.Unaffected (λ _. cycle_programs g (facts_of (tail past l.ce)) (latch_alone g past l) (target_cycle c.kind c.byte) l.lun) tt
+effect_programs g past (Rdy ce lun fail) l = choice g (facts_of (tail past l.ce)) l.lun (ce == l.ce && lun == l.lun) (e.BecameReady fail) e.Unaffected (λ _. tt) tt
+effect_programs g past (Ard ce lun) l = choice g (facts_of (tail past l.ce)) l.lun (ce == l.ce && lun == l.lun) e.ArrayBecameReady e.Unaffected (λ _. tt) tt
+
+-- so the register has the bytes that the effect takes
+queued_same : (g : Parts) (t : List TargetCycle) (lun : ℕ) (d : Die) (x : Effect) (q : List ArrayWork) → d.geometry ≡ g → Programs g (facts_of t) lun x → IsFilling g t lun d → queued_work_after x (bytes_taken d x) q ≡ queued_work_after x (filled (page_len g) t) q
+queued_same g t lun d (e.ProgramStarted queued at) q eg p f = ap (λ (b : List ℕ). queued_work_after (e.ProgramStarted queued at) b q) (ap (λ (h : Parts). plane_bytes h d.planes at) eg ∙ (ap (plane_bytes g d.planes) p.page ∙ (f p.named p.here).bytes))
+queued_same g t lun d (e.EraseStarted queued at) q eg p f = refl
+queued_same g t lun d _ q eg p f = refl
+
+pending_same : (g : Parts) (t : List TargetCycle) (lun : ℕ) (d : Die) (x : Effect) (q r : List ArrayWork) → d.geometry ≡ g → Programs g (facts_of t) lun x → IsFilling g t lun d → pending_work_after x (bytes_taken d x) q r ≡ pending_work_after x (filled (page_len g) t) q r
+pending_same g t lun d (e.ProgramStarted queued at) q r eg p f = ap (λ (b : List ℕ). pending_work_after (e.ProgramStarted queued at) b q r) (ap (λ (h : Parts). plane_bytes h d.planes at) eg ∙ (ap (plane_bytes g d.planes) p.page ∙ (f p.named p.here).bytes))
+pending_same g t lun d (e.EraseStarted queued at) q r eg p f = refl
+pending_same g t lun d _ q r eg p f = refl
+
+caching_is : (x : Effect) (c : Option Command) → caching_after x (is_cache_read c) ≡ is_cache_read (closer_after x c)
+caching_is (e.EraseStarted true at) c = refl
+caching_is (e.EraseStarted false at) c = refl
+caching_is (e.ProgramStarted true at) c = refl
+caching_is (e.ProgramStarted false at) c = refl
+caching_is _ c = refl
+
+-- 2. an effect
+
+record Facts (s : Channel) (past : List Item) (l : Lun) (d : Die) : Type 0 where
+  geometry : d.geometry ≡ s.geometry
+  pages : (p : PageAddress) → page_of d p ≡ content s.geometry s.opening past l p
+  register : d.register ≡ register s.geometry past l
+  array_page : d.array_page ≡ array_page s.geometry past l
+  busy : d.busy ≡ is_busy s.geometry past l
+  caching : d.caching ≡ is_caching s.geometry past l
+  array_busy : d.array_busy ≡ is_array_busy s.geometry past l
+  queue : d.queued ≡ queue s.geometry past l
+  queued : queued_of d ≡ queued_work s.geometry past l
+  pending : pending_of d ≡ pending_work s.geometry past l
+  failed : d.failed ≡ has_failed s.geometry past l
+
+same_content : (g h : Parts) (x : Effect) (a b : List ArrayWork) (p : PageAddress) (m n : List ℕ) → g ≡ h → a ≡ b → m ≡ n → content_after g x a p m ≡ content_after h x b p n
+same_content g h x a b p m n eg ea em = ap (λ (k : Parts). content_after k x a p m) eg ∙ (ap (λ (w : List ArrayWork). content_after h x w p m) ea ∙ ap (content_after h x b p) em)
+
+effect_goes_on : (s : Channel) (past : List Item) (i : Item) (l : Lun) (old new : Die) → IsDieOf s past l old → IsAfter (effect_on s.geometry past i l) old new → Facts s (i ∷ past) l new
+effect_goes_on s past i l old new f a =
+    let g = s.geometry in
+    let x = effect_on g past i l in
+    let t = tail past l.ce in
+    let p = effect_programs g past i l in
+    record {
+      geometry = a.geometry ∙ f.geometry;
+      pages = λ at. a.pages at ∙ same_content old.geometry g x (pending_of old) (pending_work g past l) at (page_of old at) (content g s.opening past l at) f.geometry f.pending (f.pages at);
+      register = a.register ∙ (ap (λ (q : PageAddress). register_after x q old.register) f.array_page ∙ ap (register_after x (array_page g past l)) f.register);
+      array_page = a.array_page ∙ ap (array_page_after x) f.array_page;
+      busy = a.busy ∙ ap (busy_after x) f.busy;
+      caching = a.caching ∙ (ap (caching_after x) f.caching ∙ caching_is x (closer g past l));
+      array_busy = a.array_busy ∙ (ap (λ (b : Bool). array_busy_after x b old.caching old.array_busy) f.busy ∙ (ap (λ (b : Bool). array_busy_after x (is_busy g past l) b old.array_busy) f.caching ∙ ap (array_busy_after x (is_busy g past l) (is_caching g past l)) f.array_busy));
+      queue = a.queue ∙ ap (queue_after x) f.queue;
+      queued = a.queued ∙ (ap (queued_work_after x (bytes_taken old x)) f.queued ∙ queued_same g t l.lun old x (queued_work g past l) f.geometry p f.open_program);
+      pending = a.pending ∙ (ap (λ (q : List ArrayWork). pending_work_after x (bytes_taken old x) q (pending_of old)) f.queued ∙ (ap (pending_work_after x (bytes_taken old x) (queued_work g past l)) f.pending ∙ pending_same g t l.lun old x (queued_work g past l) (pending_work g past l) f.geometry p f.open_program));
+      failed = a.failed ∙ (ap (λ (q : List ArrayWork). failed_after x q old.failed) f.pending ∙ ap (failed_after x (pending_work g past l)) f.failed);
+    }
+
+-- 3. a program stays open
+
+-- no work starts where a program is open behind the cycle
+calm_command : (g : Parts) (t : List TargetCycle) (latch : Latch) (c : Command) (lun : ℕ) → names_program (facts_of (with_cycle (CommandCycle c) t)) ≡ true → busy_after (command_effect g (facts_of t) latch c lun) false ≡ false
+calm_command g t latch k.ChangeWriteColumn lun h = of (wants_command (facts_of t) k.ChangeWriteColumn && names_lun g (row (facts_of t)) lun)
+  where
+    of : (b : Bool) → busy_after (cond b e.Unaffected e.Unaffected) false ≡ false
+    of true = refl
+    of false = refl
+calm_command g [] latch c lun h = cc
+calm_command g (d ∷ t) latch c lun h = cc
+
+calm_status : (a b : Bool) → busy_after (cond a (cond b e.SelectedForStatus e.Deselected) e.Unaffected) false ≡ false
+calm_status true true = refl
+calm_status true false = refl
+calm_status false b = refl
+
+calm_choice : (b : Bool) (x : Effect) → busy_after x false ≡ false → busy_after (cond b x e.Unaffected) false ≡ false
+calm_choice true x h = h
+calm_choice false x h = refl
+
+calm_address : (g : Parts) (t : List TargetCycle) (byte lun : ℕ) (o : Option Opening) → opening t ≡ o → names_program (facts_of (AddressCycle byte ∷ t)) ≡ true → busy_after (opening_address_effect g (facts_of t) byte o lun) false ≡ false
+calm_address g t byte lun None h n = refl
+calm_address g t byte lun (Some o) h n = at o.opener refl
+  where
+    none_is : (p : DataPhase) → data_phase t ≡ p → (takes_inputs (phase_after_address (Some o) p) || wants_column (phase_after_address (Some o) p)) ≡ true → is_page_program o.opener ≡ false → false ≡ true
+    none_is Inputs e n q = n
+    none_is FirstColumn e n q = let x = sym h ∙ no_opening t (ap wants_column e) in cc
+    none_is SecondColumn e n q = let x = sym h ∙ no_opening t (ap wants_column e) in cc
+    none_is Outside e n q = outside (is_page_program o.opener) (o.addresses == 4) q n
+      where
+        outside : (a b : Bool) → a ≡ false → (takes_inputs (cond (a && b) Inputs Outside) || wants_column (cond (a && b) Inputs Outside)) ≡ true → false ≡ true
+        outside true b q n = cc
+        outside false b q n = n
+
+    named : (takes_inputs (phase_after_address (Some o) (data_phase t)) || wants_column (phase_after_address (Some o) (data_phase t))) ≡ true
+    named = sym (ap (λ (q : Option Opening). takes_inputs (phase_after_address q (data_phase t)) || wants_column (phase_after_address q (data_phase t))) h) ∙ n
+
+    at : (c : Command) → o.opener ≡ c → busy_after (address_effect g (facts_of t) byte c o.addresses lun) false ≡ false
+    at k.ReadStatusEnhanced q = calm_status (o.addresses == 2) (names_lun g (row_with (facts_of t) byte) lun)
+    at k.ReadId q = calm_choice (wants_address (facts_of t) byte) e.IdRead refl
+    at k.ReadParameterPage q = let x = none_is (data_phase t) refl named (ap is_page_program q) in cc
+    at _ q = refl
+
+calm : (g : Parts) (t : List TargetCycle) (latch : Latch) (cycle : TargetCycle) (lun : ℕ) → names_program (facts_of (with_cycle cycle t)) ≡ true → busy_after (cycle_effect g (facts_of t) latch cycle lun) false ≡ false
+calm g t latch (CommandCycle c) lun h = calm_command g t latch c lun h
+calm g [] latch (AddressCycle byte) lun h = refl
+calm g (d ∷ t) latch (AddressCycle byte) lun h = calm_address g (d ∷ t) byte lun (opening (d ∷ t)) refl h
+calm g t latch (InputCycle byte) lun h = refl
+calm g t latch OutputCycle lun h = calm_choice (is_data latch) e.DataOutput refl
+
+carry : (g : Parts) (t u : List TargetCycle) (x : Effect) (old new : Die) → IsAfter x old new → busy_after x false ≡ false → row (facts_of u) ≡ row (facts_of t) → filled (page_len g) u ≡ filled (page_len g) t → HasBytes g t old → HasBytes g u new
+carry g t u x old new a idle same bytes h =
+    record {
+      ready = a.busy ∙ (ap (busy_after x) h.ready ∙ idle);
+      bytes = ap (λ (r : List (List ℕ)). plane_bytes g r (page_address g (row (facts_of u)))) a.planes ∙ (ap (λ (r : ℕ). plane_bytes g old.planes (page_address g r)) same ∙ (h.bytes ∙ sym bytes));
+    }
+
+ready_idle : (b : Bool) (x : Effect) → busy_after x false ≡ false → busy_after (cond b x e.Unaffected) false ≡ false
+ready_idle true x h = h
+ready_idle false x h = refl
+
+open_leaves : (s : Channel) (past : List Item) (i : Item) (l : Lun) (old new : Die) → filling s.geometry (facts_of (tail past l.ce)) i l ≡ Leaves → IsFilling s.geometry (tail past l.ce) l.lun old → IsAfter (effect_on s.geometry past i l) old new → IsFilling s.geometry (tail (i ∷ past) l.ce) l.lun new
+unfolding effect_on
+open_leaves s past (Rdy ce lun fail) l old new leaves f a = λ named here. carry s.geometry (tail past l.ce) (tail past l.ce) (effect_on s.geometry past (Rdy ce lun fail) l) old new a (ready_idle (ce == l.ce && lun == l.lun) (e.BecameReady fail) refl) refl refl (f named here)
+open_leaves s past (Ard ce lun) l old new leaves f a = λ named here. carry s.geometry (tail past l.ce) (tail past l.ce) (effect_on s.geometry past (Ard ce lun) l) old new a (ready_idle (ce == l.ce && lun == l.lun) e.ArrayBecameReady refl) refl refl (f named here)
+open_leaves s past (Cyc c) l old new leaves f a = of (c.ce == l.ce) refl leaves
+  where
+    of : (b : Bool) → (c.ce == l.ce) ≡ b → cond b (cycle_filling s.geometry (facts_of (tail past l.ce)) (target_cycle c.kind c.byte) l.lun) Leaves ≡ Leaves → names_program (facts_of (cond b (with_cycle (target_cycle c.kind c.byte) (tail past l.ce)) (tail past l.ce))) ≡ true → names_lun s.geometry (row (facts_of (cond b (with_cycle (target_cycle c.kind c.byte) (tail past l.ce)) (tail past l.ce)))) l.lun ≡ true → HasBytes s.geometry (cond b (with_cycle (target_cycle c.kind c.byte) (tail past l.ce)) (tail past l.ce)) new
+    of true same leaves named here =
+        let st = stays s.geometry (page_len s.geometry) (tail past l.ce) (target_cycle c.kind c.byte) l.lun leaves named here in
+        let before = f st.named (sym (ap (λ (r : ℕ). names_lun s.geometry r l.lun) st.same_row) ∙ here) in
+        carry s.geometry (tail past l.ce) (with_cycle (target_cycle c.kind c.byte) (tail past l.ce)) (effect_on s.geometry past (Cyc c) l) old new a
+        (ready_idle (c.ce == l.ce) (cycle_effect s.geometry (facts_of (tail past l.ce)) (latch_alone s.geometry past l) (target_cycle c.kind c.byte) l.lun) (calm s.geometry (tail past l.ce) (latch_alone s.geometry past l) (target_cycle c.kind c.byte) l.lun named))
+        st.same_row st.bytes before
+    of false other leaves named here =
+        carry s.geometry (tail past l.ce) (tail past l.ce) (effect_on s.geometry past (Cyc c) l) old new a
+        (ap (λ (b : Bool). busy_after (cond b (cycle_effect s.geometry (facts_of (tail past l.ce)) (latch_alone s.geometry past l) (target_cycle c.kind c.byte) l.lun) e.Unaffected) false) other) refl refl (f named here)
+
+leaves_goes_on : (s : Channel) (past : List Item) (i : Item) (l : Lun) (old new : Die) → filling s.geometry (facts_of (tail past l.ce)) i l ≡ Leaves → IsDieOf s past l old → IsAfter (effect_on s.geometry past i l) old new → IsDieOf s (i ∷ past) l new
+leaves_goes_on s past i l old new leaves f a =
+    let x = effect_goes_on s past i l old new f a in
+    record {
+      geometry = x.geometry;
+      pages = x.pages;
+      register = x.register;
+      array_page = x.array_page;
+      busy = x.busy;
+      caching = x.caching;
+      array_busy = x.array_busy;
+      queue = x.queue;
+      queued = x.queued;
+      pending = x.pending;
+      failed = x.failed;
+      count = ap (λ (r : List (List ℕ)). length r) a.planes ∙ f.count;
+      open_program = open_leaves s past i l old new leaves f.open_program a;
+    }
+
+-- 4. an item that works on a page register
+
+unaffected : (d : Die) → IsAfter e.Unaffected d d
+unaffected d = record { geometry = refl; planes = refl; pages = λ p. refl; register = refl; array_page = refl; busy = refl; caching = refl; array_busy = refl; queue = refl; queued = refl; pending = refl; failed = refl }
+
+pending_step : (x : Effect) (bytes : List ℕ) (q p : List ArrayWork) (b : Bool) → (b ≡ false → p ≡ []) → busy_after x b ≡ false → pending_work_after x bytes q p ≡ []
+pending_step (e.ReadStarted at from) bytes q p b f h = refl
+pending_step (e.EraseStarted queued at) bytes q p b f h = cc
+pending_step (e.ProgramStarted queued at) bytes q p b f h = cc
+pending_step e.ParameterPageReadStarted bytes q p b f h = refl
+pending_step e.CacheReadContinued bytes q p b f h = refl
+pending_step e.CacheReadEnded bytes q p b f h = refl
+pending_step e.ResetStarted bytes q p b f h = refl
+pending_step (e.BecameReady fail) bytes q p b f h = refl
+pending_step _ bytes q p b f h = f h
+
+pending_idle : (g : Parts) (past : List Item) (l : Lun) → is_busy g past l ≡ false → pending_work g past l ≡ []
+pending_idle g [] l h = refl
+pending_idle g (i ∷ past) l h = pending_step (effect_on g past i l) (filled (page_len g) (tail past l.ce)) (queued_work g past l) (pending_work g past l) (is_busy g past l) (pending_idle g past l) h
+
+works_nil : (g : Parts) (r q : List (List ℕ)) (rows : List Queued) → works_of g r rows ≡ [] → works_of g q rows ≡ []
+works_nil g r q [] h = refl
+works_nil g r q (x ∷ rows) h = cc
+
+not_true : (b : Bool) → not b ≡ false → b ≡ true
+not_true true h = refl
+not_true false h = cc
+
+neither : (a b : Bool) → (a || b) ≡ false → (a ≡ false) × (b ≡ false)
+neither true b h = cc
+neither false b h = (refl, h)
+
+-- a register of another plane isn't looked at
+apart_works : (g : Parts) (registers : List (List ℕ)) (at : PageAddress) (w : List ℕ) (rows : List Queued) → some_queued_clashes g false at rows ≡ false → works_of g (set registers (at.block % planes g) w) rows ≡ works_of g registers rows
+apart_works g registers at w [] h = refl
+apart_works g registers at w (Erase q ∷ rows) h = cc
+apart_works g registers at w (Program q ∷ rows) h =
+    let parts = neither (planes_clash g at q) (some_queued_clashes g false at rows) h in
+    let planes_differ = (neither (at.block % planes g == q.block % planes g) _ (neither (at.block % planes g == q.block % planes g || not (at.page == q.page)) _ parts.0).0).0 in
+    let other : q.block % planes g ≢ at.block % planes g = λ same. clash (at.block % planes g == q.block % planes g) (eq-eqb _ _ (sym same)) planes_differ in
+    ap (λ (x : List ℕ). ProgramsPage q x ∷ works_of g (set registers (at.block % planes g) w) rows) (get_or-set_other registers (at.block % planes g) (q.block % planes g) w [] other)
+    ∙ ap (λ (x : List ArrayWork). ProgramsPage q (plane_bytes g registers q) ∷ x) (apart_works g registers at w rows parts.1)
+  where
+    clash : (b : Bool) → b ≡ true → b ≡ false → ⊥
+    clash true p q = cc
+    clash false p q = cc
+
+abbrev with_planes : Die → List (List ℕ) → Die
+with_planes d r = record d { planes = r }
+
+register_goes_on : (s : Channel) (past : List Item) (i : Item) (l : Lun) (old : Die) (at : PageAddress) (w : List ℕ) → effect_on s.geometry past i l ≡ e.Unaffected → IsDieOf s past l old → old.busy ≡ false → some_queued_clashes s.geometry false at (queue s.geometry past l) ≡ false → IsFilling s.geometry (tail (i ∷ past) l.ce) l.lun (with_planes old (set old.planes (at.block % planes s.geometry) w)) → IsDieOf s (i ∷ past) l (with_planes old (set old.planes (at.block % planes s.geometry) w))
+register_goes_on s past i l old at w is f idle apart filling =
+    let x = effect_goes_on s past i l old old f (subst (λ (z : Effect). IsAfter z old old) (sym is) (unaffected old)) in
+    let none : pending_of old ≡ [] = f.pending ∙ pending_idle s.geometry past l (sym f.busy ∙ idle) in
+    record {
+      geometry = x.geometry;
+      pages = x.pages;
+      register = x.register;
+      array_page = x.array_page;
+      busy = x.busy;
+      caching = x.caching;
+      array_busy = x.array_busy;
+      queue = x.queue;
+      queued =
+        ap (λ (g : Parts). works_of g (set old.planes (at.block % planes s.geometry) w) old.queued) f.geometry
+        ∙ (apart_works s.geometry old.planes at w old.queued (ap (some_queued_clashes s.geometry false at) f.queue ∙ apart)
+        ∙ (ap (λ (g : Parts). works_of g old.planes old.queued) (sym f.geometry) ∙ x.queued));
+      pending = works_nil old.geometry old.planes (set old.planes (at.block % planes s.geometry) w) old.pending none ∙ (sym none ∙ x.pending);
+      failed = x.failed;
+      count = length-set old.planes (at.block % planes s.geometry) w ∙ f.count;
+      open_program = filling;
+    }
+
+plane_there : (s : Channel) (past : List Item) (l : Lun) (d : Die) (at : PageAddress) → IsDieOf s past l d → at.block % planes s.geometry < length d.planes
+plane_there s past l d at f = let low : at.block % planes s.geometry < planes s.geometry = mod-lt at.block (pow_pos s.geometry.plane_bits) in let c = f.count in omega (arith, low, c)
+
+-- an input fills a register
+record IsInput (g : Parts) (past : List Item) (i : Item) (l : Lun) (at : PageAddress) (column byte : ℕ) : Type 0 where
+  c : Cycle
+  is : i ≡ Cyc c
+  ce : (c.ce == l.ce) ≡ true
+  cycle : target_cycle c.kind c.byte ≡ InputCycle byte
+  takes : takes_inputs (data_phase (tail past l.ce)) ≡ true
+  here : names_lun g (row (facts_of (tail past l.ce))) l.lun ≡ true
+  page : at ≡ page_address g (row (facts_of (tail past l.ce)))
+  place : column ≡ input_column (facts_of (tail past l.ce))
+
+is_input : (g : Parts) (past : List Item) (i : Item) (l : Lun) (at : PageAddress) (column byte : ℕ) → filling g (facts_of (tail past l.ce)) i l ≡ Fills at column byte → IsInput g past i l at column byte
+is_input g past (Rdy ce lun fail) l at column byte h = cc
+is_input g past (Ard ce lun) l at column byte h = cc
+is_input g past (Cyc c) l at column byte h = of (c.ce == l.ce) refl (target_cycle c.kind c.byte) refl h
+  where
+    of : (b : Bool) → (c.ce == l.ce) ≡ b → (k : TargetCycle) → target_cycle c.kind c.byte ≡ k → cond b (cycle_filling g (facts_of (tail past l.ce)) k l.lun) Leaves ≡ Fills at column byte → IsInput g past (Cyc c) l at column byte
+    of false e k q h = cc
+    of true e (CommandCycle x) q h = cc
+    of true e OutputCycle q h = cc
+    of true e (AddressCycle x) q h = by (ends_row is_page_program (facts_of (tail past l.ce)) && names_lun g (row_with (facts_of (tail past l.ce)) x) l.lun) h
+      where
+        by : (b : Bool) → cond b (Clears (page_address g (row_with (facts_of (tail past l.ce)) x))) Leaves ≡ Fills at column byte → IsInput g past (Cyc c) l at column byte
+        by true h = cc
+        by false h = cc
+    of true e (InputCycle x) q h = by (takes_inputs (data_phase (tail past l.ce)) && names_lun g (row (facts_of (tail past l.ce))) l.lun) refl h
+      where
+        by : (b : Bool) → (takes_inputs (data_phase (tail past l.ce)) && names_lun g (row (facts_of (tail past l.ce))) l.lun) ≡ b → cond b (Fills (page_address g (row (facts_of (tail past l.ce)))) (input_column (facts_of (tail past l.ce))) x) Leaves ≡ Fills at column byte → IsInput g past (Cyc c) l at column byte
+        by false t h = cc
+        by true t h =
+            let same : x ≡ byte = cc in
+            record { c = c; is = refl; ce = e; cycle = q ∙ ap (λ (z : ℕ). InputCycle z) same; takes = (both _ _ t).0; here = (both _ _ t).1; page = cc; place = cc }
+
+-- the tail goes on with it
+goes_on : (k : TargetCycle) (t : List TargetCycle) → begins_sequence k ≡ false → is_nil t ≡ false → with_cycle k t ≡ k ∷ t
+goes_on k [] h n = cc
+goes_on k (d ∷ t) h n = ap (λ (b : Bool). cond b (k ∷ []) (k ∷ (d ∷ t))) h
+
+tail_on : (past : List Item) (c : Cycle) (ce : ℕ) (k : TargetCycle) → (c.ce == ce) ≡ true → target_cycle c.kind c.byte ≡ k → begins_sequence k ≡ false → is_nil (tail past ce) ≡ false → tail (Cyc c ∷ past) ce ≡ k ∷ tail past ce
+tail_on past c ce k same is h n =
+    ap (λ (b : Bool). cond b (with_cycle (target_cycle c.kind c.byte) (tail past ce)) (tail past ce)) same
+    ∙ (ap (λ (z : TargetCycle). with_cycle z (tail past ce)) is ∙ goes_on k (tail past ce) h n)
+
+effect_at : (g : Parts) (past : List Item) (c : Cycle) (l : Lun) (k : TargetCycle) → (c.ce == l.ce) ≡ true → target_cycle c.kind c.byte ≡ k → effect_on g past (Cyc c) l ≡ cycle_effect g (facts_of (tail past l.ce)) (latch_alone g past l) k l.lun
+unfolding effect_on
+effect_at g past c l k same is =
+    ap (λ (b : Bool). cond b (cycle_effect g (facts_of (tail past l.ce)) (latch_alone g past l) (target_cycle c.kind c.byte) l.lun) e.Unaffected) same
+    ∙ ap (λ (z : TargetCycle). cycle_effect g (facts_of (tail past l.ce)) (latch_alone g past l) z l.lun) is
+
+inputs_there : (t : List TargetCycle) → takes_inputs (data_phase t) ≡ true → is_nil t ≡ false
+inputs_there [] h = cc
+inputs_there (d ∷ t) h = refl
+
+input_goes_on : (s : Channel) (past : List Item) (i : Item) (l : Lun) (old new : Die) (at : PageAddress) (column byte : ℕ) → IsInput s.geometry past i l at column byte → RowsFit s.geometry past l → IsDieOf s past l old → new ≡ record old { planes = filled_by s.geometry (Fills at column byte) old.planes } → IsDieOf s (i ∷ past) l new
+input_goes_on s past i l old new at column byte j fits f w =
+    let g = s.geometry in
+    let t = tail past l.ce in
+    let named = or_first (takes_inputs (data_phase t)) (wants_column (data_phase t)) j.takes in
+    let before = f.open_program named j.here in
+    let bytes = set (plane_bytes g old.planes at) column byte in
+    let registers = set old.planes (at.block % planes g) bytes in
+    let same_tail = tail_on past j.c l.ce (InputCycle byte) j.ce j.cycle refl (inputs_there t j.takes) in
+    let open_one : HasBytes g (InputCycle byte ∷ t) (with_planes old registers) =
+          record {
+            ready = before.ready;
+            bytes =
+              ap (plane_bytes g registers) (sym j.page)
+              ∙ (get_or-set_same old.planes (at.block % planes g) bytes [] (plane_there s past l old at f)
+              ∙ (ap (λ (x : List ℕ). set x column byte) (ap (plane_bytes g old.planes) j.page ∙ before.bytes) ∙ ap (λ (n : ℕ). set (filled (page_len g) t) n byte) j.place));
+          } in
+    subst (IsDieOf s (i ∷ past) l) (sym w)
+    (register_goes_on s past i l old at bytes
+    (ap (λ (z : Item). effect_on g past z l) j.is ∙ effect_at g past j.c l (InputCycle byte) j.ce j.cycle)
+    f before.ready
+    (ap (λ (p : PageAddress). some_queued_clashes g false p (queue g past l)) j.page ∙ fits.program j.here named)
+    (λ n h. subst (λ (u : List TargetCycle). HasBytes g u (with_planes old registers)) (sym (ap (λ (z : Item). tail (z ∷ past) l.ce) j.is ∙ same_tail)) open_one))
+
+-- the last row cycle of a program clears a register
+record IsLastAddress (g : Parts) (past : List Item) (i : Item) (l : Lun) (at : PageAddress) : Type 0 where
+  c : Cycle
+  byte : ℕ
+  o : Opening
+  is : i ≡ Cyc c
+  ce : (c.ce == l.ce) ≡ true
+  cycle : target_cycle c.kind c.byte ≡ AddressCycle byte
+  opens : opening (tail past l.ce) ≡ Some o
+  ends : (is_page_program o.opener && at_last_row o.opener o.addresses) ≡ true
+  here : names_lun g (row_with (facts_of (tail past l.ce)) byte) l.lun ≡ true
+  page : at ≡ page_address g (row_with (facts_of (tail past l.ce)) byte)
+
+is_last_address : (g : Parts) (past : List Item) (i : Item) (l : Lun) (at : PageAddress) → filling g (facts_of (tail past l.ce)) i l ≡ Clears at → IsLastAddress g past i l at
+is_last_address g past (Rdy ce lun fail) l at h = cc
+is_last_address g past (Ard ce lun) l at h = cc
+is_last_address g past (Cyc c) l at h = of (c.ce == l.ce) refl (target_cycle c.kind c.byte) refl h
+  where
+    of : (b : Bool) → (c.ce == l.ce) ≡ b → (k : TargetCycle) → target_cycle c.kind c.byte ≡ k → cond b (cycle_filling g (facts_of (tail past l.ce)) k l.lun) Leaves ≡ Clears at → IsLastAddress g past (Cyc c) l at
+    of false e k q h = cc
+    of true e (CommandCycle x) q h = cc
+    of true e OutputCycle q h = cc
+    of true e (InputCycle x) q h = by (takes_inputs (data_phase (tail past l.ce)) && names_lun g (row (facts_of (tail past l.ce))) l.lun) h
+      where
+        by : (b : Bool) → cond b (Fills (page_address g (row (facts_of (tail past l.ce)))) (input_column (facts_of (tail past l.ce))) x) Leaves ≡ Clears at → IsLastAddress g past (Cyc c) l at
+        by true h = cc
+        by false h = cc
+    of true e (AddressCycle x) q h = by (opening (tail past l.ce)) refl (names_lun g (row_with (facts_of (tail past l.ce)) x) l.lun) refl h
+      where
+        by : (o : Option Opening) → opening (tail past l.ce) ≡ o → (n : Bool) → names_lun g (row_with (facts_of (tail past l.ce)) x) l.lun ≡ n → cond (opened (λ c n. is_page_program c && at_last_row c n) o && n) (Clears (page_address g (row_with (facts_of (tail past l.ce)) x))) Leaves ≡ Clears at → IsLastAddress g past (Cyc c) l at
+        by None o n t h = cc
+        by (Some o) op n t h = last (is_page_program o.opener && at_last_row o.opener o.addresses) refl n t h
+          where
+            last : (a : Bool) → (is_page_program o.opener && at_last_row o.opener o.addresses) ≡ a → (n : Bool) → names_lun g (row_with (facts_of (tail past l.ce)) x) l.lun ≡ n → cond (a && n) (Clears (page_address g (row_with (facts_of (tail past l.ce)) x))) Leaves ≡ Clears at → IsLastAddress g past (Cyc c) l at
+            last true ends true here h = record { c = c; byte = x; o = o; is = refl; ce = e; cycle = q; opens = op; ends = ends; here = here; page = cc }
+            last true ends false here h = cc
+            last false ends n here h = cc
+
+program_address : (g : Parts) (t : TailFacts) (byte n lun : ℕ) (c : Command) → is_page_program c ≡ true → address_effect g t byte c n lun ≡ e.Unaffected
+program_address g t byte n lun k.PageProgram h = refl
+program_address g t byte n lun c h = cc
+
+opening_there : (t : List TargetCycle) (o : Opening) → opening t ≡ Some o → is_nil t ≡ false
+opening_there [] o h = cc
+opening_there (d ∷ t) o h = refl
+
+program_addresses_array : (c : Command) (n : ℕ) → (is_page_program c && at_last_row c n) ≡ true → (addresses_the_array c && at_last_row c n) ≡ true
+program_addresses_array k.PageProgram n h = h
+program_addresses_array c n h = cc
+
+program_refuses : (g : Parts) (c : Command) (n : ℕ) (p : PageAddress) (rows : List Queued) → (is_page_program c && at_last_row c n) ≡ true → (at_last_row c n && refused_by g c p rows) ≡ false → some_queued_clashes g false p rows ≡ false
+program_refuses g k.PageProgram n p rows h r = second (at_last_row k.PageProgram n) _ h r
+  where
+    second : (a b : Bool) → a ≡ true → (a && b) ≡ false → b ≡ false
+    second true b h r = r
+    second false b h r = cc
+program_refuses g c n p rows h r = cc
+
+-- what a test says of the named LUN where it isn't broken
+named_test : (g : Parts) (past : List Item) (l : Lun) (row : ℕ) (test : LunView → Bool) → l.lun < g.luns → names_lun g row l.lun ≡ true → named_lun_is g row test (luns_of g past l.ce) ≡ test (lun_view g past l)
+named_test g past l row test low h =
+    let same : (parts_of g row).lun ≡ l.lun = eqb_is _ _ h in
+    ap (λ (n : ℕ). is_some_and test (slice_get (luns_of g past l.ce) n)) same ∙ ap (is_some_and test) (view_at g past l low)
+  where
+    eqb_is : (a b : ℕ) → (a == b) ≡ true → a ≡ b
+    eqb_is a b h = grind (arith, nat_tests)
+
+not_and : (a b : Bool) → a ≡ true → (a && b) ≡ false → b ≡ false
+not_and true b h k = k
+not_and false b h k = cc
+
+-- F9 and F10 at it: the LUN is ready, and its queue goes together with the page
+record Passed (g : Parts) (past : List Item) (l : Lun) (at : PageAddress) : Type 0 where
+  ready : is_busy g past l ≡ false
+  apart : some_queued_clashes g false at (queue g past l) ≡ false
+
+passed : (g : Parts) (n : ℕ) (past : List Item) (i : Item) (l : Lun) (at : PageAddress) → broken g n past i ≡ None → l.lun < g.luns → IsLastAddress g past i l at → Passed g past l at
+unfolding breaks_F9 breaks_F10
+passed g n past i l at h low j =
+    let t = facts_of (tail past l.ce) in
+    let rules = permitted_keeps g n past j.c (sym (ap (broken g n past) j.is) ∙ h) in
+    let same : j.c.ce ≡ l.ce = eqb_is j.c.ce l.ce j.ce in
+    let f9 : breaks_F9 g t (luns_of g past l.ce) (AddressCycle j.byte) ≡ false = subst (λ (k : TargetCycle). breaks_F9 g t (luns_of g past l.ce) k ≡ false) j.cycle (subst (λ (ce : ℕ). breaks_F9 g (facts_of (tail past ce)) (luns_of g past ce) (target_cycle j.c.kind j.c.byte) ≡ false) same rules.f9) in
+    let f10 : breaks_F10 g t (luns_of g past l.ce) (AddressCycle j.byte) ≡ false = subst (λ (k : TargetCycle). breaks_F10 g t (luns_of g past l.ce) k ≡ false) j.cycle (subst (λ (ce : ℕ). breaks_F10 g (facts_of (tail past ce)) (luns_of g past ce) (target_cycle j.c.kind j.c.byte) ≡ false) same rules.f10) in
+    let ends : ends_row addresses_the_array t ≡ true = ap (opened (λ c n. addresses_the_array c && at_last_row c n)) j.opens ∙ program_addresses_array j.o.opener j.o.addresses j.ends in
+    record {
+      ready = sym (named_test g past l (row_with t j.byte) (λ v. v.busy) low j.here) ∙ not_and _ _ ends f9;
+      apart =
+        ap (λ (p : PageAddress). some_queued_clashes g false p (queue g past l)) j.page
+        ∙ program_refuses g j.o.opener j.o.addresses (page_address g (row_with t j.byte)) (queue g past l) j.ends
+        (sym (ap (λ (o : Option Opening). is_refused_by g o (page_address g (row_with t j.byte)) (queue g past l)) j.opens) ∙ (sym (named_test g past l (row_with t j.byte) (λ v. is_refused_by g t.opening (page_address g (row_with t j.byte)) v.queue) low j.here) ∙ f10));
+    }
+  where
+    eqb_is : (a b : ℕ) → (a == b) ≡ true → a ≡ b
+    eqb_is a b h = grind (arith, nat_tests)
+
+address_goes_on : (s : Channel) (past : List Item) (i : Item) (l : Lun) (old new : Die) (at : PageAddress) → IsLastAddress s.geometry past i l at → Passed s.geometry past l at → IsDieOf s past l old → new ≡ record old { planes = filled_by s.geometry (Clears at) old.planes } → IsDieOf s (i ∷ past) l new
+address_goes_on s past i l old new at j ok f w =
+    let g = s.geometry in
+    let t = tail past l.ce in
+    let bytes = replicate (page_len g) 0xff in
+    let registers = set old.planes (at.block % planes g) bytes in
+    let same_tail = tail_on past j.c l.ce (AddressCycle j.byte) j.ce j.cycle refl (opening_there t j.o j.opens) in
+    let same_row : row (facts_of (AddressCycle j.byte ∷ t)) ≡ row_with (facts_of t) j.byte = ap (λ (o : Option Opening). row (record (facts_of t) { row = row_after_address o j.byte (row_bytes t) })) j.opens in
+    let idle : old.busy ≡ false = f.busy ∙ ok.ready in
+    let open_one : HasBytes g (AddressCycle j.byte ∷ t) (with_planes old registers) =
+          record {
+            ready = idle;
+            bytes =
+              ap (λ (r : ℕ). plane_bytes g registers (page_address g r)) same_row
+              ∙ (ap (plane_bytes g registers) (sym j.page)
+              ∙ (get_or-set_same old.planes (at.block % planes g) bytes [] (plane_there s past l old at f)
+              ∙ sym (blank (page_len g) t j.o j.opens)));
+          } in
+    subst (IsDieOf s (i ∷ past) l) (sym w)
+    (register_goes_on s past i l old at bytes
+    (ap (λ (z : Item). effect_on g past z l) j.is ∙ (effect_at g past j.c l (AddressCycle j.byte) j.ce j.cycle
+    ∙ (ap (λ (o : Option Opening). opening_address_effect g (facts_of t) j.byte o l.lun) j.opens ∙ program_address g (facts_of t) j.byte j.o.addresses l.lun j.o.opener (both _ _ j.ends).0)))
+    f idle ok.apart
+    (λ n h. subst (λ (u : List TargetCycle). HasBytes g u (with_planes old registers)) (sym (ap (λ (z : Item). tail (z ∷ past) l.ce) j.is ∙ same_tail)) open_one))
+
+pub dies_go_on : DiesGoOn
+dies_go_on s past i l old new h low fits f w = by (filling s.geometry (facts_of (tail past l.ce)) i l) refl w
+  where
+    by : (x : Filling) → filling s.geometry (facts_of (tail past l.ce)) i l ≡ x → WorkedBy s.geometry x (effect_on s.geometry past i l) old new → IsDieOf s (i ∷ past) l new
+    by Leaves e w = leaves_goes_on s past i l old new e f w
+    by (Clears at) e w =
+        let j = is_last_address s.geometry past i l at e in
+        address_goes_on s past i l old new at j (passed s.geometry s.targets past i l at h low j) f w
+    by (Fills at column byte) e w = input_goes_on s past i l old new at column byte (is_input s.geometry past i l at column byte e) fits f w

@@ -1,0 +1,143 @@
+-- What a cycle makes of the program that a tail opens.
+use Rattle.std.proofs.Common.{◌≡◌, ℕ, ◌==◌, Bool, true, false, ◌&&◌, ◌||◌, cond, List, [], ◌∷◌, Option, Some, None, replicate, refl, sym, ap, ◌∙◌}
+use Rattle.nand_geometry.specs.declared.Parts.{Parts}
+use Rattle.onfi_cycle.specs.declared.Command.{Command}
+use Rattle.onfi_cycle.specs.declared.Command.TheVariants.{PageProgram, ChangeWriteColumn}
+use Rattle.onfi_cycle.specs.declared.DataPhase.{DataPhase}
+use Rattle.onfi_cycle.specs.declared.DataPhase.TheVariants.{Outside, Inputs, FirstColumn, SecondColumn}
+use Rattle.onfi_cycle.specs.declared.Opening.{Opening}
+use Rattle.onfi_cycle.specs.declared.TargetCycle.{TargetCycle}
+use Rattle.onfi_cycle.specs.declared.TargetCycle.TheVariants.{CommandCycle, AddressCycle, InputCycle, OutputCycle}
+use Rattle.onfi_cycle.specs.Command.{is_opener, is_page_program, at_last_row}
+use Rattle.onfi_cycle.specs.Sequence.{with_cycle, continued, opening, opened, one_address_more, data_phase, takes_inputs, wants_column, phase_after_command, phase_after_address, phase_after_input, row_bytes, row_after_address, facts_of, filled, row, row_with, input_column}
+use Rattle.onfi_cycle.specs.Bounds.{names_program}
+use Rattle.onfi_cycle.specs.Effect.{names_lun, page_address}
+use Rattle.onfi_cycle.specs.Rules.{ends_row}
+use Rattle.onfi_cycle.specs.declared.Filling.TheVariants.{Leaves, Clears, Fills}
+use Rattle.onfi_cycle.specs.Filling.{cycle_filling}
+
+abbrev is_data : DataPhase → Bool
+is_data p = takes_inputs p || wants_column p
+
+no_data : (c : Command) → is_data (phase_after_command c Outside) ≡ false
+no_data ChangeWriteColumn = refl
+no_data _ = refl
+
+from_data : (c : Command) (p : DataPhase) → is_data (phase_after_command c p) ≡ true → is_data p ≡ true
+from_data ChangeWriteColumn Inputs h = refl
+from_data ChangeWriteColumn Outside h = cc
+from_data ChangeWriteColumn FirstColumn h = cc
+from_data ChangeWriteColumn SecondColumn h = cc
+from_data _ p h = cc
+
+column_before : (o : Option Opening) (p : DataPhase) → wants_column (phase_after_address o p) ≡ true → wants_column p ≡ true
+column_before o FirstColumn h = refl
+column_before o SecondColumn h = refl
+column_before o Inputs h = cc
+column_before o Outside h = of (opened (λ c n. is_page_program c && n == 4) o) h
+  where
+    of : (b : Bool) → wants_column (cond b Inputs Outside) ≡ true → false ≡ true
+    of true h = h
+    of false h = h
+
+-- a column of the data is no address of an opener
+pub no_opening : (t : List TargetCycle) → wants_column (data_phase t) ≡ true → opening t ≡ None
+no_opening [] h = cc
+no_opening (CommandCycle c ∷ []) h = let e = no_data c in let x : false ≡ true = columns (phase_after_command c Outside) e h in cc
+  where
+    columns : (p : DataPhase) → is_data p ≡ false → wants_column p ≡ true → false ≡ true
+    columns Outside e h = h
+    columns Inputs e h = h
+    columns FirstColumn e h = sym e
+    columns SecondColumn e h = sym e
+no_opening (CommandCycle c ∷ (d ∷ t)) h = refl
+no_opening (AddressCycle byte ∷ t) h = ap one_address_more (no_opening t (column_before (opening t) (data_phase t) h))
+no_opening (InputCycle byte ∷ t) h = refl
+no_opening (OutputCycle ∷ t) h = refl
+
+-- before the first input nothing is filled
+pub blank : (len : ℕ) (t : List TargetCycle) (o : Opening) → opening t ≡ Some o → filled len t ≡ replicate len 0xff
+blank len [] o h = refl
+blank len (CommandCycle c ∷ []) o h = refl
+blank len (CommandCycle c ∷ (d ∷ t)) o h = cc
+blank len (AddressCycle byte ∷ t) o h = of (opening t) refl h (λ q e. blank len t q e)
+  where
+    of : (q : Option Opening) → opening t ≡ q → one_address_more q ≡ Some o → ((q : Opening) → opening t ≡ Some q → filled len t ≡ replicate len 0xff) → filled len t ≡ replicate len 0xff
+    of None e h f = cc
+    of (Some q) e h f = f q e
+blank len (InputCycle byte ∷ t) o h = cc
+blank len (OutputCycle ∷ t) o h = cc
+
+-- a program that was open before stays as it was
+pub record Stays (len : ℕ) (t u : List TargetCycle) : Type 0 where
+  pub named : names_program (facts_of t) ≡ true
+  pub same_row : row (facts_of u) ≡ row (facts_of t)
+  pub bytes : filled len u ≡ filled len t
+
+both_of : (a b : Bool) → a ≡ true → b ≡ true → (a && b) ≡ true
+both_of true b h k = k
+both_of false b h k = cc
+
+ends_program : (o : Opening) → (is_page_program o.opener && o.addresses == 4) ≡ true → (is_page_program o.opener && at_last_row o.opener o.addresses) ≡ true
+ends_program o h = of o.opener o.addresses h
+  where
+    of : (c : Command) (n : ℕ) → (is_page_program c && n == 4) ≡ true → (is_page_program c && at_last_row c n) ≡ true
+    of PageProgram n h = h
+    of _ n h = cc
+
+opener_ends : (o : Opening) → (is_page_program o.opener && at_last_row o.opener o.addresses) ≡ true → (is_page_program o.opener && o.addresses == 4) ≡ true
+opener_ends o h = of o.opener o.addresses h
+  where
+    of : (c : Command) (n : ℕ) → (is_page_program c && at_last_row c n) ≡ true → (is_page_program c && n == 4) ≡ true
+    of PageProgram n h = h
+    of _ n h = cc
+
+stays_command : (len : ℕ) (t : List TargetCycle) (c : Command) (b : Bool) → names_program (facts_of (cond b (CommandCycle c ∷ []) (continued (CommandCycle c) t))) ≡ true → Stays len t (cond b (CommandCycle c ∷ []) (continued (CommandCycle c) t))
+stays_command len t c true h = let x : false ≡ true = sym (no_data c) ∙ h in cc
+stays_command len [] c false h = cc
+stays_command len (d ∷ t) c false h = record { named = from_data c (data_phase (d ∷ t)) h; same_row = refl; bytes = refl }
+
+-- an address that begins no data: its row is as before where it belongs to the data
+stays_address : (g : Parts) (len : ℕ) (t : List TargetCycle) (byte lun : ℕ) → cycle_filling g (facts_of t) (AddressCycle byte) lun ≡ Leaves → names_program (facts_of (AddressCycle byte ∷ t)) ≡ true → names_lun g (row (facts_of (AddressCycle byte ∷ t))) lun ≡ true → Stays len t (AddressCycle byte ∷ t)
+stays_address g len t byte lun leaves named is = of (data_phase t) refl named
+  where
+    in_column : wants_column (data_phase t) ≡ true → is_data (data_phase t) ≡ true → Stays len t (AddressCycle byte ∷ t)
+    in_column h d = record { named = d; same_row = ap (λ (o : Option Opening). row (record (facts_of t) { row = row_after_address o byte (row_bytes t) })) (no_opening t h); bytes = refl }
+
+    opens : (o : Option Opening) → opening t ≡ o → opened (λ c n. is_page_program c && n == 4) o ≡ true → Stays len t (AddressCycle byte ∷ t)
+    opens None e h = cc
+    opens (Some o) e h =
+        let ends : ends_row is_page_program (facts_of t) ≡ true = ap (opened (λ c n. is_page_program c && at_last_row c n)) e ∙ ends_program o h in
+        let here : names_lun g (row_with (facts_of t) byte) lun ≡ true = sym (ap (λ (q : Option Opening). names_lun g (row (record (facts_of t) { row = row_after_address q byte (row_bytes t) })) lun) e) ∙ is in
+        let x : Clears (page_address g (row_with (facts_of t) byte)) ≡ Leaves = sym (ap (λ (b : Bool). cond b (Clears (page_address g (row_with (facts_of t) byte))) Leaves) (both_of _ _ ends here)) ∙ leaves in
+        cc
+
+    last : (b : Bool) → opened (λ c n. is_page_program c && n == 4) (opening t) ≡ b → is_data (cond b Inputs Outside) ≡ true → Stays len t (AddressCycle byte ∷ t)
+    last true e h = opens (opening t) refl e
+    last false e h = cc
+
+    of : (p : DataPhase) → data_phase t ≡ p → is_data (phase_after_address (opening t) p) ≡ true → Stays len t (AddressCycle byte ∷ t)
+    of Outside e h = last (opened (λ c n. is_page_program c && n == 4) (opening t)) refl h
+    of Inputs e h = cc
+    of FirstColumn e h = in_column (ap wants_column e) (ap is_data e)
+    of SecondColumn e h = in_column (ap wants_column e) (ap is_data e)
+
+stays_input : (g : Parts) (len : ℕ) (t : List TargetCycle) (byte lun : ℕ) → cycle_filling g (facts_of t) (InputCycle byte) lun ≡ Leaves → names_program (facts_of (InputCycle byte ∷ t)) ≡ true → names_lun g (row (facts_of t)) lun ≡ true → Stays len t (InputCycle byte ∷ t)
+stays_input g len t byte lun leaves named is = of (data_phase t) refl named
+  where
+    of : (p : DataPhase) → data_phase t ≡ p → is_data (phase_after_input p) ≡ true → Stays len t (InputCycle byte ∷ t)
+    of Inputs e h =
+        let x : Fills (page_address g (row (facts_of t))) (input_column (facts_of t)) byte ≡ Leaves = sym (ap (λ (b : Bool). cond b (Fills (page_address g (row (facts_of t))) (input_column (facts_of t)) byte) Leaves) (both_of _ _ (ap takes_inputs e) is)) ∙ leaves in
+        cc
+    of Outside e h = cc
+    of FirstColumn e h = cc
+    of SecondColumn e h = cc
+
+pub stays : (g : Parts) (len : ℕ) (t : List TargetCycle) (cycle : TargetCycle) (lun : ℕ) → cycle_filling g (facts_of t) cycle lun ≡ Leaves → names_program (facts_of (with_cycle cycle t)) ≡ true → names_lun g (row (facts_of (with_cycle cycle t))) lun ≡ true → Stays len t (with_cycle cycle t)
+stays g len t (CommandCycle c) lun leaves named is = stays_command len t c (is_opener c) named
+stays g len [] (AddressCycle byte) lun leaves named is = cc
+stays g len (d ∷ t) (AddressCycle byte) lun leaves named is = stays_address g len (d ∷ t) byte lun leaves named is
+stays g len [] (InputCycle byte) lun leaves named is = cc
+stays g len (d ∷ t) (InputCycle byte) lun leaves named is = stays_input g len (d ∷ t) byte lun leaves named is
+stays g len [] OutputCycle lun leaves named is = cc
+stays g len (d ∷ t) OutputCycle lun leaves named is = cc

@@ -1,0 +1,301 @@
+-- A permitted item works on one LUN at most; and what a running state keeps to.
+use Rattle.std.proofs.Common.{◌≡◌, ◌≢◌, ℕ, zero, suc, ◌+◌, ◌<◌, ◌≤◌, ◌==◌, Bool, true, false, ◌&&◌, ◌||◌, cond, not, ltb, List, [], ◌∷◌, Option, Some, None, refl, sym, ap, ◌∙◌, arith, subst, eqb-true, length}
+use Rattle.std.proofs.lemmas.Bool.Decides.{nat_tests}
+use Rattle.std.specs.List.{slice_get, All}
+use Rattle.std.proofs.lemmas.Option.{slice_get_within, get_or_from_slice_get}
+use Rattle.nand_geometry.specs.declared.Parts.{Parts}
+use Rattle.nand_geometry.specs.Limits.{InLimits}
+use Rattle.nand_geometry.specs.Row.{parts_of}
+use Rattle.onfi_cycle.specs.declared.Command.{Command}
+use Rattle.onfi_cycle.specs.declared.Command.TheVariants.{Read, ChangeReadColumnConfirm, ReadStatus, ReadStatusEnhanced, PageProgram, ReadId, ReadParameterPage, Reset, ReadCacheSequential, ReadCacheEnd}
+use Rattle.onfi_cycle.specs.declared.Cycle.{Cycle}
+use Rattle.onfi_cycle.specs.declared.Effect.{Effect}
+use Rattle.onfi_cycle.specs.declared.Effect.TheVariants.{Unaffected, SelectedForStatus, Deselected, IdRead, ParameterPageReadStarted, CacheReadContinued, CacheReadEnded, ReadColumnChanged, DataOutput, BecameReady, ArrayBecameReady}
+use Rattle.onfi_cycle.specs.declared.Filling.{Filling}
+use Rattle.onfi_cycle.specs.declared.Filling.TheVariants.{Leaves, Clears, Fills}
+use Rattle.onfi_cycle.specs.declared.Item.{Item}
+use Rattle.onfi_cycle.specs.declared.Item.TheVariants.{Cyc, Rdy, Ard}
+use Rattle.onfi_cycle.specs.declared.Latch.{Latch}
+use Rattle.onfi_cycle.specs.declared.Latch.TheVariants.{Off}
+use Rattle.onfi_cycle.specs.declared.Lun.{Lun}
+use Rattle.onfi_cycle.specs.declared.Opening.{Opening}
+use Rattle.onfi_cycle.specs.declared.TailFacts.{TailFacts}
+use Rattle.onfi_cycle.specs.declared.TargetCycle.{TargetCycle}
+use Rattle.onfi_cycle.specs.declared.TargetCycle.TheVariants.{CommandCycle, AddressCycle, InputCycle, OutputCycle}
+use Rattle.onfi_cycle.specs.LunView.{LunView}
+use Rattle.onfi_cycle.specs.Command.{is_page_program, at_last_row, is_opener, address_cycles, takes_address, reads_identity}
+use Rattle.onfi_cycle.specs.Sequence.{target_of, target_cycle, tail, facts_of, opened, takes_inputs, wants_command, wants_address, wants_column, row, row_with, input_column}
+use Rattle.onfi_cycle.specs.Effect.{is_off, is_data, names_lun, page_address, confirm_effect, command_effect, address_effect, opening_address_effect, cycle_effect}
+use Rattle.onfi_cycle.specs.Filling.{cycle_filling, filling}
+use Rattle.onfi_cycle.specs.Lun.{latch, latch_alone, drivers, is_only, effect_on, lun_view, luns_of}
+use Rattle.onfi_cycle.specs.Rules.{ends_row, breaks_F4}
+use Rattle.onfi_cycle.specs.Permitted.{broken, judge}
+use Rattle.onfi_cycle.specs.State.{BusView, TargetView, Follows, target_view}
+use Rattle.onfi_cycle.specs.Bounds.{LunFits, RowFits, RowStands, EffectFits, LunsFit, TargetFits, BusFits, TailFits, names_identity}
+use Rattle.onfi_cycle.specs.Working.{fills, begins, works_on, IsLun, FactsFit}
+use Rattle.onfi_cycle.proofs.Others.{rests_elsewhere}
+use Rattle.onfi_cycle.proofs.Passed.{KeepsRules, permitted_keeps}
+use Rattle.onfi_cycle.proofs.Keeping.{view_at}
+use Rattle.onfi_cycle.proofs.EffectBounds.{effect_fits, identity_waits}
+use Rattle.onfi_cycle.proofs.Following.{found_target, effect_by_state, effect_elsewhere}
+
+both : (a b : Bool) → (a && b) ≡ true → (a ≡ true) × (b ≡ true)
+both true b h = (refl, h)
+both false b h = cc
+
+same_number : (g : Parts) (r n m : ℕ) → names_lun g r n ≡ true → names_lun g r m ≡ true → n ≡ m
+same_number g r n m a b = sym (eqb-true (parts_of g r).lun n a) ∙ eqb-true (parts_of g r).lun m b
+
+-- of two LUNs of a target, what each kind of cycle asks
+record MayShare (g : Parts) (t : TailFacts) (la lb : Latch) (cycle : TargetCycle) (n m : ℕ) : Type 0 where
+  identity : names_identity t ≡ true → n ≡ m
+  reset : breaks_F4 g cycle ≡ false → cycle ≡ CommandCycle Reset → n ≡ m
+  driver : is_off la ≡ false → is_off lb ≡ false → n ≡ m
+  outside : wants_column t.phase ≡ true → t.opening ≡ None
+
+-- what a test of one of two effects says
+chosen : (b : Bool) (x : Effect) → begins (cond b x Unaffected) ≡ true → b ≡ true
+chosen true x h = refl
+chosen false x h = cc
+
+unless : (b : Bool) (x : Effect) → begins (cond b Unaffected x) ≡ true → b ≡ false
+unless true x h = cc
+unless false x h = refl
+
+one_of_command : (g : Parts) (t : TailFacts) (la lb : Latch) (c : Command) (n m : ℕ) → breaks_F4 g (CommandCycle c) ≡ false → MayShare g t la lb (CommandCycle c) n m → begins (command_effect g t la c n) ≡ true → begins (command_effect g t lb c m) ≡ true → n ≡ m
+one_of_command g t la lb Read n m f4 s a b = cc
+one_of_command g t la lb ReadStatus n m f4 s a b = cc
+one_of_command g t la lb ReadStatusEnhanced n m f4 s a b = cc
+one_of_command g t la lb Reset n m f4 s a b = s.reset f4 refl
+one_of_command g t la lb ReadCacheSequential n m f4 s a b = s.driver (unless (is_off la) CacheReadContinued a) (unless (is_off lb) CacheReadContinued b)
+one_of_command g t la lb ReadCacheEnd n m f4 s a b = s.driver (unless (is_off la) CacheReadEnded a) (unless (is_off lb) CacheReadEnded b)
+one_of_command g t la lb ChangeReadColumnConfirm n m f4 s a b = let no = nothing (wants_command t ChangeReadColumnConfirm && not (is_off la)) a in cc
+  where
+    nothing : (b : Bool) → begins (cond b (ReadColumnChanged t.column) Unaffected) ≡ true → false ≡ true
+    nothing true h = h
+    nothing false h = h
+one_of_command g t la lb c n m f4 s a b =
+    same_number g (row t) n m
+    (both (wants_command t c) _ (chosen (wants_command t c && names_lun g (row t) n) (confirm_effect g t c) a)).1
+    (both (wants_command t c) _ (chosen (wants_command t c && names_lun g (row t) m) (confirm_effect g t c) b)).1
+
+-- an address clears the register of the LUN that its row names, or is that of an identity
+filled_when : (b : Bool) (x : Filling) → fills (cond b x Leaves) ≡ true → b ≡ true
+filled_when true x h = refl
+filled_when false x h = cc
+
+is_identity : (g : Parts) (t : TailFacts) (byte n : ℕ) → (wants_column t.phase ≡ true → t.opening ≡ None) → begins (opening_address_effect g t byte t.opening n) ≡ true → names_identity t ≡ true
+is_identity g t byte n alone h = at t.opening refl h
+  where
+    outside : (o : Opening) → t.opening ≡ Some o → (b : Bool) → wants_column t.phase ≡ b → wants_column t.phase ≡ false
+    outside o is true e = let none = alone e in cc
+    outside o is false e = e
+
+    selects : (b d : Bool) → begins (cond b (cond d SelectedForStatus Deselected) Unaffected) ≡ true → false ≡ true
+    selects true true h = h
+    selects true false h = h
+    selects false d h = h
+
+    kind : (c : Command) (k : ℕ) → begins (address_effect g t byte c k n) ≡ true → (reads_identity c ≡ true) × (wants_address t byte ≡ true)
+    kind ReadStatusEnhanced k h = let no = selects (k == 2) (names_lun g (row_with t byte) n) h in cc
+    kind ReadId k h = (refl, chosen (wants_address t byte) IdRead h)
+    kind ReadParameterPage k h = (refl, chosen (wants_address t byte) ParameterPageReadStarted h)
+    kind c k h = cc
+
+    at : (o : Option Opening) → t.opening ≡ o → begins (opening_address_effect g t byte o n) ≡ true → names_identity t ≡ true
+    at None e h = cc
+    at (Some o) e h = let k = kind o.opener o.addresses h in identity_waits t byte o e (outside o e (wants_column t.phase) refl) k.0 k.1
+
+not_both : (t : TailFacts) → ends_row is_page_program t ≡ true → names_identity t ≡ true → false ≡ true
+not_both t a b = at t.opening a b
+  where
+    of : (c : Command) (k : ℕ) → (is_page_program c && at_last_row c k) ≡ true → (reads_identity c && k == 0) ≡ true → false ≡ true
+    of PageProgram k a b = b
+    of _ k a b = a
+
+    at : (o : Option Opening) → opened (λ c n. is_page_program c && at_last_row c n) o ≡ true → opened (λ c n. reads_identity c && n == 0) o ≡ true → false ≡ true
+    at None a b = a
+    at (Some o) a b = of o.opener o.addresses a b
+
+either : {A : Type 0} (a b : Bool) → (a || b) ≡ true → (a ≡ true → A) → (b ≡ true → A) → A
+either true b h f k = f refl
+either false b h f k = k h
+
+one_of_address : (g : Parts) (t : TailFacts) (la lb : Latch) (byte n m : ℕ) → MayShare g t la lb (AddressCycle byte) n m → (fills (cycle_filling g t (AddressCycle byte) n) || begins (cycle_effect g t la (AddressCycle byte) n)) ≡ true → (fills (cycle_filling g t (AddressCycle byte) m) || begins (cycle_effect g t lb (AddressCycle byte) m)) ≡ true → n ≡ m
+one_of_address g t la lb byte n m s a b =
+    either _ _ a
+    (λ x. either _ _ b (λ y. same_number g (row_with t byte) n m (cleared n x).1 (cleared m y).1) (λ y. let no = not_both t (cleared n x).0 (is_identity g t byte m s.outside y) in cc))
+    (λ x. s.identity (is_identity g t byte n s.outside x))
+  where
+    cleared : (k : ℕ) → fills (cycle_filling g t (AddressCycle byte) k) ≡ true → (ends_row is_page_program t ≡ true) × (names_lun g (row_with t byte) k ≡ true)
+    cleared k h = both _ _ (filled_when (ends_row is_page_program t && names_lun g (row_with t byte) k) (Clears (page_address g (row_with t byte))) h)
+
+one_of_input : (g : Parts) (t : TailFacts) (byte n m : ℕ) → fills (cycle_filling g t (InputCycle byte) n) ≡ true → fills (cycle_filling g t (InputCycle byte) m) ≡ true → n ≡ m
+one_of_input g t byte n m a b = same_number g (row t) n m (named n a) (named m b)
+  where
+    named : (k : ℕ) → fills (cycle_filling g t (InputCycle byte) k) ≡ true → names_lun g (row t) k ≡ true
+    named k h = (both (takes_inputs t.phase) _ (filled_when (takes_inputs t.phase && names_lun g (row t) k) (Fills (page_address g (row t)) (input_column t) byte) h)).1
+
+or_false : (b : Bool) → (b || false) ≡ true → b ≡ true
+or_false true h = refl
+or_false false h = cc
+
+no_output : (la : Latch) → begins (cond (is_data la) DataOutput Unaffected) ≡ true → false ≡ true
+no_output la h = of (is_data la) h
+  where
+    of : (b : Bool) → begins (cond b DataOutput Unaffected) ≡ true → false ≡ true
+    of true h = h
+    of false h = h
+
+abbrev works_by : Parts → TailFacts → Latch → TargetCycle → ℕ → Bool
+works_by g t la cycle n = fills (cycle_filling g t cycle n) || begins (cycle_effect g t la cycle n)
+
+one_of_cycle : (g : Parts) (t : TailFacts) (la lb : Latch) (cycle : TargetCycle) (n m : ℕ) → breaks_F4 g cycle ≡ false → MayShare g t la lb cycle n m → works_by g t la cycle n ≡ true → works_by g t lb cycle m ≡ true → n ≡ m
+one_of_cycle g t la lb (CommandCycle c) n m f4 s a b = one_of_command g t la lb c n m f4 s a b
+one_of_cycle g t la lb (AddressCycle byte) n m f4 s a b = one_of_address g t la lb byte n m s a b
+one_of_cycle g t la lb (InputCycle byte) n m f4 s a b = one_of_input g t byte n m (or_false _ a) (or_false _ b)
+one_of_cycle g t la lb OutputCycle n m f4 s a b = let no = no_output la a in cc
+
+-- two that are the only one
+one_only : (ds : List ℕ) (n m : ℕ) → is_only ds n ≡ true → is_only ds m ≡ true → n ≡ m
+one_only [] n m a b = cc
+one_only (d ∷ []) n m a b = sym (eqb-true d n a) ∙ eqb-true d m b
+one_only (d ∷ (e ∷ ds)) n m a b = cc
+
+alone_is_only : (g : Parts) (past : List Item) (l : Lun) → is_off (latch_alone g past l) ≡ false → is_only (drivers g past l.ce) l.lun ≡ true
+alone_is_only g past l h = of (is_only (drivers g past l.ce) l.lun) h
+  where
+    of : (b : Bool) → is_off (cond b (latch g past l) Off) ≡ false → b ≡ true
+    of true h = refl
+    of false h = cc
+
+-- where an item works, it happens on the target
+cycle_of : (g : Parts) (past : List Item) (c : Cycle) (l : Lun) → works_on g past (Cyc c) l ≡ true → (c.ce ≡ l.ce) × (works_by g (facts_of (tail past l.ce)) (latch_alone g past l) (target_cycle c.kind c.byte) l.lun ≡ true)
+unfolding effect_on
+cycle_of g past c l h = at (c.ce == l.ce) refl h
+  where
+    at : (b : Bool) → (c.ce == l.ce) ≡ b → (fills (cond b (cycle_filling g (facts_of (tail past l.ce)) (target_cycle c.kind c.byte) l.lun) Leaves) || begins (cond b (cycle_effect g (facts_of (tail past l.ce)) (latch_alone g past l) (target_cycle c.kind c.byte) l.lun) Unaffected)) ≡ true → (c.ce ≡ l.ce) × (works_by g (facts_of (tail past l.ce)) (latch_alone g past l) (target_cycle c.kind c.byte) l.lun ≡ true)
+    at true e h = (eqb-true c.ce l.ce e, h)
+    at false e h = cc
+
+ready_rests : (g : Parts) (past : List Item) (i : Item) (l : Lun) → works_on g past i l ≡ true → (c : Cycle) × (i ≡ Cyc c)
+unfolding effect_on
+ready_rests g past (Cyc c) l h = (c, refl)
+ready_rests g past (Rdy ce lun fail) l h = let no = of (ce == l.ce && lun == l.lun) h in cc
+  where
+    of : (b : Bool) → begins (cond b (BecameReady fail) Unaffected) ≡ true → false ≡ true
+    of true h = h
+    of false h = h
+ready_rests g past (Ard ce lun) l h = let no = of (ce == l.ce && lun == l.lun) h in cc
+  where
+    of : (b : Bool) → begins (cond b ArrayBecameReady Unaffected) ≡ true → false ≡ true
+    of true h = h
+    of false h = h
+
+few_luns : (g : Parts) (cycle : TargetCycle) → breaks_F4 g cycle ≡ false → cycle ≡ CommandCycle Reset → g.luns ≤ 1
+unfolding breaks_F4
+few_luns g (CommandCycle Reset) f4 e = let low : ltb 1 g.luns ≡ false = f4 in grind (arith, nat_tests)
+few_luns g cycle f4 e = cc
+
+-- what a state that fits knows of one of its LUNs
+record Known (g : Parts) (past : List Item) (l : Lun) : Type 0 where
+  tail_fits : TailFits g (facts_of (tail past l.ce))
+  lun : LunFits g (lun_view g past l)
+  row : RowFits g (facts_of (tail past l.ce)) l.lun (lun_view g past l)
+  stands : RowStands g (facts_of (tail past l.ce)) l.lun (lun_view g past l)
+
+record AtPlace (g : Parts) (t : TailFacts) (n : ℕ) (v : LunView) : Type 0 where
+  lun : LunFits g v
+  row : RowFits g t n v
+  stands : RowStands g t n v
+
+at_place : (g : Parts) (t : TailFacts) (n : ℕ) (vs : List LunView) (k : ℕ) (v : LunView) → LunsFit g t n vs → slice_get vs k ≡ Some v → AtPlace g t (n + k) v
+at_place g t n [] k v f found = cc
+at_place g t n (x ∷ vs) zero v f found =
+    let same : x ≡ v = cc in
+    let here : n ≡ n + 0 = omega arith in
+    subst (λ (k : ℕ). AtPlace g t k v) here (subst (AtPlace g t n) same (record { lun = f.0; row = f.1; stands = f.2 }))
+at_place g t n (x ∷ vs) (suc k) v f found =
+    let later : n + 1 + k ≡ n + suc k = omega arith in
+    subst (λ (j : ℕ). AtPlace g t j v) later (at_place g t (n + 1) vs k v f.3 found)
+
+target_fits_at : (g : Parts) (targets : List TargetView) (k : ℕ) (v : TargetView) → All (TargetFits g) targets → slice_get targets k ≡ Some v → TargetFits g v
+target_fits_at g targets k v all found =
+    subst (TargetFits g) (get_or_from_slice_get targets k v v found) (all k v (slice_get_within targets k v found))
+
+known : (g : Parts) (n : ℕ) (s : BusView) (past : List Item) (l : Lun) → BusFits s → Follows g n s past → IsLun g n l → Known g past l
+known g n s past l fits f there =
+    let target = subst (λ (x : Parts). TargetFits x (target_view g past l.ce)) f.geometry (target_fits_at s.geometry s.targets l.ce (target_view g past l.ce) fits.targets (found_target g n s past l.ce f there.target)) in
+    let zeroth : 0 + l.lun ≡ l.lun = omega arith in
+    let place = subst (λ (k : ℕ). AtPlace g (facts_of (tail past l.ce)) k (lun_view g past l)) zeroth (at_place g (facts_of (tail past l.ce)) 0 (luns_of g past l.ce) l.lun (lun_view g past l) target.luns (view_at g past l there.lun)) in
+    record { tail_fits = target.tail; lun = place.lun; row = place.row; stands = place.stands }
+
+same_ce : (l m : Lun) → l.ce ≡ m.ce → l.lun ≡ m.lun → l ≡ m
+same_ce l m a b = rw (a, b) refl
+
+one_of_cycles : (g : Parts) (n : ℕ) (s : BusView) (past : List Item) (c : Cycle) (l m : Lun) → BusFits s → Follows g n s past → IsLun g n l → IsLun g n m → broken g n past (Cyc c) ≡ None → works_on g past (Cyc c) l ≡ true → works_on g past (Cyc c) m ≡ true → l ≡ m
+one_of_cycles g n s past c l m fits f there also h a b =
+    let x = cycle_of g past c l a in
+    let y = cycle_of g past c m b in
+    let keeps = permitted_keeps g n past c h in
+    let together : m.ce ≡ l.ce = sym y.0 ∙ x.0 in
+    let t = facts_of (tail past l.ce) in
+    let stands = (known g n s past l fits f there).stands in
+    let other : RowStands g t m.lun (lun_view g past m) = subst (λ (ce : ℕ). RowStands g (facts_of (tail past ce)) m.lun (lun_view g past m)) together (known g n s past m fits f also).stands in
+    let works : works_by g t (latch_alone g past m) (target_cycle c.kind c.byte) m.lun ≡ true = subst (λ (ce : ℕ). works_by g (facts_of (tail past ce)) (latch_alone g past m) (target_cycle c.kind c.byte) m.lun ≡ true) together y.1 in
+    let tf = (known g n s past l fits f there).tail_fits in
+    same_ce l m (sym together)
+    (one_of_cycle g t (latch_alone g past l) (latch_alone g past m) (target_cycle c.kind c.byte) l.lun m.lun keeps.f4
+    (record {
+      identity = λ i. stands.alone i ∙ sym (other.alone i);
+      reset = λ f4 e. let few = few_luns g (target_cycle c.kind c.byte) f4 e in let low = there.lun in let low' = also.lun in omega arith;
+      driver = λ p q. one_only (drivers g past l.ce) l.lun m.lun (alone_is_only g past l p) (subst (λ (ce : ℕ). is_only (drivers g past ce) m.lun ≡ true) together (alone_is_only g past m q));
+      outside = tf.in_column;
+    })
+    x.1 works)
+
+elsewhere_fits : (g : Parts) (past : List Item) (i : Item) (l : Lun) → target_of i ≢ l.ce → EffectFits g (lun_view g past l) (effect_on g past i l)
+elsewhere_fits g past i l ne = subst (EffectFits g (lun_view g past l)) (effect_elsewhere g past i l ne) tt
+
+effect_comes : (g : Parts) (n : ℕ) (s : BusView) (past : List Item) (i : Item) (l : Lun) → BusFits s → Follows g n s past → IsLun g n l → broken g n past i ≡ None → EffectFits g (lun_view g past l) (effect_on g past i l)
+effect_comes g n s past i l fits f there h = at (target_of i == l.ce) refl
+  where
+    limits : InLimits g
+    limits = subst InLimits f.geometry fits.limits
+
+    here : (m : Lun) → IsLun g n m → target_of i ≡ m.ce → EffectFits g (lun_view g past m) (effect_on g past i m)
+    here m at e =
+        let place : Lun = record { ce = target_of i; lun = m.lun } in
+        let same : place ≡ m = rw e refl in
+        let is : IsLun g n place = subst (IsLun g n) (sym same) at in
+        let k = known g n s past place fits f is in
+        subst (λ (x : Lun). EffectFits g (lun_view g past x) (effect_on g past i x)) same
+        (subst (EffectFits g (lun_view g past place)) (sym (effect_by_state g past i m.lun at.lun))
+        (effect_fits g limits n (facts_of (tail past (target_of i))) (luns_of g past (target_of i)) i m.lun (lun_view g past place) h k.tail_fits k.row k.stands (view_at g past place at.lun)))
+
+    at : (b : Bool) → (target_of i == l.ce) ≡ b → EffectFits g (lun_view g past l) (effect_on g past i l)
+    at true e = here l there (eqb-true (target_of i) l.ce e)
+    at false e = let ne : target_of i ≢ l.ce = grind (arith, nat_tests) in elsewhere_fits g past i l ne
+
+-- what a state that fits and follows a past keeps to
+pub facts_fit : (g : Parts) (n : ℕ) (s : BusView) (past : List Item) → BusFits s → Follows g n s past → FactsFit g n past
+facts_fit g n s past fits f =
+    record {
+      limits = subst InLimits f.geometry fits.limits;
+      lun = λ l there. (known g n s past l fits f there).lun;
+      row = λ l there. (known g n s past l fits f there).row;
+      stands = λ l there. (known g n s past l fits f there).stands;
+      effect = λ i l there h. effect_comes g n s past i l fits f there h;
+      one = λ i l m there also h a b.
+          let c = ready_rests g past i l a in
+          one_of_cycles g n s past c.0 l m fits f there also
+          (sym (ap (broken g n past) c.1) ∙ h)
+          (sym (ap (λ (x : Item). works_on g past x l) c.1) ∙ a)
+          (sym (ap (λ (x : Item). works_on g past x m) c.1) ∙ b);
+    }
+
+-- what an item does to the page registers, by the state and by the past
+pub filling_there : (g : Parts) (n : ℕ) (s : BusView) (past : List Item) (i : Item) (l : Lun) (v : TargetView) → Follows g n s past → l.ce < n → slice_get s.targets l.ce ≡ Some v → filling s.geometry v.tail i l ≡ filling g (facts_of (tail past l.ce)) i l
+filling_there g n s past i l v f here found =
+    let same : v ≡ target_view g past l.ce = let two = found_target g n s past l.ce f here in cc in
+    ap (λ (x : Parts). filling x v.tail i l) f.geometry ∙ ap (λ (x : TargetView). filling g x.tail i l) same

@@ -1,0 +1,50 @@
+-- At which LUN an item works, and what is true wherever a running state follows its past.
+use Rattle.std.specs.Prelude.{◌≡◌, ℕ, ◌<◌, Bool, true, false, ◌||◌, List, None}
+use Rattle.nand_geometry.specs.declared.Parts.{Parts}
+use Rattle.nand_geometry.specs.Limits.{InLimits}
+use Rattle.onfi_cycle.specs.declared.Effect.{Effect}
+use Rattle.onfi_cycle.specs.declared.Effect.TheVariants.{ReadStarted, EraseStarted, ProgramStarted, IdRead, ParameterPageReadStarted, CacheReadContinued, CacheReadEnded, ResetStarted}
+use Rattle.onfi_cycle.specs.declared.Filling.{Filling}
+use Rattle.onfi_cycle.specs.declared.Filling.TheVariants.{Leaves, Clears, Fills}
+use Rattle.onfi_cycle.specs.declared.Item.{Item}
+use Rattle.onfi_cycle.specs.declared.Lun.{Lun}
+use Rattle.onfi_cycle.specs.Sequence.{tail, facts_of}
+use Rattle.onfi_cycle.specs.Filling.{filling}
+use Rattle.onfi_cycle.specs.Lun.{effect_on, lun_view}
+use Rattle.onfi_cycle.specs.Permitted.{broken}
+use Rattle.onfi_cycle.specs.Bounds.{LunFits, RowFits, RowStands, EffectFits}
+
+abbrev pub fills : Filling → Bool
+fills Leaves = false
+fills (Clears at) = true
+fills (Fills at column byte) = true
+
+-- the effect begins work
+abbrev pub begins : Effect → Bool
+begins (ReadStarted _ _) = true
+begins (EraseStarted _ _) = true
+begins (ProgramStarted _ _) = true
+begins IdRead = true
+begins ParameterPageReadStarted = true
+begins CacheReadContinued = true
+begins CacheReadEnded = true
+begins ResetStarted = true
+begins _ = false
+
+-- the item begins work on the LUN, or changes a page register of it
+abbrev pub works_on : Parts → List Item → Item → Lun → Bool
+works_on g past i l = fills (filling g (facts_of (tail past l.ce)) i l) || begins (effect_on g past i l)
+
+-- a LUN of a channel with so many targets
+pub record IsLun (g : Parts) (targets : ℕ) (l : Lun) : Type 0 where
+  pub target : l.ce < targets
+  pub lun : l.lun < g.luns
+
+-- the facts of each LUN fit, a permitted item comes where its effect can, and works on one LUN at most
+pub record FactsFit (g : Parts) (targets : ℕ) (past : List Item) : Type 0 where
+  pub limits : InLimits g
+  pub lun : (l : Lun) → IsLun g targets l → LunFits g (lun_view g past l)
+  pub row : (l : Lun) → IsLun g targets l → RowFits g (facts_of (tail past l.ce)) l.lun (lun_view g past l)
+  pub stands : (l : Lun) → IsLun g targets l → RowStands g (facts_of (tail past l.ce)) l.lun (lun_view g past l)
+  pub effect : (i : Item) (l : Lun) → IsLun g targets l → broken g targets past i ≡ None → EffectFits g (lun_view g past l) (effect_on g past i l)
+  pub one : (i : Item) (l m : Lun) → IsLun g targets l → IsLun g targets m → broken g targets past i ≡ None → works_on g past i l ≡ true → works_on g past i m ≡ true → l ≡ m

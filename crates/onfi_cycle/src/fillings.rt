@@ -1,0 +1,63 @@
+//! What an item does to the page registers of a LUN, by the facts of its target's tail.
+ghost use Rattle.std.specs.Prelude.{◌≡◌, ◌<◌, ◌^◌};
+ghost use Rattle.onfi_cycle.specs.Rules.{ends_row};
+ghost use Rattle.onfi_cycle.specs.Command.{is_page_program};
+ghost use Rattle.onfi_cycle.specs.Filling.{filling, cycle_filling};
+
+use nand_geometry::Geometry;
+use crate::effects::{names_lun, page_address};
+use crate::sequences::{input_column, row, row_with, takes_inputs, target_cycle};
+use crate::{Command, Filling, Item, Lun, Opening, TailFacts, TargetCycle};
+
+// This address is the last of a program's row.
+fn ends_program_row(t: TailFacts) -> bool
+    ensures { result ≡ ends_row is_page_program t }
+{
+    match t.opening {
+        Some(Opening {
+            opener: Command::PageProgram,
+            addresses,
+        }) => addresses == 4,
+        _ => false,
+    }
+}
+
+// What a cycle of its target does.
+fn cycle_filling(geometry: &Geometry, t: TailFacts, cycle: TargetCycle, lun: u8) -> Filling
+    requires { (t.column < 2 ^ 16) × (t.inputs < 2 ^ 63) }
+    ensures { result ≡ cycle_filling geometry.now t cycle lun }
+{
+    match cycle {
+        TargetCycle::AddressCycle(byte) => {
+            let at = row_with(t, byte);
+            if ends_program_row(t) && names_lun(geometry, at, lun) {
+                Filling::Clears(page_address(geometry, at))
+            } else {
+                Filling::Leaves
+            }
+        }
+        TargetCycle::InputCycle(byte) => {
+            let at = row(t);
+            if takes_inputs(t.phase) && names_lun(geometry, at, lun) {
+                let column = input_column(t);
+                Filling::Fills(page_address(geometry, at), column as usize, byte)
+            } else {
+                Filling::Leaves
+            }
+        }
+        _ => Filling::Leaves,
+    }
+}
+
+/// What an item does to the page registers of a LUN.
+pub fn filling(geometry: &Geometry, t: TailFacts, item: Item, l: Lun) -> Filling
+    requires { (t.column < 2 ^ 16) × (t.inputs < 2 ^ 63) }
+    ensures { result ≡ filling geometry.now t item l }
+{
+    match item {
+        Item::Cyc(c) if c.ce == l.ce => {
+            cycle_filling(geometry, t, target_cycle(c.kind, c.byte), l.lun)
+        }
+        _ => Filling::Leaves,
+    }
+}
