@@ -13,7 +13,8 @@ use Rattle.onfi_cycle.specs.Rules.{has_some, some_queued_clashes}
 use Rattle.die_model.specs.declared.Work.{Work}
 use Rattle.die_model.specs.declared.Work.TheVariants as w
 use Rattle.die_model.specs.Pages.{kept, page_in, is_given}
-use Rattle.die_model.specs.Die.{Die, bytes_taken, plane_bytes, works_of, effect_of, is_row, is_row_of, row_of_work, goes_with, is_reset, members_after, closes, page_to_keep, AreKept, are_erases, are_programs, HasRows, IsDie}
+use Rattle.onfi_cycle.specs.Bounds.{is_row}
+use Rattle.die_model.specs.Die.{Die, bytes_taken, plane_bytes, works_of, effect_of, is_row_of, row_of_work, goes_with, is_reset, members_after, closes, page_to_keep, AreKept, are_erases, are_programs, HasRows, IsDie}
 use Rattle.die_model.proofs.Kept.{Entries, same_parts}
 
 pub not_closed : (reset closed busy : Bool) → (closed ≡ true → busy ≡ true) → (reset || not busy) ≡ true → reset ≡ false → closed ≡ false

@@ -12,6 +12,7 @@ use Rattle.onfi_cycle.specs.declared.Effect.{Effect}
 use Rattle.onfi_cycle.specs.declared.Effect.TheVariants.{ReadStarted, EraseStarted, ProgramStarted, IdRead, ParameterPageReadStarted, CacheReadContinued, CacheReadEnded, ResetStarted}
 use Rattle.onfi_cycle.specs.Lun.{busy_after, array_busy_after, array_page_after, register_after, queue_after}
 use Rattle.onfi_cycle.specs.Content.{ArrayWork, ErasesBlock, ProgramsPage, queued_work_after, pending_work_after, content_after, failed_after, register_bytes}
+use Rattle.onfi_cycle.specs.Bounds.{is_row}
 use Rattle.onfi_cycle.specs.Rules.{is_empty, has_some, some_queued_clashes}
 use Rattle.die_model.specs.declared.Work.{Work}
 use Rattle.die_model.specs.declared.Work.TheVariants as w
@@ -122,10 +123,6 @@ bytes_shown parameters d = register_bytes parameters (page_of d) d.register
 abbrev pub is_new : Die → Bool
 is_new d =
     not d.busy && (not d.array_busy && (not d.caching && (is_empty d.register && (not (has_some d.queued) && (not (has_some d.pending) && not d.failed)))))
-
--- the row is inside the geometry
-abbrev pub is_row : Parts → PageAddress → Bool
-is_row g p = nat_lt p.block g.blocks && nat_lt p.page g.pages
 
 abbrev pub row_of_work : Work → Option PageAddress
 row_of_work (w.Read at) = Some at

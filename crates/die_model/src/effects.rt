@@ -5,7 +5,7 @@ ghost use Rattle.onfi_cycle.specs.declared.PageAddress.{PageAddress as At};
 ghost use Rattle.onfi_cycle.specs.declared.Queued.{Queued as Row};
 ghost use Rattle.onfi_cycle.specs.Content.{left_by, left_by_all};
 ghost use Rattle.die_model.specs.Pages.{kept, page_in};
-ghost use Rattle.die_model.specs.Die.{effect_of, work_begun, is_row, work_of, works_of, AreKept, is_erase, are_erases, are_programs, HasRows, caching_after, members_after, closes, is_reset, page_to_keep};
+ghost use Rattle.die_model.specs.Die.{effect_of, work_begun, work_of, works_of, AreKept, is_erase, are_erases, are_programs, HasRows, caching_after, members_after, closes, is_reset, page_to_keep};
 
 use crate::Work;
 use arrayvec::ArrayVec;

@@ -3,7 +3,6 @@
 
 mod effects;
 mod image;
-pub mod page_registers;
 pub mod laws;
 mod page;
 mod pages;
@@ -20,7 +19,7 @@ use arrayvec::ArrayVec;
 use effects::{caching_after, effect_of, end_works, join, page_to_keep, plane_of, work_begun};
 use nand_geometry::Geometry;
 use onfi_cycle::effects::{array_busy_after, array_page_after, busy_after, register_after};
-use onfi_cycle::{Effect, PageAddress, Queued, Register, Status};
+use onfi_cycle::{Effect, Filling, PageAddress, Queued, Register, Status};
 use page::Page;
 use pages::Pages;
 use std::alloc::{AllocError, Global};
@@ -47,14 +46,6 @@ pub enum Work {
     Cache,
     /// The page that the array has read is put into the register.
     CacheEnd,
-}
-
-/// What an item does to a page register: nothing, or it clears that of the plane of a page, or sets one byte of it.
-#[derive(Clone, Copy, Debug, PartialEq, Eq)]
-pub enum Filling {
-    Leaves,
-    Clears(PageAddress),
-    Fills(PageAddress, usize, u8),
 }
 
 /// One LUN: its pages, its registers, and what its array does.
