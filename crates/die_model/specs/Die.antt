@@ -33,6 +33,23 @@ pub record Die : Type 0 where
   pub pending : List Queued
   pub failed : Bool
 
+-- a die by what is kept of it: one list of rows, which are queued until they are closed
+abbrev pub die_with : Parts → List ((ℕ × ℕ) × List ℕ) → List (List ℕ) → Register → PageAddress → (busy caching array_busy : Bool) → (members : List Queued) → (closed failed : Bool) → Die
+die_with g pages registers register array_page busy caching array_busy members closed failed =
+    record {
+      geometry = g;
+      pages = pages;
+      planes = registers;
+      register = register;
+      array_page = array_page;
+      busy = busy;
+      caching = caching;
+      array_busy = array_busy;
+      queued = if closed then [] else members;
+      pending = if closed then members else [];
+      failed = failed;
+    }
+
 -- the bytes of a page
 abbrev pub page_of : Die → PageAddress → List ℕ
 page_of d p = page_in (page_len d.geometry) d.pages p

@@ -13,6 +13,7 @@ use crate::page::Page;
 use crate::pages::Pages;
 use nand_geometry::Parts;
 use onfi_cycle::{Effect, PageAddress, Queued};
+use std::alloc::Allocator;
 
 /// The effect that a work stands for.
 pub fn effect_of(work: Work) -> Effect
@@ -126,7 +127,7 @@ pub fn plane_of(parts: Parts, at: PageAddress) -> usize
 }
 
 // One row takes effect.
-fn take_one(pages: &mut Pages, parts: Parts, planes: &[Page], row: Queued)
+fn take_one<A: Allocator + Copy>(pages: &mut Pages<A>, parts: Parts, planes: &[Page<A>], row: Queued)
     requires rows { HasRows parts pages.old planes.now }
     requires limits { InLimits parts }
     requires there { AreKept pages.old (row ∷ []) }
@@ -144,7 +145,7 @@ fn take_one(pages: &mut Pages, parts: Parts, planes: &[Page], row: Queued)
 }
 
 /// Rows take effect, the last one of the list first.
-pub fn take_effect(pages: &mut Pages, parts: Parts, planes: &[Page], rows: &[Queued])
+pub fn take_effect<A: Allocator + Copy>(pages: &mut Pages<A>, parts: Parts, planes: &[Page<A>], rows: &[Queued])
     requires rows { HasRows parts pages.old planes.now }
     requires limits { InLimits parts }
     requires there { AreKept pages.old rows.now }
@@ -163,7 +164,7 @@ pub fn take_effect(pages: &mut Pages, parts: Parts, planes: &[Page], rows: &[Que
 }
 
 /// Works end: their rows take effect unless they failed.
-pub fn end_works(pages: &mut Pages, parts: Parts, planes: &[Page], rows: &[Queued], failed: bool)
+pub fn end_works<A: Allocator + Copy>(pages: &mut Pages<A>, parts: Parts, planes: &[Page<A>], rows: &[Queued], failed: bool)
     requires rows { HasRows parts pages.old planes.now }
     requires limits { InLimits parts }
     requires there { AreKept pages.old rows.now }

@@ -3,7 +3,7 @@ ghost use Rattle.std.specs.Prelude.{◌≡◌, ◌++◌, IfOk};
 ghost use Rattle.die_model.specs.Image.{four, are_blank, is_written, entry};
 
 use nand_geometry::{Geometry, RowParts};
-use std::alloc::AllocError;
+use std::alloc::{AllocError, Allocator};
 
 // Every byte is FF.
 fn are_blank(bytes: &[u8]) -> bool
@@ -26,12 +26,12 @@ fn is_written(geometry: &Geometry, block: u32, page: u64, bytes: &[u8]) -> bool
 }
 
 /// Writes the entry of a page, if it has one.
-pub fn write_entry(
+pub fn write_entry<A: Allocator>(
     geometry: &Geometry,
     block: u32,
     page: u64,
     bytes: &[u8],
-    out: &mut Vec<u8>,
+    out: &mut Vec<u8, A>,
 ) -> Result<(), AllocError>
     ensures { IfOk result (λ _. out.new.items ≡ out.old.items ++ entry geometry.now (block, page) bytes.now) }
 {

@@ -22,7 +22,7 @@ use onfi_cycle::effects::{array_busy_after, array_page_after, busy_after, regist
 use onfi_cycle::{Effect, Filling, PageAddress, Queued, Register, Status};
 use page::Page;
 use pages::Pages;
-use std::alloc::{AllocError, Global};
+use std::alloc::{AllocError, Allocator, Global};
 use std::marker::Model;
 
 /// What an array is told to do.
@@ -50,11 +50,11 @@ pub enum Work {
 
 /// One LUN: its pages, its registers, and what its array does.
 #[derive(Drop)]
-pub struct LunDie {
+pub struct LunDie<A: Allocator = Global> {
     geometry: Geometry,
-    pages: Pages,
+    pages: Pages<A>,
     /// The page register of each plane.
-    planes: Vec<Page>,
+    planes: Vec<Page<A>, A>,
     register: Register,
     array_page: PageAddress,
     busy: bool,
@@ -67,13 +67,12 @@ pub struct LunDie {
     failed: bool,
 }
 
-impl Model for LunDie {
-    ghost use Rattle.die_model.specs.Die.{Die, IsDie};
-    ghost use Rattle.std.specs.Prelude.{[], if◌then◌else◌};
+impl<A: Allocator> Model for LunDie<A> {
+    ghost use Rattle.die_model.specs.Die.{Die, IsDie, die_with};
 
     ghost Value = { Die };
 
-    ghost view = { λ d. record { geometry = d.geometry; pages = d.pages; planes = d.planes.items; register = d.register; array_page = d.array_page; busy = d.busy; caching = d.caching; array_busy = d.array_busy; queued = if d.closed then [] else d.members.items; pending = if d.closed then d.members.items else []; failed = d.failed } };
+    ghost view = { λ d. die_with d.geometry d.pages d.planes.items d.register d.array_page d.busy d.caching d.array_busy d.members.items d.closed d.failed };
 
     ghost invariant = { λ d. IsDie d.geometry d.pages d.planes.items d.members.items d.closed d.busy };
 }
@@ -91,7 +90,7 @@ const FAILED: Status = Status(READY.0 | Status::FAIL.0);
 const IDENTIFIER: [u8; 4] = [0x4f, 0x4e, 0x46, 0x49];
 
 // So many registers of FF.
-fn registers(alloc: Global, count: usize, len: usize) -> Result<Vec<Page>, AllocError>
+fn registers<A: Allocator + Copy>(alloc: A, count: usize, len: usize) -> Result<Vec<Page<A>, A>, AllocError>
     ensures { IfOk result (λ v. v.items ≡ replicate count (replicate len 0xff)) }
 {
     let mut all = Vec::new(alloc);
@@ -101,9 +100,9 @@ fn registers(alloc: Global, count: usize, len: usize) -> Result<Vec<Page>, Alloc
     Ok(all)
 }
 
-impl LunDie {
+impl<A: Allocator + Copy> LunDie<A> {
     /// A die fresh from the factory: every byte of every page is FF.
-    pub fn new(alloc: Global, geometry: Geometry) -> Result<LunDie, AllocError>
+    pub fn new(alloc: A, geometry: Geometry) -> Result<LunDie<A>, AllocError>
         ensures { IfOk result (λ d. d ≡ new_die geometry) }
     {
         let _limits = geometry.parts();
@@ -216,14 +215,14 @@ impl LunDie {
     }
 
     /// Begins a work. Without memory for its end all stays as it was.
-    pub fn begin(&mut self, alloc: Global, work: Work) -> Result<(), AllocError>
+    pub fn begin(&mut self, work: Work) -> Result<(), AllocError>
         requires { CanBegin work self.old }
         ensures ok { IfOk result (λ _. IsAfter (effect_of work) self.old self.new) }
         ensures err { OnErr result (self.new ≡ self.old) }
     {
         let effect = effect_of(work);
         let len = self.geometry.page_len() as usize;
-        self.pages.keep_some(alloc, page_to_keep(work), len)?;
+        self.pages.keep_some(page_to_keep(work), len)?;
         self.array_busy = array_busy_after(effect, self.busy, self.caching, self.array_busy);
         self.caching = caching_after(effect, self.caching);
         self.register = register_after(effect, self.array_page, self.register);
@@ -255,7 +254,6 @@ impl LunDie {
     /// Works what an item does, if that is no ready. Without memory for it all stays as it was.
     pub fn work(
         &mut self,
-        alloc: Global,
         filling: Filling,
         effect: Effect,
     ) -> Result<(), AllocError>
@@ -266,7 +264,7 @@ impl LunDie {
         match filling {
             Filling::Leaves => match work_begun(effect) {
                 None => Ok(()),
-                Some(work) => self.begin(alloc, work),
+                Some(work) => self.begin(work),
             },
             Filling::Clears(at) => {
                 self.clear(plane_of(self.geometry().parts(), at));

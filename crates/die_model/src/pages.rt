@@ -10,17 +10,18 @@ use crate::image::write_entry;
 use crate::page::Page;
 use nand_geometry::Geometry;
 use onfi_cycle::PageAddress;
-use std::alloc::{AllocError, Global};
+use std::alloc::{AllocError, Allocator};
 use std::collections::BTreeMap;
 use std::marker::Model;
 
 /// The pages that were programmed, by block and page. Every other page is all FF.
 #[derive(Drop)]
-pub struct Pages {
-    map: BTreeMap<(u32, u64), Page>,
+pub struct Pages<A: Allocator> {
+    alloc: A,
+    map: BTreeMap<(u32, u64), Page<A>, A>,
 }
 
-impl Model for Pages {
+impl<A: Allocator> Model for Pages<A> {
     ghost use Rattle.std.specs.Prelude.{ℕ, List};
 
     ghost Value = { List ((ℕ × ℕ) × List ℕ) };
@@ -28,44 +29,45 @@ impl Model for Pages {
     ghost view = { λ s. s.map.entries };
 }
 
-impl Pages {
+impl<A: Allocator + Copy> Pages<A> {
     /// No page was programmed.
-    pub fn new(alloc: Global) -> Pages
+    pub fn new(alloc: A) -> Pages<A>
         ensures { result ≡ [] }
     {
         Pages {
             map: BTreeMap::new(alloc),
+            alloc,
         }
     }
 
     /// The bytes of a page, if it is kept.
-    pub fn get(&self, at: PageAddress) -> Option<&Page>
+    pub fn get(&self, at: PageAddress) -> Option<&Page<A>>
         ensures { option_copied result ≡ kept self.now at }
     {
         self.map.get(&(at.block, at.page))
     }
 
     /// Keeps a page, FF if it wasn't kept before. Without memory for that all stays as it was.
-    pub fn keep(&mut self, alloc: Global, at: PageAddress, len: usize) -> Result<(), AllocError>
+    pub fn keep(&mut self, at: PageAddress, len: usize) -> Result<(), AllocError>
         ensures kept { IfOk result (λ _. (p : At) → kept self.new p ≡ (if same_page p at then Some (page_in len self.old p) else kept self.old p)) }
         ensures err { OnErr result (self.new ≡ self.old) }
     {
         if self.map.contains_key(&(at.block, at.page)) {
             return Ok(());
         }
-        let page = Page::blank(alloc, len)?;
+        let page = Page::blank(self.alloc, len)?;
         self.map.insert((at.block, at.page), page)?;
         Ok(())
     }
 
     /// Keeps a page, if one is given.
-    pub fn keep_some(&mut self, alloc: Global, at: Option<PageAddress>, len: usize) -> Result<(), AllocError>
+    pub fn keep_some(&mut self, at: Option<PageAddress>, len: usize) -> Result<(), AllocError>
         ensures kept { IfOk result (λ _. (p : At) → kept self.new p ≡ (if is_given p at then Some (page_in len self.old p) else kept self.old p)) }
         ensures err { OnErr result (self.new ≡ self.old) }
     {
         match at {
             None => Ok(()),
-            Some(at) => self.keep(alloc, at, len),
+            Some(at) => self.keep(at, len),
         }
     }
 
@@ -89,7 +91,7 @@ impl Pages {
     }
 
     /// Writes the entries of an image, in the order of their rows.
-    pub fn write_entries(&self, geometry: &Geometry, out: &mut Vec<u8>) -> Result<(), AllocError>
+    pub fn write_entries(&self, geometry: &Geometry, out: &mut Vec<u8, A>) -> Result<(), AllocError>
         ensures { IfOk result (λ _. out.new.items ≡ out.old.items ++ entries_of geometry.now self.now) }
     {
         for (row, page) in &self.map {

@@ -1,15 +1,15 @@
 use Rattle.std.proofs.Common.{◌≡◌, Bool, true, false, [], cond, sym, ap, subst, ◌∙◌, refl}
 use Rattle.onfi_cycle.specs.declared.Effect.TheVariants.{BecameReady}
 use Rattle.die_model.specs.Die.{Die, IsAfter, works_of}
-use Rattle.die_model.specs.contracts.LunDie.{the_view}
+use Rattle.die_model.specs.Die.{die_with}
 use Rattle.die_model.proofs.Begun.{ended_pages, ended_failed}
 use Rattle.die_model.proofs.LunDie.finish.Goals as goal
 
 pub returns-then-self : goal.returns-then-self
-returns-then-self c =
+returns-then-self g c =
     let i = c.self.inside in
     let closed : i.closed ≡ true = c.if-self.true in
-    subst (λ (o : Die). IsAfter (BecameReady c.args.fail) o (the_view (record { geometry = i.geometry; pages = c.end_works.new.pages; planes = i.planes; register = i.register; array_page = i.array_page; busy = false; caching = i.caching; array_busy = c.array_busy_after-self-inside.result; members = c.clear.new.self; closed = false; failed = c.args.fail }))) c.self.view_is
+    subst (λ (o : Die). IsAfter (BecameReady c.args.fail) o (die_with i.geometry c.end_works.new.pages i.planes.items i.register i.array_page false i.caching c.array_busy_after-self-inside.result c.clear.new.self.items false c.args.fail)) c.self.view_is
     (record {
       geometry = refl;
       planes = refl;
