@@ -233,10 +233,11 @@ goes_on g (w.Erase at) closed members h t = sym (ap (λ (b : Bool). goes_with g 
 goes_on g (w.Queue (Erase at)) closed members h t = sym (ap (λ (b : Bool). goes_with g (w.Queue (Erase at)) (cond b [] members)) (h refl)) ∙ t
 goes_on g (w.Queue (Program at)) closed members h t = sym (ap (λ (b : Bool). goes_with g (w.Queue (Program at)) (cond b [] members)) (h refl)) ∙ t
 
-pub die_begun : (g : Parts) (work : Work) (old new : Entries) (registers : List (List ℕ)) (members after : List Queued) (closed closing busy working : Bool) → IsDie g old registers members closed busy → is_row_of g (row_of_work work) ≡ true → goes_with g work (cond closed [] members) ≡ true → (is_reset work ≡ false → closed ≡ false) → Keeps (page_len g) (page_to_keep work) old new → after ≡ members_after work members → closing ≡ closes work → working ≡ busy_after (effect_of work) busy → IsDie g new registers after closing working
-die_begun g work old new registers members after closed closing busy working d row together free k ea ec eb =
+pub die_begun : (g : Parts) (work : Work) (parameters : List ℕ) (old new : Entries) (registers : List (List ℕ)) (members after : List Queued) (closed closing busy working : Bool) → IsDie g parameters old registers members closed busy → is_row_of g (row_of_work work) ≡ true → goes_with g work (cond closed [] members) ≡ true → (is_reset work ≡ false → closed ≡ false) → Keeps (page_len g) (page_to_keep work) old new → after ≡ members_after work members → closing ≡ closes work → working ≡ busy_after (effect_of work) busy → IsDie g parameters new registers after closing working
+die_begun g work parameters old new registers members after closed closing busy working d row together free k ea ec eb =
     record {
       limits = d.limits;
+      copies = d.copies;
       rows = kept_rows g (page_to_keep work) registers old new (row_to_keep g work row) k d.rows;
       there = subst (AreKept new) (sym ea) (kept_begun (page_len g) work old new members k d.there);
       alike = ap (λ (m : List Queued). are_erases m || are_programs m) ea ∙ alike_begun g work members (goes_on g work closed members free together) d.alike;

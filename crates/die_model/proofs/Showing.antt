@@ -1,5 +1,6 @@
 -- What a die shows that stands for its LUN.
 use Rattle.std.proofs.Common.{◌≡◌, ℕ, Bool, true, false, ◌&&◌, not, cond, List, [], ◌∷◌, refl, ap, ◌∙◌}
+use Rattle.nand_geometry.specs.Page.{parameter_bytes}
 use Rattle.onfi_cycle.specs.declared.PageAddress.{PageAddress}
 use Rattle.onfi_cycle.specs.declared.Queued.{Queued}
 use Rattle.onfi_cycle.specs.declared.Register.{Register}
@@ -39,7 +40,9 @@ dies_show =
         ap (λ (b : Bool). cond b 0x80 (cond d.array_busy 0xc0 (cond d.failed 0xe1 0xe0))) f.busy
         ∙ (ap (λ (b : Bool). cond (is_busy s.geometry past l) 0x80 (cond b 0xc0 (cond d.failed 0xe1 0xe0))) f.array_busy
         ∙ ap (λ (b : Bool). cond (is_busy s.geometry past l) 0x80 (cond (is_array_busy s.geometry past l) 0xc0 (cond b 0xe1 0xe0))) f.failed);
-      bytes = λ s past l d f. same_bytes s.parameters (page_of d) (content s.geometry s.opening past l) d.register f.pages ∙ ap (register_bytes s.parameters (content s.geometry s.opening past l)) f.register;
+      bytes = λ s past l d f same.
+          ap (λ (x : List ℕ). register_bytes x (page_of d) d.register) (ap parameter_bytes f.geometry ∙ same)
+          ∙ (same_bytes s.parameters (page_of d) (content s.geometry s.opening past l) d.register f.pages ∙ ap (register_bytes s.parameters (content s.geometry s.opening past l)) f.register);
       first = λ s l d geometry pages new array_page count.
         let a = both (not d.busy) _ new in
         let b = both (not d.array_busy) _ a.1 in

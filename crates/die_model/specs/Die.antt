@@ -3,6 +3,7 @@ use Rattle.std.specs.Prelude.{◌≡◌, ℕ, ◌%◌, ◌^◌, ◌<◌, Bool, t
 use Rattle.std.specs.Option.{IsSome}
 use Rattle.nand_geometry.specs.declared.Parts.{Parts}
 use Rattle.nand_geometry.specs.Limits.{InLimits, page_len, planes}
+use Rattle.nand_geometry.specs.Page.{parameter_bytes}
 use Rattle.onfi_cycle.specs.declared.PageAddress.{PageAddress}
 use Rattle.onfi_cycle.specs.declared.Queued.{Queued}
 use Rattle.onfi_cycle.specs.declared.Queued.TheVariants.{Erase, Program}
@@ -132,9 +133,9 @@ pub record IsAfter (e : Effect) (old new : Die) : Type 0 where
 abbrev pub status_of : Die → ℕ
 status_of d = if d.busy then 0x80 else (if d.array_busy then 0xc0 else (if d.failed then 0xe1 else 0xe0))
 
--- the bytes of its register; parameters are those of the parameter page, three copies
-abbrev pub bytes_shown : List ℕ → Die → List ℕ
-bytes_shown parameters d = register_bytes parameters (page_of d) d.register
+-- the bytes of its register
+abbrev pub bytes_shown : Die → List ℕ
+bytes_shown d = register_bytes (parameter_bytes d.geometry) (page_of d) d.register
 
 -- nothing is going on, waits or has failed
 abbrev pub is_new : Die → Bool
@@ -192,6 +193,11 @@ page_to_keep (w.Program at) = Some at
 page_to_keep (w.Queue (Program at)) = Some at
 page_to_keep _ = None
 
+-- the effect puts a page in place, which takes memory
+abbrev pub is_program : Effect → Bool
+is_program (ProgramStarted queued at) = true
+is_program _ = false
+
 -- the programs of a list have their pages in place
 abbrev pub AreKept : List ((ℕ × ℕ) × List ℕ) → List Queued → Type 0
 AreKept pages [] = Unit {0}
@@ -219,8 +225,9 @@ pub record HasRows (g : Parts) (pages : List ((ℕ × ℕ) × List ℕ)) (regist
   pub widths : (k : ℕ) (bytes : List ℕ) → slice_get registers k ≡ Some bytes → length bytes ≡ page_len g
 
 -- what is true of every die, by its parts; members are the rows queued, or where they are closed those that the next ready ends
-pub record IsDie (g : Parts) (pages : List ((ℕ × ℕ) × List ℕ)) (registers : List (List ℕ)) (members : List Queued) (closed busy : Bool) : Type 0 where
+pub record IsDie (g : Parts) (parameters : List ℕ) (pages : List ((ℕ × ℕ) × List ℕ)) (registers : List (List ℕ)) (members : List Queued) (closed busy : Bool) : Type 0 where
   pub limits : InLimits g
+  pub copies : parameters ≡ parameter_bytes g
   pub rows : HasRows g pages registers
   pub there : AreKept pages members
   pub alike : are_erases members || are_programs members ≡ true

@@ -2,6 +2,7 @@
 use Rattle.std.specs.Prelude.{◌≡◌, ℕ, ◌<◌, Bool, true, false, List, [], ◌∷◌, Option, None, Some, length}
 use Rattle.nand_geometry.specs.declared.Parts.{Parts}
 use Rattle.nand_geometry.specs.Limits.{page_len, planes}
+use Rattle.nand_geometry.specs.Page.{parameter_bytes}
 use Rattle.onfi_cycle.specs.declared.Item.{Item}
 use Rattle.onfi_cycle.specs.declared.Lun.{Lun}
 use Rattle.onfi_cycle.specs.declared.PageAddress.{PageAddress}
@@ -84,5 +85,5 @@ DiesGoOn =
 -- the law: a die that stands for its LUN shows the status and the register's bytes that the definitions give
 pub record DiesShow : Type 0 where
   pub status : (s : Channel) (past : List Item) (l : Lun) (d : Die) → IsDieOf s past l d → status_of d ≡ status s.geometry past l
-  pub bytes : (s : Channel) (past : List Item) (l : Lun) (d : Die) → IsDieOf s past l d → bytes_shown s.parameters d ≡ register_bytes s.parameters (content s.geometry s.opening past l) (register s.geometry past l)
+  pub bytes : (s : Channel) (past : List Item) (l : Lun) (d : Die) → IsDieOf s past l d → parameter_bytes s.geometry ≡ s.parameters → bytes_shown d ≡ register_bytes s.parameters (content s.geometry s.opening past l) (register s.geometry past l)
   pub first : (s : Channel) (l : Lun) (d : Die) → d.geometry ≡ s.geometry → ((p : PageAddress) → page_of d p ≡ s.opening l p) → is_new d ≡ true → d.array_page ≡ record { block = 0; page = 0 } → length d.planes ≡ planes s.geometry → IsDieOf s [] l d

@@ -9,10 +9,13 @@ mod pages;
 #[cfg(test)]
 mod tests;
 
-ghost use Rattle.std.specs.Prelude.{◌≡◌, ℕ, ◌%◌, ◌<◌, true, false, List, [], ◌∷◌, slice_set, slice_index_or, if◌then◌else◌, IfOk, OnErr, length, slice_get, replicate};
+ghost use Rattle.std.specs.Prelude.{◌≡◌, ℕ, ◌%◌, ◌<◌, true, false, List, [], ◌∷◌, Some, None, IsOk, slice_set, slice_index_or, if◌then◌else◌, IfOk, OnErr, length, slice_get, replicate};
 ghost use Rattle.nand_geometry.specs.Limits.{page_len, planes};
 ghost use Rattle.onfi_cycle.specs.declared.Effect.TheVariants.{BecameReady, ArrayBecameReady};
 ghost use Rattle.die_model.specs.Standing.{WorkedBy, CanWork};
+ghost use Rattle.nand_geometry.specs.Page.{parameter_bytes};
+ghost use Rattle.onfi_cycle.specs.declared.PageAddress.{PageAddress as At};
+ghost use Rattle.die_model.specs.Die.{page_to_keep, is_program};
 ghost use Rattle.die_model.specs.Die.{CanBegin, IsAfter, effect_of, status_of, bytes_shown, is_new, new_die, page_of};
 
 use arrayvec::ArrayVec;
@@ -21,7 +24,7 @@ use nand_geometry::Geometry;
 use onfi_cycle::effects::{array_busy_after, array_page_after, busy_after, register_after};
 use onfi_cycle::{Effect, Filling, PageAddress, Queued, Register, Status};
 use page::Page;
-use pages::Pages;
+pub use pages::Pages;
 use std::alloc::{AllocError, Allocator, Global};
 use std::marker::Model;
 
@@ -52,6 +55,8 @@ pub enum Work {
 #[derive(Drop)]
 pub struct LunDie<A: Allocator = Global> {
     geometry: Geometry,
+    /// Three copies of the parameter page.
+    parameters: Vec<u8, A>,
     pages: Pages<A>,
     /// The page register of each plane.
     planes: Vec<Page<A>, A>,
@@ -74,7 +79,7 @@ impl<A: Allocator> Model for LunDie<A> {
 
     ghost view = { λ d. die_with d.geometry d.pages d.planes.items d.register d.array_page d.busy d.caching d.array_busy d.members.items d.closed d.failed };
 
-    ghost invariant = { λ d. IsDie d.geometry d.pages d.planes.items d.members.items d.closed d.busy };
+    ghost invariant = { λ d. IsDie d.geometry d.parameters.items d.pages d.planes.items d.members.items d.closed d.busy };
 }
 
 /// The status while the array works: WP_N alone.
@@ -88,6 +93,18 @@ const FAILED: Status = Status(READY.0 | Status::FAIL.0);
 
 /// What Read ID gives, "ONFI".
 const IDENTIFIER: [u8; 4] = [0x4f, 0x4e, 0x46, 0x49];
+
+// Three copies of the parameter page.
+fn parameter_copies<A: Allocator>(alloc: A, geometry: &Geometry) -> Result<Vec<u8, A>, AllocError>
+    ensures { IfOk result (λ v. v.items ≡ parameter_bytes geometry.now) }
+{
+    let page = geometry.page();
+    let mut copies = Vec::with_capacity(alloc, 768)?;
+    copies.extend_from_slice(&page)?;
+    copies.extend_from_slice(&page)?;
+    copies.extend_from_slice(&page)?;
+    Ok(copies)
+}
 
 // So many registers of FF.
 fn registers<A: Allocator + Copy>(alloc: A, count: usize, len: usize) -> Result<Vec<Page<A>, A>, AllocError>
@@ -109,6 +126,7 @@ impl<A: Allocator + Copy> LunDie<A> {
         let planes = geometry.planes() as usize;
         let len = geometry.page_len() as usize;
         Ok(LunDie {
+            parameters: parameter_copies(alloc, &geometry)?,
             geometry,
             pages: Pages::new(alloc),
             planes: registers(alloc, planes, len)?,
@@ -135,18 +153,47 @@ impl<A: Allocator + Copy> LunDie<A> {
     }
 
     /// The byte of its register at a column, if there is one.
-    pub fn shown(&self, parameters: &[u8], column: usize) -> Option<u8>
-        ensures { result ≡ slice_get (bytes_shown parameters.now self.now) column }
+    pub fn shown(&self, column: usize) -> Option<u8>
+        ensures { result ≡ slice_get (bytes_shown self.now) column }
     {
         match self.register {
             Register::Empty => None,
             Register::Page(at) => self.page_byte(at, column),
-            Register::ParameterPage => parameters.get(column).copied(),
+            Register::ParameterPage => self.parameters.get(column).copied(),
             Register::Identifier => IDENTIFIER.get(column).copied(),
         }
     }
 
-    /// Its array becomes ready behind a cache read.
+    /// Its array works, or is told to.
+    pub fn is_busy(&self) -> bool
+        ensures { result ≡ self.now.busy }
+    {
+        self.busy
+    }
+
+    /// The last work failed.
+    pub fn has_failed(&self) -> bool
+        ensures { result ≡ self.now.failed }
+    {
+        self.failed
+    }
+
+    /// A copy of its pages.
+    pub fn pages(&self) -> Result<Pages<A>, AllocError>
+        ensures value { IfOk result (λ pages. pages ≡ self.now.pages) }
+        ensures lengths { (p : At) → length (page_of self.now p) ≡ page_len self.now.geometry }
+    {
+        self.pages.copy()
+    }
+
+    /// Forgets which page its array read last, for a bus that has seen none.
+    pub fn forget_array_page(&mut self)
+        ensures { self.new ≡ record self.old { array_page = record { block = 0; page = 0 } } }
+    {
+        self.array_page = PageAddress { block: 0, page: 0 };
+    }
+
+    /// Its array becomes ready after a cache read.
     pub fn array_ready(&mut self)
         ensures { IsAfter ArrayBecameReady self.old self.new }
     {
@@ -219,6 +266,7 @@ impl<A: Allocator + Copy> LunDie<A> {
         requires { CanBegin work self.old }
         ensures ok { IfOk result (λ _. IsAfter (effect_of work) self.old self.new) }
         ensures err { OnErr result (self.new ≡ self.old) }
+        ensures memory { page_to_keep work ≡ None → IsOk result }
     {
         let effect = effect_of(work);
         let len = self.geometry.page_len() as usize;
@@ -260,6 +308,7 @@ impl<A: Allocator + Copy> LunDie<A> {
         requires { CanWork filling effect self.old }
         ensures ok { IfOk result (λ _. WorkedBy self.old.geometry filling effect self.old self.new) }
         ensures err { OnErr result (self.new ≡ self.old) }
+        ensures memory { is_program effect ≡ false → IsOk result }
     {
         match filling {
             Filling::Leaves => match work_begun(effect) {

@@ -1,5 +1,5 @@
 //! The pages of a die that were programmed.
-ghost use Rattle.std.specs.Prelude.{◌≡◌, ℕ, ◌<◌, ◌≤◌, ◌==◌, ◌&&◌, nat_lt, ◌++◌, if◌then◌else◌, List, [], Some, None, IfOk, OnErr, length, replicate};
+ghost use Rattle.std.specs.Prelude.{◌≡◌, ℕ, ◌<◌, ◌≤◌, ◌==◌, ◌&&◌, nat_lt, ◌++◌, if◌then◌else◌, List, [], Some, None, IsOk, IfOk, OnErr, length, replicate};
 ghost use Rattle.std.specs.Option.{option_copied};
 ghost use Rattle.onfi_cycle.specs.declared.PageAddress.{PageAddress as At};
 ghost use Rattle.onfi_cycle.specs.Content.{same_page};
@@ -40,6 +40,16 @@ impl<A: Allocator + Copy> Pages<A> {
         }
     }
 
+    /// The same pages again.
+    pub fn copy(&self) -> Result<Pages<A>, AllocError>
+        ensures { IfOk result (λ pages. pages ≡ self.now) }
+    {
+        Ok(Pages {
+            alloc: self.alloc,
+            map: self.map.clone()?,
+        })
+    }
+
     /// The bytes of a page, if it is kept.
     pub fn get(&self, at: PageAddress) -> Option<&Page<A>>
         ensures { option_copied result ≡ kept self.now at }
@@ -64,6 +74,7 @@ impl<A: Allocator + Copy> Pages<A> {
     pub fn keep_some(&mut self, at: Option<PageAddress>, len: usize) -> Result<(), AllocError>
         ensures kept { IfOk result (λ _. (p : At) → kept self.new p ≡ (if is_given p at then Some (page_in len self.old p) else kept self.old p)) }
         ensures err { OnErr result (self.new ≡ self.old) }
+        ensures none { at ≡ None → IsOk result }
     {
         match at {
             None => Ok(()),

@@ -27,7 +27,7 @@ pub invariant_of-self-2 : goal.invariant_of-self-2
 invariant_of-self-2 g c =
     let i = c.self.inside in
     let r = before g c in
-    die_begun i.geometry c.args.work i.pages c.keep_some.new.self i.planes.items i.members.items c.join-self-inside.new.members.items i.closed c.join-self-inside.result i.busy c.busy_after-self-inside.result
+    die_begun i.geometry c.args.work i.parameters.items i.pages c.keep_some.new.self i.planes.items i.members.items c.join-self-inside.new.members.items i.closed c.join-self-inside.result i.busy c.busy_after-self-inside.result
     c.self.invariant r.row r.together (plain g c) (keeps g c) c.join-self-inside.ensures.members c.join-self-inside.ensures.closed
     (c.busy_after-self-inside.ensures ∙ ap (λ (e : Effect). busy_after e i.busy) c.effect_of-effect.ensures)
 
