@@ -338,17 +338,17 @@ plane_there : (s : Channel) (past : List Item) (l : Lun) (d : Die) (at : PageAdd
 plane_there s past l d at f = let low : at.block % planes s.geometry < planes s.geometry = mod-lt at.block (pow_pos s.geometry.plane_bits) in let c = f.count in omega (arith, low, c)
 
 -- an input fills a register
-record IsInput (g : Parts) (past : List Item) (i : Item) (l : Lun) (at : PageAddress) (column byte : ℕ) : Type 0 where
-  c : Cycle
-  is : i ≡ Cyc c
-  ce : (c.ce == l.ce) ≡ true
-  cycle : target_cycle c.kind c.byte ≡ InputCycle byte
-  takes : takes_inputs (data_phase (tail past l.ce)) ≡ true
-  here : names_lun g (row (facts_of (tail past l.ce))) l.lun ≡ true
-  page : at ≡ page_address g (row (facts_of (tail past l.ce)))
-  place : column ≡ input_column (facts_of (tail past l.ce))
+pub record IsInput (g : Parts) (past : List Item) (i : Item) (l : Lun) (at : PageAddress) (column byte : ℕ) : Type 0 where
+  pub c : Cycle
+  pub is : i ≡ Cyc c
+  pub ce : (c.ce == l.ce) ≡ true
+  pub cycle : target_cycle c.kind c.byte ≡ InputCycle byte
+  pub takes : takes_inputs (data_phase (tail past l.ce)) ≡ true
+  pub here : names_lun g (row (facts_of (tail past l.ce))) l.lun ≡ true
+  pub page : at ≡ page_address g (row (facts_of (tail past l.ce)))
+  pub place : column ≡ input_column (facts_of (tail past l.ce))
 
-is_input : (g : Parts) (past : List Item) (i : Item) (l : Lun) (at : PageAddress) (column byte : ℕ) → filling g (facts_of (tail past l.ce)) i l ≡ Fills at column byte → IsInput g past i l at column byte
+pub is_input : (g : Parts) (past : List Item) (i : Item) (l : Lun) (at : PageAddress) (column byte : ℕ) → filling g (facts_of (tail past l.ce)) i l ≡ Fills at column byte → IsInput g past i l at column byte
 is_input g past (Rdy ce lun fail) l at column byte h = cc
 is_input g past (Ard ce lun) l at column byte h = cc
 is_input g past (Cyc c) l at column byte h = of (c.ce == l.ce) refl (target_cycle c.kind c.byte) refl h

@@ -182,6 +182,7 @@ impl<A: Allocator + Copy> LunDie<A> {
     pub fn pages(&self) -> Result<Pages<A>, AllocError>
         ensures value { IfOk result (λ pages. pages ≡ self.now.pages) }
         ensures lengths { (p : At) → length (page_of self.now p) ≡ page_len self.now.geometry }
+        ensures registers { length self.now.planes ≡ planes self.now.geometry }
     {
         self.pages.copy()
     }

@@ -19,5 +19,5 @@ pub mod RowBounds
 pub mod RowStands
 pub mod Following
 pub mod Working
-pub mod OfToday
+pub mod Due
 pub mod Applied

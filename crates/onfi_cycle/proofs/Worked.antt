@@ -109,9 +109,25 @@ undeclared_status : broken one_lun 1 (reverse []) (c 0x78) ≡ Some F2
 unfolding command width effect_on breaks_F1 breaks_F2 breaks_F3 breaks_F4 breaks_F5 breaks_F6 breaks_F7 breaks_F8 breaks_F9 breaks_F10 breaks_F11 breaks_F12 breaks_F13 breaks_F14 breaks_F15
 undeclared_status = refl
 
-not_yet_taken : broken one_lun 1 (reverse []) (c 0x80) ≡ Some F2
+undeclared_erase_plane : broken one_lun 1 (reverse []) (c 0xd1) ≡ Some F2
 unfolding command width effect_on breaks_F1 breaks_F2 breaks_F3 breaks_F4 breaks_F5 breaks_F6 breaks_F7 breaks_F8 breaks_F9 breaks_F10 breaks_F11 breaks_F12 breaks_F13 breaks_F14 breaks_F15
-not_yet_taken = refl
+undeclared_erase_plane = refl
+
+undeclared_program_plane : broken one_lun 1 (reverse []) (c 0x11) ≡ Some F2
+unfolding command width effect_on breaks_F1 breaks_F2 breaks_F3 breaks_F4 breaks_F5 breaks_F6 breaks_F7 breaks_F8 breaks_F9 breaks_F10 breaks_F11 breaks_F12 breaks_F13 breaks_F14 breaks_F15
+undeclared_program_plane = refl
+
+undeclared_cache_read : broken one_lun 1 (reverse []) (c 0x31) ≡ Some F2
+unfolding command width effect_on breaks_F1 breaks_F2 breaks_F3 breaks_F4 breaks_F5 breaks_F6 breaks_F7 breaks_F8 breaks_F9 breaks_F10 breaks_F11 breaks_F12 breaks_F13 breaks_F14 breaks_F15
+undeclared_cache_read = refl
+
+undeclared_cache_end : broken one_lun 1 (reverse []) (c 0x3f) ≡ Some F2
+unfolding command width effect_on breaks_F1 breaks_F2 breaks_F3 breaks_F4 breaks_F5 breaks_F6 breaks_F7 breaks_F8 breaks_F9 breaks_F10 breaks_F11 breaks_F12 breaks_F13 breaks_F14 breaks_F15
+undeclared_cache_end = refl
+
+program_is_taken : broken one_lun 1 (reverse []) (c 0x80) ≡ None
+unfolding command width effect_on breaks_F1 breaks_F2 breaks_F3 breaks_F4 breaks_F5 breaks_F6 breaks_F7 breaks_F8 breaks_F9 breaks_F10 breaks_F11 breaks_F12 breaks_F13 breaks_F14 breaks_F15
+program_is_taken = refl
 
 opener_in_an_open_sequence : broken one_lun 1 (reverse (c 0x60 ∷ [])) (c 0x60) ≡ Some F3
 unfolding command width effect_on breaks_F1 breaks_F2 breaks_F3 breaks_F4 breaks_F5 breaks_F6 breaks_F7 breaks_F8 breaks_F9 breaks_F10 breaks_F11 breaks_F12 breaks_F13 breaks_F14 breaks_F15

@@ -53,13 +53,10 @@ pub record CommandsHaveBytes : Type 0 where
   pub command_of_byte : (c : Command) (byte : ℕ) → opcode c ≡ Some byte → command byte ≡ c
   pub byte_of_command : (byte : ℕ) → command byte ≢ Unknown → opcode (command byte) ≡ Some byte
 
--- the commands that the bus takes today: the product grows by this list alone
+-- the commands of the profile
 abbrev pub is_known : Command → Bool
-is_known BlockErase = true
-is_known BlockEraseConfirm = true
-is_known ReadStatus = true
-is_known ReadStatusEnhanced = true
-is_known _ = false
+is_known Unknown = false
+is_known _ = true
 
 -- the commands that begin a sequence
 abbrev pub is_opener : Command → Bool

@@ -16,6 +16,6 @@ pub mod Steps
 pub mod State
 pub mod Bounds
 pub mod Working
+pub mod Readies
 pub mod Look
-pub mod Today
 pub mod Applied

@@ -12,6 +12,7 @@ ghost use Rattle.onfi_cycle.specs.Applied.{luns_after_cycle, asks_driver, one_af
 ghost use Rattle.onfi_cycle.specs.Sequence.{facts_after, facts_of, tail};
 ghost use Rattle.onfi_cycle.specs.Filling.{filling};
 ghost use Rattle.onfi_cycle.specs.Working.{FactsFit};
+ghost use Rattle.onfi_cycle.specs.Readies.{target_due, due_there};
 ghost use Rattle.onfi_cycle.specs.Lun.{effect_on, view_after, queue_after, lun_view};
 ghost use Rattle.onfi_cycle.specs.Permitted.{broken};
 ghost use Rattle.nand_geometry.specs.Limits.{InLimits};
@@ -24,6 +25,7 @@ use crate::effects::{
     is_data, item_effect, latch_after, output_column, read_column_after, register_after,
 };
 use crate::fillings::filling;
+use crate::readies::due_of;
 use crate::rules::{driver, judge};
 use crate::sequences::{extend, no_tail, target_cycle, target_of, wants_command};
 use crate::{
@@ -459,6 +461,16 @@ fn filling_at(geometry: &Geometry, target: &TargetState, item: Item, l: Lun) -> 
     filling(geometry, target.tail, item, l)
 }
 
+// How many readies are still to come on a target.
+fn due_on(geometry: &Geometry, target: &TargetState) -> usize
+    requires limits { InLimits geometry.now }
+    requires fits { TargetFits geometry.now target.now }
+    ensures value { result ≡ target_due target.now }
+    ensures most { result ≤ 16 }
+{
+    due_of(&target.tail, target.luns.as_slice())
+}
+
 // Goes on by an item that is permitted on these targets.
 fn apply_on(geometry: &Geometry, targets: &mut [TargetState], item: Item)
     requires fits { BusFits (bus geometry.now targets.old) }
@@ -563,9 +575,22 @@ impl BusState {
         }
     }
 
+    /// How many readies are still to come on a target: those of its LUNs and of their arrays, and that of a parameter page whose
+    /// address is still to come.
+    pub fn due(&self, ce: u8) -> usize
+        ensures value { result ≡ due_there (slice_get self.now.targets ce) }
+        ensures most { result ≤ 16 }
+    {
+        match target_at(self.targets.as_slice(), ce) {
+            None => 0,
+            Some(target) => due_on(&self.geometry, target),
+        }
+    }
+
     /// A law: the facts that it keeps fit, a permitted item comes where its effect can, and works on one LUN at most.
     pub fn facts_fit(&self)
-        ensures { (g : Parts) (n : ℕ) (past : List Item) → Follows g n self.now past → FactsFit g n past }
+        ensures state { BusFits self.now }
+        ensures past { (g : Parts) (n : ℕ) (past : List Item) → Follows g n self.now past → FactsFit g n past }
     {
         let _ = &self.targets;
     }

@@ -59,17 +59,11 @@ pub fn opcode(command: Command) -> Option<u8>
     }
 }
 
-/// The bus takes the command today.
+/// The command is one of the profile.
 pub fn is_known(command: Command) -> bool
     ensures { result ≡ is_known command }
 {
-    matches!(
-        command,
-        Command::BlockErase
-            | Command::BlockEraseConfirm
-            | Command::ReadStatus
-            | Command::ReadStatusEnhanced
-    )
+    command != Command::Unknown
 }
 
 /// The command begins a sequence.

@@ -9,10 +9,10 @@ pub mod commands;
 pub mod effects;
 pub mod fillings;
 pub mod laws;
+pub mod readies;
 pub mod rules;
 pub mod sequences;
 pub mod status_byte;
-pub mod today;
 
 ghost use Rattle.std.specs.Prelude.{◌≡◌, List};
 

@@ -41,34 +41,6 @@ set_other (z ∷ xs) zero (suc k) x ne = refl
 set_other (z ∷ xs) (suc m) zero x ne = refl
 set_other (z ∷ xs) (suc m) (suc k) x ne = set_other xs m k x (λ e. ne (ap suc e))
 
--- how many dies work, with one changed
-counted : (b : Bool) (n m : ℕ) → n ≤ m + 1 → cond b (n + 1) n ≤ cond b (m + 1) m + 1
-counted true n m h = omega (arith, h)
-counted false n m h = omega (arith, h)
-
-counted_here : (a b : Bool) (n : ℕ) → cond a (n + 1) n ≤ cond b (n + 1) n + 1
-counted_here true true n = omega arith
-counted_here true false n = omega arith
-counted_here false true n = omega arith
-counted_here false false n = omega arith
-
-pub count_changed : (dies : List Die) (m : ℕ) (d : Die) → busy_count (set dies m d) ≤ busy_count dies + 1
-count_changed [] m d = omega arith
-count_changed (x ∷ dies) zero d = counted_here d.busy x.busy (busy_count dies)
-count_changed (x ∷ dies) (suc m) d = counted x.busy (busy_count (set dies m d)) (busy_count dies) (count_changed dies m d)
-
-one_less : (b : Bool) (n m : ℕ) → n + 1 ≡ m → cond b (n + 1) n + 1 ≡ cond b (m + 1) m
-one_less true n m h = omega (arith, h)
-one_less false n m h = omega (arith, h)
-
-pub count_finished : (dies : List Die) (m : ℕ) (old new : Die) → slice_get dies m ≡ Some old → old.busy ≡ true → new.busy ≡ false → busy_count (set dies m new) + 1 ≡ busy_count dies
-count_finished [] m old new found was is = cc
-count_finished (x ∷ dies) zero old new found was is =
-    let same : x ≡ old = cc in
-    let busy : x.busy ≡ true = ap (λ (d : Die). d.busy) same ∙ was in
-    rw (is, busy) refl
-count_finished (x ∷ dies) (suc m) old new found was is = one_less x.busy (busy_count (set dies m new)) (busy_count dies) (count_finished dies m old new found was is)
-
 -- no die of none works
 pub none_busy : (dies : List Die) → ((k : ℕ) (d : Die) → slice_get dies k ≡ Some d → d.busy ≡ false) → busy_count dies ≡ 0
 none_busy [] h = refl

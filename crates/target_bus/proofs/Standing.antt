@@ -1,5 +1,5 @@
 -- The dies go on with the past.
-use Rattle.std.proofs.Common.{◌≡◌, ◌≢◌, ℕ, zero, suc, ◌+◌, ◌*◌, ◌<◌, ◌≤◌, ◌==◌, Bool, true, false, ◌&&◌, ◌||◌, ◌++◌, cond, not, ltb, leb, eq-eqb, reverse, List, [], ◌∷◌, Option, Some, None, Result, Ok, Err, IfOk, refl, sym, ap, subst, ◌∙◌, arith, length, set}
+use Rattle.std.proofs.Common.{◌≡◌, ◌≢◌, ℕ, zero, suc, ◌+◌, ◌*◌, ◌<◌, ◌≤◌, ◌==◌, Bool, true, false, ◌&&◌, ◌||◌, ◌++◌, cond, not, ltb, leb, eq-eqb, eqb-true, reverse, List, [], ◌∷◌, Option, Some, None, Result, Ok, Err, IfOk, refl, sym, ap, subst, ◌∙◌, arith, length, set, ◌^◌}
 use Rattle.std.proofs.lemmas.Bool.Decides.{nat_tests}
 use Rattle.std.proofs.lemmas.Option.{slice_get_within, slice_get_past}
 use Rattle.std.specs.List.{slice_get}
@@ -7,276 +7,457 @@ use Rattle.std.proofs.lemmas.List.{reverse-append, length-set}
 use Rattle.std.specs.Option.{is_some}
 use Rattle.nand_geometry.specs.declared.Parts.{Parts}
 use Rattle.nand_geometry.specs.Limits.{InLimits, page_len}
+use Rattle.onfi_cycle.specs.declared.Command.{Command}
+use Rattle.onfi_cycle.specs.declared.Command.TheVariants.{Read, ReadConfirm, ChangeReadColumnConfirm, BlockEraseConfirm, BlockErasePlane, ReadStatus, ReadStatusEnhanced, ProgramConfirm, ProgramPlane, ReadId, ReadParameterPage, Reset, ReadCacheSequential, ReadCacheEnd}
+use Rattle.onfi_cycle.specs.declared.Cycle.{Cycle}
 use Rattle.onfi_cycle.specs.declared.Effect.{Effect}
-use Rattle.onfi_cycle.specs.declared.Effect.TheVariants.{Unaffected, StatusSelected, StatusRowAwaited, SelectedForStatus, Deselected, EraseStarted, BecameReady}
+use Rattle.onfi_cycle.specs.declared.Effect.TheVariants as e
+use Rattle.onfi_cycle.specs.declared.Filling.{Filling}
+use Rattle.onfi_cycle.specs.declared.Filling.TheVariants.{Leaves, Clears, Fills}
 use Rattle.onfi_cycle.specs.declared.Forbidden.TheVariants.{F1}
 use Rattle.onfi_cycle.specs.declared.Item.{Item}
 use Rattle.onfi_cycle.specs.declared.Item.TheVariants.{Cyc, Rdy, Ard}
+use Rattle.onfi_cycle.specs.declared.Latch.{Latch}
 use Rattle.onfi_cycle.specs.declared.Lun.{Lun}
+use Rattle.onfi_cycle.specs.declared.Opening.{Opening}
 use Rattle.onfi_cycle.specs.declared.PageAddress.{PageAddress}
-use Rattle.onfi_cycle.specs.declared.Register.{Register}
-use Rattle.onfi_cycle.specs.Sequence.{tail, filled}
-use Rattle.onfi_cycle.specs.Lun.{effect_on, busy_after, is_busy, array_page, register_after, register, luns_of}
-use Rattle.onfi_cycle.specs.Rules.{breaks_F1, lun_is, is_some_and}
-use Rattle.onfi_cycle.specs.Content.{ArrayWork, ErasesBlock, left_by_all, queued_work_after, queued_work, pending_work_after, pending_work, failed_after, is_some_work, has_failed, content_after, content}
+use Rattle.onfi_cycle.specs.declared.Queued.{Queued}
+use Rattle.onfi_cycle.specs.declared.TailFacts.{TailFacts}
+use Rattle.onfi_cycle.specs.declared.TargetCycle.{TargetCycle}
+use Rattle.onfi_cycle.specs.declared.TargetCycle.TheVariants.{CommandCycle, AddressCycle, InputCycle, OutputCycle}
+use Rattle.onfi_cycle.specs.LunView.{LunView}
+use Rattle.onfi_cycle.specs.Sequence.{tail, facts_of, target_cycle, input_column, wants_command, wants_address, row, row_with}
+use Rattle.onfi_cycle.specs.Effect.{is_off, is_data, names_lun, confirm_effect, command_effect, address_effect, opening_address_effect, cycle_effect}
+use Rattle.onfi_cycle.specs.Filling.{filling, cycle_filling}
+use Rattle.onfi_cycle.specs.Lun.{effect_on, latch_alone, luns_of, lun_view}
+use Rattle.onfi_cycle.specs.Rules.{breaks_F1, breaks_F14, lun_is, is_some_and, some_queued_clashes}
 use Rattle.onfi_cycle.specs.Channel.{Channel, is_cycle}
 use Rattle.onfi_cycle.specs.Permitted.{broken}
 use Rattle.onfi_cycle.specs.State.{BusView, Follows}
-use Rattle.onfi_cycle.specs.Today.{starts_work, leaves_all, is_of_cycle}
-use Rattle.onfi_cycle.proofs.OfToday.{only_today_happens}
+use Rattle.onfi_cycle.specs.Bounds.{LunFits, EffectFits, is_row}
+use Rattle.onfi_cycle.specs.Working.{fills, begins, works_on, IsLun, FactsFit}
+use Rattle.onfi_cycle.specs.Readies.{starts, cycle_starts, starts_work, bus_due}
 use Rattle.onfi_cycle.proofs.Others.{first_passed}
+use Rattle.onfi_cycle.proofs.Passed.{permitted_keeps}
 use Rattle.onfi_cycle.proofs.Keeping.{views_length, view_at}
 use Rattle.onfi_cycle.proofs.Following.{count_of}
 use Rattle.die_model.specs.declared.Work.{Work}
-use Rattle.die_model.specs.declared.Work.TheVariants.{Erase}
-use Rattle.die_model.specs.Die.{Die, page_of, IsBegun, IsFinished}
-use Rattle.target_bus.specs.Bus.{channel_on, numbered, number_of, IsDieOf, StandFor, work_begun, BeginsAt, IsStanding, IsRunning, IsNext, Traced, busy_count, spent}
-use Rattle.target_bus.proofs.Numbers.{lun_there, numbered_number, number_apart, number_below, set_here, set_other, count_finished, slice_get_none}
+use Rattle.die_model.specs.declared.Work.TheVariants as w
+use Rattle.die_model.specs.Die.{Die, work_begun, is_program, CanBegin, IsAfter}
+use Rattle.die_model.specs.Standing.{IsDieOf, WorkedBy, CanBeginSome, is_no_ready, CanWork, IsWorked}
+use Rattle.die_model.proofs.Standing.{IsInput, is_input, dies_go_on}
+use Rattle.target_bus.specs.Bus.{Entries, channel_on, opened_page, numbered, number_of, lun_at, StandFor, IsWorkedAt, FindsWork, IsStanding, IsNext, IsRunning, Traced, spent}
+use Rattle.target_bus.specs.declared.dies.Worked.{Worked}
+use Rattle.target_bus.proofs.Numbers.{target_there, lun_there, numbered_number, number_apart, number_below, set_here, set_other, slice_get_none}
 
--- 1. one die, by what the item does to its LUN
-
-record Leaves (e : Effect) : Type 0 where
-  busy : (b : Bool) → busy_after e b ≡ b
-  register : (p : PageAddress) (r : Register) → register_after e p r ≡ r
-  queued : (b : List ℕ) (q : List ArrayWork) → queued_work_after e b q ≡ q
-  pending : (b : List ℕ) (q p : List ArrayWork) → pending_work_after e b q p ≡ p
-  failed : (p : List ArrayWork) (b : Bool) → failed_after e p b ≡ b
-  content : (g : Parts) (q : List ArrayWork) (p : PageAddress) (old : List ℕ) → content_after g e q p old ≡ old
-
-left_by : (e : Effect) → leaves_all e ≡ true → Leaves e
-left_by Unaffected h = record { busy = λ b. refl; register = λ p r. refl; queued = λ b q. refl; pending = λ b q p. refl; failed = λ p b. refl; content = λ g q p old. refl }
-left_by StatusSelected h = record { busy = λ b. refl; register = λ p r. refl; queued = λ b q. refl; pending = λ b q p. refl; failed = λ p b. refl; content = λ g q p old. refl }
-left_by StatusRowAwaited h = record { busy = λ b. refl; register = λ p r. refl; queued = λ b q. refl; pending = λ b q p. refl; failed = λ p b. refl; content = λ g q p old. refl }
-left_by SelectedForStatus h = record { busy = λ b. refl; register = λ p r. refl; queued = λ b q. refl; pending = λ b q p. refl; failed = λ p b. refl; content = λ g q p old. refl }
-left_by Deselected h = record { busy = λ b. refl; register = λ p r. refl; queued = λ b q. refl; pending = λ b q p. refl; failed = λ p b. refl; content = λ g q p old. refl }
-left_by _ h = cc
-
-die_left : (s : Channel) (past : List Item) (i : Item) (l : Lun) (d : Die) → leaves_all (effect_on s.geometry past i l) ≡ true → IsDieOf s past l d → IsDieOf s (i ∷ past) l d
-die_left s past i l d h f =
-    let left : Leaves (effect_on s.geometry past i l) = left_by (effect_on s.geometry past i l) h in
-    record {
-      geometry = f.geometry;
-      pages = λ p. f.pages p ∙ sym (left.content s.geometry _ p _);
-      busy = f.busy ∙ sym (left.busy _);
-      register = f.register ∙ sym (left.register _ _);
-      queued = f.queued ∙ sym (left.queued _ _);
-      pending = f.pending ∙ sym (left.pending _ _ _);
-      failed = f.failed ∙ sym (left.failed _ _);
-    }
-
-abbrev bytes_of : Channel → List Item → Lun → List ℕ
-bytes_of s past l = filled (page_len s.geometry) (tail past l.ce)
-
-die_begun : (s : Channel) (past : List Item) (i : Item) (l : Lun) (old new : Die) (at : PageAddress) → effect_on s.geometry past i l ≡ EraseStarted false at → IsBegun (Erase at) old new → IsDieOf s past l old → IsDieOf s (i ∷ past) l new
-die_begun s past i l old new at is b f =
-    record {
-      geometry = b.geometry ∙ f.geometry;
-      pages = λ p. b.pages p ∙ (f.pages p ∙ sym (ap (λ (e : Effect). content_after s.geometry e (pending_work s.geometry past l) p (content s.geometry s.opening past l p)) is));
-      busy = b.busy ∙ sym (ap (λ (e : Effect). busy_after e (is_busy s.geometry past l)) is);
-      register = b.register ∙ sym (ap (λ (e : Effect). register_after e (array_page s.geometry past l) (register s.geometry past l)) is);
-      queued = b.queued ∙ sym (ap (λ (e : Effect). queued_work_after e (bytes_of s past l) (queued_work s.geometry past l)) is);
-      pending = b.pending ∙ (ap (λ (q : List ArrayWork). ErasesBlock at ∷ q) f.queued ∙ sym (ap (λ (e : Effect). pending_work_after e (bytes_of s past l) (queued_work s.geometry past l) (pending_work s.geometry past l)) is));
-      failed = b.failed ∙ (f.failed ∙ sym (ap (λ (e : Effect). failed_after e (pending_work s.geometry past l) (has_failed s.geometry past l)) is));
-    }
-
-left_pages : (g h : Parts) (fail : Bool) (a b : List ArrayWork) (p : PageAddress) (x y : List ℕ) → g ≡ h → a ≡ b → x ≡ y → cond fail x (left_by_all (page_len g) a p x) ≡ cond fail y (left_by_all (page_len h) b p y)
-left_pages g h fail a b p x y eg ea ex =
-    ap (λ (k : Parts). cond fail x (left_by_all (page_len k) a p x)) eg ∙
-    (ap (λ (w : List ArrayWork). cond fail x (left_by_all (page_len h) w p x)) ea ∙ ap (λ (z : List ℕ). cond fail z (left_by_all (page_len h) b p z)) ex)
-
-die_finished : (s : Channel) (past : List Item) (i : Item) (l : Lun) (old new : Die) (fail : Bool) → effect_on s.geometry past i l ≡ BecameReady fail → IsFinished fail old new → IsDieOf s past l old → IsDieOf s (i ∷ past) l new
-die_finished s past i l old new fail is b f =
-    record {
-      geometry = b.geometry ∙ f.geometry;
-      pages = λ p. b.pages p ∙ (left_pages old.geometry s.geometry fail old.pending (pending_work s.geometry past l) p (page_of old p) (content s.geometry s.opening past l p) f.geometry f.pending (f.pages p) ∙ sym (ap (λ (e : Effect). content_after s.geometry e (pending_work s.geometry past l) p (content s.geometry s.opening past l p)) is));
-      busy = b.busy ∙ sym (ap (λ (e : Effect). busy_after e (is_busy s.geometry past l)) is);
-      register = b.register ∙ (f.register ∙ sym (ap (λ (e : Effect). register_after e (array_page s.geometry past l) (register s.geometry past l)) is));
-      queued = b.queued ∙ (f.queued ∙ sym (ap (λ (e : Effect). queued_work_after e (bytes_of s past l) (queued_work s.geometry past l)) is));
-      pending = b.pending ∙ sym (ap (λ (e : Effect). pending_work_after e (bytes_of s past l) (queued_work s.geometry past l) (pending_work s.geometry past l)) is);
-      failed = b.failed ∙ (ap (λ (w : List ArrayWork). fail && is_some_work w) f.pending ∙ sym (ap (λ (e : Effect). failed_after e (pending_work s.geometry past l) (has_failed s.geometry past l)) is));
-    }
-
--- 2. all the dies
-
-stand_left : (s : Channel) (past : List Item) (i : Item) (dies : List Die) → ((k : ℕ) → k < length dies → leaves_all (effect_on s.geometry past i (numbered s.geometry k)) ≡ true) → StandFor s past dies → StandFor s (i ∷ past) dies
-stand_left s past i dies left f = λ k d found. die_left s past i (numbered s.geometry k) d (left k (slice_get_within dies k d found)) (f k d found)
-
-stand_changed : (s : Channel) (past : List Item) (i : Item) (dies : List Die) (m : ℕ) (new : Die) → ((k : ℕ) → k < length dies → k ≢ m → leaves_all (effect_on s.geometry past i (numbered s.geometry k)) ≡ true) → IsDieOf s (i ∷ past) (numbered s.geometry m) new → StandFor s past dies → StandFor s (i ∷ past) (set dies m new)
-stand_changed s past i dies m new left here f = λ k d found. at k d (k == m) refl found
-  where
-    at : (k : ℕ) (d : Die) (b : Bool) → (k == m) ≡ b → slice_get (set dies m new) k ≡ Some d → IsDieOf s (i ∷ past) (numbered s.geometry k) d
-    at k d true e found =
-        let same : k ≡ m = grind (arith, nat_tests) in
-        let is : d ≡ new = set_here dies m new d (ap (slice_get (set dies m new)) (sym same) ∙ found) in
-        subst (λ (n : ℕ). IsDieOf s (i ∷ past) (numbered s.geometry n) d) (sym same) (subst (IsDieOf s (i ∷ past) (numbered s.geometry m)) (sym is) here)
-    at k d false e found =
-        let other : k ≢ m = grind (arith, nat_tests) in
-        let was = sym (set_other dies m k new other) ∙ found in
-        die_left s past i (numbered s.geometry k) d (left k (slice_get_within dies k d was) other) (f k d was)
-
--- 3. cycles
-
-record Begins (e : Effect) (work : Work) : Type 0 where
-  at : PageAddress
-  effect : e ≡ EraseStarted false at
-  is : work ≡ Erase at
-
-begins : (e : Effect) (work : Work) → work_begun e ≡ Some work → Begins e work
-begins (EraseStarted false at) work h = record { at = at; effect = refl; is = cc }
-begins (EraseStarted true at) work h = cc
-begins _ work h = cc
-
-rests : (e : Effect) → is_of_cycle e ≡ true → work_begun e ≡ None → leaves_all e ≡ true
-rests (EraseStarted false at) h k = cc
-rests (EraseStarted true at) h k = cc
-rests e h k = h
-
--- the LUN of a die is there, and the past is legal
-there : (state : BusView) (dies : List Die) (past : List Item) (k : ℕ) → IsStanding state dies past → k < length dies → k < length state.targets * state.geometry.luns
-there state dies past k f low = let same = f.count in omega (arith, same, low)
-
-of_cycle : (state : BusView) (dies : List Die) (past : List Item) (i : Item) (k : ℕ) → IsStanding state dies past → broken state.geometry (length state.targets) past i ≡ None → is_cycle i ≡ true → is_of_cycle (effect_on state.geometry past i (numbered state.geometry k)) ≡ true
-of_cycle state dies past (Cyc c) k f h cyc = only_today_happens.cycles state.geometry (length state.targets) past c (numbered state.geometry k) f.follows.legal h (lun_there state.geometry k f.limits.luns_least)
-of_cycle state dies past (Rdy ce lun fail) k f h cyc = cc
-of_cycle state dies past (Ard ce lun) k f h cyc = cc
-
-pub stands_idle : (state : BusView) (dies : List Die) (past : List Item) (i : Item) → IsStanding state dies past → broken state.geometry (length state.targets) past i ≡ None → is_cycle i ≡ true → BeginsAt state.geometry past i 0 (length dies) None → StandFor (channel_on state.geometry (length state.targets)) (i ∷ past) dies
-stands_idle state dies past i f h cyc none =
-    stand_left (channel_on state.geometry (length state.targets)) past i dies (λ k low. rests _ (of_cycle state dies past i k f h cyc) (none k (omega arith) low)) f.stand
-
--- another LUN begins nothing
-only_one : (g : Parts) (past : List Item) (i : Item) (k m : ℕ) (work : Work) → work_begun (effect_on g past i (numbered g m)) ≡ Some work → k ≢ m → work_begun (effect_on g past i (numbered g k)) ≡ None
-only_one g past i k m work begun other = at (work_begun (effect_on g past i (numbered g k))) refl
-  where
-    at : (o : Option Work) → work_begun (effect_on g past i (numbered g k)) ≡ o → o ≡ None
-    at None e = refl
-    at (Some also) e =
-        let a = begins _ work begun in
-        let b = begins _ also e in
-        absurd (other (number_apart g k m (only_today_happens.one g past i (numbered g k) (numbered g m) false false b.at a.at b.effect a.effect)))
-
-pub stands_begun : (state : BusView) (dies : List Die) (past : List Item) (i : Item) (m : ℕ) (work : Work) (old new : Die) → IsStanding state dies past → broken state.geometry (length state.targets) past i ≡ None → is_cycle i ≡ true → BeginsAt state.geometry past i 0 (length dies) (Some (m, work)) → slice_get dies m ≡ Some old → IsBegun work old new → StandFor (channel_on state.geometry (length state.targets)) (i ∷ past) (set dies m new)
-stands_begun state dies past i m work old new f h cyc found here b =
-    let begun = begins (effect_on state.geometry past i (numbered state.geometry m)) work found.1 in
-    stand_changed (channel_on state.geometry (length state.targets)) past i dies m new
-    (λ k low other. rests _ (of_cycle state dies past i k f h cyc) (only_one state.geometry past i k m work found.1 other))
-    (die_begun (channel_on state.geometry (length state.targets)) past i (numbered state.geometry m) old new begun.at begun.effect (subst (λ (w : Work). IsBegun w old new) begun.is b) (f.stand m old here))
-    f.stand
-
--- a cycle that starts no work begins none
-pub begins_none : (state : BusView) (dies : List Die) (past : List Item) (i : Item) → IsStanding state dies past → broken state.geometry (length state.targets) past i ≡ None → starts_work i ≡ false → BeginsAt state.geometry past i 0 (length dies) None
-begins_none state dies past i f h idle = λ m least low. at m (work_begun (effect_on state.geometry past i (numbered state.geometry m))) refl
-  where
-    clash : (b : Bool) → b ≡ true → b ≡ false → ⊥
-    clash true p q = cc
-    clash false p q = cc
-
-    at : (m : ℕ) (o : Option Work) → work_begun (effect_on state.geometry past i (numbered state.geometry m)) ≡ o → o ≡ None
-    at m None e = refl
-    at m (Some work) e =
-        let a = begins _ work e in
-        absurd (clash (starts_work i) (only_today_happens.starts state.geometry (length state.targets) past i (numbered state.geometry m) false a.at h a.effect) idle)
-
--- one number more is looked at
-pub begins_later : (g : Parts) (past : List Item) (i : Item) (k count : ℕ) (o : Option (ℕ × Work)) → work_begun (effect_on g past i (numbered g k)) ≡ None → BeginsAt g past i (k + 1) count o → BeginsAt g past i k count o
-begins_later g past i k count None none f = λ m least low. at m (m == k) refl least low
-  where
-    at : (m : ℕ) (b : Bool) → (m == k) ≡ b → k ≤ m → m < count → work_begun (effect_on g past i (numbered g m)) ≡ None
-    at m true e least low = let same : m ≡ k = grind (arith, nat_tests) in ap (λ (n : ℕ). work_begun (effect_on g past i (numbered g n))) same ∙ none
-    at m false e least low = let later : k + 1 ≤ m = grind (arith, nat_tests) in f m later low
-begins_later g past i k count (Some found) none f = f
-
--- what was looked up in a standing state
-pub begins_in : (state : BusView) (dies : List Die) (past : List Item) (i : Item) (luns : ℕ) (o p : Option (ℕ × Work)) → IsStanding state dies past → luns ≡ state.geometry.luns → ((g : Parts) (n : ℕ) (past : List Item) → Follows g n state past → g.luns ≡ luns → length dies ≡ n * luns → BeginsAt g past i 0 (length dies) o) → o ≡ p → BeginsAt state.geometry past i 0 (length dies) p
-begins_in state dies past i luns o p f same found is =
-    subst (BeginsAt state.geometry past i 0 (length dies)) is
-    (found state.geometry (length state.targets) past f.follows (sym same) (f.count ∙ ap (λ (n : ℕ). length state.targets * n) (sym same)))
-
-pub on_ok : {T E : Type 0} (r : Result T E) (P Q : T → Type 0) → IfOk r P → ((x : T) → P x → Q x) → IfOk r Q
-on_ok (Ok x) P Q h f = f x h
-on_ok (Err e) P Q h f = tt
-
--- 4. readies
-
-ready_at : (g : Parts) (past : List Item) (l : Lun) (fail : Bool) → effect_on g past (Rdy l.ce l.lun fail) l ≡ BecameReady fail
-unfolding effect_on
-ready_at g past l fail = at (l.ce == l.ce) (l.lun == l.lun) (eq-eqb l.ce l.ce refl) (eq-eqb l.lun l.lun refl)
-  where
-    at : (a b : Bool) → a ≡ true → b ≡ true → cond (a && b) (BecameReady fail) Unaffected ≡ BecameReady fail
-    at true true h k = refl
-    at true false h k = cc
-    at false b h k = cc
-
-ready_elsewhere : (g : Parts) (past : List Item) (l m : Lun) (fail : Bool) → m ≢ l → leaves_all (effect_on g past (Rdy l.ce l.lun fail) m) ≡ true
-unfolding effect_on
-ready_elsewhere g past l m fail ne = at (l.ce == m.ce) refl (l.lun == m.lun) refl
-  where
-    at : (a : Bool) → (l.ce == m.ce) ≡ a → (b : Bool) → (l.lun == m.lun) ≡ b → leaves_all (cond (a && b) (BecameReady fail) Unaffected) ≡ true
-    at true e true d =
-        let ce : m.ce ≡ l.ce = grind (arith, nat_tests) in
-        let lun : m.lun ≡ l.lun = grind (arith, nat_tests) in
-        absurd (ne (ap (λ (c : ℕ). record { ce = c; lun = m.lun }) ce ∙ ap (λ (n : ℕ). record { ce = l.ce; lun = n }) lun))
-    at true e false d = refl
-    at false e b d = refl
-
-pub record IsThere (g : Parts) (n : ℕ) (past : List Item) (l : Lun) : Type 0 where
-  pub ce : l.ce < n
-  pub lun : l.lun < g.luns
-  pub busy : is_busy g past l ≡ true
-
-not_not : (b : Bool) → not b ≡ false → b ≡ true
-not_not true h = refl
-not_not false h = cc
+both : (a b : Bool) → (a && b) ≡ true → (a ≡ true) × (b ≡ true)
+both true b h = (refl, h)
+both false b h = cc
 
 neither : (a b : Bool) → (a || b) ≡ false → (a ≡ false) × (b ≡ false)
 neither true b h = cc
 neither false b h = (refl, h)
 
-busy_lun : (g : Parts) (past : List Item) (l : Lun) → lun_is (λ v. v.busy) (luns_of g past l.ce) l.lun ≡ true → (l.lun < g.luns) × (is_busy g past l ≡ true)
-busy_lun g past l h = at (ltb l.lun g.luns) refl
+not_not : (b : Bool) → not b ≡ false → b ≡ true
+not_not true h = refl
+not_not false h = cc
+
+-- 1. what leaves a die as it is
+
+rests : (x : Effect) (d : Die) → begins x ≡ false → is_no_ready x ≡ true → IsAfter x d d
+rests e.Unaffected d b r = record { geometry = refl; planes = refl; pages = λ p. refl; register = refl; array_page = refl; busy = refl; caching = refl; array_busy = refl; queue = refl; queued = refl; pending = refl; failed = refl }
+rests e.DataOutputEnabled d b r = record { geometry = refl; planes = refl; pages = λ p. refl; register = refl; array_page = refl; busy = refl; caching = refl; array_busy = refl; queue = refl; queued = refl; pending = refl; failed = refl }
+rests e.StatusSelected d b r = record { geometry = refl; planes = refl; pages = λ p. refl; register = refl; array_page = refl; busy = refl; caching = refl; array_busy = refl; queue = refl; queued = refl; pending = refl; failed = refl }
+rests e.StatusRowAwaited d b r = record { geometry = refl; planes = refl; pages = λ p. refl; register = refl; array_page = refl; busy = refl; caching = refl; array_busy = refl; queue = refl; queued = refl; pending = refl; failed = refl }
+rests e.SelectedForStatus d b r = record { geometry = refl; planes = refl; pages = λ p. refl; register = refl; array_page = refl; busy = refl; caching = refl; array_busy = refl; queue = refl; queued = refl; pending = refl; failed = refl }
+rests e.Deselected d b r = record { geometry = refl; planes = refl; pages = λ p. refl; register = refl; array_page = refl; busy = refl; caching = refl; array_busy = refl; queue = refl; queued = refl; pending = refl; failed = refl }
+rests (e.ReadColumnChanged column) d b r = record { geometry = refl; planes = refl; pages = λ p. refl; register = refl; array_page = refl; busy = refl; caching = refl; array_busy = refl; queue = refl; queued = refl; pending = refl; failed = refl }
+rests e.DataOutput d b r = record { geometry = refl; planes = refl; pages = λ p. refl; register = refl; array_page = refl; busy = refl; caching = refl; array_busy = refl; queue = refl; queued = refl; pending = refl; failed = refl }
+rests x d b r = cc
+
+rests_worked : (g : Parts) (x : Filling) (k : Effect) (d : Die) → (fills x || begins k) ≡ false → is_no_ready k ≡ true → WorkedBy g x k d d
+rests_worked g Leaves k d h r = rests k d h r
+rests_worked g (Clears at) k d h r = cc
+rests_worked g (Fills at column byte) k d h r = cc
+
+-- a cycle is no ready
+either : (P : Effect → Type 0) (b : Bool) (x y : Effect) → P x → P y → P (cond b x y)
+either P true x y h k = h
+either P false x y h k = k
+
+abbrev IsNoReady : Effect → Type 0
+IsNoReady x = is_no_ready x ≡ true
+
+confirm_no_ready : (g : Parts) (t : TailFacts) (c : Command) → IsNoReady (confirm_effect g t c)
+confirm_no_ready g t ReadConfirm = refl
+confirm_no_ready g t BlockEraseConfirm = refl
+confirm_no_ready g t BlockErasePlane = refl
+confirm_no_ready g t ProgramConfirm = refl
+confirm_no_ready g t ProgramPlane = refl
+confirm_no_ready g t c = refl
+
+command_no_ready : (g : Parts) (t : TailFacts) (la : Latch) (c : Command) (n : ℕ) → IsNoReady (command_effect g t la c n)
+command_no_ready g t la Read n = refl
+command_no_ready g t la ReadStatus n = refl
+command_no_ready g t la ReadStatusEnhanced n = refl
+command_no_ready g t la Reset n = refl
+command_no_ready g t la ReadCacheSequential n = either IsNoReady (is_off la) e.Unaffected e.CacheReadContinued refl refl
+command_no_ready g t la ReadCacheEnd n = either IsNoReady (is_off la) e.Unaffected e.CacheReadEnded refl refl
+command_no_ready g t la ChangeReadColumnConfirm n = either IsNoReady (wants_command t ChangeReadColumnConfirm && not (is_off la)) (e.ReadColumnChanged t.column) e.Unaffected refl refl
+command_no_ready g t la c n = either IsNoReady (wants_command t c && names_lun g (row t) n) (confirm_effect g t c) e.Unaffected (confirm_no_ready g t c) refl
+
+address_no_ready : (g : Parts) (t : TailFacts) (byte : ℕ) (o : Option Opening) (n : ℕ) → IsNoReady (opening_address_effect g t byte o n)
+address_no_ready g t byte None n = refl
+address_no_ready g t byte (Some o) n = of o.opener
   where
-    at : (b : Bool) → ltb l.lun g.luns ≡ b → (l.lun < g.luns) × (is_busy g past l ≡ true)
-    at true e = let low : l.lun < g.luns = grind (arith, nat_tests) in (low, sym (ap (is_some_and (λ v. v.busy)) (view_at g past l low)) ∙ h)
-    at false e =
+    of : (c : Command) → IsNoReady (address_effect g t byte c o.addresses n)
+    of ReadStatusEnhanced = either IsNoReady (o.addresses == 2) (cond (names_lun g (row_with t byte) n) e.SelectedForStatus e.Deselected) e.Unaffected (either IsNoReady (names_lun g (row_with t byte) n) e.SelectedForStatus e.Deselected refl refl) refl
+    of ReadId = either IsNoReady (wants_address t byte) e.IdRead e.Unaffected refl refl
+    of ReadParameterPage = either IsNoReady (wants_address t byte) e.ParameterPageReadStarted e.Unaffected refl refl
+    of c = refl
+
+cycle_no_ready : (g : Parts) (t : TailFacts) (la : Latch) (k : TargetCycle) (n : ℕ) → IsNoReady (cycle_effect g t la k n)
+cycle_no_ready g t la (CommandCycle c) n = command_no_ready g t la c n
+cycle_no_ready g t la (AddressCycle byte) n = address_no_ready g t byte t.opening n
+cycle_no_ready g t la (InputCycle byte) n = refl
+cycle_no_ready g t la OutputCycle n = either IsNoReady (is_data la) e.DataOutput e.Unaffected refl refl
+
+pub no_ready : (g : Parts) (past : List Item) (c : Cycle) (l : Lun) → IsNoReady (effect_on g past (Cyc c) l)
+unfolding effect_on
+no_ready g past c l =
+    either IsNoReady (c.ce == l.ce) (cycle_effect g (facts_of (tail past l.ce)) (latch_alone g past l) (target_cycle c.kind c.byte) l.lun) e.Unaffected
+    (cycle_no_ready g (facts_of (tail past l.ce)) (latch_alone g past l) (target_cycle c.kind c.byte) l.lun) refl
+
+-- a cycle of another target works on no LUN of this one
+pub works_here : (g : Parts) (past : List Item) (c : Cycle) (l : Lun) → works_on g past (Cyc c) l ≡ true → c.ce ≡ l.ce
+unfolding effect_on
+works_here g past c l h = at (c.ce == l.ce) refl h
+  where
+    at : (b : Bool) → (c.ce == l.ce) ≡ b → (fills (cond b (cycle_filling g (facts_of (tail past l.ce)) (target_cycle c.kind c.byte) l.lun) Leaves) || begins (cond b (cycle_effect g (facts_of (tail past l.ce)) (latch_alone g past l) (target_cycle c.kind c.byte) l.lun) e.Unaffected)) ≡ true → c.ce ≡ l.ce
+    at true q h = eqb-true c.ce l.ce q
+    at false q h = cc
+
+-- 2. what a die can begin
+
+record SameDie (g : Parts) (v : LunView) (d : Die) : Type 0 where
+  geometry : d.geometry ≡ g
+  busy : d.busy ≡ v.busy
+  queue : d.queued ≡ v.queue
+  array_page : d.array_page ≡ v.array_page
+
+small_queue : (g : Parts) (v : LunView) (d : Die) → SameDie g v d → LunFits g v → length d.queued < 16
+small_queue g v d s f = let same = ap length s.queue in let few = f.queue in omega (arith, same, few)
+
+small_page : (g : Parts) (v : LunView) (d : Die) → SameDie g v d → LunFits g v → d.array_page.page < 2 ^ 32
+small_page g v d s f = subst (λ (p : PageAddress). p.page < 2 ^ 32) (sym s.array_page) f.array_page
+
+is_ready : (g : Parts) (v : LunView) (d : Die) → SameDie g v d → v.busy ≡ false → not d.busy ≡ true
+is_ready g v d s h = ap not (s.busy ∙ h)
+
+row_there : (g : Parts) (v : LunView) (d : Die) (at : PageAddress) → SameDie g v d → is_row g at ≡ true → is_row d.geometry at ≡ true
+row_there g v d at s h = ap (λ (k : Parts). is_row k at) s.geometry ∙ h
+
+apart : (g : Parts) (v : LunView) (d : Die) (erase : Bool) (at : PageAddress) → SameDie g v d → some_queued_clashes g erase at v.queue ≡ false → not (some_queued_clashes d.geometry erase at d.queued) ≡ true
+apart g v d erase at s h = ap not (ap (λ (k : Parts). some_queued_clashes k erase at d.queued) s.geometry ∙ (ap (some_queued_clashes g erase at) s.queue ∙ h))
+
+or_ready : (a b : Bool) → b ≡ true → (a || b) ≡ true
+or_ready true b h = refl
+or_ready false b h = h
+
+can_begin : (g : Parts) (v : LunView) (d : Die) (x : Effect) → SameDie g v d → LunFits g v → EffectFits g v x → CanBeginSome (work_begun x) d
+can_begin g v d (e.ReadStarted at column) s f h = record { row = row_there g v d at s h.2.inside; together = refl; ready = is_ready g v d s h.2.ready; room = small_queue g v d s f; next = small_page g v d s f }
+can_begin g v d (e.EraseStarted true at) s f h = record { row = row_there g v d at s h.1.inside; together = apart g v d true at s h.0; ready = is_ready g v d s h.1.ready; room = small_queue g v d s f; next = small_page g v d s f }
+can_begin g v d (e.EraseStarted false at) s f h = record { row = row_there g v d at s h.1.inside; together = apart g v d true at s h.0; ready = is_ready g v d s h.1.ready; room = small_queue g v d s f; next = small_page g v d s f }
+can_begin g v d (e.ProgramStarted true at) s f h = record { row = row_there g v d at s h.1.inside; together = apart g v d false at s h.0; ready = is_ready g v d s h.1.ready; room = small_queue g v d s f; next = small_page g v d s f }
+can_begin g v d (e.ProgramStarted false at) s f h = record { row = row_there g v d at s h.1.inside; together = apart g v d false at s h.0; ready = is_ready g v d s h.1.ready; room = small_queue g v d s f; next = small_page g v d s f }
+can_begin g v d e.IdRead s f h = record { row = refl; together = refl; ready = is_ready g v d s h; room = small_queue g v d s f; next = small_page g v d s f }
+can_begin g v d e.ParameterPageReadStarted s f h = record { row = refl; together = refl; ready = is_ready g v d s h; room = small_queue g v d s f; next = small_page g v d s f }
+can_begin g v d e.CacheReadContinued s f h = record { row = refl; together = refl; ready = is_ready g v d s h.1; room = small_queue g v d s f; next = small_page g v d s f }
+can_begin g v d e.CacheReadEnded s f h = record { row = refl; together = refl; ready = is_ready g v d s h; room = small_queue g v d s f; next = small_page g v d s f }
+can_begin g v d e.ResetStarted s f h = record { row = refl; together = refl; ready = refl; room = small_queue g v d s f; next = small_page g v d s f }
+can_begin g v d x s f h = tt
+
+-- an input comes inside the page
+input_inside : (g : Parts) (n : ℕ) (past : List Item) (i : Item) (l : Lun) (at : PageAddress) (column byte : ℕ) → broken g n past i ≡ None → filling g (facts_of (tail past l.ce)) i l ≡ Fills at column byte → column < page_len g
+unfolding breaks_F14
+input_inside g n past i l at column byte h is =
+    let j = is_input g past i l at column byte is in
+    let rules = permitted_keeps g n past j.c (sym (ap (broken g n past) j.is) ∙ h) in
+    let same : j.c.ce ≡ l.ce = eqb-true j.c.ce l.ce j.ce in
+    let f14 : breaks_F14 g (facts_of (tail past l.ce)) (luns_of g past l.ce) (InputCycle byte) ≡ false = subst (λ (k : TargetCycle). breaks_F14 g (facts_of (tail past l.ce)) (luns_of g past l.ce) k ≡ false) j.cycle (subst (λ (ce : ℕ). breaks_F14 g (facts_of (tail past ce)) (luns_of g past ce) (target_cycle j.c.kind j.c.byte) ≡ false) same rules.f14) in
+    below (page_len g) column (input_column (facts_of (tail past l.ce))) j.place f14
+  where
+    below : (a b c : ℕ) → b ≡ c → leb a c ≡ false → b < a
+    below a b c e f = grind (arith, nat_tests)
+
+pub can_work : (s : Channel) (past : List Item) (c : Cycle) (l : Lun) (d : Die) → broken s.geometry s.targets past (Cyc c) ≡ None → IsLun s.geometry s.targets l → FactsFit s.geometry s.targets past → IsDieOf s past l d → CanWork (filling s.geometry (facts_of (tail past l.ce)) (Cyc c) l) (effect_on s.geometry past (Cyc c) l) d
+can_work s past c l d h there facts f = of (filling s.geometry (facts_of (tail past l.ce)) (Cyc c) l) refl
+  where
+    same : SameDie s.geometry (lun_view s.geometry past l) d
+    same = record { geometry = f.geometry; busy = f.busy; queue = f.queue; array_page = f.array_page }
+
+    of : (x : Filling) → filling s.geometry (facts_of (tail past l.ce)) (Cyc c) l ≡ x → CanWork x (effect_on s.geometry past (Cyc c) l) d
+    of Leaves q = (can_begin s.geometry (lun_view s.geometry past l) d (effect_on s.geometry past (Cyc c) l) same (facts.lun l there) (facts.effect (Cyc c) l there h), no_ready s.geometry past c l)
+    of (Clears at) q = tt
+    of (Fills at column byte) q = subst (λ (k : Parts). column < page_len k) (sym f.geometry) (input_inside s.geometry s.targets past (Cyc c) l at column byte h q)
+
+-- a cycle that starts no work programs nothing
+confirm_programs : (g : Parts) (t : TailFacts) (c : Command) → starts c ≡ false → is_program (confirm_effect g t c) ≡ false
+confirm_programs g t ReadConfirm h = refl
+confirm_programs g t BlockEraseConfirm h = refl
+confirm_programs g t BlockErasePlane h = refl
+confirm_programs g t ProgramConfirm h = cc
+confirm_programs g t ProgramPlane h = cc
+confirm_programs g t c h = refl
+
+abbrev IsNoProgram : Effect → Type 0
+IsNoProgram x = is_program x ≡ false
+
+command_programs : (g : Parts) (t : TailFacts) (la : Latch) (c : Command) (n : ℕ) → starts c ≡ false → IsNoProgram (command_effect g t la c n)
+command_programs g t la Read n h = refl
+command_programs g t la ReadStatus n h = refl
+command_programs g t la ReadStatusEnhanced n h = refl
+command_programs g t la Reset n h = refl
+command_programs g t la ReadCacheSequential n h = either IsNoProgram (is_off la) e.Unaffected e.CacheReadContinued refl refl
+command_programs g t la ReadCacheEnd n h = either IsNoProgram (is_off la) e.Unaffected e.CacheReadEnded refl refl
+command_programs g t la ChangeReadColumnConfirm n h = either IsNoProgram (wants_command t ChangeReadColumnConfirm && not (is_off la)) (e.ReadColumnChanged t.column) e.Unaffected refl refl
+command_programs g t la c n h = either IsNoProgram (wants_command t c && names_lun g (row t) n) (confirm_effect g t c) e.Unaffected (confirm_programs g t c h) refl
+
+address_programs : (g : Parts) (t : TailFacts) (byte : ℕ) (o : Option Opening) (n : ℕ) → IsNoProgram (opening_address_effect g t byte o n)
+address_programs g t byte None n = refl
+address_programs g t byte (Some o) n = of o.opener
+  where
+    of : (c : Command) → IsNoProgram (address_effect g t byte c o.addresses n)
+    of ReadStatusEnhanced = either IsNoProgram (o.addresses == 2) (cond (names_lun g (row_with t byte) n) e.SelectedForStatus e.Deselected) e.Unaffected (either IsNoProgram (names_lun g (row_with t byte) n) e.SelectedForStatus e.Deselected refl refl) refl
+    of ReadId = either IsNoProgram (wants_address t byte) e.IdRead e.Unaffected refl refl
+    of ReadParameterPage = either IsNoProgram (wants_address t byte) e.ParameterPageReadStarted e.Unaffected refl refl
+    of c = refl
+
+cycle_programs : (g : Parts) (t : TailFacts) (la : Latch) (k : TargetCycle) (n : ℕ) → cycle_starts k ≡ false → IsNoProgram (cycle_effect g t la k n)
+cycle_programs g t la (CommandCycle c) n h = command_programs g t la c n h
+cycle_programs g t la (AddressCycle byte) n h = address_programs g t byte t.opening n
+cycle_programs g t la (InputCycle byte) n h = refl
+cycle_programs g t la OutputCycle n h = either IsNoProgram (is_data la) e.DataOutput e.Unaffected refl refl
+
+pub no_program : (g : Parts) (past : List Item) (c : Cycle) (l : Lun) → starts_work (Cyc c) ≡ false → is_program (effect_on g past (Cyc c) l) ≡ false
+unfolding effect_on
+no_program g past c l h =
+    either IsNoProgram (c.ce == l.ce) (cycle_effect g (facts_of (tail past l.ce)) (latch_alone g past l) (target_cycle c.kind c.byte) l.lun) e.Unaffected
+    (cycle_programs g (facts_of (tail past l.ce)) (latch_alone g past l) (target_cycle c.kind c.byte) l.lun h) refl
+
+-- 3. all the dies
+
+-- each number is that of a LUN of the channel
+pub number_there : (state : BusView) (opened : List Entries) (dies : List Die) (past : List Item) (k : ℕ) → IsStanding state opened dies past → k < length dies → IsLun state.geometry (length state.targets) (numbered state.geometry k)
+number_there state opened dies past k f low =
+    let same = f.count in
+    let below : k < length state.targets * state.geometry.luns = omega (arith, same, low) in
+    record { target = target_there state.geometry (length state.targets) k f.limits.luns_least below; lun = lun_there state.geometry k f.limits.luns_least }
+
+die_goes_on : (state : BusView) (opened : List Entries) (dies : List Die) (past : List Item) (i : Item) (k : ℕ) (old new : Die) → IsStanding state opened dies past → broken state.geometry (length state.targets) past i ≡ None → FactsFit state.geometry (length state.targets) past → slice_get dies k ≡ Some old → IsWorked (channel_on state.geometry (length state.targets) opened) past i (numbered state.geometry k) old new → IsDieOf (channel_on state.geometry (length state.targets) opened) (i ∷ past) (numbered state.geometry k) new
+die_goes_on state opened dies past i k old new f h facts found worked =
+    let there = number_there state opened dies past k f (slice_get_within dies k old found) in
+    dies_go_on (channel_on state.geometry (length state.targets) opened) past i (numbered state.geometry k) old new h there.lun (facts.row (numbered state.geometry k) there) (f.stand k old found) worked
+
+pub stand_idle : (state : BusView) (opened : List Entries) (dies : List Die) (past : List Item) (i : Item) → IsStanding state opened dies past → broken state.geometry (length state.targets) past i ≡ None → FactsFit state.geometry (length state.targets) past → ((k : ℕ) (d : Die) → k < length dies → IsWorked (channel_on state.geometry (length state.targets) opened) past i (numbered state.geometry k) d d) → StandFor (channel_on state.geometry (length state.targets) opened) (i ∷ past) dies
+stand_idle state opened dies past i f h facts still = λ k d found. die_goes_on state opened dies past i k d d f h facts found (still k d (slice_get_within dies k d found))
+
+pub stand_changed : (state : BusView) (opened : List Entries) (dies : List Die) (past : List Item) (i : Item) (m : ℕ) (old new : Die) → IsStanding state opened dies past → broken state.geometry (length state.targets) past i ≡ None → FactsFit state.geometry (length state.targets) past → ((k : ℕ) (d : Die) → k < length dies → k ≢ m → IsWorked (channel_on state.geometry (length state.targets) opened) past i (numbered state.geometry k) d d) → slice_get dies m ≡ Some old → IsWorked (channel_on state.geometry (length state.targets) opened) past i (numbered state.geometry m) old new → StandFor (channel_on state.geometry (length state.targets) opened) (i ∷ past) (set dies m new)
+stand_changed state opened dies past i m old new f h facts still here worked = λ k d found. at k d (k == m) refl found
+  where
+    s : Channel
+    s = channel_on state.geometry (length state.targets) opened
+
+    at : (k : ℕ) (d : Die) (b : Bool) → (k == m) ≡ b → slice_get (set dies m new) k ≡ Some d → IsDieOf s (i ∷ past) (numbered state.geometry k) d
+    at k d true q found =
+        let same : k ≡ m = grind (arith, nat_tests) in
+        let is : d ≡ new = set_here dies m new d (ap (slice_get (set dies m new)) (sym same) ∙ found) in
+        subst (λ (n : ℕ). IsDieOf s (i ∷ past) (numbered state.geometry n) d) (sym same)
+        (subst (IsDieOf s (i ∷ past) (numbered state.geometry m)) (sym is) (die_goes_on state opened dies past i m old new f h facts here worked))
+    at k d false q found =
+        let other : k ≢ m = grind (arith, nat_tests) in
+        let was = sym (set_other dies m k new other) ∙ found in
+        die_goes_on state opened dies past i k d d f h facts was (still k d (slice_get_within dies k d was) other)
+
+-- 4. cycles
+
+resting : (s : Channel) (past : List Item) (c : Cycle) (l : Lun) (d : Die) → works_on s.geometry past (Cyc c) l ≡ false → IsWorked s past (Cyc c) l d d
+resting s past c l d h = rests_worked s.geometry (filling s.geometry (facts_of (tail past l.ce)) (Cyc c) l) (effect_on s.geometry past (Cyc c) l) d h (no_ready s.geometry past c l)
+
+idle_when : (b : Bool) → (b ≡ true → ⊥) → b ≡ false
+idle_when true h = absurd (h refl)
+idle_when false h = refl
+
+clash : (b : Bool) → b ≡ true → b ≡ false → ⊥
+clash true h k = cc
+clash false h k = cc
+
+-- nothing was found: no LUN of the channel is worked on
+pub none_works : (state : BusView) (opened : List Entries) (dies : List Die) (past : List Item) (c : Cycle) → IsStanding state opened dies past → broken state.geometry (length state.targets) past (Cyc c) ≡ None → FactsFit state.geometry (length state.targets) past → FindsWork state.geometry past (Cyc c) c.ce 0 None → StandFor (channel_on state.geometry (length state.targets) opened) (Cyc c ∷ past) dies
+none_works state opened dies past c f h facts none =
+    stand_idle state opened dies past (Cyc c) f h facts (λ k d low. resting (channel_on state.geometry (length state.targets) opened) past c (numbered state.geometry k) d (idle_when _ (λ works. never (numbered state.geometry k) (number_there state opened dies past k f low) works)))
+  where
+    never : (l : Lun) → IsLun state.geometry (length state.targets) l → works_on state.geometry past (Cyc c) l ≡ true → ⊥
+    never l there works =
+        let here : lun_at c.ce l.lun ≡ l = ap (λ (ce : ℕ). lun_at ce l.lun) (works_here state.geometry past c l works) in
+        clash _ works (sym (ap (works_on state.geometry past (Cyc c)) here) ∙ none l.lun (omega arith) there.lun)
+
+-- one was found: no other is worked on
+pub one_works : (state : BusView) (opened : List Entries) (dies : List Die) (past : List Item) (c : Cycle) (x : Worked) (k : ℕ) (old new : Die) → IsStanding state opened dies past → broken state.geometry (length state.targets) past (Cyc c) ≡ None → FactsFit state.geometry (length state.targets) past → c.ce < length state.targets → FindsWork state.geometry past (Cyc c) c.ce 0 (Some x) → k ≡ number_of state.geometry (lun_at c.ce x.lun) → slice_get dies k ≡ Some old → WorkedBy old.geometry x.filling x.effect old new → StandFor (channel_on state.geometry (length state.targets) opened) (Cyc c ∷ past) (set dies k new)
+one_works state opened dies past c x k old new f h facts target found place here worked =
+    stand_changed state opened dies past (Cyc c) k old new f h facts
+    (λ m d low other. resting s past c (numbered g m) d (idle_when _ (λ works. other (number_apart g m k (facts.one (Cyc c) (numbered g m) (numbered g k) (number_there state opened dies past m f low) there h works (ap (works_on g past (Cyc c)) is ∙ found.works))))))
+    here
+    (subst (λ (l : Lun). IsWorked s past (Cyc c) l old new) (sym is)
+    (subst (λ (y : Filling). WorkedBy g y (effect_on g past (Cyc c) l) old new) found.filling_is
+    (subst (λ (y : Effect). WorkedBy g x.filling y old new) found.effect_is
+    (subst (λ (y : Parts). WorkedBy y x.filling x.effect old new) (f.stand k old here).geometry worked))))
+  where
+    g : Parts
+    g = state.geometry
+
+    s : Channel
+    s = channel_on state.geometry (length state.targets) opened
+
+    l : Lun
+    l = lun_at c.ce x.lun
+
+    is : numbered state.geometry k ≡ lun_at c.ce x.lun
+    is = ap (numbered state.geometry) place ∙ numbered_number state.geometry (lun_at c.ce x.lun) found.lun
+
+    there : IsLun state.geometry (length state.targets) (numbered state.geometry k)
+    there = number_there state opened dies past k f (slice_get_within dies k old here)
+
+-- the target of a permitted cycle is there
+pub cycle_there : (g : Parts) (n : ℕ) (past : List Item) (c : Cycle) → broken g n past (Cyc c) ≡ None → c.ce < n
+unfolding breaks_F1
+cycle_there g n past c h =
+    let f1 : leb n c.ce ≡ false = (first_passed (breaks_F1 n (luns_of g past c.ce) (Cyc c)) F1 _ h).0 in
+    grind (arith, nat_tests)
+
+-- the die of a LUN that is there
+pub die_there : (state : BusView) (opened : List Entries) (dies : List Die) (past : List Item) (l : Lun) → IsStanding state opened dies past → l.ce < length state.targets → l.lun < state.geometry.luns → number_of state.geometry l < length dies
+die_there state opened dies past l f ce lun = let low = number_below state.geometry (length state.targets) l ce lun in let same = f.count in omega (arith, low, same)
+
+pub can_work_at : (state : BusView) (opened : List Entries) (dies : List Die) (past : List Item) (c : Cycle) (x : Worked) (k : ℕ) (d : Die) → IsStanding state opened dies past → broken state.geometry (length state.targets) past (Cyc c) ≡ None → FactsFit state.geometry (length state.targets) past → FindsWork state.geometry past (Cyc c) c.ce 0 (Some x) → k ≡ number_of state.geometry (lun_at c.ce x.lun) → slice_get dies k ≡ Some d → CanWork x.filling x.effect d
+can_work_at state opened dies past c x k d f h facts found place here =
+    let s = channel_on state.geometry (length state.targets) opened in
+    let l = lun_at c.ce x.lun in
+    let is : numbered state.geometry k ≡ l = ap (numbered state.geometry) place ∙ numbered_number state.geometry l found.lun in
+    let there : IsLun state.geometry (length state.targets) l = record { target = cycle_there state.geometry (length state.targets) past c h; lun = found.lun } in
+    subst (λ (y : Filling). CanWork y x.effect d) (sym found.filling_is)
+    (subst (λ (y : Effect). CanWork (filling state.geometry (facts_of (tail past l.ce)) (Cyc c) l) y d) (sym found.effect_is)
+    (can_work s past c l d h there facts (subst (λ (m : Lun). IsDieOf s past m d) is (f.stand k d here))))
+
+-- one LUN more is looked at
+pub finds_later : (g : Parts) (past : List Item) (i : Item) (ce n : ℕ) (o : Option Worked) → works_on g past i (lun_at ce n) ≡ false → FindsWork g past i ce (n + 1) o → FindsWork g past i ce n o
+finds_later g past i ce n None none f = λ m least low. at m (m == n) refl least low
+  where
+    at : (m : ℕ) (b : Bool) → (m == n) ≡ b → n ≤ m → m < g.luns → works_on g past i (lun_at ce m) ≡ false
+    at m true q least low = let same : m ≡ n = grind (arith, nat_tests) in ap (λ (k : ℕ). works_on g past i (lun_at ce k)) same ∙ none
+    at m false q least low = let later : n + 1 ≤ m = grind (arith, nat_tests) in f m later low
+finds_later g past i ce n (Some x) none f = f
+
+-- 5. readies
+
+ready_at : (g : Parts) (past : List Item) (l : Lun) (fail : Bool) → effect_on g past (Rdy l.ce l.lun fail) l ≡ e.BecameReady fail
+unfolding effect_on
+ready_at g past l fail = at (l.ce == l.ce) (l.lun == l.lun) (eq-eqb l.ce l.ce refl) (eq-eqb l.lun l.lun refl)
+  where
+    at : (a b : Bool) → a ≡ true → b ≡ true → cond (a && b) (e.BecameReady fail) e.Unaffected ≡ e.BecameReady fail
+    at true true h k = refl
+    at true false h k = cc
+    at false b h k = cc
+
+array_ready_at : (g : Parts) (past : List Item) (l : Lun) → effect_on g past (Ard l.ce l.lun) l ≡ e.ArrayBecameReady
+unfolding effect_on
+array_ready_at g past l = at (l.ce == l.ce) (l.lun == l.lun) (eq-eqb l.ce l.ce refl) (eq-eqb l.lun l.lun refl)
+  where
+    at : (a b : Bool) → a ≡ true → b ≡ true → cond (a && b) e.ArrayBecameReady e.Unaffected ≡ e.ArrayBecameReady
+    at true true h k = refl
+    at true false h k = cc
+    at false b h k = cc
+
+elsewhere : (l m : Lun) (x : Effect) → m ≢ l → cond (l.ce == m.ce && l.lun == m.lun) x e.Unaffected ≡ e.Unaffected
+elsewhere l m x ne = at (l.ce == m.ce) refl (l.lun == m.lun) refl
+  where
+    at : (a : Bool) → (l.ce == m.ce) ≡ a → (b : Bool) → (l.lun == m.lun) ≡ b → cond (a && b) x e.Unaffected ≡ e.Unaffected
+    at true q true d =
+        let ce : m.ce ≡ l.ce = grind (arith, nat_tests) in
+        let lun : m.lun ≡ l.lun = grind (arith, nat_tests) in
+        absurd (ne (ap (λ (c : ℕ). record { ce = c; lun = m.lun }) ce ∙ ap (λ (n : ℕ). record { ce = l.ce; lun = n }) lun))
+    at true q false d = refl
+    at false q b d = refl
+
+ready_elsewhere : (g : Parts) (past : List Item) (l m : Lun) (fail : Bool) → m ≢ l → effect_on g past (Rdy l.ce l.lun fail) m ≡ e.Unaffected
+unfolding effect_on
+ready_elsewhere g past l m fail ne = elsewhere l m (e.BecameReady fail) ne
+
+array_ready_elsewhere : (g : Parts) (past : List Item) (l m : Lun) → m ≢ l → effect_on g past (Ard l.ce l.lun) m ≡ e.Unaffected
+unfolding effect_on
+array_ready_elsewhere g past l m ne = elsewhere l m e.ArrayBecameReady ne
+
+-- a LUN that may become ready is there
+lun_there_by : (g : Parts) (past : List Item) (l : Lun) (test : LunView → Bool) → lun_is test (luns_of g past l.ce) l.lun ≡ true → l.lun < g.luns
+lun_there_by g past l test h = at (ltb l.lun g.luns) refl
+  where
+    at : (b : Bool) → ltb l.lun g.luns ≡ b → l.lun < g.luns
+    at true q = grind (arith, nat_tests)
+    at false q =
         let beyond : length (luns_of g past l.ce) ≤ l.lun = grind (arith, nat_tests, views_length g past l.ce g.luns 0) in
-        let none : false ≡ true = sym (ap (is_some_and (λ v. v.busy)) (slice_get_past (luns_of g past l.ce) l.lun beyond)) ∙ h in
+        let none : false ≡ true = sym (ap (is_some_and test) (slice_get_past (luns_of g past l.ce) l.lun beyond)) ∙ h in
         cc
 
--- a LUN that may become ready is there, and busy
-pub ready_there : (g : Parts) (n : ℕ) (past : List Item) (l : Lun) (fail : Bool) → broken g n past (Rdy l.ce l.lun fail) ≡ None → IsThere g n past l
+pub ready_there : (g : Parts) (n : ℕ) (past : List Item) (l : Lun) (fail : Bool) → broken g n past (Rdy l.ce l.lun fail) ≡ None → IsLun g n l
 unfolding breaks_F1
 ready_there g n past l fail h =
     let f1 : breaks_F1 n (luns_of g past l.ce) (Rdy l.ce l.lun fail) ≡ false = (first_passed (breaks_F1 n (luns_of g past l.ce) (Rdy l.ce l.lun fail)) F1 None h).0 in
     let parts = neither (leb n l.ce) _ f1 in
     let below : leb n l.ce ≡ false = parts.0 in
-    let lun = busy_lun g past l (not_not _ parts.1) in
-    record { ce = grind (arith, nat_tests); lun = lun.0; busy = lun.1 }
+    record { target = grind (arith, nat_tests); lun = lun_there_by g past l (λ v. v.busy) (not_not _ parts.1) }
 
-pub stands_ready : (state : BusView) (dies : List Die) (past : List Item) (l : Lun) (fail : Bool) (k : ℕ) (old new : Die) → IsStanding state dies past → IsThere state.geometry (length state.targets) past l → k ≡ number_of state.geometry l → slice_get dies k ≡ Some old → IsFinished fail old new → StandFor (channel_on state.geometry (length state.targets)) (Rdy l.ce l.lun fail ∷ past) (set dies k new)
-stands_ready state dies past l fail k old new f there place here b =
-    let s = channel_on state.geometry (length state.targets) in
-    let is : numbered state.geometry k ≡ l = ap (numbered state.geometry) place ∙ numbered_number state.geometry l there.lun in
-    stand_changed s past (Rdy l.ce l.lun fail) dies k new
-    (λ m low other. ready_elsewhere state.geometry past l (numbered state.geometry m) fail (λ e. other (number_apart state.geometry m k (e ∙ sym is))))
-    (die_finished s past (Rdy l.ce l.lun fail) (numbered state.geometry k) old new fail (ap (effect_on state.geometry past (Rdy l.ce l.lun fail)) is ∙ ready_at state.geometry past l fail) b (f.stand k old here))
-    f.stand
+pub array_ready_there : (g : Parts) (n : ℕ) (past : List Item) (l : Lun) → broken g n past (Ard l.ce l.lun) ≡ None → IsLun g n l
+unfolding breaks_F1
+array_ready_there g n past l h =
+    let f1 : breaks_F1 n (luns_of g past l.ce) (Ard l.ce l.lun) ≡ false = (first_passed (breaks_F1 n (luns_of g past l.ce) (Ard l.ce l.lun)) F1 None h).0 in
+    let parts = neither (leb n l.ce) _ f1 in
+    let below : leb n l.ce ≡ false = parts.0 in
+    record { target = grind (arith, nat_tests); lun = lun_there_by g past l (λ v. v.array_busy) (not_not _ parts.1) }
 
--- the die of a LUN that is busy works
-pub die_is_busy : (state : BusView) (dies : List Die) (past : List Item) (l : Lun) (k : ℕ) (d : Die) → IsStanding state dies past → IsThere state.geometry (length state.targets) past l → k ≡ number_of state.geometry l → slice_get dies k ≡ Some d → d.busy ≡ true
-die_is_busy state dies past l k d f there place here =
-    (f.stand k d here).busy ∙ (ap (is_busy state.geometry past) (ap (numbered state.geometry) place ∙ numbered_number state.geometry l there.lun) ∙ there.busy)
+pub stands_ready : (state : BusView) (opened : List Entries) (dies : List Die) (past : List Item) (l : Lun) (fail : Bool) (k : ℕ) (old new : Die) → IsStanding state opened dies past → broken state.geometry (length state.targets) past (Rdy l.ce l.lun fail) ≡ None → FactsFit state.geometry (length state.targets) past → k ≡ number_of state.geometry l → slice_get dies k ≡ Some old → IsAfter (e.BecameReady fail) old new → StandFor (channel_on state.geometry (length state.targets) opened) (Rdy l.ce l.lun fail ∷ past) (set dies k new)
+stands_ready state opened dies past l fail k old new f h facts place here b =
+    let g = state.geometry in
+    let is : numbered g k ≡ l = ap (numbered g) place ∙ numbered_number g l (ready_there g (length state.targets) past l fail h).lun in
+    stand_changed state opened dies past (Rdy l.ce l.lun fail) k old new f h facts
+    (λ m d low other. subst (λ (x : Effect). IsAfter x d d) (sym (ready_elsewhere g past l (numbered g m) fail (λ q. other (number_apart g m k (q ∙ sym is))))) (rests e.Unaffected d refl refl))
+    here
+    (subst (λ (x : Effect). IsAfter x old new) (sym (ap (effect_on g past (Rdy l.ce l.lun fail)) is ∙ ready_at g past l fail)) b)
 
-pub die_there : (state : BusView) (dies : List Die) (past : List Item) (l : Lun) → IsStanding state dies past → IsThere state.geometry (length state.targets) past l → number_of state.geometry l < length dies
-die_there state dies past l f there = let low = number_below state.geometry (length state.targets) l there.ce there.lun in let same = f.count in omega (arith, low, same)
+pub stands_array_ready : (state : BusView) (opened : List Entries) (dies : List Die) (past : List Item) (l : Lun) (k : ℕ) (old new : Die) → IsStanding state opened dies past → broken state.geometry (length state.targets) past (Ard l.ce l.lun) ≡ None → FactsFit state.geometry (length state.targets) past → k ≡ number_of state.geometry l → slice_get dies k ≡ Some old → IsAfter e.ArrayBecameReady old new → StandFor (channel_on state.geometry (length state.targets) opened) (Ard l.ce l.lun ∷ past) (set dies k new)
+stands_array_ready state opened dies past l k old new f h facts place here b =
+    let g = state.geometry in
+    let is : numbered g k ≡ l = ap (numbered g) place ∙ numbered_number g l (array_ready_there g (length state.targets) past l h).lun in
+    stand_changed state opened dies past (Ard l.ce l.lun) k old new f h facts
+    (λ m d low other. subst (λ (x : Effect). IsAfter x d d) (sym (array_ready_elsewhere g past l (numbered g m) (λ q. other (number_apart g m k (q ∙ sym is))))) (rests e.Unaffected d refl refl))
+    here
+    (subst (λ (x : Effect). IsAfter x old new) (sym (ap (effect_on g past (Ard l.ce l.lun)) is ∙ array_ready_at g past l)) b)
 
--- 5. the state goes on with them
+pub on_ok : {T E : Type 0} (r : Result T E) (P Q : T → Type 0) → IfOk r P → ((x : T) → P x → Q x) → IfOk r Q
+on_ok (Ok x) P Q h f = f x h
+on_ok (Err e) P Q h f = tt
 
-pub same_channel : (state next : BusView) (past : List Item) → Follows state.geometry (length state.targets) next past → channel_on next.geometry (length next.targets) ≡ channel_on state.geometry (length state.targets)
-same_channel state next past f =
-    ap (λ (g : Parts). channel_on g (length next.targets)) f.geometry ∙ ap (channel_on state.geometry) (count_of state.geometry (length state.targets) next past f)
+pub not_some : {X : Type 0} (o : Option X) → is_some o ≡ false → o ≡ None
+not_some None h = refl
+not_some (Some x) h = cc
 
-pub stands_on : (state next : BusView) (dies after : List Die) (past : List Item) (i : Item) → IsStanding state dies past → Follows state.geometry (length state.targets) next (i ∷ past) → length after ≡ length dies → StandFor (channel_on state.geometry (length state.targets)) (i ∷ past) after → IsStanding next after (i ∷ past)
-stands_on state next dies after past i f follows same stand =
+-- 6. the state goes on with them
+
+pub same_channel : (state next : BusView) (opened : List Entries) (past : List Item) → Follows state.geometry (length state.targets) next past → channel_on next.geometry (length next.targets) opened ≡ channel_on state.geometry (length state.targets) opened
+same_channel state next opened past f =
+    ap (λ (g : Parts). channel_on g (length next.targets) opened) f.geometry ∙ ap (λ (n : ℕ). channel_on state.geometry n opened) (count_of state.geometry (length state.targets) next past f)
+
+pub stands_on : (state next : BusView) (opened : List Entries) (dies after : List Die) (past : List Item) (i : Item) → IsStanding state opened dies past → Follows state.geometry (length state.targets) next (i ∷ past) → length after ≡ length dies → StandFor (channel_on state.geometry (length state.targets) opened) (i ∷ past) after → IsStanding next opened after (i ∷ past)
+stands_on state next opened dies after past i f follows same stand =
     let eg : state.geometry ≡ next.geometry = sym follows.geometry in
     let en : length state.targets ≡ length next.targets = sym (count_of state.geometry (length state.targets) next (i ∷ past) follows) in
     record {
@@ -285,62 +466,22 @@ stands_on state next dies after past i f follows same stand =
       least = subst (λ (n : ℕ). 1 ≤ n) en f.least;
       most = subst (λ (n : ℕ). n ≤ 4) en f.most;
       count = same ∙ (f.count ∙ (ap (λ (n : ℕ). n * state.geometry.luns) en ∙ ap (λ (g : Parts). length next.targets * g.luns) eg));
-      stand = subst (λ (c : Channel). StandFor c (i ∷ past) after) (sym (same_channel state next (i ∷ past) follows)) stand;
+      lengths = λ l p. subst (λ (g : Parts). length (opened_page g opened l p) ≡ page_len g) eg (f.lengths l p);
+      stand = subst (λ (c : Channel). StandFor c (i ∷ past) after) (sym (same_channel state next opened (i ∷ past) follows)) stand;
     }
 
 -- the trace is kept in the order of time
 pub reversed : (items more : List Item) (i : Item) → more ≡ items ++ (i ∷ []) → i ∷ reverse items ≡ reverse more
 reversed items more i is = sym (ap reverse is ∙ reverse-append items (i ∷ []))
 
-pub runs_on : (state next : BusView) (dies after : List Die) (items more : List Item) (i : Item) (len capacity room : ℕ) → IsStanding state dies (reverse items) → Follows state.geometry (length state.targets) next (i ∷ reverse items) → length after ≡ length dies → StandFor (channel_on state.geometry (length state.targets)) (i ∷ reverse items) after → more ≡ items ++ (i ∷ []) → len + room + busy_count after ≤ capacity → IsRunning next after more len capacity room
-runs_on state next dies after items more i len capacity room f follows same stand is places =
-    record { standing = subst (IsStanding next after) (reversed items more i is) (stands_on state next dies after (reverse items) i f follows same stand); places = places }
+pub runs_on : (state next : BusView) (opened : List Entries) (dies after : List Die) (items more : List Item) (i : Item) (len capacity room due : ℕ) → IsStanding state opened dies (reverse items) → Follows state.geometry (length state.targets) next (i ∷ reverse items) → length after ≡ length dies → StandFor (channel_on state.geometry (length state.targets) opened) (i ∷ reverse items) after → more ≡ items ++ (i ∷ []) → bus_due next ≤ due → len + room + due ≤ capacity → IsRunning next opened after more len capacity room due
+runs_on state next opened dies after items more i len capacity room due f follows same stand is readies places =
+    record { standing = subst (IsStanding next opened after) (reversed items more i is) (stands_on state next opened dies after (reverse items) i f follows same stand); readies = readies; places = places }
 
-abbrev pub traced : BusView → List Item → ℕ → Traced
-traced state items room = record { geometry = state.geometry; targets = length state.targets; past = reverse items; room = room }
+abbrev pub traced : BusView → List Entries → List Item → ℕ → Traced
+traced state opened items room = record { geometry = state.geometry; targets = length state.targets; opened = opened; past = reverse items; room = room }
 
 -- what has happened is one item more
-pub is_next : (state next : BusView) (items more : List Item) (i : Item) (room left : ℕ) → Follows state.geometry (length state.targets) next (i ∷ reverse items) → more ≡ items ++ (i ∷ []) → room ≤ left + spent i → IsNext (traced state items room) (traced next more left) i
-is_next state next items more i room left f is enough =
-    record { channel = same_channel state next (i ∷ reverse items) f; past = sym (reversed items more i is); room = enough }
-
-pub not_some : {X : Type 0} (o : Option X) → is_some o ≡ false → o ≡ None
-not_some None h = refl
-not_some (Some x) h = cc
-
--- a ready, with the place kept for it
-pub record IsReady (state : BusView) (dies : List Die) (l : Lun) (k : ℕ) : Type 0 where
-  pub there : k < length dies
-  pub place : k ≡ number_of state.geometry l
-  pub busy : (d : Die) → slice_get dies k ≡ Some d → d.busy ≡ true
-  pub one : 1 ≤ busy_count dies
-
-some_busy : (dies : List Die) (k : ℕ) (d : Die) → slice_get dies k ≡ Some d → d.busy ≡ true → 1 ≤ busy_count dies
-some_busy [] k d found busy = cc
-some_busy (x ∷ dies) zero d found busy =
-    let same : x ≡ d = cc in
-    let works : x.busy ≡ true = ap (λ (e : Die). e.busy) same ∙ busy in
-    rw works (omega arith)
-some_busy (x ∷ dies) (suc k) d found busy = at x.busy (some_busy dies k d found busy)
-  where
-    at : (b : Bool) → 1 ≤ busy_count dies → 1 ≤ cond b (busy_count dies + 1) (busy_count dies)
-    at true h = omega (arith, h)
-    at false h = h
-
-pub readied : (state : BusView) (dies : List Die) (past : List Item) (l : Lun) (fail : Bool) (k : ℕ) → IsStanding state dies past → broken state.geometry (length state.targets) past (Rdy l.ce l.lun fail) ≡ None → k ≡ number_of state.geometry l → IsReady state dies l k
-readied state dies past l fail k f h place =
-    let there = ready_there state.geometry (length state.targets) past l fail h in
-    let inside : k < length dies = subst (λ (n : ℕ). n < length dies) (sym place) (die_there state dies past l f there) in
-    let busy = λ (d : Die) (found : slice_get dies k ≡ Some d). die_is_busy state dies past l k d f there place found in
-    record { there = inside; place = place; busy = busy; one = of (slice_get dies k) refl inside busy }
-  where
-    of : (o : Option Die) → slice_get dies k ≡ o → k < length dies → ((d : Die) → slice_get dies k ≡ Some d → d.busy ≡ true) → 1 ≤ busy_count dies
-    of None e inside busy = absurd (omega (arith, inside, slice_get_none dies k e))
-    of (Some d) e inside busy = some_busy dies k d e (busy d e)
-
-pub runs_ready : (state next : BusView) (dies : List Die) (items more : List Item) (l : Lun) (fail : Bool) (k len capacity room : ℕ) (old new : Die) → IsStanding state dies (reverse items) → broken state.geometry (length state.targets) (reverse items) (Rdy l.ce l.lun fail) ≡ None → k ≡ number_of state.geometry l → slice_get dies k ≡ Some old → IsFinished fail old new → Follows state.geometry (length state.targets) next (Rdy l.ce l.lun fail ∷ reverse items) → more ≡ items ++ (Rdy l.ce l.lun fail ∷ []) → len + room + busy_count dies ≤ capacity + 1 → IsRunning next (set dies k new) more len capacity room
-runs_ready state next dies items more l fail k len capacity room old new f h place found b follows is places =
-    let there = ready_there state.geometry (length state.targets) (reverse items) l fail h in
-    let less = count_finished dies k old new found (die_is_busy state dies (reverse items) l k old f there place found) b.busy in
-    runs_on state next dies (set dies k new) items more (Rdy l.ce l.lun fail) len capacity room f follows (length-set dies k new)
-    (stands_ready state dies (reverse items) l fail k old new f there place found b) is (omega (arith, less, places))
+pub is_next : (state next : BusView) (opened : List Entries) (items more : List Item) (i : Item) (room left : ℕ) → Follows state.geometry (length state.targets) next (i ∷ reverse items) → more ≡ items ++ (i ∷ []) → room ≤ left + spent i → IsNext (traced state opened items room) (traced next opened more left) i
+is_next state next opened items more i room left f is enough =
+    record { channel = same_channel state next opened (i ∷ reverse items) f; past = sym (reversed items more i is); room = enough }

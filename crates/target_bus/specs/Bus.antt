@@ -1,8 +1,8 @@
 -- A channel with its dies: what has happened on it, and how each die stands for its LUN.
-use Rattle.std.specs.Prelude.{◌≡◌, ℕ, ◌+◌, ◌-◌, ◌*◌, ◌/◌, ◌%◌, ◌<◌, ◌≤◌, ◌==◌, Bool, true, false, ◌||◌, ◌&&◌, not, if◌then◌else◌, List, [], ◌∷◌, Option, Some, None, length, reverse, slice_get}
+use Rattle.std.specs.Prelude.{◌≡◌, ℕ, ◌+◌, ◌-◌, ◌*◌, ◌/◌, ◌%◌, ◌<◌, ◌≤◌, ◌==◌, Bool, true, false, ◌||◌, ◌&&◌, not, if◌then◌else◌, List, [], ◌∷◌, Option, Some, None, length, reverse, slice_get, slice_index_or}
 use Rattle.std.specs.Bool.{beq}
 use Rattle.nand_geometry.specs.declared.Parts.{Parts}
-use Rattle.nand_geometry.specs.Limits.{InLimits}
+use Rattle.nand_geometry.specs.Limits.{InLimits, page_len, planes}
 use Rattle.nand_geometry.specs.Page.{parameter_bytes}
 use Rattle.onfi_cycle.specs.declared.Lun.{Lun}
 use Rattle.onfi_cycle.specs.declared.Item.{Item}
@@ -10,52 +10,57 @@ use Rattle.onfi_cycle.specs.declared.Kind.{Kind}
 use Rattle.onfi_cycle.specs.declared.Kind.TheVariants.{Dout}
 use Rattle.onfi_cycle.specs.declared.PageAddress.{PageAddress}
 use Rattle.onfi_cycle.specs.declared.Forbidden.{Forbidden as Rule}
+use Rattle.onfi_cycle.specs.declared.Filling.{Filling}
 use Rattle.onfi_cycle.specs.declared.Effect.{Effect}
-use Rattle.onfi_cycle.specs.declared.Effect.TheVariants.{EraseStarted}
-use Rattle.onfi_cycle.specs.Lun.{effect_on, is_busy, register}
-use Rattle.onfi_cycle.specs.Content.{queued_work, pending_work, has_failed, content}
+use Rattle.onfi_cycle.specs.Sequence.{tail, facts_of}
+use Rattle.onfi_cycle.specs.Filling.{filling}
+use Rattle.onfi_cycle.specs.Lun.{effect_on}
+use Rattle.onfi_cycle.specs.Permitted.{broken}
 use Rattle.onfi_cycle.specs.Channel.{Channel}
 use Rattle.onfi_cycle.specs.State.{BusView, Follows}
-use Rattle.onfi_cycle.specs.Today.{starts_work}
-use Rattle.die_model.specs.declared.Work.{Work}
-use Rattle.die_model.specs.declared.Work.TheVariants.{Erase}
-use Rattle.die_model.specs.Die.{Die, page_of, erased_page, is_new}
+use Rattle.onfi_cycle.specs.Working.{works_on}
+use Rattle.onfi_cycle.specs.Readies.{starts_work, bus_due}
+use Rattle.die_model.specs.Pages.{page_in}
+use Rattle.die_model.specs.Die.{Die, page_of, is_new}
+use Rattle.die_model.specs.Standing.{IsDieOf}
+use Rattle.target_bus.specs.declared.dies.Worked.{Worked}
 use Rattle.target_bus.specs.declared.refusal.BusFault.{BusFault}
-use Rattle.target_bus.specs.declared.refusal.BusFault.TheVariants.{B1, B2}
+use Rattle.target_bus.specs.declared.refusal.BusFault.TheVariants.{B1, B2, OutOfMemory}
 use Rattle.target_bus.specs.declared.refusal.BusRefusal.{BusRefusal}
-use Rattle.target_bus.specs.declared.refusal.BusRefusal.TheVariants.{Forbidden, OutOfMemory}
+use Rattle.target_bus.specs.declared.refusal.BusRefusal.TheVariants.{Forbidden}
+use Rattle.target_bus.specs.declared.refusal.BusRefusal.TheVariants as r
 
--- a channel of this geometry with so many targets, whose pages are all erased at the opening
-abbrev pub channel_on : Parts → ℕ → Channel
-channel_on g n = record { geometry = g; targets = n; parameters = parameter_bytes g; opening = λ l p. erased_page g }
-
--- a channel, what has happened on it (newest first), and how many cycles to come need no memory if they start no work
-pub record Traced : Type 0 where
-  pub geometry : Parts
-  pub targets : ℕ
-  pub past : List Item
-  pub room : ℕ
-
-abbrev pub channel_of : Traced → Channel
-channel_of b = channel_on b.geometry b.targets
-
--- LUN number k of the channel, counted target by target
-abbrev pub numbered : Parts → ℕ → Lun
-numbered g k = record { ce = k / g.luns; lun = k % g.luns }
+-- what a die keeps of its pages
+abbrev pub Entries : Type 0
+Entries = List ((ℕ × ℕ) × List ℕ)
 
 -- the number of a LUN
 abbrev pub number_of : Parts → Lun → ℕ
 number_of g l = l.ce * g.luns + l.lun
 
--- the die has what the LUN has after the past
-pub record IsDieOf (s : Channel) (past : List Item) (l : Lun) (d : Die) : Type 0 where
-  pub geometry : d.geometry ≡ s.geometry
-  pub pages : (p : PageAddress) → page_of d p ≡ content s.geometry s.opening past l p
-  pub busy : d.busy ≡ is_busy s.geometry past l
-  pub register : d.register ≡ register s.geometry past l
-  pub queued : d.queued ≡ queued_work s.geometry past l
-  pub pending : d.pending ≡ pending_work s.geometry past l
-  pub failed : d.failed ≡ has_failed s.geometry past l
+-- the bytes of a page at the opening, by what the die of its LUN kept then
+abbrev pub opened_page : Parts → List Entries → Lun → PageAddress → List ℕ
+opened_page g opened l p = page_in (page_len g) (slice_index_or opened (number_of g l) []) p
+
+-- a channel of this geometry with so many targets, whose dies kept these pages at the opening
+abbrev pub channel_on : Parts → ℕ → List Entries → Channel
+channel_on g n opened = record { geometry = g; targets = n; parameters = parameter_bytes g; opening = opened_page g opened }
+
+-- a channel with what its dies kept at the opening, what has happened on it (newest first), and how many cycles to come need no
+-- memory if they start no work
+pub record Traced : Type 0 where
+  pub geometry : Parts
+  pub targets : ℕ
+  pub opened : List Entries
+  pub past : List Item
+  pub room : ℕ
+
+abbrev pub channel_of : Traced → Channel
+channel_of b = channel_on b.geometry b.targets b.opened
+
+-- LUN number k of the channel, counted target by target
+abbrev pub numbered : Parts → ℕ → Lun
+numbered g k = record { ce = k / g.luns; lun = k % g.luns }
 
 -- each die has what the LUN of its number has
 abbrev pub StandFor : Channel → List Item → List Die → Type 0
@@ -81,14 +86,31 @@ abbrev pub are_new : Parts → List Die → Bool
 are_new g [] = true
 are_new g (d ∷ dies) = same_parts d.geometry g && (is_new d && are_new g dies)
 
+-- the pages of a die are whole, and it has a register for each plane
+pub record IsWhole (d : Die) : Type 0 where
+  pub lengths : (p : PageAddress) → length (page_of d p) ≡ page_len d.geometry
+  pub registers : length d.planes ≡ planes d.geometry
+
+abbrev pub WholeDies : List Die → Type 0
+WholeDies dies = (k : ℕ) (d : Die) → slice_get dies k ≡ Some d → IsWhole d
+
+-- it no longer knows which page its array read last
+abbrev pub forgotten : Die → Die
+forgotten d = record d { array_page = record { block = 0; page = 0 } }
+
 -- what is wrong with the dies of a channel
 abbrev pub bus_fault : Parts → List Die → Option BusFault
 bus_fault g dies = if not (are_targets g (length dies)) then Some B1 else (if are_new g dies then None else Some B2)
 
+-- dies are refused by their fault; want of memory comes after each of them
+abbrev pub RefusesDies : BusFault → Option BusFault → Type 0
+RefusesDies OutOfMemory r = r ≡ None
+RefusesDies f r = r ≡ Some f
+
 -- a refusal by the first rule that the item breaks; want of memory comes after each of them
 abbrev pub Refuses : BusRefusal → Option Rule → Type 0
 Refuses (Forbidden f) r = r ≡ Some f
-Refuses OutOfMemory r = r ≡ None
+Refuses r.OutOfMemory r = r ≡ None
 
 -- how many works an item may start
 abbrev pub starting : Item → ℕ
@@ -108,34 +130,48 @@ abbrev pub is_output : Kind → Bool
 is_output Dout = true
 is_output _ = false
 
--- how many dies work
-abbrev pub busy_count : List Die → ℕ
-busy_count [] = 0
-busy_count (d ∷ dies) = if d.busy then busy_count dies + 1 else busy_count dies
+-- a LUN of a target
+abbrev pub lun_at : (ce n : ℕ) → Lun
+lun_at ce n = record { ce = ce; lun = n }
 
--- the work that an effect begins
-abbrev pub work_begun : Effect → Option Work
-work_begun (EraseStarted queued at) = if queued then None else Some (Erase at)
-work_begun _ = None
+-- an item works on a LUN, in this way
+pub record IsWorkedAt (g : Parts) (past : List Item) (i : Item) (l : Lun) (filled : Filling) (effect : Effect) : Type 0 where
+  pub lun : l.lun < g.luns
+  pub filling_is : filled ≡ filling g (facts_of (tail past l.ce)) i l
+  pub effect_is : effect ≡ effect_on g past i l
+  pub works : works_on g past i l ≡ true
 
--- at which of the LUNs from number k on an item begins work, and which; None where it begins none
-abbrev pub BeginsAt : Parts → List Item → Item → (k count : ℕ) → Option (ℕ × Work) → Type 0
-BeginsAt g past i k count None = (m : ℕ) → k ≤ m → m < count → work_begun (effect_on g past i (numbered g m)) ≡ None
-BeginsAt g past i k count (Some found) = (found.0 < count) × (work_begun (effect_on g past i (numbered g found.0)) ≡ Some found.1)
+-- of the LUNs of a target from number n on, the one that an item works on; None where it works on none
+abbrev pub FindsWork : Parts → List Item → Item → (ce n : ℕ) → Option Worked → Type 0
+FindsWork g past i ce n None = (m : ℕ) → n ≤ m → m < g.luns → works_on g past i (lun_at ce m) ≡ false
+FindsWork g past i ce n (Some w) = IsWorkedAt g past i (lun_at ce w.lun) w.filling w.effect
 
 -- a running state and its dies stand for a past
-pub record IsStanding (state : BusView) (dies : List Die) (past : List Item) : Type 0 where
+pub record IsStanding (state : BusView) (opened : List Entries) (dies : List Die) (past : List Item) : Type 0 where
   pub follows : Follows state.geometry (length state.targets) state past
   pub limits : InLimits state.geometry
   pub least : 1 ≤ length state.targets
   pub most : length state.targets ≤ 4
   pub count : length dies ≡ length state.targets * state.geometry.luns
-  pub stand : StandFor (channel_on state.geometry (length state.targets)) past dies
+  pub lengths : (l : Lun) (p : PageAddress) → length (opened_page state.geometry opened l p) ≡ page_len state.geometry
+  pub stand : StandFor (channel_on state.geometry (length state.targets) opened) past dies
 
--- they stand for the items so far, and a place is kept for the ready of each busy die, and for the cycles to come
-pub record IsRunning (state : BusView) (dies : List Die) (items : List Item) (len capacity room : ℕ) : Type 0 where
-  pub standing : IsStanding state dies (reverse items)
-  pub places : len + room + busy_count dies ≤ capacity
+-- they stand for some past, after which the item is permitted
+pub record Permits (state : BusView) (dies : List Die) (i : Item) : Type 0 where
+  pub opened : List Entries
+  pub past : List Item
+  pub standing : IsStanding state opened dies past
+  pub permitted : broken state.geometry (length state.targets) past i ≡ None
+
+-- they go on to stand, with the item
+abbrev pub GoOn : (state next : BusView) (dies after : List Die) → Item → Type 0
+GoOn state next dies after i = (opened : List Entries) (past : List Item) → IsStanding state opened dies past → IsStanding next opened after (i ∷ past)
+
+-- they stand for the items so far; at most so many readies are to come, and a place is kept for each of them, and for the cycles to come
+pub record IsRunning (state : BusView) (opened : List Entries) (dies : List Die) (items : List Item) (len capacity room due : ℕ) : Type 0 where
+  pub standing : IsStanding state opened dies (reverse items)
+  pub readies : bus_due state ≤ due
+  pub places : len + room + due ≤ capacity
 
 abbrev pub first_of : List ℕ → Option ℕ
 first_of [] = None

@@ -1,26 +1,30 @@
 //! The dies behind a bus: whether they are a channel, and what an item does to them.
-ghost use Rattle.std.specs.Prelude.{◌≡◌, ℕ, ◌*◌, ◌+◌, ◌<◌, ◌≤◌, true, false, List, ◌∷◌, Some, None, IsOk, IfOk, IfSome, OnErr, length, slice_get};
+ghost use Rattle.std.specs.Prelude.{◌≡◌, ℕ, ◌*◌, ◌+◌, ◌<◌, ◌≤◌, ◌^◌, true, false, ◌||◌, List, ◌∷◌, Some, None, IsOk, IfOk, IfSome, OnErr, length, map, slice_get};
 ghost use Rattle.std.specs.Option.{option_copied};
 ghost use Rattle.nand_geometry.specs.declared.Parts.{Parts};
-ghost use Rattle.nand_geometry.specs.Limits.{InLimits};
+ghost use Rattle.nand_geometry.specs.Page.{parameter_bytes};
 ghost use Rattle.onfi_cycle.specs.declared.Item.{Item};
+ghost use Rattle.onfi_cycle.specs.declared.Item.TheVariants.{Cyc, Rdy, Ard};
 ghost use Rattle.onfi_cycle.specs.declared.Kind.TheVariants.{Dout};
-ghost use Rattle.onfi_cycle.specs.declared.Lun.{Lun};
 ghost use Rattle.onfi_cycle.specs.Effect.{is_off};
-ghost use Rattle.onfi_cycle.specs.Lun.{drivers_from, latch, is_busy};
+ghost use Rattle.onfi_cycle.specs.Lun.{drivers_from, latch};
 ghost use Rattle.onfi_cycle.specs.Permitted.{broken};
-ghost use Rattle.onfi_cycle.specs.Channel.{is_cycle, cycle, bus_byte};
+ghost use Rattle.onfi_cycle.specs.Channel.{Channel, is_cycle, cycle, bus_byte};
+ghost use Rattle.onfi_cycle.specs.Content.{shown};
 ghost use Rattle.onfi_cycle.specs.State.{Follows, judged};
-ghost use Rattle.onfi_cycle.specs.Today.{starts_work};
-ghost use Rattle.die_model.specs.Die.{is_new};
-ghost use Rattle.target_bus.specs.Bus.{channel_on, numbered, are_targets, same_sizes, same_features, same_parts, are_new, busy_count, starting, work_begun, first_of, BeginsAt, StandFor, IsStanding};
+ghost use Rattle.onfi_cycle.specs.Working.{fills, begins};
+ghost use Rattle.onfi_cycle.specs.Readies.{starts_work, bus_due};
+ghost use Rattle.die_model.specs.Die.{Die};
+ghost use Rattle.die_model.specs.Standing.{IsDieOf};
+ghost use Rattle.target_bus.specs.Bus.{channel_on, Entries, are_targets, same_sizes, same_features, same_parts, are_new, starting, FindsWork, first_of, IsStanding, Permits, StandFor, WholeDies, forgotten};
 
-use die_model::{LunDie, Work};
+use die_model::{LunDie, Pages};
 use nand_geometry::{Geometry, Parts};
 use onfi_cycle::effects::is_off;
-use onfi_cycle::today::starts_work;
-use onfi_cycle::{BusState, Cycle, Effect, Forbidden, Item, Kind, Lun};
-use std::alloc::AllocError;
+use onfi_cycle::readies::{readies_are_due, starts_work};
+use onfi_cycle::sequences::target_of;
+use onfi_cycle::{BusState, Cycle, Effect, Filling, Forbidden, Item, Kind, Latch, Lun};
+use std::alloc::{AllocError, Allocator};
 
 /// So many dies are 1 to 4 targets of whole LUNs.
 pub fn are_targets(geometry: &Geometry, count: usize) -> bool
@@ -61,7 +65,7 @@ fn same_parts(geometry: &Geometry, other: &Geometry) -> bool
 }
 
 /// Each die is new and has this geometry.
-pub fn are_new(geometry: &Geometry, dies: &[LunDie]) -> bool
+pub fn are_new<A: Allocator + Copy>(geometry: &Geometry, dies: &[LunDie<A>]) -> bool
     ensures { result ≡ are_new geometry.now dies.now }
 {
     match dies {
@@ -72,63 +76,82 @@ pub fn are_new(geometry: &Geometry, dies: &[LunDie]) -> bool
     }
 }
 
-/// How many dies work.
-pub fn busy_dies(dies: &[LunDie]) -> usize
-    ensures value { result ≡ busy_count dies.now }
-    ensures most { result ≤ length dies.now }
+/// Copies of the pages of each die.
+pub fn copied_pages<A: Allocator + Copy>(
+    alloc: A,
+    dies: &[LunDie<A>],
+) -> Result<Vec<Pages<A>, A>, AllocError>
+    ensures value { IfOk result (λ v. v.items ≡ map (λ (d : Die). d.pages) dies.now) }
+    ensures whole { IfOk result (λ v. WholeDies dies.now) }
 {
-    match dies {
-        [] => 0,
-        [die, rest @ ..] => {
-            let others = busy_dies(rest);
-            if die.is_busy() { others + 1 } else { others }
-        }
+    let mut pages = Vec::with_capacity(alloc, dies.len())?;
+    for die in dies {
+        pages.push(die.pages()?)?;
+    }
+    Ok(pages)
+}
+
+/// Each die forgets which page its array read last.
+pub fn forget_array_pages<A: Allocator + Copy>(dies: &mut [LunDie<A>])
+    ensures { dies.new ≡ map forgotten dies.old }
+{
+    for k in 0..dies.len() {
+        dies[k].forget_array_page();
     }
 }
 
-// LUN number k of a channel, counted target by target.
-fn numbered(luns: u8, k: usize) -> Lun
-    requires some { 0 < luns }
-    requires few { k < 256 }
-    ensures { (g : Parts) → g.luns ≡ luns → result ≡ numbered g k }
+// A page register changes.
+fn fills(filling: Filling) -> bool
+    ensures { result ≡ fills filling }
 {
-    Lun {
-        ce: (k / usize::from(luns)) as u8,
-        lun: (k % usize::from(luns)) as u8,
-    }
+    filling != Filling::Leaves
 }
 
-// The work that an effect begins.
-fn work_begun(effect: Effect) -> Option<Work>
-    ensures { result ≡ work_begun effect }
+// Work begins.
+fn begins(effect: Effect) -> bool
+    ensures { result ≡ begins effect }
 {
-    match effect {
-        Effect::EraseStarted { queued: false, row } => Some(Work::Erase(row)),
-        _ => None,
-    }
+    matches!(
+        effect,
+        Effect::ReadStarted { .. }
+            | Effect::EraseStarted { .. }
+            | Effect::ProgramStarted { .. }
+            | Effect::IdRead
+            | Effect::ParameterPageReadStarted
+            | Effect::CacheReadContinued
+            | Effect::CacheReadEnded
+            | Effect::ResetStarted
+    )
 }
 
-// Of the LUNs from number k on, the first at which an item begins work, and that work.
-fn begins_at(
-    state: &BusState,
-    luns: u8,
-    count: usize,
-    item: Item,
-    k: usize,
-) -> Option<(usize, Work)>
-    requires some { 0 < luns }
-    requires few { count ≤ 256 }
-    requires inside { k ≤ count }
-    ensures there { IfSome result (λ found. found.0 < count) }
-    ensures past { (g : Parts) (n : ℕ) (past : List Item) → Follows g n state.now past → g.luns ≡ luns → count ≡ n * luns → BeginsAt g past item k count result }
+/// The LUN of a target that an item works on, and how.
+#[derive(Clone, Copy, Debug, PartialEq, Eq)]
+pub struct Worked {
+    pub lun: u8,
+    pub filling: Filling,
+    pub effect: Effect,
+}
+
+// Of the LUNs of a target from number n on, the one that an item works on.
+fn find_work(state: &BusState, item: Item, ce: u8, luns: u8, n: u8) -> Option<Worked>
+    requires { n ≤ luns }
+    ensures there { IfSome result (λ w. w.lun < luns) }
+    ensures past { (g : Parts) (targets : ℕ) (past : List Item) → Follows g targets state.now past → ce < targets → g.luns ≡ luns → FindsWork g past item ce n result }
 {
-    if k == count {
+    if n == luns {
         return None;
     }
-    match work_begun(state.effect(item, numbered(luns, k))) {
-        Some(work) => Some((k, work)),
-        None => begins_at(state, luns, count, item, k + 1),
+    let lun = Lun { ce, lun: n };
+    let filling = state.filling(item, lun);
+    let effect = state.effect(item, lun);
+    if fills(filling) || begins(effect) {
+        return Some(Worked {
+            lun: n,
+            filling,
+            effect,
+        });
     }
+    find_work(state, item, ce, luns, n + 1)
 }
 
 /// How many works an item may start.
@@ -139,22 +162,51 @@ pub fn starting(item: Item) -> usize
     if starts_work(item) { 1 } else { 0 }
 }
 
-/// Works a permitted cycle on the dies: at most one begins work. Without memory for that all stays as it was.
-pub fn begin_work(state: &BusState, dies: &mut [LunDie], item: Item) -> Result<(), AllocError>
-    requires { length dies.old ≤ 16 }
-    ensures ok { IfOk result (λ _. (past : List Item) → IsStanding state.now dies.old past → broken state.now.geometry (length state.now.targets) past item ≡ None → is_cycle item ≡ true → StandFor (channel_on state.now.geometry (length state.now.targets)) (item ∷ past) dies.new) }
-    ensures busy { busy_count dies.new ≤ busy_count dies.old + starting item }
+/// Works a permitted cycle on the dies: on one of them at most. Without memory for that all stays as it was.
+pub fn work<A: Allocator + Copy>(
+    state: &BusState,
+    dies: &mut [LunDie<A>],
+    cycle: Cycle,
+) -> Result<(), AllocError>
+    requires few { length dies.old ≤ 16 }
+    requires permitted { Permits state.now dies.old (Cyc cycle) }
+    ensures ok { IfOk result (λ _. (opened : List Entries) (past : List Item) → IsStanding state.now opened dies.old past → broken state.now.geometry (length state.now.targets) past (Cyc cycle) ≡ None → StandFor (channel_on state.now.geometry (length state.now.targets) opened) (Cyc cycle ∷ past) dies.new) }
     ensures err { OnErr result (dies.new ≡ dies.old) }
-    ensures idle { starts_work item ≡ false → IsOk result }
+    ensures memory { starts_work (Cyc cycle) ≡ false → IsOk result }
 {
-    if !starts_work(item) {
-        return Ok(());
-    }
+    state.facts_fit();
     let luns = state.geometry().parts().luns;
-    match begins_at(state, luns, dies.len(), item, 0) {
+    match find_work(state, Item::Cyc(cycle), cycle.ce, luns, 0) {
         None => Ok(()),
-        Some((k, work)) => dies[k].begin(work),
+        Some(worked) => {
+            let k = usize::from(cycle.ce) * usize::from(luns) + usize::from(worked.lun);
+            dies[k].work(worked.filling, worked.effect)
+        }
     }
+}
+
+/// Ends the work of a LUN that may become ready, on its die.
+pub fn end_work<A: Allocator + Copy>(state: &BusState, dies: &mut [LunDie<A>], l: Lun, fail: bool)
+    requires few { length dies.old ≤ 16 }
+    requires permitted { Permits state.now dies.old (Rdy l.ce l.lun fail) }
+    ensures { (opened : List Entries) (past : List Item) → IsStanding state.now opened dies.old past → broken state.now.geometry (length state.now.targets) past (Rdy l.ce l.lun fail) ≡ None → StandFor (channel_on state.now.geometry (length state.now.targets) opened) (Rdy l.ce l.lun fail ∷ past) dies.new }
+{
+    state.facts_fit();
+    let luns = state.geometry().parts().luns;
+    let k = usize::from(l.ce) * usize::from(luns) + usize::from(l.lun);
+    dies[k].finish(fail);
+}
+
+/// Ends the array's work of a LUN whose array may become ready, on its die.
+pub fn end_array_work<A: Allocator + Copy>(state: &BusState, dies: &mut [LunDie<A>], l: Lun)
+    requires few { length dies.old ≤ 16 }
+    requires permitted { Permits state.now dies.old (Ard l.ce l.lun) }
+    ensures { (opened : List Entries) (past : List Item) → IsStanding state.now opened dies.old past → broken state.now.geometry (length state.now.targets) past (Ard l.ce l.lun) ≡ None → StandFor (channel_on state.now.geometry (length state.now.targets) opened) (Ard l.ce l.lun ∷ past) dies.new }
+{
+    state.facts_fit();
+    let luns = state.geometry().parts().luns;
+    let k = usize::from(l.ce) * usize::from(luns) + usize::from(l.lun);
+    dies[k].array_ready();
 }
 
 // A LUN drives nothing.
@@ -183,36 +235,49 @@ fn first_driver(state: &BusState, ce: u8, luns: u8, n: u8) -> Option<u8>
 }
 
 // The die of this number, if it is there.
-fn die_at(dies: &[LunDie], k: usize) -> Option<&LunDie>
+fn die_at<A: Allocator>(dies: &[LunDie<A>], k: usize) -> Option<&LunDie<A>>
     ensures { option_copied result ≡ slice_get dies.now k }
 {
     dies.get(k)
 }
 
-/// The byte that the one driver of a target shows, where an output of it is permitted: its status.
-pub fn shown_byte(state: &BusState, dies: &[LunDie], ce: u8) -> u8
+// The byte that a LUN shows, its status or the next of its register, where it shows one.
+fn byte_of<A: Allocator + Copy>(state: &BusState, die: &LunDie<A>, l: Lun) -> u8
+    ensures { (s : Channel) (past : List Item) (byte : ℕ) → Follows s.geometry s.targets state.now past → l.ce < s.targets → l.lun < s.geometry.luns → IsDieOf s past l die.now → parameter_bytes s.geometry ≡ s.parameters → shown s.geometry s.parameters s.opening past l ≡ Some byte → result ≡ byte }
+{
+    match state.lun_state(l) {
+        Some(look) if look.latch == Latch::Data => match look.column {
+            Some(column) => die.shown(column as usize).unwrap_or(0),
+            None => 0,
+        },
+        _ => die.status().0,
+    }
+}
+
+/// The byte that the one driver of a target shows, where an output of it is permitted.
+pub fn shown_byte<A: Allocator + Copy>(state: &BusState, dies: &[LunDie<A>], ce: u8) -> u8
     requires { length dies.now ≤ 16 }
-    ensures { (past : List Item) → IsStanding state.now dies.now past → broken state.now.geometry (length state.now.targets) past (cycle ce Dout 0) ≡ None → bus_byte (channel_on state.now.geometry (length state.now.targets)) past ce ≡ Some result }
+    ensures { (opened : List Entries) (past : List Item) → IsStanding state.now opened dies.now past → broken state.now.geometry (length state.now.targets) past (cycle ce Dout 0) ≡ None → bus_byte (channel_on state.now.geometry (length state.now.targets) opened) past ce ≡ Some result }
 {
     let luns = state.geometry().parts().luns;
     match first_driver(state, ce, luns, 0) {
         None => 0,
         Some(lun) => match die_at(dies, usize::from(ce) * usize::from(luns) + usize::from(lun)) {
             None => 0,
-            Some(die) => die.status().0,
+            Some(die) => byte_of(state, die, Lun { ce, lun }),
         },
     }
 }
 
 /// The output of a byte.
-pub fn output(ce: u8, byte: u8) -> Item
-    ensures { result ≡ cycle ce Dout byte }
+pub fn output(ce: u8, byte: u8) -> Cycle
+    ensures { Cyc result ≡ cycle ce Dout byte }
 {
-    Item::Cyc(Cycle {
+    Cycle {
         ce,
         kind: Kind::Dout,
         byte,
-    })
+    }
 }
 
 /// The first rule that an output on a target breaks, whatever its byte.
@@ -220,5 +285,24 @@ pub fn judge_output(state: &BusState, ce: u8) -> Option<Forbidden>
     ensures state { (byte : ℕ) → result ≡ judged state.now (cycle ce Dout byte) }
     ensures past { (g : Parts) (n : ℕ) (past : List Item) (byte : ℕ) → Follows g n state.now past → result ≡ broken g n past (cycle ce Dout byte) }
 {
-    state.judge(output(ce, 0))
+    state.judge(Item::Cyc(output(ce, 0)))
+}
+
+/// Goes on by a permitted item, and tells how many readies are to come after it at most.
+pub fn go_on(state: &mut BusState, item: Item, due: usize) -> usize
+    requires permitted { judged state.old item ≡ None }
+    requires due { bus_due state.old ≤ due }
+    requires small { due < 2 ^ 62 }
+    ensures past { (g : Parts) (n : ℕ) (past : List Item) → Follows g n state.old past → Follows g n state.new (item ∷ past) }
+    ensures due { bus_due state.new ≤ result }
+    ensures idle { is_cycle item ≡ true → starts_work item ≡ false → result ≤ due }
+    ensures ready { is_cycle item ≡ false → result + 1 ≤ due }
+    ensures most { result ≤ due + 16 }
+{
+    let ce = target_of(item);
+    let before = state.due(ce);
+    readies_are_due();
+    state.facts_fit();
+    state.apply(item);
+    due - before + state.due(ce)
 }

@@ -17,13 +17,14 @@ ghost use Rattle.onfi_cycle.specs.Permitted.{broken, is_permitted, is_legal};
 ghost use Rattle.onfi_cycle.specs.Channel.{IsChannel, cycle, bus_byte};
 ghost use Rattle.onfi_cycle.specs.State.{Follows};
 ghost use Rattle.onfi_cycle.specs.Look.{look_after};
-ghost use Rattle.onfi_cycle.specs.Today.{starts_work};
+ghost use Rattle.onfi_cycle.specs.Readies.{starts_work};
 ghost use Rattle.die_model.specs.Die.{Die, page_of};
-ghost use Rattle.target_bus.specs.Bus.{Traced, channel_of, numbered, number_of, StandFor, bus_fault, Refuses, IsNext, is_output, IsRunning};
+ghost use Rattle.target_bus.specs.Bus.{Traced, channel_of, number_of, StandFor, bus_fault, RefusesDies, Refuses, IsNext, is_output, IsRunning};
 
-use die_model::LunDie;
+use die_model::{LunDie, Pages};
 use dies::{
-    are_new, are_targets, begin_work, busy_dies, judge_output, output, shown_byte, starting,
+    are_new, are_targets, copied_pages, end_array_work, end_work, forget_array_pages, go_on,
+    judge_output, output, shown_byte, starting, work,
 };
 use nand_geometry::Geometry;
 use onfi_cycle::{BusState, Cycle, Item, Lun, LunState};
@@ -35,10 +36,14 @@ use std::marker::Model;
 #[derive(Drop)]
 pub struct Bus<A: Allocator = Global> {
     state: BusState,
-    dies: Vec<LunDie, A>,
+    dies: Vec<LunDie<A>, A>,
+    /// What the pages of each die were at the opening.
+    opened: Vec<Pages<A>, A>,
     trace: Vec<Item, A>,
     /// How many cycles to come need no memory, if they start no work.
     room: usize,
+    /// How many readies are to come at most; each has its place in the trace.
+    due: usize,
 }
 
 impl<A: Allocator> Model for Bus<A> {
@@ -48,24 +53,25 @@ impl<A: Allocator> Model for Bus<A> {
 
     ghost Value = { Traced };
 
-    ghost view = { λ b. record { geometry = b.state.geometry; targets = length b.state.targets; past = reverse b.trace.items; room = b.room } };
+    ghost view = { λ b. record { geometry = b.state.geometry; targets = length b.state.targets; opened = b.opened.items; past = reverse b.trace.items; room = b.room } };
 
-    ghost invariant = { λ b. IsRunning b.state b.dies.items b.trace.items (vec_len b.trace) (vec_capacity b.trace) b.room };
+    ghost invariant = { λ b. IsRunning b.state b.opened.items b.dies.items b.trace.items (vec_len b.trace) (vec_capacity b.trace) b.room b.due };
 }
 
-impl<A: Allocator> Bus<A> {
-    /// The bus of these dies, LUN by LUN and target by target. It takes no memory.
+impl<A: Allocator + Copy> Bus<A> {
+    /// The bus of these dies, LUN by LUN and target by target. It keeps what their pages are now, as the opening of its trace.
     ///
-    /// Errors, with the dies: `B1` they aren't 1 to 4 targets of whole LUNs; `B2` a die has another geometry or isn't new.
+    /// Errors, with the dies: `B1` they aren't 1 to 4 targets of whole LUNs; `B2` a die has another geometry or isn't new; and
+    /// where neither is so, want of memory.
     pub fn new(
         alloc: A,
         geometry: Geometry,
-        dies: Vec<LunDie, A>,
-    ) -> Result<Bus<A>, (BusFault, Vec<LunDie, A>)>
-        ensures ok { IsOk result ↔ (bus_fault geometry dies.items ≡ None) }
+        dies: Vec<LunDie<A>, A>,
+    ) -> Result<Bus<A>, (BusFault, Vec<LunDie<A>, A>)>
+        ensures ok { IfOk result (λ b. bus_fault geometry dies.items ≡ None) }
         ensures value { IfOk result (λ b. (b.past ≡ []) × (b.geometry ≡ geometry) × (b.targets * geometry.luns ≡ length dies.items)) }
         ensures opening { IfOk result (λ b. (l : Lun) (p : PageAddress) (d : Die) → slice_get dies.items (number_of geometry l) ≡ Some d → (channel_of b).opening l p ≡ page_of d p) }
-        ensures err { IfErr result (λ e. (bus_fault geometry dies.items ≡ Some e.0) × (e.1 ≡ dies)) }
+        ensures err { IfErr result (λ e. RefusesDies e.0 (bus_fault geometry dies.items) × (e.1 ≡ dies)) }
     {
         let luns = geometry.parts().luns;
         if !are_targets(&geometry, dies.len()) {
@@ -75,11 +81,19 @@ impl<A: Allocator> Bus<A> {
             return Err((BusFault::B2, dies));
         }
         let targets = (dies.len() / usize::from(luns)) as u8;
+        let opened = match copied_pages(alloc, dies.as_slice()) {
+            Ok(opened) => opened,
+            Err(_) => return Err((BusFault::OutOfMemory, dies)),
+        };
+        let mut dies = dies;
+        forget_array_pages(dies.as_mut_slice());
         Ok(Bus {
             state: BusState::new(geometry, targets),
             dies,
+            opened,
             trace: Vec::new(alloc),
             room: 0,
+            due: 0,
         })
     }
 
@@ -145,10 +159,9 @@ impl<A: Allocator> Bus<A> {
         }
         let works = starting(item);
         let left = self.room.saturating_sub(1 - works);
-        let places = 1 + left + busy_dies(self.dies.as_slice()) + works;
-        self.trace.reserve(places)?;
-        begin_work(&self.state, self.dies.as_mut_slice(), item)?;
-        self.state.apply(item);
+        self.trace.reserve(1 + left + self.due + 16 * works)?;
+        work(&self.state, self.dies.as_mut_slice(), cycle)?;
+        self.due = go_on(&mut self.state, item, self.due);
         self.trace.push_reserved(item);
         self.room = left;
         Ok(())
@@ -166,11 +179,10 @@ impl<A: Allocator> Bus<A> {
             return Err(BusRefusal::Forbidden(rule));
         }
         let left = self.room.saturating_sub(1);
-        self.trace
-            .reserve(1 + left + busy_dies(self.dies.as_slice()))?;
+        self.trace.reserve(1 + left + self.due)?;
         let byte = shown_byte(&self.state, self.dies.as_slice(), ce);
-        let item = output(ce, byte);
-        self.state.apply(item);
+        let item = Item::Cyc(output(ce, byte));
+        self.due = go_on(&mut self.state, item, self.due);
         self.trace.push_reserved(item);
         self.room = left;
         Ok(byte)
@@ -191,24 +203,31 @@ impl<A: Allocator> Bus<A> {
         if self.state.judge(item).is_some() {
             return false;
         }
-        let luns = self.state.geometry().parts().luns;
-        let k = usize::from(l.ce) * usize::from(luns) + usize::from(l.lun);
-        self.dies[k].finish(fail);
-        self.state.apply(item);
+        end_work(&self.state, self.dies.as_mut_slice(), l, fail);
+        self.due = go_on(&mut self.state, item, self.due);
         self.trace.push_reserved(item);
         true
     }
 
-    /// The array of a LUN becomes ready behind a cache read. No cache read is taken today, so none comes.
+    /// The array of a LUN becomes ready after a cache read; false where the LUN isn't there or its array isn't busy. It takes no
+    /// memory.
     pub fn array_ready(&mut self, l: Lun) -> bool
         ensures came { result ≡ is_permitted self.old.geometry self.old.targets self.old.past (Ard l.ce l.lun) }
         ensures yes { IsTrue result → IsNext self.old self.new (Ard l.ce l.lun) }
         ensures no { result ≡ false → self.new ≡ self.old }
         ensures room { self.new.room ≡ self.old.room }
     {
-        let _ = &self.trace;
-        let _ = l;
-        false
+        let item = Item::Ard {
+            ce: l.ce,
+            lun: l.lun,
+        };
+        if self.state.judge(item).is_some() {
+            return false;
+        }
+        end_array_work(&self.state, self.dies.as_mut_slice(), l);
+        self.due = go_on(&mut self.state, item, self.due);
+        self.trace.push_reserved(item);
+        true
     }
 
     /// Keeps places for so many cycles to come: the next `n` that start no work meet no want of memory, whatever cycles that start
@@ -218,7 +237,7 @@ impl<A: Allocator> Bus<A> {
         ensures err { IfErr result (λ _. self.new ≡ self.old) }
     {
         let room = self.room.max(n);
-        let Some(places) = room.checked_add(busy_dies(self.dies.as_slice())) else {
+        let Some(places) = room.checked_add(self.due) else {
             return Err(AllocError);
         };
         self.trace.reserve(places)?;
@@ -227,7 +246,7 @@ impl<A: Allocator> Bus<A> {
     }
 
     /// The dies, as the trace has left them.
-    pub fn into_dies(self) -> Vec<LunDie, A>
+    pub fn into_dies(self) -> Vec<LunDie<A>, A>
         ensures count { length result.items ≡ self.targets * self.geometry.luns }
         ensures dies { StandFor (channel_of self) self.past result.items }
     {

@@ -14,6 +14,9 @@ pub enum BusFault {
     /// A die has another geometry, or isn't new.
     #[error("a die has another geometry, or has worked already")]
     B2,
+    /// There is no memory to keep what its pages are at the opening.
+    #[error("out of memory")]
+    OutOfMemory,
 }
 
 /// Why a cycle doesn't come.

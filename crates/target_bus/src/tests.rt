@@ -37,11 +37,11 @@ fn geometry(parts: Parts) -> Result<Geometry, Fail> {
     Ok(Geometry::of(parts).ok().ok_or("the parts are a geometry")?)
 }
 
-fn dies<A: Allocator>(alloc: A, parts: Parts, count: u8) -> Result<Vec<LunDie, A>, Fail> {
+fn dies<A: Allocator + Copy>(alloc: A, parts: Parts, count: u8) -> Result<Vec<LunDie<A>, A>, Fail> {
     let geometry = geometry(parts)?;
     let mut dies = Vec::with_capacity(alloc, usize::from(count))?;
     for _ in 0..count {
-        dies.push(LunDie::new(geometry)?)?;
+        dies.push(LunDie::new(alloc, geometry)?)?;
     }
     Ok(dies)
 }
@@ -54,7 +54,7 @@ fn channel<A: Allocator + Copy>(alloc: A, parts: Parts, count: u8) -> Result<Bus
     }
 }
 
-fn command<A: Allocator>(bus: &mut Bus<A>, ce: u8, byte: u8) -> Result<(), BusRefusal> {
+fn command<A: Allocator + Copy>(bus: &mut Bus<A>, ce: u8, byte: u8) -> Result<(), BusRefusal> {
     bus.put(Cycle {
         ce,
         kind: Kind::Cmd,
@@ -63,7 +63,7 @@ fn command<A: Allocator>(bus: &mut Bus<A>, ce: u8, byte: u8) -> Result<(), BusRe
 }
 
 // The three address cycles of a row below 256.
-fn row<A: Allocator>(bus: &mut Bus<A>, ce: u8, low: u8) -> Result<(), BusRefusal> {
+fn row<A: Allocator + Copy>(bus: &mut Bus<A>, ce: u8, low: u8) -> Result<(), BusRefusal> {
     for byte in [low, 0, 0] {
         bus.put(Cycle {
             ce,
@@ -74,20 +74,20 @@ fn row<A: Allocator>(bus: &mut Bus<A>, ce: u8, low: u8) -> Result<(), BusRefusal
     Ok(())
 }
 
-fn erase<A: Allocator>(bus: &mut Bus<A>, ce: u8, low: u8) -> Result<(), BusRefusal> {
+fn erase<A: Allocator + Copy>(bus: &mut Bus<A>, ce: u8, low: u8) -> Result<(), BusRefusal> {
     command(bus, ce, 0x60)?;
     row(bus, ce, low)?;
     command(bus, ce, 0xd0)
 }
 
 // The status byte, by 70.
-fn status<A: Allocator>(bus: &mut Bus<A>, ce: u8) -> Result<u8, BusRefusal> {
+fn status<A: Allocator + Copy>(bus: &mut Bus<A>, ce: u8) -> Result<u8, BusRefusal> {
     command(bus, ce, 0x70)?;
     bus.take(ce)
 }
 
 // The status byte of the LUN of a row, by 78.
-fn status_of<A: Allocator>(bus: &mut Bus<A>, ce: u8, low: u8) -> Result<u8, BusRefusal> {
+fn status_of<A: Allocator + Copy>(bus: &mut Bus<A>, ce: u8, low: u8) -> Result<u8, BusRefusal> {
     command(bus, ce, 0x78)?;
     row(bus, ce, low)?;
     bus.take(ce)
@@ -200,7 +200,7 @@ fn dies_that_are_no_channel(rt: HostRuntime) -> Result<(), Fail> {
         assert!(rt; told.is_some_and(|e| e.0 == BusFault::B1));
     }
     let mut mixed = dies(rt.alloc(), TWO_LUNS, 1)?;
-    mixed.push(LunDie::new(geometry(ONE_LUN)?)?)?;
+    mixed.push(LunDie::new(rt.alloc(), geometry(ONE_LUN)?)?)?;
     let told = Bus::new(rt.alloc(), two, mixed).err();
     assert!(rt; told.is_some_and(|e| e.0 == BusFault::B2 && e.1.len() == 2));
     // Both faults: the first is told.

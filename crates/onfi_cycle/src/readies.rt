@@ -1,0 +1,82 @@
+//! How many readies are still to come, and which items bring more.
+ghost use Rattle.std.specs.Prelude.{◌≡◌, ◌≤◌, ◌*◌, length};
+ghost use Rattle.onfi_cycle.specs.Readies.{starts, starts_work, awaits_parameters, due_at, due_of, ReadiesAreDue};
+
+use crate::effects::is_cache_read;
+use crate::sequences::target_cycle;
+use crate::{Command, Item, LunFacts, Opening, Queued, TailFacts, TargetCycle};
+use arrayvec::ArrayVec;
+
+// The command starts work, or its address does.
+fn starts(command: Command) -> bool
+    ensures { result ≡ starts command }
+{
+    matches!(
+        command,
+        Command::ReadConfirm
+            | Command::BlockEraseConfirm
+            | Command::BlockErasePlane
+            | Command::ProgramConfirm
+            | Command::ProgramPlane
+            | Command::ReadParameterPage
+            | Command::Reset
+            | Command::ReadCacheSequential
+            | Command::ReadCacheEnd
+    )
+}
+
+/// The item may start work on a LUN, so that a ready of it may come. Of a parameter page its command counts, and not its
+/// address.
+pub fn starts_work(item: Item) -> bool
+    ensures { result ≡ starts_work item }
+{
+    match item {
+        Item::Cyc(cycle) => match target_cycle(cycle.kind, cycle.byte) {
+            TargetCycle::CommandCycle(command) => starts(command),
+            _ => false,
+        },
+        Item::Rdy { .. } | Item::Ard { .. } => false,
+    }
+}
+
+// A Read Parameter Page waits for its address.
+fn awaits_parameters(tail: &TailFacts) -> bool
+    ensures { result ≡ awaits_parameters tail.now }
+{
+    matches!(
+        tail.opening,
+        Some(Opening {
+            opener: Command::ReadParameterPage,
+            addresses: 0,
+        })
+    )
+}
+
+// The readies still to come of a LUN.
+fn due_at(tail: &TailFacts, lun: &LunFacts<ArrayVec<Queued, 16>>) -> usize
+    ensures value { result ≡ due_at tail.now lun.now }
+    ensures most { result ≤ 4 }
+{
+    let of_cache = lun.busy && is_cache_read(lun.closer);
+    usize::from(lun.busy)
+        + (usize::from(lun.array_busy)
+            + (usize::from(of_cache) + usize::from(awaits_parameters(tail))))
+}
+
+/// The readies still to come of the LUNs of a target.
+pub(crate) fn due_of(tail: &TailFacts, luns: &[LunFacts<ArrayVec<Queued, 16>>]) -> usize
+    requires { length luns.now ≤ 4 }
+    ensures value { result ≡ due_of tail.now luns.now }
+    ensures most { result ≤ 4 * length luns.now }
+{
+    match luns {
+        [] => 0,
+        [first, rest @ ..] => due_at(tail, first) + due_of(tail, rest),
+    }
+}
+
+/// A law: a cycle that starts no work brings no ready, a ready that comes is one of those that were to come, and an item
+/// changes those of its target alone.
+pub fn readies_are_due()
+    ensures { ReadiesAreDue }
+{}
