@@ -1,4 +1,2 @@
 pub mod Numbers
 pub mod Standing
-pub mod Shown
-pub mod Opened

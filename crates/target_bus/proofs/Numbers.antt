@@ -6,7 +6,7 @@ use Rattle.std.specs.List.{slice_get}
 use Rattle.nand_geometry.specs.declared.Parts.{Parts}
 use Rattle.onfi_cycle.specs.declared.Lun.{Lun}
 use Rattle.die_model.specs.Die.{Die}
-use Rattle.target_bus.specs.Bus.{numbered, number_of, busy_count}
+use Rattle.target_bus.specs.Bus.{numbered, number_of}
 
 pub target_there : (g : Parts) (n k : ℕ) → 1 ≤ g.luns → k < n * g.luns → (numbered g k).ce < n
 target_there g n k some low = (div-lt_iff_lt-mul some).1 low
@@ -40,11 +40,6 @@ set_other (z ∷ xs) zero zero x ne = absurd (ne refl)
 set_other (z ∷ xs) zero (suc k) x ne = refl
 set_other (z ∷ xs) (suc m) zero x ne = refl
 set_other (z ∷ xs) (suc m) (suc k) x ne = set_other xs m k x (λ e. ne (ap suc e))
-
--- no die of none works
-pub none_busy : (dies : List Die) → ((k : ℕ) (d : Die) → slice_get dies k ≡ Some d → d.busy ≡ false) → busy_count dies ≡ 0
-none_busy [] h = refl
-none_busy (x ∷ dies) h = rw (h 0 x refl) (none_busy dies (λ k d found. h (suc k) d found))
 
 pub placed : (a b c x y z : ℕ) → a ≡ x → b ≡ y → c ≡ z → a * b + c ≡ x * y + z
 placed a b c x y z ea eb ec = ap (λ (n : ℕ). n * b + c) ea ∙ (ap (λ (n : ℕ). x * n + c) eb ∙ ap (λ (n : ℕ). x * y + n) ec)

@@ -485,3 +485,19 @@ traced state opened items room = record { geometry = state.geometry; targets = l
 pub is_next : (state next : BusView) (opened : List Entries) (items more : List Item) (i : Item) (room left : ℕ) → Follows state.geometry (length state.targets) next (i ∷ reverse items) → more ≡ items ++ (i ∷ []) → room ≤ left + spent i → IsNext (traced state opened items room) (traced next opened more left) i
 is_next state next opened items more i room left f is enough =
     record { channel = same_channel state next opened (i ∷ reverse items) f; past = sym (reversed items more i is); room = enough }
+
+-- what was looked up in a standing state
+pub found_in : (state : BusView) (opened : List Entries) (dies : List Die) (past : List Item) (c : Cycle) (luns : ℕ) (o p : Option Worked) → IsStanding state opened dies past → broken state.geometry (length state.targets) past (Cyc c) ≡ None → luns ≡ state.geometry.luns → ((g : Parts) (targets : ℕ) (past : List Item) → Follows g targets state past → c.ce < targets → g.luns ≡ luns → FindsWork g past (Cyc c) c.ce 0 o) → o ≡ p → FindsWork state.geometry past (Cyc c) c.ce 0 p
+found_in state opened dies past c luns o p f h same found is =
+    subst (FindsWork state.geometry past (Cyc c) c.ce 0) is
+    (found state.geometry (length state.targets) past f.follows (cycle_there state.geometry (length state.targets) past c h) (sym same))
+
+pub worked_there : (state : BusView) (opened : List Entries) (dies : List Die) (past : List Item) (c : Cycle) (x : Worked) (k : ℕ) → IsStanding state opened dies past → broken state.geometry (length state.targets) past (Cyc c) ≡ None → FindsWork state.geometry past (Cyc c) c.ce 0 (Some x) → k ≡ number_of state.geometry (lun_at c.ce x.lun) → k < length dies
+worked_there state opened dies past c x k f h found place =
+    subst (λ (n : ℕ). n < length dies) (sym place) (die_there state opened dies past (lun_at c.ce x.lun) f (cycle_there state.geometry (length state.targets) past c h) found.lun)
+
+pub rests_by : (g : Parts) (past : List Item) (i : Item) (l : Lun) (x : Filling) (y : Effect) → x ≡ filling g (facts_of (tail past l.ce)) i l → y ≡ effect_on g past i l → fills x ≡ false → begins y ≡ false → works_on g past i l ≡ false
+rests_by g past i l x y ex ey a b = rw (sym (ap fills ex) ∙ a, sym (ap begins ey) ∙ b) refl
+
+pub no_program_at : (g : Parts) (past : List Item) (c : Cycle) (x : Worked) → FindsWork g past (Cyc c) c.ce 0 (Some x) → starts_work (Cyc c) ≡ false → is_program x.effect ≡ false
+no_program_at g past c x found idle = ap is_program found.effect_is ∙ no_program g past c (lun_at c.ce x.lun) idle

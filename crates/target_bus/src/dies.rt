@@ -1,5 +1,5 @@
 //! The dies behind a bus: whether they are a channel, and what an item does to them.
-ghost use Rattle.std.specs.Prelude.{◌≡◌, ℕ, ◌*◌, ◌+◌, ◌<◌, ◌≤◌, ◌^◌, true, false, ◌||◌, List, ◌∷◌, Some, None, IsOk, IfOk, IfSome, OnErr, length, map, slice_get};
+ghost use Rattle.std.specs.Prelude.{◌≡◌, ℕ, ◌*◌, ◌+◌, ◌<◌, ◌≤◌, ◌^◌, true, false, ◌||◌, List, ◌∷◌, Some, None, IsOk, IfOk, IfSome, OnErr, length, map, slice_get, slice_set};
 ghost use Rattle.std.specs.Option.{option_copied};
 ghost use Rattle.nand_geometry.specs.declared.Parts.{Parts};
 ghost use Rattle.nand_geometry.specs.Page.{parameter_bytes};
@@ -14,8 +14,9 @@ ghost use Rattle.onfi_cycle.specs.Content.{shown};
 ghost use Rattle.onfi_cycle.specs.State.{Follows, judged};
 ghost use Rattle.onfi_cycle.specs.Working.{fills, begins};
 ghost use Rattle.onfi_cycle.specs.Readies.{starts_work, bus_due};
-ghost use Rattle.die_model.specs.Die.{Die};
-ghost use Rattle.die_model.specs.Standing.{IsDieOf};
+ghost use Rattle.onfi_cycle.specs.declared.Effect.TheVariants.{BecameReady, ArrayBecameReady};
+ghost use Rattle.die_model.specs.Die.{Die, IsAfter, is_program};
+ghost use Rattle.die_model.specs.Standing.{IsDieOf, CanWork, WorkedBy};
 ghost use Rattle.target_bus.specs.Bus.{channel_on, Entries, are_targets, same_sizes, same_features, same_parts, are_new, starting, FindsWork, first_of, IsStanding, Permits, StandFor, WholeDies, forgotten};
 
 use die_model::{LunDie, Pages};
@@ -154,6 +155,38 @@ fn find_work(state: &BusState, item: Item, ce: u8, luns: u8, n: u8) -> Option<Wo
     find_work(state, item, ce, luns, n + 1)
 }
 
+// Works the die of a number.
+fn work_in<A: Allocator + Copy>(
+    dies: &mut [LunDie<A>],
+    k: usize,
+    filling: Filling,
+    effect: Effect,
+) -> Result<(), AllocError>
+    requires inside { k < length dies.old }
+    requires can { (d : Die) → slice_get dies.old k ≡ Some d → CanWork filling effect d }
+    ensures ok { IfOk result (λ _. (old : Die) × (new : Die) × (slice_get dies.old k ≡ Some old) × WorkedBy old.geometry filling effect old new × (dies.new ≡ slice_set dies.old k new)) }
+    ensures err { OnErr result (dies.new ≡ dies.old) }
+    ensures memory { is_program effect ≡ false → IsOk result }
+{
+    dies[k].work(filling, effect)
+}
+
+// Ends the work of the die of a number.
+fn finish_in<A: Allocator + Copy>(dies: &mut [LunDie<A>], k: usize, fail: bool)
+    requires inside { k < length dies.old }
+    ensures { (old : Die) × (new : Die) × (slice_get dies.old k ≡ Some old) × IsAfter (BecameReady fail) old new × (dies.new ≡ slice_set dies.old k new) }
+{
+    dies[k].finish(fail);
+}
+
+// Ends the work of the array of the die of a number.
+fn finish_array_in<A: Allocator + Copy>(dies: &mut [LunDie<A>], k: usize)
+    requires inside { k < length dies.old }
+    ensures { (old : Die) × (new : Die) × (slice_get dies.old k ≡ Some old) × IsAfter ArrayBecameReady old new × (dies.new ≡ slice_set dies.old k new) }
+{
+    dies[k].array_ready();
+}
+
 /// How many works an item may start.
 pub fn starting(item: Item) -> usize
     ensures value { result ≡ starting item }
@@ -180,7 +213,7 @@ pub fn work<A: Allocator + Copy>(
         None => Ok(()),
         Some(worked) => {
             let k = usize::from(cycle.ce) * usize::from(luns) + usize::from(worked.lun);
-            dies[k].work(worked.filling, worked.effect)
+            work_in(dies, k, worked.filling, worked.effect)
         }
     }
 }
@@ -194,7 +227,7 @@ pub fn end_work<A: Allocator + Copy>(state: &BusState, dies: &mut [LunDie<A>], l
     state.facts_fit();
     let luns = state.geometry().parts().luns;
     let k = usize::from(l.ce) * usize::from(luns) + usize::from(l.lun);
-    dies[k].finish(fail);
+    finish_in(dies, k, fail);
 }
 
 /// Ends the array's work of a LUN whose array may become ready, on its die.
@@ -206,7 +239,7 @@ pub fn end_array_work<A: Allocator + Copy>(state: &BusState, dies: &mut [LunDie<
     state.facts_fit();
     let luns = state.geometry().parts().luns;
     let k = usize::from(l.ce) * usize::from(luns) + usize::from(l.lun);
-    dies[k].array_ready();
+    finish_array_in(dies, k);
 }
 
 // A LUN drives nothing.
