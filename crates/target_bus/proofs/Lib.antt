@@ -1,2 +1,5 @@
 pub mod Numbers
 pub mod Standing
+pub mod Due
+pub mod Shown
+pub mod Opened

@@ -1,7 +1,7 @@
 -- The numbers of LUNs, and lists with one member changed.
-use Rattle.std.proofs.Common.{◌≡◌, ◌≢◌, ℕ, zero, suc, ◌+◌, ◌*◌, ◌%◌, ◌<◌, ◌≤◌, Bool, true, false, cond, List, [], ◌∷◌, Some, None, refl, sym, ap, ◌∙◌, arith, length, set}
+use Rattle.std.proofs.Common.{◌≡◌, ◌≢◌, ℕ, zero, suc, ◌+◌, ◌*◌, ◌/◌, ◌%◌, ◌<◌, ◌≤◌, Bool, true, false, cond, List, [], ◌∷◌, Some, None, refl, sym, ap, ◌∙◌, arith, length, set}
 use Rattle.std.proofs.Math.Nat.{mod-lt, div-add-mod, div-lt_iff_lt-mul, mul-le-mul_right, suc-mul}
-use Rattle.std.proofs.lemmas.Nat.{div-mul-add, mod-mul-add}
+use Rattle.std.proofs.lemmas.Nat.{div-add-mod', div-mul-add, mod-mul-add}
 use Rattle.std.specs.List.{slice_get}
 use Rattle.nand_geometry.specs.declared.Parts.{Parts}
 use Rattle.onfi_cycle.specs.declared.Lun.{Lun}
@@ -27,6 +27,9 @@ number_below g n l here low =
     let most : suc l.ce * g.luns ≤ n * g.luns = mul-le-mul_right g.luns here in
     let next = suc-mul l.ce g.luns in
     omega (arith, most, next, low)
+
+pub number_back : (g : Parts) (k : ℕ) → 1 ≤ g.luns → number_of g (numbered g k) ≡ k
+number_back g k some = div-add-mod' k g.luns
 
 -- one member changed
 pub set_here : {X : Type 0} (xs : List X) (m : ℕ) (x y : X) → slice_get (set xs m x) m ≡ Some y → y ≡ x

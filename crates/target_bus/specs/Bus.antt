@@ -81,10 +81,13 @@ same_features g h = g.plane_bits == h.plane_bits && (beq g.enhanced h.enhanced &
 abbrev pub same_parts : Parts → Parts → Bool
 same_parts g h = same_sizes g h && same_features g h
 
--- each die is new and has this geometry
+-- the die is new and has this geometry
+abbrev pub is_new_of : Parts → Die → Bool
+is_new_of g d = same_parts d.geometry g && is_new d
+
 abbrev pub are_new : Parts → List Die → Bool
 are_new g [] = true
-are_new g (d ∷ dies) = same_parts d.geometry g && (is_new d && are_new g dies)
+are_new g (d ∷ dies) = is_new_of g d && are_new g dies
 
 -- the pages of a die are whole, and it has a register for each plane
 pub record IsWhole (d : Die) : Type 0 where

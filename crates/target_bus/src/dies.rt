@@ -1,5 +1,5 @@
 //! The dies behind a bus: whether they are a channel, and what an item does to them.
-ghost use Rattle.std.specs.Prelude.{◌≡◌, ℕ, ◌*◌, ◌+◌, ◌<◌, ◌≤◌, ◌^◌, true, false, ◌||◌, List, ◌∷◌, Some, None, IsOk, IfOk, IfSome, OnErr, length, map, slice_get, slice_set};
+ghost use Rattle.std.specs.Prelude.{◌≡◌, ℕ, ◌*◌, ◌+◌, ◌<◌, ◌≤◌, ◌^◌, true, false, ◌||◌, List, ◌∷◌, ◌++◌, Some, None, IsOk, IfOk, IfSome, OnErr, length, map, slice_get, slice_set};
 ghost use Rattle.std.specs.Option.{option_copied};
 ghost use Rattle.nand_geometry.specs.declared.Parts.{Parts};
 ghost use Rattle.nand_geometry.specs.Page.{parameter_bytes};
@@ -10,21 +10,23 @@ ghost use Rattle.onfi_cycle.specs.Effect.{is_off};
 ghost use Rattle.onfi_cycle.specs.Lun.{drivers_from, latch};
 ghost use Rattle.onfi_cycle.specs.Permitted.{broken};
 ghost use Rattle.onfi_cycle.specs.Channel.{Channel, is_cycle, cycle, bus_byte};
-ghost use Rattle.onfi_cycle.specs.Content.{shown};
+ghost use Rattle.onfi_cycle.specs.Content.{shown, shown_by, byte_at};
 ghost use Rattle.onfi_cycle.specs.State.{Follows, judged};
 ghost use Rattle.onfi_cycle.specs.Working.{fills, begins};
 ghost use Rattle.onfi_cycle.specs.Readies.{starts_work, bus_due};
 ghost use Rattle.onfi_cycle.specs.declared.Effect.TheVariants.{BecameReady, ArrayBecameReady};
-ghost use Rattle.die_model.specs.Die.{Die, IsAfter, is_program};
+ghost use Rattle.die_model.specs.Die.{Die, IsAfter, is_program, status_of, bytes_shown};
 ghost use Rattle.die_model.specs.Standing.{IsDieOf, CanWork, WorkedBy};
-ghost use Rattle.target_bus.specs.Bus.{channel_on, Entries, are_targets, same_sizes, same_features, same_parts, are_new, starting, FindsWork, first_of, IsStanding, Permits, StandFor, WholeDies, forgotten};
+ghost use Rattle.target_bus.specs.Bus.{channel_on, Entries, are_targets, same_sizes, same_features, same_parts, is_new_of, are_new, starting, FindsWork, first_of, IsStanding, Permits, StandFor, WholeDies, forgotten};
 
 use die_model::{LunDie, Pages};
 use nand_geometry::{Geometry, Parts};
 use onfi_cycle::effects::is_off;
 use onfi_cycle::readies::{readies_are_due, starts_work};
 use onfi_cycle::sequences::target_of;
-use onfi_cycle::{BusState, Cycle, Effect, Filling, Forbidden, Item, Kind, Latch, Lun};
+use onfi_cycle::{
+    BusState, Cycle, Effect, Filling, Forbidden, Item, Kind, Latch, Lun, LunState,
+};
 use std::alloc::{AllocError, Allocator};
 
 /// So many dies are 1 to 4 targets of whole LUNs.
@@ -65,14 +67,36 @@ fn same_parts(geometry: &Geometry, other: &Geometry) -> bool
     same_sizes(a, b) && same_features(a, b)
 }
 
+// The die is new and has this geometry.
+fn is_new_of<A: Allocator + Copy>(geometry: &Geometry, die: &LunDie<A>) -> bool
+    ensures { result ≡ is_new_of geometry.now die.now }
+{
+    same_parts(&die.geometry(), geometry) && die.is_new()
+}
+
 /// Each die is new and has this geometry.
 pub fn are_new<A: Allocator + Copy>(geometry: &Geometry, dies: &[LunDie<A>]) -> bool
     ensures { result ≡ are_new geometry.now dies.now }
 {
     match dies {
         [] => true,
+        [die, rest @ ..] => is_new_of(geometry, die) && are_new(geometry, rest),
+    }
+}
+
+// Copies of the pages of each die are added to these.
+fn copy_pages<A: Allocator + Copy>(
+    pages: &mut Vec<Pages<A>, A>,
+    dies: &[LunDie<A>],
+) -> Result<(), AllocError>
+    ensures value { IfOk result (λ _. pages.new.items ≡ pages.old.items ++ map (λ (d : Die). d.pages) dies.now) }
+    ensures whole { IfOk result (λ _. WholeDies dies.now) }
+{
+    match dies {
+        [] => Ok(()),
         [die, rest @ ..] => {
-            same_parts(&die.geometry(), geometry) && die.is_new() && are_new(geometry, rest)
+            pages.push(die.pages()?)?;
+            copy_pages(pages, rest)
         }
     }
 }
@@ -85,11 +109,17 @@ pub fn copied_pages<A: Allocator + Copy>(
     ensures value { IfOk result (λ v. v.items ≡ map (λ (d : Die). d.pages) dies.now) }
     ensures whole { IfOk result (λ v. WholeDies dies.now) }
 {
-    let mut pages = Vec::with_capacity(alloc, dies.len())?;
-    for die in dies {
-        pages.push(die.pages()?)?;
-    }
+    let mut pages = Vec::new(alloc);
+    copy_pages(&mut pages, dies)?;
     Ok(pages)
+}
+
+// The die of a number forgets which page its array read last.
+fn forget_in<A: Allocator + Copy>(dies: &mut [LunDie<A>], k: usize)
+    requires inside { k < length dies.old }
+    ensures { (old : Die) × (slice_get dies.old k ≡ Some old) × (dies.new ≡ slice_set dies.old k (forgotten old)) }
+{
+    dies[k].forget_array_page();
 }
 
 /// Each die forgets which page its array read last.
@@ -97,7 +127,7 @@ pub fn forget_array_pages<A: Allocator + Copy>(dies: &mut [LunDie<A>])
     ensures { dies.new ≡ map forgotten dies.old }
 {
     for k in 0..dies.len() {
-        dies[k].forget_array_page();
+        forget_in(dies, k);
     }
 }
 
@@ -274,16 +304,30 @@ fn die_at<A: Allocator>(dies: &[LunDie<A>], k: usize) -> Option<&LunDie<A>>
     dies.get(k)
 }
 
-// The byte that a LUN shows, its status or the next of its register, where it shows one.
+// The byte that a die shows under a latch, its status or that of a column of its register, where it shows one.
+fn shown_as<A: Allocator + Copy>(die: &LunDie<A>, look: LunState) -> u8
+    ensures { (byte : ℕ) → shown_by look.latch (status_of die.now) (byte_at (bytes_shown die.now) look.column) ≡ Some byte → result ≡ byte }
+{
+    match look.latch {
+        Latch::Off => 0,
+        Latch::Status => die.status().0,
+        Latch::Data => match look.column {
+            None => 0,
+            Some(column) => match die.shown(column as usize) {
+                None => 0,
+                Some(byte) => byte,
+            },
+        },
+    }
+}
+
+// The byte that a LUN shows, where it shows one.
 fn byte_of<A: Allocator + Copy>(state: &BusState, die: &LunDie<A>, l: Lun) -> u8
     ensures { (s : Channel) (past : List Item) (byte : ℕ) → Follows s.geometry s.targets state.now past → l.ce < s.targets → l.lun < s.geometry.luns → IsDieOf s past l die.now → parameter_bytes s.geometry ≡ s.parameters → shown s.geometry s.parameters s.opening past l ≡ Some byte → result ≡ byte }
 {
     match state.lun_state(l) {
-        Some(look) if look.latch == Latch::Data => match look.column {
-            Some(column) => die.shown(column as usize).unwrap_or(0),
-            None => 0,
-        },
-        _ => die.status().0,
+        None => 0,
+        Some(look) => shown_as(die, look),
     }
 }
 
