@@ -46,3 +46,6 @@ returns-clause-opening g c = λ l p d found.
     let fresh = ap (are_new c.args.geometry) (sym c.as_slice.ensures.value) ∙ (sym c.are_new.ensures ∙ c.if-not-are_new.false) in
     let opened = c.in-Ok.ensures.value ∙ ap (map (λ (d : Die). d.pages)) c.as_slice-2.ensures.value in
     ap (λ (h : Parts). opened_page h c.in-Ok.opened.items l p) c.new.ensures.geometry ∙ opening_is c.args.geometry c.args.dies.items c.in-Ok.opened.items l p d opened fresh found
+
+pub returns-clause-opened : goal.returns-clause-opened
+returns-clause-opened g c = c.in-Ok.ensures.value ∙ ap (map (λ (d : Die). d.pages)) c.as_slice-2.ensures.value
