@@ -54,7 +54,6 @@ same_is g h e =
     (ap (λ (n : Bool). parts h.page_bytes h.spare_bytes h.pages h.blocks h.luns h.plane_bits h.enhanced n g.cache) (beq_is _ _ y.0) ∙
     ap (λ (n : Bool). parts h.page_bytes h.spare_bytes h.pages h.blocks h.luns h.plane_bits h.enhanced h.multi_plane n) (beq_is _ _ y.1))))))))
 
-
 pub each_new : (g : Parts) (dies : List Die) (k : ℕ) (d : Die) → are_new g dies ≡ true → slice_get dies k ≡ Some d → (d.geometry ≡ g) × (is_new d ≡ true)
 each_new g [] k d h found = cc
 each_new g (x ∷ dies) zero d h found =
@@ -71,6 +70,7 @@ abbrev pub forgotten_below : ℕ → List Die → List Die
 forgotten_below zero dies = dies
 forgotten_below (suc k) [] = []
 forgotten_below (suc k) (d ∷ dies) = forgotten d ∷ forgotten_below k dies
+
 -- the number of targets
 record AreTargets (k luns : ℕ) : Type 0 where
   whole : k / luns * luns ≡ k
@@ -91,7 +91,6 @@ targets_of g k some h = at (k == g.luns) (k == 2 * g.luns) (k == 3 * g.luns) (k 
     at false false true d ea eb ec ed h = times k g.luns 3 some (omega arith) (omega arith) (eqb-true _ _ ec)
     at false false false true ea eb ec ed h = times k g.luns 4 some (omega arith) (omega arith) (eqb-true _ _ ed)
     at false false false false ea eb ec ed h = cc
-
 
 pub forgets_none : (dies : List Die) → dies ≡ forgotten_below 0 dies
 forgets_none dies = refl

@@ -24,9 +24,7 @@ use nand_geometry::{Geometry, Parts};
 use onfi_cycle::effects::is_off;
 use onfi_cycle::readies::{readies_are_due, starts_work};
 use onfi_cycle::sequences::target_of;
-use onfi_cycle::{
-    BusState, Cycle, Effect, Filling, Forbidden, Item, Kind, Latch, Lun, LunState,
-};
+use onfi_cycle::{BusState, Cycle, Effect, Filling, Forbidden, Item, Kind, Latch, Lun, LunState};
 use std::alloc::{AllocError, Allocator};
 
 /// So many dies are 1 to 4 targets of whole LUNs.
@@ -344,6 +342,14 @@ pub fn shown_byte<A: Allocator + Copy>(state: &BusState, dies: &[LunDie<A>], ce:
             Some(die) => byte_of(state, die, Lun { ce, lun }),
         },
     }
+}
+
+/// The first rule that a cycle breaks.
+pub fn judge_cycle(state: &BusState, cycle: Cycle) -> Option<Forbidden>
+    ensures state { result ≡ judged state.now (Cyc cycle) }
+    ensures past { (g : Parts) (n : ℕ) (past : List Item) → Follows g n state.now past → result ≡ broken g n past (Cyc cycle) }
+{
+    state.judge(Item::Cyc(cycle))
 }
 
 /// The output of a byte.

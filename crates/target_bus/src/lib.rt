@@ -24,7 +24,7 @@ ghost use Rattle.target_bus.specs.Bus.{Traced, channel_of, number_of, StandFor, 
 use die_model::{LunDie, Pages};
 use dies::{
     are_new, are_targets, copied_pages, end_array_work, end_work, forget_array_pages, go_on,
-    judge_output, output, shown_byte, starting, work,
+    judge_cycle, judge_output, output, shown_byte, starting, work,
 };
 use nand_geometry::Geometry;
 use onfi_cycle::{BusState, Cycle, Item, Lun, LunState};
@@ -155,12 +155,16 @@ impl<A: Allocator + Copy> Bus<A> {
         ensures memory { 0 < self.old.room → starts_work (Cyc cycle) ≡ false → IfErr result (λ e. e ≢ BusRefusal.OutOfMemory) }
     {
         let item = Item::Cyc(cycle);
-        if let Some(rule) = self.state.judge(item) {
+        if let Some(rule) = judge_cycle(&self.state, cycle) {
             return Err(BusRefusal::Forbidden(rule));
         }
         let works = starting(item);
         let left = self.room.saturating_sub(1 - works);
-        if self.trace.reserve(1 + left + self.due + 16 * works).is_err() {
+        if self
+            .trace
+            .reserve(1 + left + self.due + 16 * works)
+            .is_err()
+        {
             return Err(BusRefusal::OutOfMemory);
         }
         if work(&self.state, self.dies.as_mut_slice(), cycle).is_err() {

@@ -22,7 +22,7 @@ work-requires-clause-permitted g c =
       opened = c.self.inside.opened.items;
       past = past;
       standing = subst (λ (ds : List Die). IsStanding state c.self.inside.opened.items ds past) (sym c.as_mut_slice.ensures.value) c.self.invariant.standing;
-      permitted = sym (c.judge.ensures.past state.geometry (length state.targets) past c.self.invariant.standing.follows) ∙ c.in_default.is;
+      permitted = sym (c.judge_cycle.ensures.past state.geometry (length state.targets) past c.self.invariant.standing.follows) ∙ c.in_default.is;
     }
 
 pub invariant_of-self-then-is_err-2 : goal.invariant_of-self-then-is_err-2
@@ -44,7 +44,7 @@ pub returns-then-is_err-2-clause-err : goal.returns-then-is_err-2-clause-err
 returns-then-is_err-2-clause-err g c =
     let state = c.self.inside.state in
     let past = reverse c.self.inside.trace.items in
-    let permitted = sym (c.judge.ensures.past state.geometry (length state.targets) past c.self.invariant.standing.follows) ∙ c.in_default.is in
+    let permitted = sym (c.judge_cycle.ensures.past state.geometry (length state.targets) past c.self.invariant.standing.follows) ∙ c.in_default.is in
     subst (λ (b : Traced). (broken b.geometry b.targets b.past (Cyc c.args.cycle) ≡ None) × (traced state c.self.inside.opened.items c.reserve.new.self.items c.self.inside.room ≡ b)) c.self.view_is
     (permitted, ap (λ (xs : List Item). traced state c.self.inside.opened.items xs c.self.inside.room) c.reserve.ensures.items)
 
@@ -67,7 +67,7 @@ invariant_of-self-2 g c =
     let before = c.as_mut_slice.ensures.value in
     let same = c.work.auto.dies ∙ ap length before in
     let after = refilled c.self.inside.dies.len dies c.work.new.dies (same ∙ sym whole) whole in
-    let permitted = sym (c.judge.ensures.past state.geometry (length state.targets) past standing.follows) ∙ c.in_default.is in
+    let permitted = sym (c.judge_cycle.ensures.past state.geometry (length state.targets) past standing.follows) ∙ c.in_default.is in
     let follows = c.go_on-self-inside.ensures.past state.geometry (length state.targets) past standing.follows in
     let stand = ok_gives c.work.result _ c.work.ensures.ok (sym c.is_err-2.ensures.value ∙ c.if-is_err-2.false) opened past (subst (λ (ds : List Die). IsStanding state opened ds past) (sym before) standing) permitted in
     let room = ok_gives c.reserve.result _ c.reserve.ensures.ok (sym c.is_err.ensures.value ∙ c.if-is_err.false) in
@@ -84,7 +84,7 @@ returns-clause-ok g c =
     let state = c.self.inside.state in
     let past = reverse c.self.inside.trace.items in
     let standing = c.self.invariant.standing in
-    let permitted = sym (c.judge.ensures.past state.geometry (length state.targets) past standing.follows) ∙ c.in_default.is in
+    let permitted = sym (c.judge_cycle.ensures.past state.geometry (length state.targets) past standing.follows) ∙ c.in_default.is in
     let follows = c.go_on-self-inside.ensures.past state.geometry (length state.targets) past standing.follows in
     let is = c.push_reserved.ensures.items ∙ ap (λ (xs : List Item). xs ++ (Cyc c.args.cycle ∷ [])) c.reserve.ensures.items in
     subst (λ (b : Traced). (broken b.geometry b.targets b.past (Cyc c.args.cycle) ≡ None) × IsNext b (traced c.go_on-self-inside.new.state c.self.inside.opened.items c.push_reserved.new.self.items c.saturating_sub-left.result) (Cyc c.args.cycle)) c.self.view_is

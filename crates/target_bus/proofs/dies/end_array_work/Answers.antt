@@ -14,8 +14,8 @@ finish_array_in-requires g c =
     let there = array_ready_there state.geometry (length state.targets) can.past c.args.l can.permitted in
     record {
       inside =
-        subst (λ (n : ℕ). n < length c.args.dies.now) (sym (placed _ _ _ c.args.l.ce state.geometry.luns c.args.l.lun c.from.ensures (c.from-2.ensures ∙ luns) c.from-3.ensures))
-        (die_there state can.opened c.args.dies.now can.past c.args.l can.standing there.target there.lun);
+          subst (λ (n : ℕ). n < length c.args.dies.now) (sym (placed _ _ _ c.args.l.ce state.geometry.luns c.args.l.lun c.from.ensures (c.from-2.ensures ∙ luns) c.from-3.ensures))
+          (die_there state can.opened c.args.dies.now can.past c.args.l can.standing there.target there.lun);
     }
 
 pub returns : goal.returns

@@ -30,6 +30,6 @@ returns-in-Some-die_at g c = λ opened past f h.
     shown_at state opened c.args.dies.now past c.args.ce c.parts-luns.result.luns c.in-Some.lun _ c.byte_of.result c.first_driver.result (Some c.in-Some-die_at.die.now) f h luns c.first_driver.ensures.past c.in-Some.is low (placed _ _ _ c.args.ce c.parts-luns.result.luns c.in-Some.lun c.from.ensures c.from-in-Some.ensures c.from-in-Some-2.ensures)
     (sym (ap option_copied c.in-Some-die_at.is) ∙ c.die_at.ensures)
     (λ d e.
-      let same : c.in-Some-die_at.die.now ≡ d = cc in
-      subst (λ (x : Die). Gives (channel_on state.geometry (length state.targets) opened) state past (record { ce = c.args.ce; lun = c.in-Some.lun }) x c.byte_of.result) same
-      (λ byte. c.byte_of.ensures (channel_on state.geometry (length state.targets) opened) past byte))
+    let same : c.in-Some-die_at.die.now ≡ d = cc in
+    subst (λ (x : Die). Gives (channel_on state.geometry (length state.targets) opened) state past (record { ce = c.args.ce; lun = c.in-Some.lun }) x c.byte_of.result) same
+    (λ byte. c.byte_of.ensures (channel_on state.geometry (length state.targets) opened) past byte))
