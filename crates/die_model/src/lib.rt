@@ -311,6 +311,17 @@ impl<A: Allocator + Copy> LunDie<A> {
         if let Some(fault) = image_fault(&self.geometry, bytes) {
             return Err(ImageRefusal::Fault(fault));
         }
+        self.take_image(bytes)?;
+        Ok(())
+    }
+
+    // Loads an image without a fault.
+    fn take_image(&mut self, bytes: &[u8]) -> Result<(), AllocError>
+        requires new { is_new self.old ≡ true }
+        requires faultless { image_fault self.old.geometry bytes.now ≡ None }
+        ensures ok { IfOk result (λ _. IsLoaded bytes.now self.old self.new) }
+        ensures err { OnErr result (self.new ≡ self.old) }
+    {
         let mut pages = self.pages.emptied();
         keep_image(&self.geometry, bytes, &mut pages)?;
         self.pages = pages;

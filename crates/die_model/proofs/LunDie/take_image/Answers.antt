@@ -3,12 +3,12 @@ use Rattle.die_model.specs.Die.{Die, die_with, is_new}
 use Rattle.die_model.specs.Loading.{IsLoaded}
 use Rattle.onfi_cycle.specs.Rules.{is_empty}
 use Rattle.die_model.proofs.Images.{none_waits, loaded_is_die}
-use Rattle.die_model.proofs.LunDie.load_image.Goals as goal
+use Rattle.die_model.proofs.LunDie.take_image.Goals as goal
 
 pub invariant_of-self : goal.invariant_of-self
 invariant_of-self g c =
     let i = c.self.inside in
-    let there = none_waits (not i.busy) (not i.array_busy) (not i.caching) (is_empty i.register) (not i.failed) i.closed i.members.items (ap is_new c.self.view_is ∙ c.requires) c.keep_image.new.pages in
+    let there = none_waits (not i.busy) (not i.array_busy) (not i.caching) (is_empty i.register) (not i.failed) i.closed i.members.items (ap is_new c.self.view_is ∙ c.requires.new) c.keep_image.new.pages in
     loaded_is_die i.geometry i.parameters.items i.pages c.keep_image.new.pages i.planes.items i.members.items i.closed i.busy there c.in_ok-keep_image.ensures.inside c.self.invariant
 
 pub returns-clause-ok : goal.returns-clause-ok
