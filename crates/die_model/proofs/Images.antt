@@ -1,5 +1,5 @@
 -- Writing and reading images, step by step.
-use Rattle.std.proofs.Common.{◌≡◌, ℕ, zero, suc, ◌+◌, ◌-◌, ◌*◌, ◌/◌, ◌%◌, ◌^◌, ◌<◌, ◌≤◌, ◌==◌, Bool, true, false, ◌&&◌, cond, List, [], ◌∷◌, ◌++◌, Option, Some, None, length, drop, take, replicate, ltb, eqb, not, refl, sym, ap, ◌∙◌, arith, append_assoc, length-drop, length-take}
+use Rattle.std.proofs.Common.{◌≡◌, ℕ, zero, suc, ◌+◌, ◌-◌, ◌*◌, ◌/◌, ◌%◌, ◌<◌, ◌≤◌, ◌==◌, Bool, true, false, ◌&&◌, cond, List, [], ◌∷◌, ◌++◌, Option, Some, None, length, drop, take, replicate, ltb, eqb, not, refl, sym, ap, ◌∙◌, arith, length-drop, length-take}
 use Rattle.std.specs.Option.{is_some, unwrap_or}
 use Rattle.nand_geometry.specs.Row.{parts_of}
 use Rattle.nand_geometry.specs.declared.Parts.{Parts}

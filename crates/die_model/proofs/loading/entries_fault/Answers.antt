@@ -1,5 +1,4 @@
-use Rattle.std.proofs.Common.{◌≡◌, ◌≤◌, sym, ◌∙◌, arith}
-use Rattle.die_model.specs.Loading.{entry_len}
+use Rattle.std.proofs.Common.{sym, ◌∙◌, arith}
 use Rattle.die_model.proofs.Images.{fault_begins, has_room, fault_here, fault_later, no_fault}
 use Rattle.die_model.proofs.loading.entries_fault.Goals as goal
 

@@ -1,5 +1,4 @@
-use Rattle.std.proofs.Common.{◌≡◌, ◌≤◌, sym, ap, ◌∙◌, arith, drop, take, List, ℕ}
-use Rattle.die_model.specs.Loading.{entry_len}
+use Rattle.std.proofs.Common.{ap, ◌∙◌, arith, drop, take}
 use Rattle.die_model.proofs.Images.{keeping_begins, room_to_keep, keeps_entry, keeping_ends}
 use Rattle.die_model.proofs.loading.keep_entries.Goals as goal
 

@@ -1,4 +1,4 @@
-use Rattle.std.proofs.Common.{◌≡◌, List, ℕ, replicate, ap, ◌∙◌, None}
+use Rattle.std.proofs.Common.{List, ℕ, replicate, ap, ◌∙◌}
 use Rattle.nand_geometry.specs.Limits.{page_len}
 use Rattle.die_model.specs.Loading.{told, count_told, entries_fault}
 use Rattle.die_model.proofs.Images.{faultless, pages_of_none}

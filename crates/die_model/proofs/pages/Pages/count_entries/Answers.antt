@@ -1,4 +1,4 @@
-use Rattle.std.proofs.Common.{◌≡◌, ℕ, ◌%◌, List, ap, ◌∙◌, cond, refl, arith}
+use Rattle.std.proofs.Common.{◌≡◌, ℕ, List, ◌∙◌, refl, arith}
 use Rattle.die_model.specs.Image.{count_of}
 use Rattle.die_model.proofs.Images.{count_begins, count_step, count_end}
 use Rattle.die_model.proofs.pages.Pages.count_entries.Goals as goal
