@@ -37,32 +37,32 @@ pub dies_show : DiesShow
 dies_show =
     record {
       status = λ s past l d f.
-        ap (λ (b : Bool). cond b 0x80 (cond d.array_busy 0xc0 (cond d.failed 0xe1 0xe0))) f.busy
-        ∙ (ap (λ (b : Bool). cond (is_busy s.geometry past l) 0x80 (cond b 0xc0 (cond d.failed 0xe1 0xe0))) f.array_busy
-        ∙ ap (λ (b : Bool). cond (is_busy s.geometry past l) 0x80 (cond (is_array_busy s.geometry past l) 0xc0 (cond b 0xe1 0xe0))) f.failed);
+          ap (λ (b : Bool). cond b 0x80 (cond d.array_busy 0xc0 (cond d.failed 0xe1 0xe0))) f.busy
+          ∙ (ap (λ (b : Bool). cond (is_busy s.geometry past l) 0x80 (cond b 0xc0 (cond d.failed 0xe1 0xe0))) f.array_busy
+          ∙ ap (λ (b : Bool). cond (is_busy s.geometry past l) 0x80 (cond (is_array_busy s.geometry past l) 0xc0 (cond b 0xe1 0xe0))) f.failed);
       bytes = λ s past l d f same.
           ap (λ (x : List ℕ). register_bytes x (page_of d) d.register) (ap parameter_bytes f.geometry ∙ same)
           ∙ (same_bytes s.parameters (page_of d) (content s.geometry s.opening past l) d.register f.pages ∙ ap (register_bytes s.parameters (content s.geometry s.opening past l)) f.register);
       first = λ s l d geometry pages new array_page count.
-        let a = both (not d.busy) _ new in
-        let b = both (not d.array_busy) _ a.1 in
-        let c = both (not d.caching) _ b.1 in
-        let e = both (is_empty d.register) _ c.1 in
-        let f = both (not (has_some d.queued)) _ e.1 in
-        let h = both (not (has_some d.pending)) (not d.failed) f.1 in
-        record {
-          geometry = geometry;
-          pages = pages;
-          register = empty_is d.register e.0;
-          array_page = array_page;
-          busy = no d.busy a.0;
-          caching = no d.caching c.0;
-          array_busy = no d.array_busy b.0;
-          queue = none_is d.queued f.0;
-          queued = ap (works_of d.geometry d.planes) (none_is d.queued f.0);
-          pending = ap (works_of d.geometry d.planes) (none_is d.pending h.0);
-          failed = no d.failed h.1;
-          count = count;
-          open_program = λ named here. let x : false ≡ true = named in cc;
-        };
+          let a = both (not d.busy) _ new in
+          let b = both (not d.array_busy) _ a.1 in
+          let c = both (not d.caching) _ b.1 in
+          let e = both (is_empty d.register) _ c.1 in
+          let f = both (not (has_some d.queued)) _ e.1 in
+          let h = both (not (has_some d.pending)) (not d.failed) f.1 in
+          record {
+            geometry = geometry;
+            pages = pages;
+            register = empty_is d.register e.0;
+            array_page = array_page;
+            busy = no d.busy a.0;
+            caching = no d.caching c.0;
+            array_busy = no d.array_busy b.0;
+            queue = none_is d.queued f.0;
+            queued = ap (works_of d.geometry d.planes) (none_is d.queued f.0);
+            pending = ap (works_of d.geometry d.planes) (none_is d.pending h.0);
+            failed = no d.failed h.1;
+            count = count;
+            open_program = λ named here. let x : false ≡ true = named in cc;
+          };
     }

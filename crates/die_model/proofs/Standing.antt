@@ -325,9 +325,9 @@ register_goes_on s past i l old at w is f idle apart filling =
       array_busy = x.array_busy;
       queue = x.queue;
       queued =
-        ap (λ (g : Parts). works_of g (set old.planes (at.block % planes s.geometry) w) old.queued) f.geometry
-        ∙ (apart_works s.geometry old.planes at w old.queued (ap (some_queued_clashes s.geometry false at) f.queue ∙ apart)
-        ∙ (ap (λ (g : Parts). works_of g old.planes old.queued) (sym f.geometry) ∙ x.queued));
+          ap (λ (g : Parts). works_of g (set old.planes (at.block % planes s.geometry) w) old.queued) f.geometry
+          ∙ (apart_works s.geometry old.planes at w old.queued (ap (some_queued_clashes s.geometry false at) f.queue ∙ apart)
+          ∙ (ap (λ (g : Parts). works_of g old.planes old.queued) (sym f.geometry) ∙ x.queued));
       pending = works_nil old.geometry old.planes (set old.planes (at.block % planes s.geometry) w) old.pending none ∙ (sym none ∙ x.pending);
       failed = x.failed;
       count = length-set old.planes (at.block % planes s.geometry) w ∙ f.count;
@@ -400,13 +400,13 @@ input_goes_on s past i l old new at column byte j fits f w =
     let registers = set old.planes (at.block % planes g) bytes in
     let same_tail = tail_on past j.c l.ce (InputCycle byte) j.ce j.cycle refl (inputs_there t j.takes) in
     let open_one : HasBytes g (InputCycle byte ∷ t) (with_planes old registers) =
-          record {
-            ready = before.ready;
-            bytes =
-              ap (plane_bytes g registers) (sym j.page)
-              ∙ (get_or-set_same old.planes (at.block % planes g) bytes [] (plane_there s past l old at f)
-              ∙ (ap (λ (x : List ℕ). set x column byte) (ap (plane_bytes g old.planes) j.page ∙ before.bytes) ∙ ap (λ (n : ℕ). set (filled (page_len g) t) n byte) j.place));
-          } in
+    record {
+      ready = before.ready;
+      bytes =
+          ap (plane_bytes g registers) (sym j.page)
+          ∙ (get_or-set_same old.planes (at.block % planes g) bytes [] (plane_there s past l old at f)
+          ∙ (ap (λ (x : List ℕ). set x column byte) (ap (plane_bytes g old.planes) j.page ∙ before.bytes) ∙ ap (λ (n : ℕ). set (filled (page_len g) t) n byte) j.place));
+    } in
     subst (IsDieOf s (i ∷ past) l) (sym w)
     (register_goes_on s past i l old at bytes
     (ap (λ (z : Item). effect_on g past z l) j.is ∙ effect_at g past j.c l (InputCycle byte) j.ce j.cycle)
@@ -502,9 +502,9 @@ passed g n past i l at h low j =
     record {
       ready = sym (named_test g past l (row_with t j.byte) (λ v. v.busy) low j.here) ∙ not_and _ _ ends f9;
       apart =
-        ap (λ (p : PageAddress). some_queued_clashes g false p (queue g past l)) j.page
-        ∙ program_refuses g j.o.opener j.o.addresses (page_address g (row_with t j.byte)) (queue g past l) j.ends
-        (sym (ap (λ (o : Option Opening). is_refused_by g o (page_address g (row_with t j.byte)) (queue g past l)) j.opens) ∙ (sym (named_test g past l (row_with t j.byte) (λ v. is_refused_by g t.opening (page_address g (row_with t j.byte)) v.queue) low j.here) ∙ f10));
+          ap (λ (p : PageAddress). some_queued_clashes g false p (queue g past l)) j.page
+          ∙ program_refuses g j.o.opener j.o.addresses (page_address g (row_with t j.byte)) (queue g past l) j.ends
+          (sym (ap (λ (o : Option Opening). is_refused_by g o (page_address g (row_with t j.byte)) (queue g past l)) j.opens) ∙ (sym (named_test g past l (row_with t j.byte) (λ v. is_refused_by g t.opening (page_address g (row_with t j.byte)) v.queue) low j.here) ∙ f10));
     }
   where
     eqb_is : (a b : ℕ) → (a == b) ≡ true → a ≡ b
@@ -520,14 +520,14 @@ address_goes_on s past i l old new at j ok f w =
     let same_row : row (facts_of (AddressCycle j.byte ∷ t)) ≡ row_with (facts_of t) j.byte = ap (λ (o : Option Opening). row (record (facts_of t) { row = row_after_address o j.byte (row_bytes t) })) j.opens in
     let idle : old.busy ≡ false = f.busy ∙ ok.ready in
     let open_one : HasBytes g (AddressCycle j.byte ∷ t) (with_planes old registers) =
-          record {
-            ready = idle;
-            bytes =
-              ap (λ (r : ℕ). plane_bytes g registers (page_address g r)) same_row
-              ∙ (ap (plane_bytes g registers) (sym j.page)
-              ∙ (get_or-set_same old.planes (at.block % planes g) bytes [] (plane_there s past l old at f)
-              ∙ sym (blank (page_len g) t j.o j.opens)));
-          } in
+    record {
+      ready = idle;
+      bytes =
+          ap (λ (r : ℕ). plane_bytes g registers (page_address g r)) same_row
+          ∙ (ap (plane_bytes g registers) (sym j.page)
+          ∙ (get_or-set_same old.planes (at.block % planes g) bytes [] (plane_there s past l old at f)
+          ∙ sym (blank (page_len g) t j.o j.opens)));
+    } in
     subst (IsDieOf s (i ∷ past) l) (sym w)
     (register_goes_on s past i l old at bytes
     (ap (λ (z : Item). effect_on g past z l) j.is ∙ (effect_at g past j.c l (AddressCycle j.byte) j.ce j.cycle

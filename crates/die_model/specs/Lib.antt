@@ -2,3 +2,4 @@ pub mod Pages
 pub mod Die
 pub mod Standing
 pub mod Image
+pub mod Loading

@@ -8,9 +8,9 @@ ghost use Rattle.die_model.specs.Pages.{kept, page_in};
 ghost use Rattle.die_model.specs.Die.{effect_of, work_begun, work_of, works_of, AreKept, is_erase, are_erases, are_programs, HasRows, caching_after, members_after, closes, is_reset, page_to_keep};
 
 use crate::Work;
-use arrayvec::ArrayVec;
 use crate::page::Page;
 use crate::pages::Pages;
+use arrayvec::ArrayVec;
 use nand_geometry::Parts;
 use onfi_cycle::{Effect, PageAddress, Queued};
 use std::alloc::Allocator;
@@ -127,7 +127,12 @@ pub fn plane_of(parts: Parts, at: PageAddress) -> usize
 }
 
 // One row takes effect.
-fn take_one<A: Allocator + Copy>(pages: &mut Pages<A>, parts: Parts, planes: &[Page<A>], row: Queued)
+fn take_one<A: Allocator + Copy>(
+    pages: &mut Pages<A>,
+    parts: Parts,
+    planes: &[Page<A>],
+    row: Queued,
+)
     requires rows { HasRows parts pages.old planes.now }
     requires limits { InLimits parts }
     requires there { AreKept pages.old (row ∷ []) }
@@ -145,7 +150,12 @@ fn take_one<A: Allocator + Copy>(pages: &mut Pages<A>, parts: Parts, planes: &[P
 }
 
 /// Rows take effect, the last one of the list first.
-pub fn take_effect<A: Allocator + Copy>(pages: &mut Pages<A>, parts: Parts, planes: &[Page<A>], rows: &[Queued])
+pub fn take_effect<A: Allocator + Copy>(
+    pages: &mut Pages<A>,
+    parts: Parts,
+    planes: &[Page<A>],
+    rows: &[Queued],
+)
     requires rows { HasRows parts pages.old planes.now }
     requires limits { InLimits parts }
     requires there { AreKept pages.old rows.now }
@@ -164,7 +174,13 @@ pub fn take_effect<A: Allocator + Copy>(pages: &mut Pages<A>, parts: Parts, plan
 }
 
 /// Works end: their rows take effect unless they failed.
-pub fn end_works<A: Allocator + Copy>(pages: &mut Pages<A>, parts: Parts, planes: &[Page<A>], rows: &[Queued], failed: bool)
+pub fn end_works<A: Allocator + Copy>(
+    pages: &mut Pages<A>,
+    parts: Parts,
+    planes: &[Page<A>],
+    rows: &[Queued],
+    failed: bool,
+)
     requires rows { HasRows parts pages.old planes.now }
     requires limits { InLimits parts }
     requires there { AreKept pages.old rows.now }

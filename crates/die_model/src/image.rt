@@ -1,8 +1,8 @@
-//! The entries of a die's image.
-ghost use Rattle.std.specs.Prelude.{◌≡◌, ◌++◌, IfOk};
-ghost use Rattle.die_model.specs.Image.{four, are_blank, is_written, entry};
+//! Writing a die's image.
+ghost use Rattle.std.specs.Prelude.{◌≡◌, ◌++◌, [], ◌∷◌, IfOk};
+ghost use Rattle.die_model.specs.Image.{are_blank, is_written, entry, count_of, header};
 
-use nand_geometry::{Geometry, RowParts};
+use nand_geometry::{Geometry, Parts, RowParts};
 use std::alloc::{AllocError, Allocator};
 
 // Every byte is FF.
@@ -23,6 +23,35 @@ fn is_written(geometry: &Geometry, block: u32, page: u64, bytes: &[u8]) -> bool
 {
     let parts = geometry.parts();
     block < parts.blocks && page < u64::from(parts.pages) && !are_blank(bytes)
+}
+
+/// How many entries a page has: one or none.
+pub fn count_entry(geometry: &Geometry, block: u32, page: u64, bytes: &[u8]) -> u32
+    ensures { result ≡ count_of geometry.now (((block, page), bytes.now) ∷ []) }
+{
+    if is_written(geometry, block, page, bytes) {
+        1
+    } else {
+        0
+    }
+}
+
+/// Begins an image of so many entries: its header.
+pub fn begin_image<A: Allocator>(
+    alloc: A,
+    parts: Parts,
+    count: u32,
+) -> Result<Vec<u8, A>, AllocError>
+    ensures { IfOk result (λ v. v.items ≡ header parts count) }
+{
+    let mut out = Vec::new(alloc);
+    out.extend_from_slice(b"NDI1")?;
+    out.extend_from_slice(&parts.page_bytes.to_le_bytes())?;
+    out.extend_from_slice(&parts.spare_bytes.to_le_bytes())?;
+    out.extend_from_slice(&parts.pages.to_le_bytes())?;
+    out.extend_from_slice(&parts.blocks.to_le_bytes())?;
+    out.extend_from_slice(&count.to_le_bytes())?;
+    Ok(out)
 }
 
 /// Writes the entry of a page, if it has one.

@@ -4,8 +4,10 @@
 mod effects;
 mod image;
 pub mod laws;
+mod loading;
 mod page;
 mod pages;
+mod refusal;
 #[cfg(test)]
 mod tests;
 
@@ -16,15 +18,19 @@ ghost use Rattle.die_model.specs.Standing.{WorkedBy, CanWork};
 ghost use Rattle.nand_geometry.specs.Page.{parameter_bytes};
 ghost use Rattle.onfi_cycle.specs.declared.PageAddress.{PageAddress as At};
 ghost use Rattle.die_model.specs.Die.{page_to_keep, is_program};
+ghost use Rattle.die_model.specs.Image.{image_of};
+ghost use Rattle.die_model.specs.Loading.{image_fault, IsJudgedBy, IsLoaded};
 ghost use Rattle.die_model.specs.Die.{CanBegin, IsAfter, effect_of, status_of, bytes_shown, is_new, new_die, page_of};
 
 use arrayvec::ArrayVec;
 use effects::{caching_after, effect_of, end_works, join, page_to_keep, plane_of, work_begun};
+use loading::{image_fault, keep_image};
 use nand_geometry::Geometry;
 use onfi_cycle::effects::{array_busy_after, array_page_after, busy_after, register_after};
 use onfi_cycle::{Effect, Filling, PageAddress, Queued, Register, Status};
 use page::Page;
 pub use pages::Pages;
+pub use refusal::{ImageFault, ImageRefusal};
 use std::alloc::{AllocError, Allocator, Global};
 use std::marker::Model;
 
@@ -107,7 +113,11 @@ fn parameter_copies<A: Allocator>(alloc: A, geometry: &Geometry) -> Result<Vec<u
 }
 
 // So many registers of FF.
-fn registers<A: Allocator + Copy>(alloc: A, count: usize, len: usize) -> Result<Vec<Page<A>, A>, AllocError>
+fn registers<A: Allocator + Copy>(
+    alloc: A,
+    count: usize,
+    len: usize,
+) -> Result<Vec<Page<A>, A>, AllocError>
     ensures { IfOk result (λ v. v.items ≡ replicate count (replicate len 0xff)) }
 {
     let mut all = Vec::new(alloc);
@@ -281,6 +291,44 @@ impl<A: Allocator + Copy> LunDie<A> {
         Ok(())
     }
 
+    /// Its image: `NDI1`; data bytes and spare bytes of a page, pages of a block, blocks of a LUN, and the count of
+    /// entries, 4 bytes each; and for each page that holds a byte other than FF, in rising rows, an entry of the row
+    /// in 4 bytes and then the bytes of the page. Numbers have their least significant byte first, and a row is that
+    /// of LUN 0.
+    pub fn image(&self) -> Result<Vec<u8, A>, AllocError>
+        ensures { IfOk result (λ v. v.items ≡ image_of self.now) }
+    {
+        self.pages.image(&self.geometry)
+    }
+
+    /// Makes an image the whole content of a new die; a page without an entry is FF. What is refused leaves the die
+    /// as it was: the image has a fault, which is the first that is met, or it has none and memory runs out.
+    pub fn load_image(&mut self, bytes: &[u8]) -> Result<(), ImageRefusal>
+        requires { is_new self.old ≡ true }
+        ensures judged { IsJudgedBy (image_fault self.old.geometry bytes.now) result }
+        ensures ok { IfOk result (λ _. IsLoaded bytes.now self.old self.new) }
+        ensures err { OnErr result (self.new ≡ self.old) }
+    {
+        if let Some(fault) = image_fault(&self.geometry, bytes) {
+            return Err(ImageRefusal::Fault(fault));
+        }
+        self.take_image(bytes)?;
+        Ok(())
+    }
+
+    // Loads an image without a fault.
+    fn take_image(&mut self, bytes: &[u8]) -> Result<(), AllocError>
+        requires new { is_new self.old ≡ true }
+        requires faultless { image_fault self.old.geometry bytes.now ≡ None }
+        ensures ok { IfOk result (λ _. IsLoaded bytes.now self.old self.new) }
+        ensures err { OnErr result (self.new ≡ self.old) }
+    {
+        let mut pages = self.pages.emptied();
+        keep_image(&self.geometry, bytes, &mut pages)?;
+        self.pages = pages;
+        Ok(())
+    }
+
     /// Fills the register of a plane with FF.
     pub fn clear(&mut self, plane: usize)
         requires { plane < planes self.old.geometry }
@@ -301,11 +349,7 @@ impl<A: Allocator + Copy> LunDie<A> {
     }
 
     /// Works what an item does, if that is no ready. Without memory for it all stays as it was.
-    pub fn work(
-        &mut self,
-        filling: Filling,
-        effect: Effect,
-    ) -> Result<(), AllocError>
+    pub fn work(&mut self, filling: Filling, effect: Effect) -> Result<(), AllocError>
         requires { CanWork filling effect self.old }
         ensures ok { IfOk result (λ _. WorkedBy self.old.geometry filling effect self.old self.new) }
         ensures err { OnErr result (self.new ≡ self.old) }

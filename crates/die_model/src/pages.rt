@@ -1,12 +1,12 @@
 //! The pages of a die that were programmed.
-ghost use Rattle.std.specs.Prelude.{◌≡◌, ℕ, ◌<◌, ◌≤◌, ◌==◌, ◌&&◌, nat_lt, ◌++◌, if◌then◌else◌, List, [], Some, None, IsOk, IfOk, OnErr, length, replicate};
+ghost use Rattle.std.specs.Prelude.{◌≡◌, ℕ, ◌%◌, ◌^◌, ◌<◌, ◌≤◌, ◌==◌, ◌&&◌, nat_lt, ◌++◌, if◌then◌else◌, List, [], Some, None, IsOk, IfOk, OnErr, length, replicate};
 ghost use Rattle.std.specs.Option.{option_copied};
 ghost use Rattle.onfi_cycle.specs.declared.PageAddress.{PageAddress as At};
 ghost use Rattle.onfi_cycle.specs.Content.{same_page};
-ghost use Rattle.die_model.specs.Image.{entries_of};
+ghost use Rattle.die_model.specs.Image.{entries_of, count_of, header};
 ghost use Rattle.die_model.specs.Pages.{kept, page_in, programmed, is_given};
 
-use crate::image::write_entry;
+use crate::image::{begin_image, count_entry, write_entry};
 use crate::page::Page;
 use nand_geometry::Geometry;
 use onfi_cycle::PageAddress;
@@ -40,6 +40,13 @@ impl<A: Allocator + Copy> Pages<A> {
         }
     }
 
+    /// No page was programmed, over the same memory.
+    pub fn emptied(&self) -> Pages<A>
+        ensures { result ≡ [] }
+    {
+        Pages::new(self.alloc)
+    }
+
     /// The same pages again.
     pub fn copy(&self) -> Result<Pages<A>, AllocError>
         ensures { IfOk result (λ pages. pages ≡ self.now) }
@@ -66,6 +73,15 @@ impl<A: Allocator + Copy> Pages<A> {
             return Ok(());
         }
         let page = Page::blank(self.alloc, len)?;
+        self.map.insert((at.block, at.page), page)?;
+        Ok(())
+    }
+
+    /// Keeps these bytes of a page, whatever it held. Without memory for that all stays as it was.
+    pub fn put(&mut self, at: PageAddress, bytes: &[u8]) -> Result<(), AllocError>
+        ensures { IfOk result (λ _. (p : At) → kept self.new p ≡ (if same_page p at then Some bytes.now else kept self.old p)) }
+    {
+        let page = Page::of(self.alloc, bytes)?;
         self.map.insert((at.block, at.page), page)?;
         Ok(())
     }
@@ -101,6 +117,17 @@ impl<A: Allocator + Copy> Pages<A> {
         }
     }
 
+    /// How many entries an image has, which are fewer than 2^24 as rows are.
+    pub fn count_entries(&self, geometry: &Geometry) -> u32
+        ensures { result ≡ count_of geometry.now self.now % 2 ^ 32 }
+    {
+        let mut count: u32 = 0;
+        for (row, page) in &self.map {
+            count = count.wrapping_add(count_entry(geometry, row.0, row.1, page.bytes()));
+        }
+        count
+    }
+
     /// Writes the entries of an image, in the order of their rows.
     pub fn write_entries(&self, geometry: &Geometry, out: &mut Vec<u8, A>) -> Result<(), AllocError>
         ensures { IfOk result (λ _. out.new.items ≡ out.old.items ++ entries_of geometry.now self.now) }
@@ -109,5 +136,14 @@ impl<A: Allocator + Copy> Pages<A> {
             write_entry(geometry, row.0, row.1, page.bytes(), out)?;
         }
         Ok(())
+    }
+
+    /// The image of a die that keeps these pages.
+    pub fn image(&self, geometry: &Geometry) -> Result<Vec<u8, A>, AllocError>
+        ensures { IfOk result (λ v. v.items ≡ header geometry.now (count_of geometry.now self.now) ++ entries_of geometry.now self.now) }
+    {
+        let mut out = begin_image(self.alloc, geometry.parts(), self.count_entries(geometry))?;
+        self.write_entries(geometry, &mut out)?;
+        Ok(out)
     }
 }

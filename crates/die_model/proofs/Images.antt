@@ -1,0 +1,263 @@
+-- Writing and reading images, step by step.
+use Rattle.std.proofs.Common.{◌≡◌, ℕ, zero, suc, ◌+◌, ◌-◌, ◌*◌, ◌/◌, ◌%◌, ◌<◌, ◌≤◌, ◌==◌, Bool, true, false, ◌&&◌, cond, List, [], ◌∷◌, ◌++◌, Option, Some, None, length, drop, take, replicate, ltb, eqb, not, refl, sym, ap, ◌∙◌, arith, length-drop, length-take}
+use Rattle.std.specs.Option.{is_some, unwrap_or}
+use Rattle.nand_geometry.specs.Row.{parts_of}
+use Rattle.nand_geometry.specs.declared.Parts.{Parts}
+use Rattle.nand_geometry.specs.Limits.{page_len}
+use Rattle.onfi_cycle.specs.declared.PageAddress.{PageAddress}
+use Rattle.onfi_cycle.specs.Content.{same_page}
+use Rattle.onfi_cycle.specs.Bounds.{is_row}
+use Rattle.onfi_cycle.specs.Effect.{page_address}
+use Rattle.die_model.specs.declared.refusal.ImageFault.{ImageFault}
+use Rattle.die_model.specs.declared.refusal.ImageFault.TheVariants.{Length, Magic, Numbers, Order, Row}
+use Rattle.die_model.specs.Pages.{kept, page_in}
+use Rattle.die_model.specs.Image.{four, is_written, count_of, header, magic}
+use Rattle.die_model.specs.Loading.{first_row, first_page, first_bytes, entry_len, is_page, row_fault, or_later, entries_fault, told, are_pages, ArePages, image_fault, count_told, entries_told, has_numbers}
+use Rattle.die_model.specs.Die.{AreKept, IsDie}
+use Rattle.onfi_cycle.specs.declared.Queued.{Queued}
+use Rattle.onfi_cycle.specs.Rules.{has_some}
+use Rattle.std.specs.List.{starts_with}
+use Rattle.die_model.proofs.Kept.{Entries, ChangesAt, kept_after, same_parts}
+
+-- ---- writing
+
+-- four bytes tell no more of a number than this
+pub four_of : (n : ℕ) → four (n % 4294967296) ≡ four n
+four_of n =
+    let a : n % 4294967296 % 256 ≡ n % 256 = omega arith in
+    let b : n % 4294967296 / 256 % 256 ≡ n / 256 % 256 = omega arith in
+    let c : n % 4294967296 / 65536 % 256 ≡ n / 65536 % 256 = omega arith in
+    let d : n % 4294967296 / 16777216 % 256 ≡ n / 16777216 % 256 = omega arith in
+    rw (a, b, c, d) refl
+
+pub header_of : (g : Parts) (n m : ℕ) → m ≡ n % 4294967296 → header g m ≡ header g n
+header_of g n m is = ap (λ (b : List ℕ). magic ++ four g.page_bytes ++ four g.spare_bytes ++ four g.pages ++ four g.blocks ++ b) (ap four is ∙ four_of n)
+
+-- one more entry is counted, or none
+pub count_step : (g : Parts) (count one next all : ℕ) (b bytes : List ℕ) (row : ℕ × ℕ) (rest left : Entries) → next ≡ (count + one) % 4294967296 → one ≡ count_of g ((row, b) ∷ []) → b ≡ bytes → rest ≡ (row, bytes) ∷ left → (count + count_of g rest) % 4294967296 ≡ all % 4294967296 → (next + count_of g left) % 4294967296 ≡ all % 4294967296
+count_step g count one next all b bytes row rest left en eo eb er h =
+    let was : (count + (cond (is_written g row bytes) 1 0 + count_of g left)) % 4294967296 ≡ all % 4294967296 = ap (λ (es : Entries). (count + count_of g es) % 4294967296) (sym er) ∙ h in
+    let is : one ≡ cond (is_written g row bytes) 1 0 = eo ∙ (ap (λ (x : List ℕ). count_of g ((row, x) ∷ [])) eb ∙ no_more (cond (is_written g row bytes) 1 0)) in
+    ap (λ (n : ℕ). (n + count_of g left) % 4294967296) en
+    ∙ (regroup count one (count_of g left)
+    ∙ (ap (λ (n : ℕ). (count + (n + count_of g left)) % 4294967296) is ∙ was))
+  where
+    regroup : (a b c : ℕ) → ((a + b) % 4294967296 + c) % 4294967296 ≡ (a + (b + c)) % 4294967296
+    regroup a b c = omega arith
+
+    no_more : (n : ℕ) → n + 0 ≡ n
+    no_more n = omega arith
+
+pub count_begins : (g : Parts) (es all : Entries) → es ≡ all → (0 + count_of g es) % 4294967296 ≡ count_of g all % 4294967296
+count_begins g es all e = zero_more (count_of g es) ∙ ap (λ (x : Entries). count_of g x % 4294967296) e
+  where
+    zero_more : (n : ℕ) → (0 + n) % 4294967296 ≡ n % 4294967296
+    zero_more n = omega arith
+
+pub count_end : (g : Parts) (count all : ℕ) (rest : Entries) → count < 4294967296 → rest ≡ [] → (count + count_of g rest) % 4294967296 ≡ all % 4294967296 → count ≡ all % 4294967296
+count_end g count all rest fits er h = small count fits ∙ (ap (λ (es : Entries). (count + count_of g es) % 4294967296) (sym er) ∙ h)
+  where
+    small : (n : ℕ) → n < 4294967296 → n ≡ (n + 0) % 4294967296
+    small n h = omega (arith, h)
+
+-- ---- putting a page in place
+
+pub put_kept : (at : PageAddress) (old new before : Entries) (w bytes : List ℕ) → old ≡ before → w ≡ bytes → ChangesAt at (Some w) old new → (p : PageAddress) → kept new p ≡ cond (same_page p at) (Some bytes) (kept before p)
+put_kept at old new before w bytes eo ew h p =
+    kept_after at (Some w) old new h p
+    ∙ (ap (λ (x : List ℕ). cond (same_page p at) (Some x) (kept old p)) ew ∙ ap (λ (e : Entries). cond (same_page p at) (Some bytes) (kept e p)) eo)
+
+-- ---- the first fault
+
+-- what is left of the entries has the fault of all of them
+pub record IsFaultSoFar (g : Parts) (count k least : ℕ) (rest all : List ℕ) : Type 0 where
+  pub so_far : entries_fault g (count - k) least rest ≡ entries_fault g count 0 all
+  pub room : length rest ≡ (count - k) * entry_len g
+
+pub fault_begins : (g : Parts) (count : ℕ) (all : List ℕ) → length all ≡ count * entry_len g → IsFaultSoFar g count 0 0 all all
+fault_begins g count all room =
+    let whole : count - 0 ≡ count = omega arith in
+    record { so_far = rw whole refl; room = rw whole room }
+
+pub has_room : (g : Parts) (count k least : ℕ) (rest all : List ℕ) → k < count → IsFaultSoFar g count k least rest all → entry_len g ≤ length rest
+has_room g count k least rest all low before =
+    let left : count - k ≡ suc (count - (k + 1)) = omega arith in
+    let room : length rest ≡ suc (count - (k + 1)) * entry_len g = before.room ∙ ap (λ (n : ℕ). n * entry_len g) left in
+    omega (arith, room)
+
+some_first : (o later : Option ImageFault) → is_some o ≡ true → o ≡ or_later o later
+some_first None later h = cc
+some_first (Some fault) later h = refl
+
+none_first : (o later : Option ImageFault) → is_some o ≡ false → or_later o later ≡ later
+none_first None later h = refl
+none_first (Some fault) later h = cc
+
+-- a fault that is found is the first one
+pub fault_here : (g : Parts) (count k least row : ℕ) (rest all : List ℕ) (o : Option ImageFault) → k < count → row ≡ first_row rest → o ≡ row_fault g least row → is_some o ≡ true → IsFaultSoFar g count k least rest all → o ≡ entries_fault g count 0 all
+fault_here g count k least row rest all o low er eo is before =
+    let left : count - k ≡ suc (count - (k + 1)) = omega arith in
+    let later : Option ImageFault = entries_fault g (count - (k + 1)) (first_row rest + 1) (drop (entry_len g) rest) in
+    some_first o later is
+    ∙ (ap (λ (x : Option ImageFault). or_later x later) (eo ∙ ap (row_fault g least) er) ∙ (sym (ap (λ (n : ℕ). entries_fault g n least rest) left) ∙ before.so_far))
+
+-- without one the next entry is looked at
+pub fault_later : (g : Parts) (count k least row next len : ℕ) (rest all behind : List ℕ) (o : Option ImageFault) → k < count → row ≡ first_row rest → next ≡ row → len ≡ entry_len g → behind ≡ drop len rest → o ≡ row_fault g least row → false ≡ is_some o → IsFaultSoFar g count k least rest all → IsFaultSoFar g count (k + 1) (next + 1) behind all
+fault_later g count k least row next len rest all behind o low er en el eb eo is before =
+    let left : count - k ≡ suc (count - (k + 1)) = omega arith in
+    let room : length rest ≡ suc (count - (k + 1)) * entry_len g = before.room ∙ ap (λ (n : ℕ). n * entry_len g) left in
+    let later : Option ImageFault = entries_fault g (count - (k + 1)) (first_row rest + 1) (drop (entry_len g) rest) in
+    let gone : behind ≡ drop (entry_len g) rest = eb ∙ ap (λ (n : ℕ). drop n rest) el in
+    record {
+      so_far = ap (λ (n : ℕ). entries_fault g (count - (k + 1)) (n + 1) behind) (en ∙ er) ∙ (ap (entries_fault g (count - (k + 1)) (first_row rest + 1)) gone
+          ∙ (sym (none_first o later (sym is)) ∙ (ap (λ (x : Option ImageFault). or_later x later) (eo ∙ ap (row_fault g least) er) ∙ (sym (ap (λ (n : ℕ). entries_fault g n least rest) left) ∙ before.so_far))));
+      room = ap (λ (x : List ℕ). length x) gone ∙ less (count - (k + 1)) (entry_len g) rest room;
+    }
+  where
+    less : (n size : ℕ) (xs : List ℕ) → length xs ≡ suc n * size → length (drop size xs) ≡ n * size
+    less n size xs h = length-drop size xs ∙ omega (arith, h)
+
+pub no_fault : (g : Parts) (count k least : ℕ) (rest all : List ℕ) → count ≤ k → IsFaultSoFar g count k least rest all → None ≡ entries_fault g count 0 all
+no_fault g count k least rest all high before =
+    let left : count - k ≡ 0 = omega arith in
+    sym (ap (λ (n : ℕ). entries_fault g n least rest) left) ∙ before.so_far
+
+-- ---- the pages
+
+row_is_page : (g : Parts) (least row : ℕ) → row_fault g least row ≡ None → is_page g row ≡ true
+row_is_page g least row h = of (is_page g row) (ltb row least) h
+  where
+    of : (b c : Bool) → cond b (cond c (Some Order) None) (Some Row) ≡ None → b ≡ true
+    of true c h = refl
+    of false c h = cc
+
+both_none : (o later : Option ImageFault) → or_later o later ≡ None → (o ≡ None) × (later ≡ None)
+both_none None later h = (refl, h)
+both_none (Some fault) later h = cc
+
+-- entries without a fault are of pages
+pub pages_of_none : (g : Parts) (count least : ℕ) (entries : List ℕ) → entries_fault g count least entries ≡ None → are_pages g count entries ≡ true
+pages_of_none g zero least entries h = refl
+pages_of_none g (suc count) least entries h =
+    let none = both_none (row_fault g least (first_row entries)) (entries_fault g count (first_row entries + 1) (drop (entry_len g) entries)) h in
+    ap (λ (b : Bool). b && are_pages g count (drop (entry_len g) entries)) (row_is_page g least (first_row entries) none.0) ∙ pages_of_none g count (first_row entries + 1) (drop (entry_len g) entries) none.1
+
+page_is_row : (g : Parts) (row : ℕ) → is_page g row ≡ true → is_row g (page_address g row) ≡ true
+page_is_row g row h = of ((parts_of g row).lun == 0) (ltb (parts_of g row).lun g.luns) (ltb (parts_of g row).block g.blocks) (ltb (parts_of g row).page g.pages) h
+  where
+    of : (a b c d : Bool) → (a && (b && c && d)) ≡ true → (c && d) ≡ true
+    of true true c d h = h
+    of true false c d h = cc
+    of false b c d h = cc
+
+-- a page that is put in place leaves pages of the geometry
+more_pages : (g : Parts) (at : PageAddress) (bytes : List ℕ) (old new : Entries) → is_row g at ≡ true → length bytes ≡ page_len g → ((p : PageAddress) → kept new p ≡ cond (same_page p at) (Some bytes) (kept old p)) → ArePages g old → ArePages g new
+more_pages g at bytes old new row len put are =
+    record {
+      inside = λ p out. put p ∙ outside p out (same_page p at) refl;
+      lengths = λ p x is. same p x (same_page p at) (sym (put p) ∙ is);
+    }
+  where
+    outside : (p : PageAddress) → is_row g p ≡ false → (b : Bool) → same_page p at ≡ b → cond b (Some bytes) (kept old p) ≡ None
+    outside p out true e = let clash : true ≡ false = sym row ∙ (sym (ap (is_row g) (same_parts p at e)) ∙ out) in cc
+    outside p out false e = are.inside p out
+
+    same : (p : PageAddress) (x : List ℕ) (b : Bool) → cond b (Some bytes) (kept old p) ≡ Some x → length x ≡ page_len g
+    same p x true e = let is : bytes ≡ x = cc in sym (ap (λ (y : List ℕ). length y) is) ∙ len
+    same p x false e = are.lengths p x e
+
+-- the entries before are kept, and what the rest tells over them is what all tell
+pub record IsKeptSoFar (g : Parts) (count k : ℕ) (rest all : List ℕ) (pages : Entries) : Type 0 where
+  pub so_far : (p : PageAddress) → told g (count - k) rest p (page_in (page_len g) pages p) ≡ told g count all p (replicate (page_len g) 0xff)
+  pub room : length rest ≡ (count - k) * entry_len g
+  pub left : are_pages g (count - k) rest ≡ true
+  pub are : ArePages g pages
+
+pub keeping_begins : (g : Parts) (count : ℕ) (all : List ℕ) (pages : Entries) → pages ≡ [] → length all ≡ count * entry_len g → are_pages g count all ≡ true → IsKeptSoFar g count 0 all all pages
+keeping_begins g count all pages none room are =
+    let whole : count - 0 ≡ count = omega arith in
+    record {
+      so_far = λ p. ap (λ (n : ℕ). told g n all p (page_in (page_len g) pages p)) whole ∙ ap (λ (e : Entries). told g count all p (page_in (page_len g) e p)) none;
+      room = rw whole room;
+      left = rw whole are;
+      are = record { inside = λ p out. ap (λ (e : Entries). kept e p) none; lengths = λ p x is. absurd (empty p x (sym (ap (λ (e : Entries). kept e p) none) ∙ is)) };
+    }
+  where
+    empty : (p : PageAddress) (x : List ℕ) → kept [] p ≡ Some x → ⊥
+    empty p x h = cc
+
+pub room_to_keep : (g : Parts) (count k : ℕ) (rest all : List ℕ) (pages : Entries) → k < count → IsKeptSoFar g count k rest all pages → entry_len g ≤ length rest
+room_to_keep g count k rest all pages low before =
+    let left : count - k ≡ suc (count - (k + 1)) = omega arith in
+    let room : length rest ≡ suc (count - (k + 1)) * entry_len g = before.room ∙ ap (λ (n : ℕ). n * entry_len g) left in
+    omega (arith, room)
+
+first_true : (a b : Bool) → (a && b) ≡ true → (a ≡ true) × (b ≡ true)
+first_true true b h = (refl, h)
+first_true false b h = cc
+
+pub keeps_entry : (g : Parts) (count k row : ℕ) (rest all behind : List ℕ) (at : PageAddress) (bytes : List ℕ) (old new : Entries) → k < count → row ≡ first_row rest → at ≡ page_address g row → bytes ≡ first_bytes g rest → behind ≡ drop (entry_len g) rest → ((p : PageAddress) → kept new p ≡ cond (same_page p at) (Some bytes) (kept old p)) → IsKeptSoFar g count k rest all old → IsKeptSoFar g count (k + 1) behind all new
+keeps_entry g count k row rest all behind at bytes old new low er ea eb ed put before =
+    let left : count - k ≡ suc (count - (k + 1)) = omega arith in
+    let room : length rest ≡ suc (count - (k + 1)) * entry_len g = before.room ∙ ap (λ (n : ℕ). n * entry_len g) left in
+    let pages : is_page g (first_row rest) && are_pages g (count - (k + 1)) (drop (entry_len g) rest) ≡ true = sym (ap (λ (n : ℕ). are_pages g n rest) left) ∙ before.left in
+    let two = first_true _ _ pages in
+    let there : at ≡ first_page g rest = ea ∙ ap (page_address g) er in
+    record {
+      so_far = λ p. ap (λ (x : List ℕ). told g (count - (k + 1)) x p (page_in (page_len g) new p)) ed
+          ∙ (ap (told g (count - (k + 1)) (drop (entry_len g) rest) p) (now p (same_page p at) (put p) ∙ (ap (λ (q : PageAddress). cond (same_page p q) bytes (page_in (page_len g) old p)) there ∙ ap (λ (x : List ℕ). cond (same_page p (first_page g rest)) x (page_in (page_len g) old p)) eb))
+          ∙ (sym (ap (λ (n : ℕ). told g n rest p (page_in (page_len g) old p)) left) ∙ before.so_far p));
+      room = ap (λ (x : List ℕ). length x) ed ∙ less (count - (k + 1)) (entry_len g) rest room;
+      left = ap (are_pages g (count - (k + 1))) ed ∙ two.1;
+      are = more_pages g at bytes old new (ap (is_row g) there ∙ page_is_row g (first_row rest) two.0) (ap (λ (x : List ℕ). length x) eb ∙ wide (page_len g) (count - (k + 1)) rest room) put before.are;
+    }
+  where
+    less : (n size : ℕ) (xs : List ℕ) → length xs ≡ suc n * size → length (drop size xs) ≡ n * size
+    less n size xs h = length-drop size xs ∙ omega (arith, h)
+
+    wide : (len n : ℕ) (xs : List ℕ) → length xs ≡ suc n * (4 + len) → length (drop 4 (take (4 + len) xs)) ≡ len
+    wide len n xs h = length-drop 4 (take (4 + len) xs) ∙ (let t = length-take (4 + len) xs in omega (arith, h, t))
+
+    now : (p : PageAddress) (b : Bool) → kept new p ≡ cond b (Some bytes) (kept old p) → page_in (page_len g) new p ≡ cond b bytes (page_in (page_len g) old p)
+    now p true e = ap (λ (o : Option (List ℕ)). unwrap_or o (replicate (page_len g) 0xff)) e
+    now p false e = ap (λ (o : Option (List ℕ)). unwrap_or o (replicate (page_len g) 0xff)) e
+
+pub keeping_ends : (g : Parts) (count k : ℕ) (rest all : List ℕ) (pages : Entries) → count ≤ k → IsKeptSoFar g count k rest all pages → (p : PageAddress) → page_in (page_len g) pages p ≡ told g count all p (replicate (page_len g) 0xff)
+keeping_ends g count k rest all pages high before p =
+    let left : count - k ≡ 0 = omega arith in
+    sym (ap (λ (n : ℕ). told g n rest p (page_in (page_len g) pages p)) left) ∙ before.so_far p
+
+-- an image without a fault has entries without one
+pub faultless : (g : Parts) (bytes : List ℕ) → image_fault g bytes ≡ None → entries_fault g (count_told bytes) 0 (entries_told bytes) ≡ None
+faultless g bytes h = of (ltb (length bytes) 24) (starts_with eqb bytes magic) (has_numbers g bytes) (length bytes == 24 + count_told bytes * entry_len g) (entries_fault g (count_told bytes) 0 (entries_told bytes)) h
+  where
+    of : (a b c d : Bool) (o : Option ImageFault) → cond a (Some Length) (cond (not b) (Some Magic) (cond (not c) (Some Numbers) (cond (not d) (Some Length) o))) ≡ None → o ≡ None
+    of true b c d o h = cc
+    of false false c d o h = cc
+    of false true false d o h = cc
+    of false true true false o h = cc
+    of false true true true o h = h
+
+-- nothing waits on a new die
+pub none_waits : (a b c d failed closed : Bool) (members : List Queued) → (a && (b && (c && (d && (not (has_some (cond closed [] members)) && (not (has_some (cond closed members [])) && failed)))))) ≡ true → (new : Entries) → AreKept new members
+none_waits true true true true failed true [] h new = tt
+none_waits true true true true failed true (q ∷ members) h new = cc
+none_waits true true true true failed false [] h new = tt
+none_waits true true true true failed false (q ∷ members) h new = cc
+none_waits true true true false failed closed members h new = cc
+none_waits true true false d failed closed members h new = cc
+none_waits true false c d failed closed members h new = cc
+none_waits false b c d failed closed members h new = cc
+
+-- the die with other pages, where nothing waits
+pub loaded_is_die : (g : Parts) (parameters : List ℕ) (old new : Entries) (registers : List (List ℕ)) (members : List Queued) (closed busy : Bool) → AreKept new members → ArePages g new → IsDie g parameters old registers members closed busy → IsDie g parameters new registers members closed busy
+loaded_is_die g parameters old new registers members closed busy there are die =
+    record {
+      limits = die.limits;
+      copies = die.copies;
+      rows = record { inside = are.inside; lengths = are.lengths; count = die.rows.count; widths = die.rows.widths };
+      there = there;
+      alike = die.alike;
+      works = die.works;
+      some = die.some;
+    }
