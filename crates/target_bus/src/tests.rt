@@ -93,6 +93,109 @@ fn status_of<A: Allocator + Copy>(bus: &mut Bus<A>, ce: u8, low: u8) -> Result<u
     bus.take(ce)
 }
 
+// Cycles of one kind on target 0.
+fn put_all<A: Allocator + Copy>(
+    bus: &mut Bus<A>,
+    kind: Kind,
+    bytes: &[u8],
+) -> Result<(), BusRefusal>
+    requires { is_output kind ≡ false }
+{
+    for byte in bytes {
+        bus.put(Cycle {
+            ce: 0,
+            kind,
+            byte: *byte,
+        })?;
+    }
+    Ok(())
+}
+
+// A page of target 0 is told to take these bytes from a column on: two bytes of the column, three of the row.
+fn program<A: Allocator + Copy>(
+    bus: &mut Bus<A>,
+    address: [u8; 5],
+    bytes: &[u8],
+) -> Result<(), BusRefusal> {
+    command(bus, 0, 0x80)?;
+    put_all(bus, Kind::Adr, &address)?;
+    put_all(bus, Kind::Din, bytes)?;
+    command(bus, 0, 0x10)
+}
+
+// A page of target 0 is told to be read from a column on.
+fn read<A: Allocator + Copy>(bus: &mut Bus<A>, address: [u8; 5]) -> Result<(), BusRefusal> {
+    command(bus, 0, 0x00)?;
+    put_all(bus, Kind::Adr, &address)?;
+    command(bus, 0, 0x30)
+}
+
+// Three bytes of target 0.
+fn taken<A: Allocator + Copy>(bus: &mut Bus<A>) -> Result<[u8; 3], BusRefusal> {
+    Ok([bus.take(0)?, bus.take(0)?, bus.take(0)?])
+}
+
+// Row 5, which is page 1 of block 1, from column 3 on.
+const PLACE: [u8; 5] = [3, 0, 5, 0, 0];
+
+#[test]
+fn a_program_is_read_again(rt: HostRuntime) -> Result<(), Fail> {
+    let mut bus = channel(rt.alloc(), ONE_LUN, 1)?;
+    program(&mut bus, PLACE, &[0xa5, 0x3c])?;
+    assert!(rt; bus.ready(ZERO, false));
+    read(&mut bus, PLACE)?;
+    assert!(rt; bus.ready(ZERO, false));
+    assert_eq!(rt; taken(&mut bus)?, [0xa5, 0x3c, 0xff]);
+    Ok(())
+}
+
+#[test]
+fn a_failed_program_changes_nothing(rt: HostRuntime) -> Result<(), Fail> {
+    let mut bus = channel(rt.alloc(), ONE_LUN, 1)?;
+    program(&mut bus, PLACE, &[0xa5, 0x3c])?;
+    assert!(rt; bus.ready(ZERO, true));
+    assert_eq!(rt; status(&mut bus, 0)?, 0xe1);
+    read(&mut bus, PLACE)?;
+    assert!(rt; bus.ready(ZERO, false));
+    assert_eq!(rt; taken(&mut bus)?, [0xff, 0xff, 0xff]);
+    Ok(())
+}
+
+#[test]
+fn a_status_loses_the_column(rt: HostRuntime) -> Result<(), Fail> {
+    let mut bus = channel(rt.alloc(), ONE_LUN, 1)?;
+    read(&mut bus, PLACE)?;
+    assert!(rt; bus.ready(ZERO, false));
+    assert_eq!(rt; bus.take(0)?, 0xff);
+    assert_eq!(rt; status(&mut bus, 0)?, 0xe0);
+    command(&mut bus, 0, 0x00)?;
+    assert_eq!(rt; bus.take(0), Err(BusRefusal::Forbidden(Forbidden::F13)));
+    Ok(())
+}
+
+#[test]
+fn the_identifier_is_read(rt: HostRuntime) -> Result<(), Fail> {
+    let mut bus = channel(rt.alloc(), ONE_LUN, 1)?;
+    command(&mut bus, 0, 0x90)?;
+    put_all(&mut bus, Kind::Adr, &[0x20])?;
+    assert_eq!(rt; taken(&mut bus)?, [0x4f, 0x4e, 0x46]);
+    assert_eq!(rt; bus.take(0)?, 0x49);
+    assert_eq!(rt; bus.take(0), Err(BusRefusal::Forbidden(Forbidden::F14)));
+    Ok(())
+}
+
+#[test]
+fn the_parameter_page_is_read(rt: HostRuntime) -> Result<(), Fail> {
+    let mut bus = channel(rt.alloc(), ONE_LUN, 1)?;
+    command(&mut bus, 0, 0xec)?;
+    put_all(&mut bus, Kind::Adr, &[0x00])?;
+    assert_eq!(rt; bus.take(0), Err(BusRefusal::Forbidden(Forbidden::F13)));
+    assert!(rt; bus.ready(ZERO, false));
+    assert_eq!(rt; taken(&mut bus)?, [0x4f, 0x4e, 0x46]);
+    assert_eq!(rt; bus.take(0)?, 0x49);
+    Ok(())
+}
+
 #[test]
 fn one_block_is_erased(rt: HostRuntime) -> Result<(), Fail> {
     let mut bus = channel(rt.alloc(), ONE_LUN, 1)?;
@@ -136,7 +239,8 @@ fn what_is_refused_changes_nothing(rt: HostRuntime) -> Result<(), Fail> {
     let before = bus.lun_state(ZERO);
     let refused = |rule: Forbidden| Err(BusRefusal::Forbidden(rule));
     assert_eq!(rt; command(&mut bus, 0, 0x60), refused(Forbidden::F9));
-    assert_eq!(rt; command(&mut bus, 0, 0x00), refused(Forbidden::F2));
+    assert_eq!(rt; command(&mut bus, 0, 0x15), refused(Forbidden::F2));
+    assert_eq!(rt; command(&mut bus, 0, 0x00), refused(Forbidden::F9));
     assert_eq!(rt; command(&mut bus, 1, 0x60), refused(Forbidden::F1));
     assert_eq!(rt; command(&mut bus, 0, 0xd0), refused(Forbidden::F6));
     assert_eq!(rt; bus.take(0), Err(BusRefusal::Forbidden(Forbidden::F12)));
@@ -225,7 +329,7 @@ fn erases_until_refused(rt: &impl Abort, heap: &LocalHeap) -> Result<Option<usiz
             assert!(rt; came < before + 5 && bus.lun_state(ZERO).is_some_and(|l| !l.busy));
             // What is forbidden is told first.
             assert_eq!(rt;
-                command(&mut bus, 0, 0x00),
+                command(&mut bus, 0, 0x15),
                 Err(BusRefusal::Forbidden(Forbidden::F2))
             );
             assert_eq!(rt; bus.trace().len(), came);
@@ -241,7 +345,7 @@ fn erases_until_refused(rt: &impl Abort, heap: &LocalHeap) -> Result<Option<usiz
 fn refused_memory(rt: HostRuntime) -> Result<(), Fail> {
     let mut refused = false;
     let mut erased = false;
-    for size in 10..80usize {
+    for size in 150..300usize {
         let heap = LocalHeap::new(rt.alloc(), 16 * size)?;
         match erases_until_refused(&rt, &heap)? {
             Some(_) => refused = true,
@@ -254,10 +358,10 @@ fn refused_memory(rt: HostRuntime) -> Result<(), Fail> {
 
 #[test]
 fn kept_places(rt: HostRuntime) -> Result<(), Fail> {
-    let heap = LocalHeap::new(rt.alloc(), 512)?;
+    let heap = LocalHeap::new(rt.alloc(), 4_096)?;
     let mut bus = channel(&heap, ONE_LUN, 1)?;
     assert!(rt; bus.reserve(usize::MAX).is_err());
-    assert!(rt; bus.reserve(1_000).is_err());
+    assert!(rt; bus.reserve(10_000).is_err());
     bus.reserve(9)?;
     let taken = heap.used();
     for _ in 0..4 {
