@@ -1,5 +1,5 @@
 //! The sequencer: it runs a program on each LUN, and hands the bus from one to another.
-ghost use Rattle.std.specs.Prelude.{◌≡◌, ◌↔◌, ℕ, ◌*◌, ◌<◌, ◌≤◌, ◌∷◌, List, [], Some, None, if◌then◌else◌, IfOk, OnErr, IfErr, IfSome, length, replicate, reverse, get_or, set, true, false};
+ghost use Rattle.std.specs.Prelude.{◌≡◌, ◌↔◌, ℕ, ◌*◌, ◌<◌, ◌≤◌, ◌∷◌, List, [], Some, None, if◌then◌else◌, IfOk, OnErr, IfErr, IfSome, IfNone, length, replicate, reverse, get_or, set, true, false};
 ghost use Rattle.onfi_cycle.specs.Permitted.{is_legal};
 ghost use Rattle.onfi_cycle.specs.Channel.{Channel, is_there};
 ghost use Rattle.target_bus.specs.Bus.{Traced, channel_of};
@@ -256,11 +256,23 @@ impl<A: Allocator> Core<A> {
         ensures came { IfOk result (λ answer. IsEvent self.old (Step l) (ToStep answer) self.new) }
         ensures err { OnErr result ((self.new ≡ self.old) × CanGoOn self.old l) }
     {
+        match self.answer_at_rest(l) {
+            Some(answer) => Ok(answer),
+            None => self.step_on(l),
+        }
+    }
+
+    // The answer of a step that changes nothing: the LUN has no program that goes on, or another LUN has the bus.
+    fn answer_at_rest(&self, l: Lun) -> Option<Stepped>
+        ensures came { IfSome result (λ answer. IsEvent self.now (Step l) (ToStep answer) self.now) }
+        ensures running { IfNone result (Some None ≡ slot_code (slot_at self.now l)) }
+        ensures free { IfNone result (is_held self.now.holder l ≡ false) }
+    {
         match self.code_at(l) {
-            None => Ok(Stepped::Empty),
-            Some(Some(_)) => Ok(Stepped::Ended),
-            Some(None) if is_held(self.holder, l) => Ok(Stepped::Held),
-            Some(None) => self.step_on(l),
+            None => Some(Stepped::Empty),
+            Some(Some(_)) => Some(Stepped::Ended),
+            Some(None) if is_held(self.holder, l) => Some(Stepped::Held),
+            Some(None) => None,
         }
     }
 
