@@ -258,7 +258,7 @@ fn core_of<A: Allocator + Copy>(alloc: A, parts: Parts, count: u8) -> Result<Cor
     let geometry = Geometry::of(parts)?;
     let mut dies = Vec::with_capacity(alloc, usize::from(count))?;
     for _ in 0..count {
-        dies.push(LunDie::new(geometry)?)?;
+        dies.push(LunDie::new(alloc, geometry)?)?;
     }
     match Bus::new(alloc, geometry, dies) {
         Ok(bus) => Ok(Core::new(bus)),
@@ -299,7 +299,7 @@ fn job_of<A: Allocator + Copy>(
 }
 
 // The load of a job of the LUN `at` is refused so, with the job handed back.
-fn is_refused<A: Allocator>(
+fn is_refused<A: Allocator + Copy>(
     core: &mut Core<A>,
     l: Lun,
     job: Job<A>,
@@ -332,7 +332,11 @@ fn is_erase<A: Allocator>(done: &Done<A>, l: Lun) -> bool {
 }
 
 // An unload is answered so: with the code of the erase on this LUN, or a fault.
-fn is_unloaded<A: Allocator>(core: &mut Core<A>, l: Lun, answer: Result<u8, UnloadFault>) -> bool {
+fn is_unloaded<A: Allocator + Copy>(
+    core: &mut Core<A>,
+    l: Lun,
+    answer: Result<u8, UnloadFault>,
+) -> bool {
     match core.unload(l) {
         Ok(done) => answer == Ok(done.code) && is_erase(&done, l),
         Err(fault) => answer == Err(fault),
@@ -340,7 +344,7 @@ fn is_unloaded<A: Allocator>(core: &mut Core<A>, l: Lun, answer: Result<u8, Unlo
 }
 
 // Steps of LUNs, one after another, are answered so.
-fn are_answered<A: Allocator>(
+fn are_answered<A: Allocator + Copy>(
     core: &mut Core<A>,
     answers: &[(Lun, Stepped)],
 ) -> Result<bool, Fail> {
@@ -368,7 +372,7 @@ fn is_legal(parts: Parts, targets: u8, items: &[Item]) -> Result<bool, Fail> {
 }
 
 // No array becomes ready.
-fn no_array_works<A: Allocator>(core: &mut Core<A>) -> bool {
+fn no_array_works<A: Allocator + Copy>(core: &mut Core<A>) -> bool {
     for lun in [ZERO, ONE, NEXT] {
         if core.array_ready(lun) {
             return false;
@@ -414,7 +418,7 @@ struct Seen {
 }
 
 // What is seen of it now.
-fn seen_of<A: Allocator>(core: &Core<A>) -> Seen {
+fn seen_of<A: Allocator + Copy>(core: &Core<A>) -> Seen {
     Seen {
         holder: core.holder(),
         fresh: core.is_fresh(),
@@ -938,7 +942,7 @@ fn begins_with_step<A: Allocator>(events: &[Event<A>]) -> bool {
 }
 
 // What is left after such a list.
-fn left_of<A: Allocator>(core: &Core<A>, told: &Ran<A>) -> Left {
+fn left_of<A: Allocator + Copy>(core: &Core<A>, told: &Ran<A>) -> Left {
     Left {
         done: told.replies.len(),
         rest: told.rest.len(),
