@@ -7,7 +7,7 @@ mod refusal;
 #[cfg(test)]
 mod tests;
 
-ghost use Rattle.std.specs.Prelude.{◌≡◌, ◌≢◌, ℕ, ◌*◌, ◌<◌, ◌≤◌, ◌↔◌, Bool, true, false, List, [], ◌∷◌, Some, None, IsOk, IfOk, IfErr, IsTrue, length, reverse, slice_get};
+ghost use Rattle.std.specs.Prelude.{◌≡◌, ◌≢◌, ℕ, ◌*◌, ◌<◌, ◌≤◌, ◌↔◌, Bool, true, false, List, [], ◌∷◌, Some, None, IsOk, IfOk, IfErr, IsTrue, length, map, reverse, slice_get};
 ghost use Rattle.nand_geometry.specs.Limits.{InLimits};
 ghost use Rattle.onfi_cycle.specs.declared.Item.TheVariants.{Cyc, Rdy, Ard};
 ghost use Rattle.onfi_cycle.specs.declared.Kind.TheVariants.{Dout};
@@ -70,6 +70,7 @@ impl<A: Allocator + Copy> Bus<A> {
     ) -> Result<Bus<A>, (BusFault, Vec<LunDie<A>, A>)>
         ensures ok { IfOk result (λ b. bus_fault geometry dies.items ≡ None) }
         ensures value { IfOk result (λ b. (b.past ≡ []) × (b.geometry ≡ geometry) × (b.targets * geometry.luns ≡ length dies.items)) }
+        ensures opened { IfOk result (λ b. b.opened ≡ map (λ (d : Die). d.pages) dies.items) }
         ensures opening { IfOk result (λ b. (l : Lun) (p : PageAddress) (d : Die) → slice_get dies.items (number_of geometry l) ≡ Some d → (channel_of b).opening l p ≡ page_of d p) }
         ensures err { IfErr result (λ e. RefusesDies e.0 (bus_fault geometry dies.items) × (e.1 ≡ dies)) }
     {
