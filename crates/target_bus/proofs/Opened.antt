@@ -7,6 +7,7 @@ use Rattle.std.specs.Bool.{beq}
 use Rattle.nand_geometry.specs.declared.Parts.{Parts}
 use Rattle.nand_geometry.specs.Limits.{InLimits, page_len, planes}
 use Rattle.onfi_cycle.specs.declared.Lun.{Lun}
+use Rattle.onfi_cycle.specs.declared.Item.{Item}
 use Rattle.onfi_cycle.specs.declared.PageAddress.{PageAddress}
 use Rattle.onfi_cycle.specs.Sequence.{facts_of}
 use Rattle.onfi_cycle.specs.Lun.{views_from}
@@ -95,8 +96,8 @@ targets_of g k some h = at (k == g.luns) (k == 2 * g.luns) (k == 3 * g.luns) (k 
 pub forgets_none : (dies : List Die) → dies ≡ forgotten_below 0 dies
 forgets_none dies = refl
 
-pub forgets_more : (dies now later : List Die) (k : ℕ) (old : Die) → now ≡ forgotten_below k dies → slice_get now k ≡ Some old → later ≡ set now k (forgotten old) → later ≡ forgotten_below (suc k) dies
-forgets_more dies now later k old is found set_is = set_is ∙ (ap (λ (ds : List Die). set ds k (forgotten old)) is ∙ of dies k (sym (ap (λ (ds : List Die). slice_get ds k) is) ∙ found))
+pub forgets_more : (dies now later : List Die) (k n : ℕ) (old : Die) → now ≡ forgotten_below k dies → slice_get now k ≡ Some old → later ≡ set now k (forgotten old) → n ≡ suc k → later ≡ forgotten_below n dies
+forgets_more dies now later k n old is found set_is next = set_is ∙ (ap (λ (ds : List Die). set ds k (forgotten old)) is ∙ (of dies k (sym (ap (λ (ds : List Die). slice_get ds k) is) ∙ found) ∙ ap (λ (m : ℕ). forgotten_below m dies) (sym next)))
   where
     of : (dies : List Die) (k : ℕ) → slice_get (forgotten_below k dies) k ≡ Some old → set (forgotten_below k dies) k (forgotten old) ≡ forgotten_below (suc k) dies
     of [] zero h = cc
@@ -219,3 +220,12 @@ copied_more (x ∷ dies) d before more after e some here m is a =
 pub whole_from : (dies : List Die) (d : Die) → 1 ≤ length dies → d ≡ get_or dies 0 d → IsWhole d → WholeDies (take (length dies - 1) (drop 1 dies)) → WholeDies dies
 whole_from [] d some here a b = absurd (omega arith)
 whole_from (x ∷ dies) d some here a b = whole_more x dies (subst IsWhole here a) (subst WholeDies (all_taken dies (length (x ∷ dies) - 1) (omega arith)) b)
+
+pub most_targets : (g : Parts) (k : ℕ) → InLimits g → are_targets g k ≡ true → k / g.luns ≤ 4
+most_targets g k limits h = (targets_of g k limits.luns_least h).most
+
+pub targets_are : (g : Parts) (k n : ℕ) (next : BusView) → InLimits g → are_targets g k ≡ true → n ≡ k / g.luns → Follows g n next [] → length next.targets * g.luns ≡ k
+targets_are g k n next limits h is f = ap (λ (m : ℕ). m * g.luns) (count_of g n next [] f ∙ is) ∙ (targets_of g k limits.luns_least h).whole
+
+pub opens_on : {state : BusView} {opened : List Entries} {dies : List Die} {past later : List Item} → later ≡ past → IsStanding state opened dies past → IsStanding state opened dies later
+opens_on {state = state} {opened = opened} {dies = dies} same f = subst (IsStanding state opened dies) (sym same) f

@@ -1,10 +1,12 @@
 -- The dies go on with the past.
-use Rattle.std.proofs.Common.{◌≡◌, ◌≢◌, ℕ, zero, suc, ◌+◌, ◌*◌, ◌<◌, ◌≤◌, ◌==◌, Bool, true, false, ◌&&◌, ◌||◌, ◌++◌, cond, not, ltb, leb, eq-eqb, eqb-true, reverse, List, [], ◌∷◌, Option, Some, None, Result, Ok, Err, IfOk, refl, sym, ap, subst, ◌∙◌, arith, length, set, ◌^◌}
+use Rattle.std.proofs.Common.{◌≡◌, ◌≢◌, ℕ, zero, suc, ◌+◌, ◌*◌, ◌<◌, ◌≤◌, ◌==◌, Bool, true, false, ◌&&◌, ◌||◌, ◌++◌, cond, not, ltb, leb, eq-eqb, eqb-true, reverse, List, [], ◌∷◌, Option, Some, None, Result, Ok, Err, IfOk, OnErr, IsOk, refl, sym, ap, subst, ◌∙◌, arith, length, set, ◌^◌}
 use Rattle.std.proofs.lemmas.Bool.Decides.{nat_tests}
 use Rattle.std.proofs.lemmas.Option.{slice_get_within, slice_get_past}
 use Rattle.std.specs.List.{slice_get}
 use Rattle.std.proofs.lemmas.List.{reverse-append, length-set}
 use Rattle.std.specs.Option.{is_some}
+use Rattle.std.specs.Result.{is_err}
+use Rattle.std.proofs.Math.Nat.{mul-le-mul_right}
 use Rattle.nand_geometry.specs.declared.Parts.{Parts}
 use Rattle.nand_geometry.specs.Limits.{InLimits, page_len}
 use Rattle.onfi_cycle.specs.declared.Command.{Command}
@@ -31,7 +33,8 @@ use Rattle.onfi_cycle.specs.Effect.{is_off, is_data, names_lun, confirm_effect, 
 use Rattle.onfi_cycle.specs.Filling.{filling, cycle_filling}
 use Rattle.onfi_cycle.specs.Lun.{effect_on, latch_alone, luns_of, lun_view}
 use Rattle.onfi_cycle.specs.Rules.{breaks_F1, breaks_F14, lun_is, is_some_and, some_queued_clashes}
-use Rattle.onfi_cycle.specs.Channel.{Channel, is_cycle}
+use Rattle.onfi_cycle.specs.declared.Kind.TheVariants.{Dout}
+use Rattle.onfi_cycle.specs.Channel.{Channel, is_cycle, cycle}
 use Rattle.onfi_cycle.specs.Permitted.{broken}
 use Rattle.onfi_cycle.specs.State.{BusView, Follows}
 use Rattle.onfi_cycle.specs.Bounds.{LunFits, EffectFits, is_row}
@@ -501,3 +504,41 @@ rests_by g past i l x y ex ey a b = rw (sym (ap fills ex) ∙ a, sym (ap begins 
 
 pub no_program_at : (g : Parts) (past : List Item) (c : Cycle) (x : Worked) → FindsWork g past (Cyc c) c.ce 0 (Some x) → starts_work (Cyc c) ≡ false → is_program x.effect ≡ false
 no_program_at g past c x found idle = ap is_program found.effect_is ∙ no_program g past c (lun_at c.ce x.lun) idle
+
+-- answers that are errors, or not
+pub err_gives : {T E : Type 0} (r : Result T E) (P : Type 0) → OnErr r P → is_err r ≡ true → P
+err_gives (Ok x) P h q = cc
+err_gives (Err x) P h q = h
+
+pub ok_gives : {T E : Type 0} (r : Result T E) (P : Type 0) → IfOk r (λ x. P) → is_err r ≡ false → P
+ok_gives (Ok x) P h q = h
+ok_gives (Err x) P h q = cc
+
+pub ok_clash : {T E : Type 0} (r : Result T E) → IsOk r → is_err r ≡ true → ⊥
+ok_clash (Ok x) h q = cc
+ok_clash (Err x) h q = let no : false ≡ true = h in cc
+
+pub few_dies : (state : BusView) (opened : List Entries) (dies : List Die) (past : List Item) → IsStanding state opened dies past → length dies ≤ 16
+few_dies state opened dies past f =
+    let most = mul-le-mul_right state.geometry.luns f.most in
+    let luns = f.limits.luns_most in
+    let same = f.count in
+    omega (arith, most, luns, same)
+
+pub enough_due : (b : Bool) (works due later : ℕ) → works ≡ cond b 1 0 → later ≤ due + 16 → (b ≡ false → later ≤ due) → later ≤ due + 16 * works
+enough_due true works due later is most idle = omega (arith, is, most)
+enough_due false works due later is most idle = let less = idle refl in omega (arith, is, less)
+
+-- an output works on no LUN
+output_rests : (g : Parts) (past : List Item) (ce byte : ℕ) (l : Lun) → works_on g past (cycle ce Dout byte) l ≡ false
+unfolding effect_on
+output_rests g past ce byte l = at (ce == l.ce) (is_data (latch_alone g past l))
+  where
+    at : (a b : Bool) → (fills (cond a Leaves Leaves) || begins (cond a (cond b e.DataOutput e.Unaffected) e.Unaffected)) ≡ false
+    at true true = refl
+    at true false = refl
+    at false b = refl
+
+pub stands_output : (state : BusView) (opened : List Entries) (dies : List Die) (past : List Item) (ce byte : ℕ) → IsStanding state opened dies past → broken state.geometry (length state.targets) past (cycle ce Dout byte) ≡ None → FactsFit state.geometry (length state.targets) past → StandFor (channel_on state.geometry (length state.targets) opened) (cycle ce Dout byte ∷ past) dies
+stands_output state opened dies past ce byte f h facts =
+    none_works state opened dies past (record { ce = ce; kind = Dout; byte = byte }) f h facts (λ m least low. output_rests state.geometry past ce byte (lun_at ce m))

@@ -160,8 +160,12 @@ impl<A: Allocator + Copy> Bus<A> {
         }
         let works = starting(item);
         let left = self.room.saturating_sub(1 - works);
-        self.trace.reserve(1 + left + self.due + 16 * works)?;
-        work(&self.state, self.dies.as_mut_slice(), cycle)?;
+        if self.trace.reserve(1 + left + self.due + 16 * works).is_err() {
+            return Err(BusRefusal::OutOfMemory);
+        }
+        if work(&self.state, self.dies.as_mut_slice(), cycle).is_err() {
+            return Err(BusRefusal::OutOfMemory);
+        }
         self.due = go_on(&mut self.state, item, self.due);
         self.trace.push_reserved(item);
         self.room = left;
@@ -180,8 +184,11 @@ impl<A: Allocator + Copy> Bus<A> {
             return Err(BusRefusal::Forbidden(rule));
         }
         let left = self.room.saturating_sub(1);
-        self.trace.reserve(1 + left + self.due)?;
+        if self.trace.reserve(1 + left + self.due).is_err() {
+            return Err(BusRefusal::OutOfMemory);
+        }
         let byte = shown_byte(&self.state, self.dies.as_slice(), ce);
+        self.state.facts_fit();
         let item = Item::Cyc(output(ce, byte));
         self.due = go_on(&mut self.state, item, self.due);
         self.trace.push_reserved(item);
