@@ -111,7 +111,8 @@ fn new_core<A: Allocator + Copy>(alloc: A) -> Result<Core<A>, AllocError>
     match Bus::new(alloc, geometry(), dies) {
         Ok(bus) => Ok(Core::new(bus)),
         Err((BusFault::OutOfMemory, _)) => Err(AllocError),
-        Err(_) => unreachable!(),
+        Err((BusFault::B1, _)) => unreachable!(),
+        Err((BusFault::B2, _)) => unreachable!(),
     }
 }
 
