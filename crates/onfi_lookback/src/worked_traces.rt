@@ -435,7 +435,7 @@ fn erase_two_planes(rt: HostRuntime) -> Result<(), Fail> {
     )
 }
 
-/// Whole traces of erases and status polls, which the bus takes today; `None` where the trace is legal.
+/// Whole traces of erases and status polls; `None` where the trace is legal.
 #[test]
 fn traces_of_erases(rt: HostRuntime) -> Result<(), Fail> {
     let two_by_turns =

@@ -1,12 +1,15 @@
 -- A job that was loaded alone runs to its end.
-use Rattle.std.proofs.Common.{◌≡◌, ℕ, ◌+◌, ◌*◌, ◌≤◌, cond, ◌&&◌, not, is_some, List, [], ◌∷◌, length, Option, Some, None, refl, sym, ap, ◌∙◌, subst, arith}
+use Rattle.std.proofs.Common.{◌≡◌, ℕ, zero, suc, ◌+◌, ◌*◌, ◌≤◌, cond, ◌&&◌, not, is_some, List, [], ◌∷◌, length, get_or, replicate, Option, Some, None, refl, sym, ap, ◌∙◌, subst, arith}
 use Rattle.std.proofs.lemmas.List.{length-replicate}
 use Rattle.nand_geometry.specs.declared.Parts.{Parts}
 use Rattle.nand_geometry.specs.Limits.{InLimits, width, page_len}
 use Rattle.nand_geometry.proofs.LimitLemmas.{faultless}
 use Rattle.nand_geometry.proofs.PageLemmas.{parameters_have_their_length}
 use Rattle.onfi_cycle.specs.declared.Lun.{Lun}
+use Rattle.onfi_cycle.specs.declared.PageAddress.{PageAddress}
 use Rattle.onfi_cycle.specs.Channel.{Channel, IsChannel, is_there, same_lun}
+use Rattle.die_model.specs.Pages.{page_in}
+use Rattle.target_bus.specs.Bus.{Entries, number_of}
 use Rattle.micro_word.specs.declared.word.Word.{Word}
 use Rattle.micro_word.specs.Text.{Microprogram}
 use Rattle.micro_verify.specs.Lines.{unrolled}
@@ -34,8 +37,20 @@ one_lun_in_limits : InLimits one_lun
 unfolding width
 one_lun_in_limits = (faultless one_lun).0 refl
 
+abbrev nothing : Entries
+nothing = []
+
+nothing_kept : (k : ℕ) → get_or (nothing ∷ []) k nothing ≡ nothing
+nothing_kept zero = refl
+nothing_kept (suc k) = refl
+
+-- each page is FF
+pub all_ff : (l : Lun) (p : PageAddress) → the_channel.opening l p ≡ replicate (page_len one_lun) 0xff
+all_ff l p = ap (λ (e : Entries). page_in (page_len one_lun) e p) (nothing_kept (number_of one_lun l))
+
 pub is_the_channel : IsChannel the_channel
-is_the_channel = record { limits = one_lun_in_limits; parameters = parameters_have_their_length one_lun; pages = λ l p. length-replicate {A = ℕ} (page_len one_lun) 0xff }
+is_the_channel =
+    record { limits = one_lun_in_limits; parameters = parameters_have_their_length one_lun; pages = λ l p. ap (length {A = ℕ}) (all_ff l p) ∙ length-replicate {A = ℕ} (page_len one_lun) 0xff }
 
 -- ---- the load
 

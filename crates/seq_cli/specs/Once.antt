@@ -1,5 +1,5 @@
 -- What running a word file once comes to: the line of its refusal, or the text of its run.
-use Rattle.std.specs.Prelude.{◌≡◌, ℕ, true, false, List, ◌++◌, Option, Some, None, Result, Ok, Err, replicate, reverse}
+use Rattle.std.specs.Prelude.{◌≡◌, ℕ, true, false, List, [], ◌∷◌, ◌++◌, Option, Some, None, Result, Ok, Err, replicate, reverse}
 use Rattle.nand_geometry.specs.declared.Parts.{Parts}
 use Rattle.onfi_cycle.specs.declared.Lun.{Lun}
 use Rattle.onfi_cycle.specs.Permitted.{is_legal}
@@ -31,8 +31,9 @@ one_lun = record { page_bytes = 512; spare_bytes = 16; pages = 4; blocks = 8; lu
 abbrev pub the_lun : Lun
 the_lun = record { ce = 0; lun = 0 }
 
+-- its die keeps no page, so that each is FF
 abbrev pub the_channel : Channel
-the_channel = channel_on one_lun 1
+the_channel = channel_on one_lun 1 ([] ∷ [])
 
 abbrev pub for_one_lun : Microprogram → VerifiedText
 for_one_lun x = record { text = x; geometry = one_lun }

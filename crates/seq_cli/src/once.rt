@@ -30,7 +30,7 @@ use onfi_cycle::{Item, Lun};
 use seq_core::{Core, Job, Stepped};
 use std::alloc::{AllocError, Allocator};
 use std::io::{Read, Write};
-use target_bus::Bus;
+use target_bus::{Bus, BusFault};
 use trace_text::print;
 
 // One LUN of 8 blocks of 4 pages of 512 + 16 bytes.
@@ -102,21 +102,23 @@ fn made_job<A: Allocator + Clone>(alloc: A, bytes: &[u8], base: u32) -> Result<J
 }
 
 // A sequencer on a channel of one LUN to which nothing has happened.
-fn new_core<A: Allocator + Clone>(alloc: A) -> Result<Core<A>, AllocError>
+fn new_core<A: Allocator + Copy>(alloc: A) -> Result<Core<A>, AllocError>
     ensures channel { IfOk result (λ c. channel_in c ≡ the_channel) }
     ensures fresh { IfOk result (λ c. IsAt c (fresh the_channel)) }
 {
-    let mut dies = Vec::with_capacity(alloc.clone()?, 1)?;
-    dies.push(LunDie::new(geometry())?)?;
+    let mut dies = Vec::with_capacity(alloc, 1)?;
+    dies.push(LunDie::new(alloc, geometry())?)?;
     match Bus::new(alloc, geometry(), dies) {
         Ok(bus) => Ok(Core::new(bus)),
-        Err(_) => unreachable!(),
+        Err((BusFault::OutOfMemory, _)) => Err(AllocError),
+        Err((BusFault::B1, _)) => unreachable!(),
+        Err((BusFault::B2, _)) => unreachable!(),
     }
 }
 
 // One turn of the one program: its next word is stepped, and its LUN becomes ready without failure if a poll says busy. It
 // tells whether the program has ended.
-fn turn<A: Allocator>(core: &mut Core<A>) -> Result<bool, AllocError>
+fn turn<A: Allocator + Copy>(core: &mut Core<A>) -> Result<bool, AllocError>
     ensures { IfOk result (λ ended. TookTurn core.old ended core.new) }
 {
     match core.step(THE_LUN)? {
@@ -130,7 +132,7 @@ fn turn<A: Allocator>(core: &mut Core<A>) -> Result<bool, AllocError>
 }
 
 // Turn after turn, until the program has ended.
-fn run_to_end<A: Allocator>(core: &mut Core<A>, turns: usize) -> Result<(), AllocError>
+fn run_to_end<A: Allocator + Copy>(core: &mut Core<A>, turns: usize) -> Result<(), AllocError>
     requires { EndsWithin core.old turns }
     ensures { OnOk result (HasRun core.old turns core.new) }
 {
@@ -143,7 +145,7 @@ fn run_to_end<A: Allocator>(core: &mut Core<A>, turns: usize) -> Result<(), Allo
 }
 
 // A sequencer on which a job is loaded, and nothing else has happened.
-fn loaded<A: Allocator + Clone>(alloc: A, job: Job<A>) -> Result<Core<A>, AllocError>
+fn loaded<A: Allocator + Copy>(alloc: A, job: Job<A>) -> Result<Core<A>, AllocError>
     requires { IsForTheLun job }
     ensures { IfOk result (λ core. IsLoaded job core) }
 {
@@ -162,7 +164,7 @@ fn turns_of<A: Allocator>(job: &Job<A>) -> usize
 }
 
 // A sequencer on which a job is loaded, and how many turns it takes at most to its end.
-fn started<A: Allocator + Clone>(alloc: A, job: Job<A>) -> Result<(Core<A>, usize), AllocError>
+fn started<A: Allocator + Copy>(alloc: A, job: Job<A>) -> Result<(Core<A>, usize), AllocError>
     requires { IsForTheLun job }
     ensures loaded { IfOk result (λ r. IsLoaded job r.0) }
     ensures turns { IfOk result (λ r. 2 * length (unrolled job.text.words) + 1 ≤ r.1) }
@@ -174,7 +176,7 @@ fn started<A: Allocator + Clone>(alloc: A, job: Job<A>) -> Result<(Core<A>, usiz
 }
 
 // Runs a job to its end: the sequencer, and the code with which the program has ended.
-fn ran<A: Allocator + Clone>(alloc: A, job: Job<A>) -> Result<(Core<A>, u8), AllocError>
+fn ran<A: Allocator + Copy>(alloc: A, job: Job<A>) -> Result<(Core<A>, u8), AllocError>
     requires { IsForTheLun job }
     ensures { IfOk result (λ r. RanAlone job r.0.past r.1) }
 {

@@ -6,12 +6,13 @@ use Rattle.micro_verify.specs.Program.{Job, buffer_now}
 use Rattle.micro_verify.specs.Moves.{and_then}
 use Rattle.seq_core.specs.World.{Slot, World, slot_of, fresh}
 use Rattle.seq_core.specs.Event.{Event, AllLoadVerified}
-use Rattle.seq_core.specs.Reply.{Reply, ToUnload, Unloaded, NotUnloaded}
+use Rattle.seq_core.specs.Reply.{ToUnload, Unloaded}
 use Rattle.seq_core.specs.After.{After, Ran, after, after_slot_unload, after_unload, run}
 use Rattle.seq_core.specs.Buffer.{KeepsOthers}
-use Rattle.seq_core.specs.Lawful.{LawfulSlot, LawfulWorld, DoesItsText, has_bus}
+use Rattle.seq_core.specs.Lawful.{LawfulSlot, DoesItsText, has_bus}
 use Rattle.seq_core.specs.Headline.{BeginningsGoWell, UnloadsGiveBack, GivesBack}
 use Rattle.seq_core.proofs.Main.{headline, run_goes_well, lawful_slot}
+use Rattle.seq_core.proofs.Runnings.{same_after, same_ran, with_first}
 
 -- 1. more behind a list
 
@@ -22,13 +23,6 @@ first_verified (e ∷ events) more v = (v.0, first_verified events more v.1)
 rest_verified : (events more : List Event) → AllLoadVerified (events ++ more) → AllLoadVerified more
 rest_verified [] more v = v
 rest_verified (e ∷ events) more v = rest_verified events more v.1
-
-same_ran : (r q : Ran) → Some r ≡ Some q → r ≡ q
-same_ran r q e = cc
-
--- a first event before a run
-abbrev before : After → Option Ran → Option Ran
-before a o = and_then o (λ r. Some (record { world = r.world; replies = a.reply ∷ r.replies }))
 
 abbrev run_of : Ran → Ran → Ran
 run_of first rest = record { world = rest.world; replies = first.replies ++ rest.replies }
@@ -42,13 +36,13 @@ run_on s [] more rest w first is is_rest =
     subst (λ (r : Ran). run s more r.world ≡ Some rest → run s more w ≡ Some (run_of r rest)) (same_ran (record { world = w; replies = [] }) first is) (λ h. h) is_rest
 run_on s (e ∷ events) more rest w first is is_rest = of (after s w e) (λ a. run_on s events more rest a.world) is
   where
-    then_run : (a : After) (o : Option Ran) → Extends s events more rest a.world → run s events a.world ≡ o → before a o ≡ Some first → before a (run s (events ++ more) a.world) ≡ Some (run_of first rest)
+    then_run : (a : After) (o : Option Ran) → Extends s events more rest a.world → run s events a.world ≡ o → with_first a o ≡ Some first → with_first a (run s (events ++ more) a.world) ≡ Some (run_of first rest)
     then_run a None later e is = cc
     then_run a (Some r) later e is =
-        subst (λ (q : Ran). run s more q.world ≡ Some rest → before a (run s (events ++ more) a.world) ≡ Some (run_of q rest)) (same_ran (record { world = r.world; replies = a.reply ∷ r.replies }) first is)
+        subst (λ (q : Ran). run s more q.world ≡ Some rest → with_first a (run s (events ++ more) a.world) ≡ Some (run_of q rest)) (same_ran (record { world = r.world; replies = a.reply ∷ r.replies }) first is)
         (λ h. rw (later r e h) refl) is_rest
 
-    of : (o : Option After) → ((a : After) → Extends s events more rest a.world) → and_then o (λ a. before a (run s events a.world)) ≡ Some first → and_then o (λ a. before a (run s (events ++ more) a.world)) ≡ Some (run_of first rest)
+    of : (o : Option After) → ((a : After) → Extends s events more rest a.world) → and_then o (λ a. with_first a (run s events a.world)) ≡ Some first → and_then o (λ a. with_first a (run s (events ++ more) a.world)) ≡ Some (run_of first rest)
     of None later is = cc
     of (Some a) later is = then_run a (run s events a.world) (later a) refl is
 
@@ -59,9 +53,6 @@ beginnings_go_well s events more is v =
     record { first = first; rest = rest.ran; is_rest = rest.is_ran; whole = run_on s events more rest.ran (fresh s) first.ran first.is_ran rest.is_ran }
 
 -- 2. an unload
-
-same_after : (a b : After) → Some a ≡ Some b → a ≡ b
-same_after a b h = cc
 
 record SameGiven (j k : Job) (code other : ℕ) : Type 0 where
   job : j ≡ k

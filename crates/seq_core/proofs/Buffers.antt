@@ -16,7 +16,7 @@ use Rattle.micro_verify.specs.Moves.{Move, Give, Take, and_then, moves, gives, p
 use Rattle.micro_verify.specs.Played.{Played, played}
 use Rattle.micro_verify.specs.Step.{Stride, Went, NotReady, did, Outcome, first_byte, stride, next_step}
 use Rattle.seq_core.specs.Buffer.{fills, is_filled, KeepsOthers}
-use Rattle.seq_core.specs.Made.{cycles_of, bytes_told}
+use Rattle.seq_core.specs.Made.{cycles_of, takes, bytes_told}
 use Rattle.seq_core.proofs.Below.{keeps_length, step_parts}
 use Rattle.seq_core.proofs.Plays.{took}
 
@@ -67,11 +67,6 @@ keeps_more d done before fit kept =
         (outside (place_now done) (length bytes) k (subst (λ (w : Word). fills (place_now done) w k ≡ false) (fit bytes e) h))
 
 -- 2. how many bytes a word takes
-
-abbrev pub takes : List Move → ℕ
-takes [] = 0
-takes (Give kind byte ∷ moved) = takes moved
-takes (Take ∷ moved) = suc (takes moved)
 
 abbrev pub taken : Word → ℕ
 taken (Get len) = len
@@ -200,6 +195,7 @@ pub record StepLeaves (s : Channel) (j : Job) (past : List Item) (line : Line) (
   pub is_moved : moves s.geometry j done line.word ≡ Some moved
   pub p : Played
   pub past_is : p.past ≡ cycles_of j.lun.ce moved p.bytes past
+  pub count : length p.bytes ≡ takes moved
   pub past_kept : r.past ≡ p.past
   pub leaves : StrideLeaves line rest done p r
 
@@ -220,6 +216,7 @@ step_leaves s j past line rest done r e =
       is_moved = parts.is_moved;
       p = parts.p;
       past_is = plays.past_is;
+      count = plays.count;
       past_kept = sym (ap (λ (q : Stride). q.past) parts.is_r) ∙ stride_past line rest done parts.p line.word;
       leaves = subst (StrideLeaves line rest done parts.p) parts.is_r
           (stride_leaves line rest done parts.p line.word refl (plays.count ∙ moves_take s.geometry j done line.word parts.moved parts.is_moved));

@@ -9,20 +9,20 @@ use Rattle.onfi_cycle.specs.Permitted.{is_permitted}
 use Rattle.onfi_cycle.specs.Channel.{Channel, IsChannel, is_there}
 use Rattle.micro_verify.specs.Places.{IsShaped}
 use Rattle.micro_verify.specs.Program.{Job}
-use Rattle.target_bus.specs.Bus.{Traced, channel_of, channel_on, IsNext}
+use Rattle.target_bus.specs.Bus.{Traced, channel_of, IsNext}
 use Rattle.seq_core.specs.declared.answers.LoadFault.{LoadFault}
 use Rattle.seq_core.specs.declared.answers.LoadFault.TheVariants.{S1, S2}
 use Rattle.seq_core.specs.declared.answers.Stepped.{Stepped}
 use Rattle.seq_core.specs.declared.answers.Stepped.TheVariants.{Empty, Held, Ended}
 use Rattle.seq_core.specs.declared.answers.UnloadFault.TheVariants.{U1, U2}
 use Rattle.seq_core.specs.World.{number, fresh}
-use Rattle.seq_core.specs.Event.{Load, Step, Ready, ArrayReady, Unload, IsVerified}
-use Rattle.seq_core.specs.Reply.{ToLoad, ToStep, ToReady, ToArrayReady, ToUnload, Loaded, NotLoaded, Unloaded, NotUnloaded}
+use Rattle.seq_core.specs.Event.{Event, Load, Step, Ready, ArrayReady, Unload, IsVerified}
+use Rattle.seq_core.specs.Reply.{Reply, ToLoad, ToStep, ToReady, ToArrayReady, ToUnload, Loaded, NotLoaded, Unloaded, NotUnloaded}
 use Rattle.seq_core.specs.After.{is_held}
 use Rattle.seq_core.specs.Progress.{Progress, fresh_progress}
 use Rattle.seq_core.specs.Shows.{CoreView, channel_in, KeepsAll, IsAt}
 use Rattle.seq_core.specs.Calls.{IsCore, IsEvent, CanStep, Steps, slot_at, slot_code, all_are_empty, load_fault_at, holder_after, fault_by, stepped_view, with_item}
-use Rattle.seq_core.specs.Playing.{IsSame}
+use Rattle.seq_core.specs.Playing.{IsSame, IsUntouched}
 use Rattle.seq_core.proofs.Main.{fresh_is_lawful}
 use Rattle.seq_core.proofs.Slots.{number_below}
 use Rattle.seq_core.proofs.Calls.{keeps_count, some_same, empty_step, ended_step, held_step, going_step}
@@ -30,18 +30,20 @@ use Rattle.seq_core.proofs.Replies.{refused_load, done_load, ready_event, array_
 
 -- what is kept by a bus, slots and a holder
 abbrev pub view_of : Traced → List (Option Progress) → Option Lun → CoreView
-view_of b slots holder = record { geometry = b.geometry; targets = b.targets; past = b.past; slots = slots; holder = holder }
+view_of b slots holder = record { geometry = b.geometry; targets = b.targets; opened = b.opened; past = b.past; slots = slots; holder = holder }
 
 -- the number of a LUN that is there
 abbrev pub place_of : CoreView → Lun → Option ℕ
 place_of c l = cond (is_there (channel_in c) l) (Some (number (channel_in c) l)) None
 
 -- the same bus, slots and holder
-pub untouched : (b d : Traced) (slots later : List (Option Progress)) (holder : Option Lun) → IsSame b d → d.past ≡ b.past → later ≡ slots → view_of d later holder ≡ view_of b slots holder
-untouched b d slots later holder same past is =
-    let g : d.geometry ≡ b.geometry = ap (λ (s : Channel). s.geometry) same in
-    let t : d.targets ≡ b.targets = ap (λ (s : Channel). s.targets) same in
-    λ i. record { geometry = g i; targets = t i; past = past i; slots = is i; holder = holder }
+pub untouched : (b d : Traced) (slots later : List (Option Progress)) (holder : Option Lun) → IsUntouched b d → later ≡ slots → view_of d later holder ≡ view_of b slots holder
+untouched b d slots later holder u is =
+    let g : d.geometry ≡ b.geometry = ap (λ (s : Channel). s.geometry) u.same in
+    let t : d.targets ≡ b.targets = ap (λ (s : Channel). s.targets) u.same in
+    let o : d.opened ≡ b.opened = u.opened in
+    let p : d.past ≡ b.past = u.past in
+    λ i. record { geometry = g i; targets = t i; opened = o i; past = p i; slots = is i; holder = holder }
 
 pub luns_place : (c : CoreView) (l : Lun) (targets luns : ℕ) (place : Option ℕ) → targets ≡ c.targets → luns ≡ c.geometry.luns → ((s : Channel) → s.targets ≡ targets → s.geometry.luns ≡ luns → place ≡ cond (is_there s l) (Some (number s l)) None) → place ≡ place_of c l
 luns_place c l targets luns place t n h = h (channel_in c) (sym t) (sym n)
@@ -163,11 +165,20 @@ can_now c l k core place h free =
     let s = has_code (slot_at c l) None h in
     (s.v, sym (slot_of_place c l k place).0 ∙ s.is, (can_step c l s.v core s.is s.code_is free).0)
 
-same_view : (b d : Traced) (c : CoreView) (slots : List (Option Progress)) (holder : Option Lun) → channel_on c.geometry c.targets ≡ channel_of b → IsSame b d → view_of d slots holder ≡ record { geometry = c.geometry; targets = c.targets; past = d.past; slots = slots; holder = holder }
-same_view b d c slots holder h same =
-    let g : d.geometry ≡ c.geometry = ap (λ (s : Channel). s.geometry) (same ∙ sym h) in
-    let t : d.targets ≡ c.targets = ap (λ (s : Channel). s.targets) (same ∙ sym h) in
-    λ i. record { geometry = g i; targets = t i; past = d.past; slots = slots; holder = holder }
+-- an event leaves any view of the same channel with what it leaves
+pub left_alike : (c : CoreView) (e : Event) (reply : Reply) (later other : CoreView) → IsEvent c e reply later → channel_in other ≡ channel_in c → other.past ≡ later.past → other.slots ≡ later.slots → other.holder ≡ later.holder → IsEvent c e reply other
+left_alike c e reply later other event channel past slots holder w at law =
+    let came = event w at law in
+    record {
+      next = came.next;
+      is_next = came.is_next;
+      replied = came.replied;
+      is_at =
+          record { past = past ∙ came.is_at.past; holder = holder ∙ came.is_at.holder; slots = subst (KeepsAll came.next.world.slots) (sym slots) came.is_at.slots };
+      own = came.own;
+      lawful = came.lawful;
+      channel = channel;
+    }
 
 -- what a step that was played leaves is a core again
 pub went_on : (c : CoreView) (l : Lun) (answer : Stepped) (later : CoreView) → IsCore c → IsEvent c (Step l) (ToStep answer) later → IsCore later
@@ -182,9 +193,7 @@ went_now b d slots later holder l k answer v u core place h free same found st i
     let mine = (can_step c l s.v core s.is s.code_is free).1 in
     let event = going_step c l v u d.past answer core.is_channel (s.is ∙ ap (λ (x : Progress). Some x) v_is) (sym (ap (λ (x : Progress). x.code) v_is) ∙ s.code_is) free (sym (ap (λ (x : Progress). x.job.lun) v_is) ∙ mine) st in
     let later_is : later ≡ set slots (number (channel_in c) l) (Some u) = is ∙ ap (λ (n : ℕ). set slots n (Some u)) at.1 in
-    let view_is : view_of d later (holder_after answer l) ≡ stepped_view c l answer d.past u =
-    same_view b d c later (holder_after answer l) refl same ∙ ap (λ (ss : List (Option Progress)). record { geometry = b.geometry; targets = b.targets; past = d.past; slots = ss; holder = holder_after answer l }) later_is in
-    subst (IsEvent c (Step l) (ToStep answer)) (sym view_is) event
+    left_alike c (Step l) (ToStep answer) (stepped_view c l answer d.past u) (view_of d later (holder_after answer l)) event same refl later_is refl
 
 -- 4. loads
 
@@ -212,25 +221,23 @@ loaded_now b slots later holder l k j core v shaped small h place is =
 
 -- 5. readies
 
-came_view : (b d : Traced) (slots : List (Option Progress)) (holder : Option Lun) (i : Item) (came : Bool) → (IsTrue came → IsNext b d i) → (came ≡ false → d ≡ b) → view_of d slots holder ≡ with_item (view_of b slots holder) i came
-came_view b d slots holder i true does stays =
+came_event : (b d : Traced) (slots : List (Option Progress)) (holder : Option Lun) (i : Item) (e : Event) (reply : Reply) (came : Bool) → (IsTrue came → IsNext b d i) → (came ≡ false → d ≡ b) → IsEvent (view_of b slots holder) e reply (with_item (view_of b slots holder) i came) → IsEvent (view_of b slots holder) e reply (view_of d slots holder)
+came_event b d slots holder i e reply true does stays event =
     let n = does true_is in
-    let g : d.geometry ≡ b.geometry = ap (λ (s : Channel). s.geometry) n.channel in
-    let t : d.targets ≡ b.targets = ap (λ (s : Channel). s.targets) n.channel in
-    let p : d.past ≡ i ∷ b.past = n.past in
-    λ k. record { geometry = g k; targets = t k; past = p k; slots = slots; holder = holder }
+    left_alike (view_of b slots holder) e reply (with_item (view_of b slots holder) i true) (view_of d slots holder) event n.channel n.past refl refl
   where
     true_is : IsTrue true
     true_is = refl
-came_view b d slots holder i false does stays = ap (λ (x : Traced). view_of x slots holder) (stays refl)
+came_event b d slots holder i e reply false does stays event =
+    subst (λ (x : Traced). IsEvent (view_of b slots holder) e reply (view_of x slots holder)) (sym (stays refl)) event
 
 pub ready_now : (b d : Traced) (slots : List (Option Progress)) (holder : Option Lun) (l : Lun) (fail came : Bool) → IsCore (view_of b slots holder) → came ≡ is_permitted b.geometry b.targets b.past (Rdy l.ce l.lun fail) → (IsTrue came → IsNext b d (Rdy l.ce l.lun fail)) → (came ≡ false → d ≡ b) → IsEvent (view_of b slots holder) (Ready l fail) (ToReady came) (view_of d slots holder)
 ready_now b d slots holder l fail came core h does stays =
-    subst (IsEvent (view_of b slots holder) (Ready l fail) (ToReady came)) (sym (came_view b d slots holder (Rdy l.ce l.lun fail) came does stays)) (ready_event (view_of b slots holder) l fail came core.is_channel h)
+    came_event b d slots holder (Rdy l.ce l.lun fail) (Ready l fail) (ToReady came) came does stays (ready_event (view_of b slots holder) l fail came core.is_channel h)
 
 pub array_ready_now : (b d : Traced) (slots : List (Option Progress)) (holder : Option Lun) (l : Lun) (came : Bool) → IsCore (view_of b slots holder) → came ≡ is_permitted b.geometry b.targets b.past (Ard l.ce l.lun) → (IsTrue came → IsNext b d (Ard l.ce l.lun)) → (came ≡ false → d ≡ b) → IsEvent (view_of b slots holder) (ArrayReady l) (ToArrayReady came) (view_of d slots holder)
 array_ready_now b d slots holder l came core h does stays =
-    subst (IsEvent (view_of b slots holder) (ArrayReady l) (ToArrayReady came)) (sym (came_view b d slots holder (Ard l.ce l.lun) came does stays)) (array_ready_event (view_of b slots holder) l came core.is_channel h)
+    came_event b d slots holder (Ard l.ce l.lun) (ArrayReady l) (ToArrayReady came) came does stays (array_ready_event (view_of b slots holder) l came core.is_channel h)
 
 -- 6. unloads
 

@@ -21,9 +21,7 @@ use Rattle.seq_core.specs.Calls.{IsEvent}
 use Rattle.seq_core.specs.EventList.{IsRun, DidEvents, event_of, reply_of, loading_of, unloading_of, WantsMemory, StopsAt, LeftFor, shortage_of}
 use Rattle.seq_core.proofs.Main.{fresh_is_lawful, lawful_slot}
 use Rattle.seq_core.proofs.Making.{runs_as_told}
-
-same_ran : (r q : Ran) → Some r ≡ Some q → r ≡ q
-same_ran r q e = cc
+use Rattle.seq_core.proofs.Runnings.{same_ran, with_first}
 
 -- a run goes on with any event that is defined behind it
 abbrev Extends : Channel → List Event → World → Event → Ran → Type 0
@@ -31,20 +29,16 @@ Extends s events w e ran =
     (a : After) → after s ran.world e ≡ Some a → AddsItsOwn s e ran.world.past a.world.past →
     (run s (events ++ (e ∷ [])) w ≡ Some (record { world = a.world; replies = ran.replies ++ (a.reply ∷ []) })) × EventsAreOwn s (events ++ (e ∷ [])) w
 
--- what a first event makes of the run behind it
-abbrev behind : After → Option Ran → Option Ran
-behind b o = and_then o (λ r. Some (record { world = r.world; replies = b.reply ∷ r.replies }))
-
 extends : (s : Channel) (events : List Event) (w : World) (e : Event) (ran : Ran) → run s events w ≡ Some ran → EventsAreOwn s events w → Extends s events w e ran
 extends s [] w e ran is own =
     subst (Extends s [] w e) (same_ran (record { world = w; replies = [] }) ran is) (λ a is_a own_a. (rw is_a refl, (a, is_a, own_a, tt)))
 extends s (d ∷ events) w e ran is own =
     let b = own.0 in
     let is_b : after s w d ≡ Some b = own.1 in
-    let whole : behind b (run s events b.world) ≡ Some ran = sym (ap (λ (o : Option After). and_then o (λ x. behind x (run s events x.world))) is_b) ∙ is in
+    let whole : with_first b (run s events b.world) ≡ Some ran = sym (ap (λ (o : Option After). and_then o (λ x. with_first x (run s events x.world))) is_b) ∙ is in
     at b is_b own.2 (λ r h. extends s events b.world e r h own.3) (run s events b.world) refl whole
   where
-    at : (b : After) → after s w d ≡ Some b → AddsItsOwn s d w.past b.world.past → ((r : Ran) → run s events b.world ≡ Some r → Extends s events b.world e r) → (o : Option Ran) → run s events b.world ≡ o → behind b o ≡ Some ran → Extends s (d ∷ events) w e ran
+    at : (b : After) → after s w d ≡ Some b → AddsItsOwn s d w.past b.world.past → ((r : Ran) → run s events b.world ≡ Some r → Extends s events b.world e r) → (o : Option Ran) → run s events b.world ≡ o → with_first b o ≡ Some ran → Extends s (d ∷ events) w e ran
     at b is_b own_b more None h whole = cc
     at b is_b own_b more (Some r) h whole =
         subst (Extends s (d ∷ events) w e) (same_ran (record { world = r.world; replies = b.reply ∷ r.replies }) ran whole)

@@ -2,6 +2,7 @@ pub mod Runs
 pub mod Below
 pub mod Plays
 pub mod Buffers
+pub mod Runnings
 pub mod Making
 pub mod Slots
 pub mod Texts

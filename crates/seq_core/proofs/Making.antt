@@ -1,5 +1,5 @@
 -- The cycles that the steps of a program put into the trace are those of its actions so far: by induction on the events.
-use Rattle.std.proofs.Common.{◌≡◌, ℕ, suc, ◌+◌, ◌-◌, ◌*◌, ◌≤◌, Bool, true, false, cond, List, [], ◌∷◌, ◌++◌, Option, Some, None, inl, inr, refl, sym, ap, ◌∙◌, subst, arith, leb, ltb, length, length-set, length-take, length-drop, length-append, take, drop, replicate}
+use Rattle.std.proofs.Common.{◌≡◌, ℕ, suc, ◌+◌, ◌-◌, ◌*◌, ◌≤◌, Bool, true, false, cond, List, [], ◌∷◌, ◌++◌, Option, Some, None, inl, inr, refl, sym, ap, ◌∙◌, subst, arith, leb, length, length-set, length-take, length-append, take, drop, replicate}
 use Rattle.std.proofs.Math.Seq.{take-append_seam}
 use Rattle.std.proofs.lemmas.List.{length-replicate}
 use Rattle.nand_geometry.specs.declared.Parts.{Parts}
@@ -15,7 +15,7 @@ use Rattle.micro_word.specs.declared.format.Format.TheVariants.{Two}
 use Rattle.micro_word.specs.declared.word.Word.{Word}
 use Rattle.micro_word.specs.declared.word.Word.TheVariants.{Command, Address, Get, Put, Wait, ReadStatus}
 use Rattle.micro_verify.specs.Lines.{Line}
-use Rattle.micro_verify.specs.Program.{Job, Done, cost, cost_now, poll_cost, buffer_now, column_now, index_now, plane_now, place_now}
+use Rattle.micro_verify.specs.Program.{Job, Done, cost, cost_now, buffer_now, column_now, index_now, plane_now, place_now}
 use Rattle.micro_verify.specs.Moves.{Move, Give, Take, and_then, moves, gives, part, column_bytes, put_bytes, is_wait}
 use Rattle.micro_verify.specs.Step.{Stride, keeps_bus, next_step}
 use Rattle.seq_core.specs.declared.answers.LoadFault.{LoadFault}
@@ -25,9 +25,10 @@ use Rattle.seq_core.specs.World.{Slot, World, slot_of, with_slot, fresh_slot, fr
 use Rattle.seq_core.specs.Event.{Event, Load, Step, Ready, ArrayReady, Unload}
 use Rattle.seq_core.specs.Reply.{Reply, ToStep, ToReady, ToArrayReady}
 use Rattle.seq_core.specs.After.{After, Ran, load_fault, after_load, is_held, stands, after_stride, after_slot_step, after_step, after_item, after_slot_unload, after_unload, after, run}
-use Rattle.seq_core.specs.Made.{cycles_of, bytes_told, counted, Made, none, word, poll, waits_next, Running, added, with_cycles, loaded_now, unloaded_now, running_behind, is_of, running_after, running_on, MadeItsCycles, RunsAsTold}
-use Rattle.seq_core.proofs.Slots.{same_lun_is, same_lun_self, slot_same, slot_other, there_of_slot, none_of_fresh}
+use Rattle.seq_core.specs.Made.{cycles_of, bytes_told, counted, Made, none, word, poll, waits_next, Running, added, with_cycles, running_behind, is_of, running_after, running_on, RunsAsTold}
+use Rattle.seq_core.proofs.Slots.{same_lun_is, slot_same, slot_other, there_of_slot, none_of_fresh}
 use Rattle.seq_core.proofs.Loads.{loadable}
+use Rattle.seq_core.proofs.Runnings.{same_after, same_ran}
 use Rattle.seq_core.specs.Lawful.{IsWithin}
 use Rattle.seq_core.proofs.Below.{costs_count}
 use Rattle.seq_core.proofs.Buffers.{StrideLeaves, StepLeaves, step_leaves}
@@ -94,7 +95,8 @@ making_stride s past j line rest done code r run e m = at left.leaves
               (subst (λ (made : List Item). Made s j (more.d ∷ done) false made (m.count + counted more.d.word left.moved)) (items (bytes_told more.d.answer) more.told)
               (word done m.polled run.made m.count more.d left.moved m.cycles
               (λ h. ap is_wait more.word ∙ m.waits h)
-              (ap (moves s.geometry j done) more.word ∙ left.is_moved)));
+              (ap (moves s.geometry j done) more.word ∙ left.is_moved)
+              (ap length more.told ∙ left.count)));
           waits = λ h. cc;
         }
     at (inr again) =
@@ -105,7 +107,8 @@ making_stride s past j line rest done code r run e m = at left.leaves
           cycles = subst (λ (now : List Done). Made s j now true (added past r.past ++ run.made) m.count) (sym again.is_done)
               (subst (λ (made : List Item). Made s j done true made m.count) (items (again.status ∷ []) again.told)
               (poll done m.polled run.made m.count again.status left.moved m.cycles again.unready
-              (ap (moves s.geometry j done) (sym again.word) ∙ left.is_moved)));
+              (ap (moves s.geometry j done) (sym again.word) ∙ left.is_moved)
+              (sym (ap length again.told ∙ left.count))));
           waits = λ h. ap waits_next again.is_ahead ∙ ap is_wait again.word;
         }
 
@@ -156,9 +159,6 @@ strides_made s w m l j (line ∷ rest) done code q r true n e there_m there_l si
     at : (r : Option Running) → MakesAsTold s (Some (slot_at j (line ∷ rest) done code)) r → MakesAsTold s (Some (slot_after j q)) (with_cycles (added w.past q.past) r)
     at None h = absurd h
     at (Some run) h = making_stride s w.past j line rest done code q run n h
-
-same_after : (a b : After) → Some a ≡ Some b → a ≡ b
-same_after a b h = cc
 
 -- of a step that stands
 stands_made : (s : Channel) (w : World) (l : Lun) (b : Bool) (answer : Stepped) (a : After) (r : Option Running) → stands w answer ≡ Some a → MakesAsTold s (slot_of s w l) r → MakesAsTold s (slot_of s a.world l) (cond b (with_cycles (added w.past a.world.past) r) r)
@@ -253,9 +253,6 @@ event_size s w (Unload m) a is = sym (ap (λ (x : After). length x.world.slots) 
 
 -- 4. a run
 
-same_ran : (r q : Ran) → Some r ≡ Some q → r ≡ q
-same_ran r q e = cc
-
 -- of the events behind this one
 abbrev Later : Channel → List Event → World → Lun → Event → Option Running → Type 0
 Later s events w l e r = (a : After) (q : Ran) → after s w e ≡ Some a → run s events a.world ≡ Some q → MakesAsTold s (slot_of s q.world l) (running_on s l events a.world (told (is_of e l) e w a r))
@@ -316,9 +313,9 @@ counted_most g j done _ moved e = let same : moved ≡ [] = cc in omega (arith, 
 
 made_most : (s : Channel) (j : Job) (done : List Done) (polled : Bool) (made : List Item) (count : ℕ) → Made s j done polled made count → count ≤ cost_now s.geometry done
 made_most s j done polled made count none = omega arith
-made_most s j done polled made count (word before p m n d moves h waits is) =
+made_most s j done polled made count (word before p m n d moves h waits is told) =
     omega (arith, made_most s j before p m n h, counted_most s.geometry j before d.word moves is)
-made_most s j done polled made count (poll before p m n status moves h unready is) = made_most s j before p m n h
+made_most s j done polled made count (poll before p m n status moves h unready is told) = made_most s j before p m n h
 
 as_told : (s : Channel) (slot : Option Slot) (r : Option Running) → MakesAsTold s slot r → ((x : Slot) → slot ≡ Some x → IsWithin s x) → RunsAsTold s slot r
 as_told s None None h within = tt

@@ -96,7 +96,7 @@ holder_after _ l = None
 -- what is kept after such a step of this LUN
 abbrev pub stepped_view : CoreView → Lun → Stepped → List Item → Progress → CoreView
 stepped_view c l answer past u =
-    record { geometry = c.geometry; targets = c.targets; past = past; slots = set c.slots (number (channel_in c) l) (Some u); holder = holder_after answer l }
+    record { geometry = c.geometry; targets = c.targets; opened = c.opened; past = past; slots = set c.slots (number (channel_in c) l) (Some u); holder = holder_after answer l }
 
 -- the first fault of a load onto a LUN that has a job or not, and is there or not
 abbrev pub fault_by : (has_job there : Bool) → Lun → Lun → Parts → Parts → Option LoadFault
@@ -109,11 +109,11 @@ load_fault_at c l j = fault_by (is_some (slot_at c l)) (is_there (channel_in c) 
 
 -- what is kept with another slot at a LUN
 abbrev pub with_slot_at : CoreView → Lun → Option Progress → CoreView
-with_slot_at c l slot = record { geometry = c.geometry; targets = c.targets; past = c.past; slots = set c.slots (number (channel_in c) l) slot; holder = c.holder }
+with_slot_at c l slot = record { geometry = c.geometry; targets = c.targets; opened = c.opened; past = c.past; slots = set c.slots (number (channel_in c) l) slot; holder = c.holder }
 
 -- what is kept with one item more, if it came
 abbrev pub with_item : CoreView → Item → Bool → CoreView
-with_item c i came = record { geometry = c.geometry; targets = c.targets; past = if came then i ∷ c.past else c.past; slots = c.slots; holder = c.holder }
+with_item c i came = record { geometry = c.geometry; targets = c.targets; opened = c.opened; past = if came then i ∷ c.past else c.past; slots = c.slots; holder = c.holder }
 
 -- the code of a slot, if it has a job
 abbrev pub slot_code : Option Progress → Option (Option ℕ)

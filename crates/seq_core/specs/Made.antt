@@ -1,6 +1,6 @@
 -- The cycles that a program has put into the trace: those of its first actions in order, the poll of a `wait` once for each step
 -- that made it.
-use Rattle.std.specs.Prelude.{◌≡◌, ℕ, ◌+◌, ◌-◌, ◌≤◌, Bool, true, false, if◌then◌else◌, List, [], ◌∷◌, ◌++◌, Option, Some, None, length, take}
+use Rattle.std.specs.Prelude.{◌≡◌, ℕ, suc, ◌+◌, ◌-◌, ◌≤◌, Bool, true, false, if◌then◌else◌, List, [], ◌∷◌, ◌++◌, Option, Some, None, length, take}
 use Rattle.onfi_cycle.specs.declared.Lun.{Lun}
 use Rattle.onfi_cycle.specs.declared.Kind.TheVariants.{Dout}
 use Rattle.onfi_cycle.specs.declared.Item.{Item}
@@ -25,6 +25,12 @@ cycles_of ce (Give kind byte ∷ moves) bytes made = cycles_of ce moves bytes (c
 cycles_of ce (Take ∷ moves) [] made = made
 cycles_of ce (Take ∷ moves) (byte ∷ bytes) made = cycles_of ce moves bytes (cycle ce Dout byte ∷ made)
 
+-- how many outputs are among moves
+abbrev pub takes : List Move → ℕ
+takes [] = 0
+takes (Give kind byte ∷ moved) = takes moved
+takes (Take ∷ moved) = suc (takes moved)
+
 -- the bytes that an answer tells
 abbrev pub bytes_told : Answer → List ℕ
 bytes_told Nothing = []
@@ -40,15 +46,18 @@ counted word moves = if is_wait word then 0 else length moves
 pub data Made (s : Channel) (j : Job) : (done : List Done) (polled : Bool) (made : List Item) (count : ℕ) → Type 0 where
   -- before its first word there are none
   none : Made s j [] false [] 0
-  -- the next word is done: one cycle for each move of its action; if polls were made before, the word is their `wait`
+  -- the next word is done: one cycle for each move of its action, and its answer tells a byte for each output; if polls were made before,
+  -- the word is their `wait`
   word :
       (done : List Done) (polled : Bool) (made : List Item) (count : ℕ) (d : Done) (moves : List Move)
       → Made s j done polled made count → (polled ≡ true → is_wait d.word ≡ true) → (action s.geometry j done d.word).cycles ≡ Some moves
+      → length (bytes_told d.answer) ≡ takes moves
       → Made s j (d ∷ done) false (cycles_of j.lun.ce moves (bytes_told d.answer) made) (count + counted d.word moves)
-  -- a `wait` has polled, and its LUN isn't ready
+  -- a `wait` has polled, and its LUN isn't ready: its one output is the status
   poll :
       (done : List Done) (polled : Bool) (made : List Item) (count : ℕ) (status : ℕ) (moves : List Move)
       → Made s j done polled made count → is_ready_status status ≡ false → (action s.geometry j done Wait).cycles ≡ Some moves
+      → takes moves ≡ 1
       → Made s j done true (cycles_of j.lun.ce moves (status ∷ []) made) count
 
 -- the next word is a `wait`

@@ -4,7 +4,7 @@ use Rattle.onfi_cycle.specs.declared.Lun.{Lun}
 use Rattle.onfi_cycle.specs.declared.Kind.{Kind}
 use Rattle.onfi_cycle.specs.declared.Kind.TheVariants.{Adr}
 use Rattle.onfi_cycle.specs.Channel.{cycle}
-use Rattle.onfi_cycle.specs.Today.{starts_work}
+use Rattle.onfi_cycle.specs.Readies.{starts_work}
 use Rattle.micro_word.specs.declared.word.Word.{Word}
 use Rattle.micro_word.specs.declared.word.Word.TheVariants.{Address}
 use Rattle.micro_verify.specs.Moves.{Move, gives, part}
@@ -35,6 +35,7 @@ IsSame old new = channel_of new ≡ channel_of old
 -- the same channel, and nothing has happened on it
 pub record IsUntouched (old new : Traced) : Type 0 where
   pub same : IsSame old new
+  pub opened : new.opened ≡ old.opened
   pub past : new.past ≡ old.past
 
 -- these moves were played on a target and took these bytes, and no more than so many places were spent

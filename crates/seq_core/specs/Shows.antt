@@ -4,24 +4,25 @@ use Rattle.nand_geometry.specs.declared.Parts.{Parts}
 use Rattle.onfi_cycle.specs.declared.Lun.{Lun}
 use Rattle.onfi_cycle.specs.declared.Item.{Item}
 use Rattle.onfi_cycle.specs.Channel.{Channel}
-use Rattle.target_bus.specs.Bus.{channel_on}
+use Rattle.target_bus.specs.Bus.{Entries, channel_on}
 use Rattle.micro_verify.specs.Places.{IsShaped}
 use Rattle.micro_verify.specs.Program.{buffer_now, column_now, plane_now, index_now, place_now, status_now}
 use Rattle.seq_core.specs.World.{Slot, World}
 use Rattle.seq_core.specs.Loops.{StandsAt}
 use Rattle.seq_core.specs.Progress.{Progress, stopped}
 
--- the trace, what each LUN runs, those of target 0 first, and the LUN that has the bus
+-- what the dies kept of their pages at the opening, the trace, what each LUN runs, those of target 0 first, and the LUN that has the bus
 pub record CoreView : Type 0 where
   pub geometry : Parts
   pub targets : ℕ
+  pub opened : List Entries
   pub past : List Item
   pub slots : List (Option Progress)
   pub holder : Option Lun
 
 -- the channel of a sequencer
 abbrev pub channel_in : CoreView → Channel
-channel_in c = channel_on c.geometry c.targets
+channel_in c = channel_on c.geometry c.targets c.opened
 
 -- a slot is kept so: the lines to come are those at its place in its loops, and each register is what the words done have set
 pub record KeepsSlot (x : Slot) (v : Progress) : Type 0 where

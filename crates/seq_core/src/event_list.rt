@@ -62,7 +62,10 @@ pub struct Ran<A: Allocator> {
 
 /// Does an event. Without memory for it the event is handed back, and all stays as it was: it is the step of a LUN whose program
 /// goes on, while no other LUN has the bus.
-pub fn do_event<A: Allocator>(core: &mut Core<A>, event: Event<A>) -> Result<Reply<A>, Event<A>>
+pub fn do_event<A: Allocator + Copy>(
+    core: &mut Core<A>,
+    event: Event<A>,
+) -> Result<Reply<A>, Event<A>>
     ensures ok { IfOk result (λ reply. IsEvent core.old (event_of event) (reply_of reply) core.new) }
     ensures err { IfErr result (λ undone. (undone ≡ event) × (core.new ≡ core.old)) }
     ensures memory { IfErr result (λ undone. WantsMemory core.old undone) }
@@ -80,7 +83,7 @@ pub fn do_event<A: Allocator>(core: &mut Core<A>, event: Event<A>) -> Result<Rep
 }
 
 // Does the events of a vector, the last first, until one wants memory.
-fn do_from_end<A: Allocator>(
+fn do_from_end<A: Allocator + Copy>(
     core: &mut Core<A>,
     replies: &mut Vec<Reply<A>, A>,
     todo: &mut Vec<Event<A>, A>,
@@ -102,7 +105,7 @@ fn do_from_end<A: Allocator>(
 }
 
 // Does the events of a vector in order, until one wants memory; those that aren't done stay.
-fn do_in_order<A: Allocator>(
+fn do_in_order<A: Allocator + Copy>(
     core: &mut Core<A>,
     replies: &mut Vec<Reply<A>, A>,
     todo: &mut Vec<Event<A>, A>,
@@ -130,7 +133,11 @@ fn shortage_of<A: Allocator>(rest: &[Event<A>]) -> Option<Shortage>
 /// Does events one after another. Where a step wants memory that isn't there, it and those after it are handed back as
 /// `rest`; without memory for the replies all are, and nothing was done. `shortage` tells which. Those that were done are a run
 /// (`DidEvents`).
-pub fn run_events<A: Allocator>(core: &mut Core<A>, alloc: A, events: Vec<Event<A>, A>) -> Ran<A>
+pub fn run_events<A: Allocator + Copy>(
+    core: &mut Core<A>,
+    alloc: A,
+    events: Vec<Event<A>, A>,
+) -> Ran<A>
     ensures did { DidEvents core.old events.items result.replies.items result.rest.items core.new }
     ensures left { LeftFor core.old core.new events.items result.replies.items result.rest.items result.shortage }
 {

@@ -18,7 +18,7 @@ use std::alloc::{AllocError, Allocator};
 use target_bus::{Bus, BusRefusal};
 
 // Gives one byte, by a cycle that starts no work and has its place.
-fn give<A: Allocator>(bus: &mut Bus<A>, lun: Lun, kind: Kind, byte: u8)
+fn give<A: Allocator + Copy>(bus: &mut Bus<A>, lun: Lun, kind: Kind, byte: u8)
     requires quiet { IsQuiet lun.ce kind byte }
     requires room { 0 < bus.old.room }
     requires own { IsOwn (channel_of bus.old) lun bus.old.past (cycle lun.ce kind byte) }
@@ -36,7 +36,7 @@ fn give<A: Allocator>(bus: &mut Bus<A>, lun: Lun, kind: Kind, byte: u8)
 }
 
 // Gives a command, which may start work.
-fn command<A: Allocator>(bus: &mut Bus<A>, lun: Lun, byte: u8) -> Result<(), AllocError>
+fn command<A: Allocator + Copy>(bus: &mut Bus<A>, lun: Lun, byte: u8) -> Result<(), AllocError>
     requires own { IsOwn (channel_of bus.old) lun bus.old.past (cycle lun.ce Cmd byte) }
     ensures ok { IfOk result (λ _. HasPlayed bus.old bus.new lun.ce (Give Cmd byte ∷ []) [] bus.old.room) }
     ensures err { OnErr result (IsUntouched bus.old bus.new) }
@@ -54,7 +54,7 @@ fn command<A: Allocator>(bus: &mut Bus<A>, lun: Lun, byte: u8) -> Result<(), All
 }
 
 // Gives bytes, by cycles that start no work and have their places.
-fn give_all<A: Allocator>(bus: &mut Bus<A>, lun: Lun, kind: Kind, bytes: &[u8])
+fn give_all<A: Allocator + Copy>(bus: &mut Bus<A>, lun: Lun, kind: Kind, bytes: &[u8])
     requires quiet { KeepsQuiet lun.ce kind }
     requires room { length bytes.now ≤ bus.old.room }
     requires own { MovesAreOwn (channel_of bus.old) lun (gives kind bytes.now) bus.old.past }
@@ -66,7 +66,7 @@ fn give_all<A: Allocator>(bus: &mut Bus<A>, lun: Lun, kind: Kind, bytes: &[u8])
 }
 
 // Takes one byte, which has its place.
-fn take<A: Allocator>(bus: &mut Bus<A>, lun: Lun) -> u8
+fn take<A: Allocator + Copy>(bus: &mut Bus<A>, lun: Lun) -> u8
     requires room { 0 < bus.old.room }
     requires own { MovesAreOwn (channel_of bus.old) lun (Take ∷ []) bus.old.past }
     ensures { HasPlayed bus.old bus.new lun.ce (Take ∷ []) (result ∷ []) 1 }
@@ -78,7 +78,13 @@ fn take<A: Allocator>(bus: &mut Bus<A>, lun: Lun) -> u8
 }
 
 // Takes bytes into a buffer, from a place on.
-fn take_all<A: Allocator>(bus: &mut Bus<A>, lun: Lun, buffer: &mut [u8], place: usize, len: usize)
+fn take_all<A: Allocator + Copy>(
+    bus: &mut Bus<A>,
+    lun: Lun,
+    buffer: &mut [u8],
+    place: usize,
+    len: usize,
+)
     requires inside { place + len ≤ length buffer.old }
     requires room { len ≤ bus.old.room }
     requires own { MovesAreOwn (channel_of bus.old) lun (replicate len Take) bus.old.past }
@@ -90,7 +96,7 @@ fn take_all<A: Allocator>(bus: &mut Bus<A>, lun: Lun, buffer: &mut [u8], place: 
 }
 
 // Asks the one LUN of a target for its status.
-fn poll_one<A: Allocator>(bus: &mut Bus<A>, lun: Lun) -> Result<u8, AllocError>
+fn poll_one<A: Allocator + Copy>(bus: &mut Bus<A>, lun: Lun) -> Result<u8, AllocError>
     requires own { MovesAreOwn (channel_of bus.old) lun (Give Cmd 0x70 ∷ (Take ∷ [])) bus.old.past }
     ensures ok { IfOk result (λ status. HasPolled bus.old bus.new lun.ce (Give Cmd 0x70 ∷ (Take ∷ [])) status) }
     ensures err { OnErr result (IsUntouched bus.old bus.new) }
@@ -101,7 +107,7 @@ fn poll_one<A: Allocator>(bus: &mut Bus<A>, lun: Lun) -> Result<u8, AllocError>
 }
 
 // Asks a LUN for its status by a row of it.
-fn poll_row<A: Allocator>(bus: &mut Bus<A>, lun: Lun, row: [u8; 3]) -> Result<u8, AllocError>
+fn poll_row<A: Allocator + Copy>(bus: &mut Bus<A>, lun: Lun, row: [u8; 3]) -> Result<u8, AllocError>
     requires own { MovesAreOwn (channel_of bus.old) lun (Give Cmd 0x78 ∷ (gives Adr row ++ (Take ∷ []))) bus.old.past }
     ensures ok { IfOk result (λ status. HasPolled bus.old bus.new lun.ce (Give Cmd 0x78 ∷ (gives Adr row ++ (Take ∷ []))) status) }
     ensures err { OnErr result (IsUntouched bus.old bus.new) }
@@ -113,7 +119,7 @@ fn poll_row<A: Allocator>(bus: &mut Bus<A>, lun: Lun, row: [u8; 3]) -> Result<u8
 }
 
 // Asks a LUN for its status.
-fn poll<A: Allocator>(bus: &mut Bus<A>, lun: Lun) -> Result<u8, AllocError>
+fn poll<A: Allocator + Copy>(bus: &mut Bus<A>, lun: Lun) -> Result<u8, AllocError>
     requires { CanPoll bus.old lun }
     ensures ok { IfOk result (λ status. (moved : List Move) × (poll_at bus.old.geometry lun.lun ≡ Some moved) × HasPolled bus.old bus.new lun.ce moved status) }
     ensures err { OnErr result (IsUntouched bus.old bus.new) }
@@ -130,7 +136,7 @@ fn poll<A: Allocator>(bus: &mut Bus<A>, lun: Lun) -> Result<u8, AllocError>
 }
 
 // Gives a part of the address that the registers hold.
-fn address<A: Allocator>(
+fn address<A: Allocator + Copy>(
     bus: &mut Bus<A>,
     lun: Lun,
     registers: Registers,
@@ -159,7 +165,7 @@ fn address<A: Allocator>(
 }
 
 // Gives bytes of a buffer, from a place on.
-fn put<A: Allocator>(
+fn put<A: Allocator + Copy>(
     bus: &mut Bus<A>,
     lun: Lun,
     buffer: &[u8],
@@ -177,7 +183,7 @@ fn put<A: Allocator>(
 }
 
 // Takes bytes into a buffer, from a place on.
-fn get<A: Allocator>(
+fn get<A: Allocator + Copy>(
     bus: &mut Bus<A>,
     lun: Lun,
     buffer: &mut [u8],
@@ -196,7 +202,7 @@ fn get<A: Allocator>(
 
 /// Plays a word: its cycles on the bus, and what they bring to the buffer. The answer is the status that a poll brought, 0
 /// for other words. Without memory all stays as it was.
-pub(crate) fn play<A: Allocator>(
+pub(crate) fn play<A: Allocator + Copy>(
     bus: &mut Bus<A>,
     lun: Lun,
     registers: Registers,

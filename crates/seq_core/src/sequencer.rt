@@ -1,5 +1,5 @@
 //! The sequencer: it runs a program on each LUN, and hands the bus from one to another.
-ghost use Rattle.std.specs.Prelude.{◌≡◌, ◌↔◌, ℕ, ◌*◌, ◌<◌, ◌≤◌, ◌∷◌, List, [], Some, None, if◌then◌else◌, IfOk, OnErr, IfErr, IfSome, length, replicate, reverse, get_or, set, true, false};
+ghost use Rattle.std.specs.Prelude.{◌≡◌, ◌↔◌, ℕ, ◌*◌, ◌<◌, ◌≤◌, ◌∷◌, List, [], Some, None, if◌then◌else◌, IfOk, OnErr, IfErr, IfSome, IfNone, length, replicate, reverse, get_or, set, true, false};
 ghost use Rattle.onfi_cycle.specs.Permitted.{is_legal};
 ghost use Rattle.onfi_cycle.specs.Channel.{Channel, is_there};
 ghost use Rattle.target_bus.specs.Bus.{Traced, channel_of};
@@ -11,7 +11,7 @@ ghost use Rattle.seq_core.specs.Lawful.{LawfulWorld};
 ghost use Rattle.seq_core.specs.Progress.{Progress};
 ghost use Rattle.seq_core.specs.Shows.{CoreView, IsAt, channel_in};
 ghost use Rattle.seq_core.specs.Calls.{IsCore, IsEvent, CanGoOn, CanStep, Steps, slot_at, slot_code, all_are_empty, holder_after, fault_by, load_fault_at};
-ghost use Rattle.seq_core.specs.Playing.{IsSame};
+ghost use Rattle.seq_core.specs.Playing.{IsSame, IsUntouched};
 
 use crate::answers::{LoadFault, Stepped, UnloadFault};
 use crate::job::Job;
@@ -37,9 +37,9 @@ impl<A: Allocator> Model for Core<A> {
 
     ghost Value = { CoreView };
 
-    ghost view = { λ c. record { geometry = c.bus.geometry; targets = c.bus.targets; past = c.bus.past; slots = c.slots.items; holder = c.holder } };
+    ghost view = { λ c. record { geometry = c.bus.geometry; targets = c.bus.targets; opened = c.bus.opened; past = c.bus.past; slots = c.slots.items; holder = c.holder } };
 
-    ghost invariant = { λ c. IsCore (record { geometry = c.bus.geometry; targets = c.bus.targets; past = c.bus.past; slots = c.slots.items; holder = c.holder }) };
+    ghost invariant = { λ c. IsCore (record { geometry = c.bus.geometry; targets = c.bus.targets; opened = c.bus.opened; past = c.bus.past; slots = c.slots.items; holder = c.holder }) };
 }
 
 /// A job that has ended, and its code.
@@ -93,7 +93,7 @@ fn code_in<A: Allocator>(slots: &[Option<Slot<A>>], k: usize) -> Option<Option<u
 }
 
 // Steps the slot of a number.
-fn step_in<A: Allocator>(
+fn step_in<A: Allocator + Copy>(
     bus: &mut Bus<A>,
     slots: &mut [Option<Slot<A>>],
     k: usize,
@@ -102,7 +102,7 @@ fn step_in<A: Allocator>(
     requires can { (v : Progress) × (get_or slots.old k None ≡ Some v) × CanStep (channel_of bus.old) bus.old.past v }
     ensures same { IsSame bus.old bus.new }
     ensures ok { IfOk result (λ answer. (v : Progress) × (u : Progress) × (get_or slots.old k None ≡ Some v) × Steps (channel_of bus.old) bus.old.past v answer bus.new.past u × (slots.new ≡ set slots.old k (Some u))) }
-    ensures err { OnErr result ((bus.new.past ≡ bus.old.past) × (slots.new ≡ slots.old)) }
+    ensures err { OnErr result (IsUntouched bus.old bus.new × (slots.new ≡ slots.old)) }
 {
     match &mut slots[k] {
         Some(slot) => slot.step(bus),
@@ -179,11 +179,11 @@ fn holder_after(answer: Stepped, l: Lun) -> Option<Lun>
     }
 }
 
-impl<A: Allocator> Core<A> {
+impl<A: Allocator + Copy> Core<A> {
     /// A sequencer on a bus on which nothing has happened (`Bus::is_fresh` tells): each slot is empty. Takes no memory.
     pub fn new(bus: Bus<A>) -> Core<A>
         requires { bus.past ≡ [] }
-        ensures channel { (result.geometry ≡ bus.geometry) × (result.targets ≡ bus.targets) }
+        ensures channel { (result.geometry ≡ bus.geometry) × (result.targets ≡ bus.targets) × (result.opened ≡ bus.opened) }
         ensures world { IsAt result (fresh (channel_in result)) }
         ensures lawful { LawfulWorld (channel_in result) (fresh (channel_in result)) }
     {
@@ -256,11 +256,23 @@ impl<A: Allocator> Core<A> {
         ensures came { IfOk result (λ answer. IsEvent self.old (Step l) (ToStep answer) self.new) }
         ensures err { OnErr result ((self.new ≡ self.old) × CanGoOn self.old l) }
     {
+        match self.answer_at_rest(l) {
+            Some(answer) => Ok(answer),
+            None => self.step_on(l),
+        }
+    }
+
+    // The answer of a step that changes nothing: the LUN has no program that goes on, or another LUN has the bus.
+    fn answer_at_rest(&self, l: Lun) -> Option<Stepped>
+        ensures came { IfSome result (λ answer. IsEvent self.now (Step l) (ToStep answer) self.now) }
+        ensures running { IfNone result (Some None ≡ slot_code (slot_at self.now l)) }
+        ensures free { IfNone result (is_held self.now.holder l ≡ false) }
+    {
         match self.code_at(l) {
-            None => Ok(Stepped::Empty),
-            Some(Some(_)) => Ok(Stepped::Ended),
-            Some(None) if is_held(self.holder, l) => Ok(Stepped::Held),
-            Some(None) => self.step_on(l),
+            None => Some(Stepped::Empty),
+            Some(Some(_)) => Some(Stepped::Ended),
+            Some(None) if is_held(self.holder, l) => Some(Stepped::Held),
+            Some(None) => None,
         }
     }
 
@@ -374,7 +386,7 @@ impl<A: Allocator> Core<A> {
 
     /// The bus, as the trace has left it.
     pub fn into_bus(self) -> Bus<A>
-        ensures { (result.geometry ≡ self.geometry) × (result.targets ≡ self.targets) × (result.past ≡ self.past) }
+        ensures { (result.geometry ≡ self.geometry) × (result.targets ≡ self.targets) × (result.opened ≡ self.opened) × (result.past ≡ self.past) }
     {
         self.bus
     }

@@ -9,7 +9,7 @@ ghost use Rattle.seq_core.specs.Event.{IsVerified};
 ghost use Rattle.seq_core.specs.Loops.{loops_behind};
 ghost use Rattle.seq_core.specs.Progress.{fresh_progress, reaches, outcome_of, is_done, code_of, with_buffer, behind_word};
 ghost use Rattle.seq_core.specs.Calls.{CanStep, DidPlay, Steps};
-ghost use Rattle.seq_core.specs.Playing.{EndsWithFive, IsSame};
+ghost use Rattle.seq_core.specs.Playing.{EndsWithFive, IsSame, IsUntouched};
 
 use crate::answers::Stepped;
 use crate::job::Job;
@@ -144,29 +144,6 @@ impl<A: Allocator> Slot<A> {
         self.verified.text().words()[self.position.at]
     }
 
-    // Plays the next word: it, and the status that it brought.
-    fn play_next(&mut self, bus: &mut Bus<A>) -> Result<(Word, u8), AllocError>
-        requires { CanStep (channel_of bus.old) bus.old.past self.old }
-        ensures same { IsSame bus.old bus.new }
-        ensures word { IfOk result (λ r. slice_get self.old.job.text.words self.old.at ≡ Some r.0) }
-        ensures played { IfOk result (λ r. DidPlay (channel_of bus.old) bus.old.past self.old.job.lun self.old.job.buffer self.old.registers r.0 bus.new.past self.new.job.buffer r.1) }
-        ensures slot { OnOk result (self.new ≡ with_buffer self.old self.new.job.buffer) }
-        ensures place { IfOk result (λ r. reaches self.old.registers.place r.0 < 2 ^ 32) }
-        ensures inside { OnOk result (self.new.at < 1024) }
-        ensures room { IfOk result (λ r. length (loops_behind self.new.at self.new.loops r.0) ≤ 2) }
-        ensures err { OnErr result ((bus.new.past ≡ bus.old.past) × (self.new ≡ self.old)) }
-    {
-        let word = self.next_word();
-        let status = play(
-            bus,
-            self.lun,
-            self.position.registers,
-            self.buffer.as_mut_slice(),
-            word,
-        )?;
-        Ok((word, status))
-    }
-
     // Goes on behind a word that brought this status, if that is done.
     fn go_on(&mut self, word: Word, status: u8) -> Stepped
         requires place { reaches self.old.registers.place word < 2 ^ 32 }
@@ -189,13 +166,38 @@ impl<A: Allocator> Slot<A> {
         }
         answer
     }
+}
+
+impl<A: Allocator + Copy> Slot<A> {
+    // Plays the next word: it, and the status that it brought.
+    fn play_next(&mut self, bus: &mut Bus<A>) -> Result<(Word, u8), AllocError>
+        requires { CanStep (channel_of bus.old) bus.old.past self.old }
+        ensures same { IsSame bus.old bus.new }
+        ensures word { IfOk result (λ r. slice_get self.old.job.text.words self.old.at ≡ Some r.0) }
+        ensures played { IfOk result (λ r. DidPlay (channel_of bus.old) bus.old.past self.old.job.lun self.old.job.buffer self.old.registers r.0 bus.new.past self.new.job.buffer r.1) }
+        ensures slot { OnOk result (self.new ≡ with_buffer self.old self.new.job.buffer) }
+        ensures place { IfOk result (λ r. reaches self.old.registers.place r.0 < 2 ^ 32) }
+        ensures inside { OnOk result (self.new.at < 1024) }
+        ensures room { IfOk result (λ r. length (loops_behind self.new.at self.new.loops r.0) ≤ 2) }
+        ensures err { OnErr result (IsUntouched bus.old bus.new × (self.new ≡ self.old)) }
+    {
+        let word = self.next_word();
+        let status = play(
+            bus,
+            self.lun,
+            self.position.registers,
+            self.buffer.as_mut_slice(),
+            word,
+        )?;
+        Ok((word, status))
+    }
 
     /// Steps the next word. Without memory for it all stays as it was.
     pub(crate) fn step(&mut self, bus: &mut Bus<A>) -> Result<Stepped, AllocError>
         requires { CanStep (channel_of bus.old) bus.old.past self.old }
         ensures same { IsSame bus.old bus.new }
         ensures ok { IfOk result (λ answer. Steps (channel_of bus.old) bus.old.past self.old answer bus.new.past self.new) }
-        ensures err { OnErr result ((bus.new.past ≡ bus.old.past) × (self.new ≡ self.old)) }
+        ensures err { OnErr result (IsUntouched bus.old bus.new × (self.new ≡ self.old)) }
     {
         let (word, status) = self.play_next(bus)?;
         Ok(self.go_on(word, status))

@@ -53,12 +53,212 @@ const ONE: Lun = Lun { ce: 0, lun: 1 };
 // LUN 0 of target 1.
 const NEXT: Lun = Lun { ce: 1, lun: 0 };
 
+// The items of erases on target 0: the command that opens one, the bytes of its row, and the command that starts it.
+const OPENS: Item = Item::Cyc(Cycle {
+    ce: 0,
+    kind: Kind::Cmd,
+    byte: 0x60,
+});
+
+const BLOCK_1: Item = Item::Cyc(Cycle {
+    ce: 0,
+    kind: Kind::Adr,
+    byte: 0x04,
+});
+
+const IN_LUN_1: Item = Item::Cyc(Cycle {
+    ce: 0,
+    kind: Kind::Adr,
+    byte: 0x20,
+});
+
+const ZEROS: Item = Item::Cyc(Cycle {
+    ce: 0,
+    kind: Kind::Adr,
+    byte: 0x00,
+});
+
+const STARTS: Item = Item::Cyc(Cycle {
+    ce: 0,
+    kind: Kind::Cmd,
+    byte: 0xd0,
+});
+
+// The two polls, and the bytes that they show.
+const ASKS: Item = Item::Cyc(Cycle {
+    ce: 0,
+    kind: Kind::Cmd,
+    byte: 0x70,
+});
+
+const ASKS_BY_ROW: Item = Item::Cyc(Cycle {
+    ce: 0,
+    kind: Kind::Cmd,
+    byte: 0x78,
+});
+
+const IS_BUSY: Item = Item::Cyc(Cycle {
+    ce: 0,
+    kind: Kind::Dout,
+    byte: 0x80,
+});
+
+const IS_READY: Item = Item::Cyc(Cycle {
+    ce: 0,
+    kind: Kind::Dout,
+    byte: 0xe0,
+});
+
+const HAS_FAILED: Item = Item::Cyc(Cycle {
+    ce: 0,
+    kind: Kind::Dout,
+    byte: 0xe1,
+});
+
+// What an erase of block 1 of the one LUN of target 0 puts onto the bus.
+const ERASE_OF_BLOCK_1: [Item; 10] = [
+    OPENS,
+    BLOCK_1,
+    ZEROS,
+    ZEROS,
+    STARTS,
+    ASKS,
+    IS_BUSY,
+    Item::Rdy {
+        ce: 0,
+        lun: 0,
+        fail: false,
+    },
+    ASKS,
+    IS_READY,
+];
+
+// Its items up to the first poll.
+const BEGINNING: [Item; 7] = [OPENS, BLOCK_1, ZEROS, ZEROS, STARTS, ASKS, IS_BUSY];
+
+// What comes last of it if it fails.
+const FAILURE: [Item; 3] = [
+    Item::Rdy {
+        ce: 0,
+        lun: 0,
+        fail: true,
+    },
+    ASKS,
+    HAS_FAILED,
+];
+
+// What an erase of a block of LUN 1 of two LUNs puts onto the bus.
+const ERASE_OF_LUN_1: [Item; 16] = [
+    OPENS,
+    IN_LUN_1,
+    ZEROS,
+    ZEROS,
+    STARTS,
+    ASKS_BY_ROW,
+    IN_LUN_1,
+    ZEROS,
+    ZEROS,
+    IS_BUSY,
+    Item::Rdy {
+        ce: 0,
+        lun: 1,
+        fail: false,
+    },
+    ASKS_BY_ROW,
+    IN_LUN_1,
+    ZEROS,
+    ZEROS,
+    IS_READY,
+];
+
+// The steps of an erase alone up to its first poll, with their answers, and those that remain once the LUN is ready.
+const BEGIN: [(Lun, Stepped); 4] = [
+    (ZERO, Stepped::Went),
+    (ZERO, Stepped::Went),
+    (ZERO, Stepped::Went),
+    (ZERO, Stepped::NotReady),
+];
+
+const END: [(Lun, Stepped); 3] = [
+    (ZERO, Stepped::Went),
+    (ZERO, Stepped::Ended),
+    (ZERO, Stepped::Ended),
+];
+
+// The same on LUN 1.
+const BEGIN_ONE: [(Lun, Stepped); 4] = [
+    (ONE, Stepped::Went),
+    (ONE, Stepped::Went),
+    (ONE, Stepped::Went),
+    (ONE, Stepped::NotReady),
+];
+
+const END_ONE: [(Lun, Stepped); 3] = [
+    (ONE, Stepped::Went),
+    (ONE, Stepped::Ended),
+    (ONE, Stepped::Ended),
+];
+
+// The steps of two erases in turn, up to the first poll of the second, and those that remain once both are ready.
+const BEGIN_LUNS: [(Lun, Stepped); 14] = [
+    (ZERO, Stepped::Went),
+    (ONE, Stepped::Held),
+    (ZERO, Stepped::Went),
+    (ONE, Stepped::Held),
+    (ZERO, Stepped::Went),
+    (ONE, Stepped::Held),
+    (ZERO, Stepped::NotReady),
+    (ONE, Stepped::Went),
+    (ZERO, Stepped::Held),
+    (ONE, Stepped::Went),
+    (ZERO, Stepped::Held),
+    (ONE, Stepped::Went),
+    (ZERO, Stepped::Held),
+    (ONE, Stepped::NotReady),
+];
+
+const END_LUNS: [(Lun, Stepped); 6] = [
+    (ZERO, Stepped::Went),
+    (ONE, Stepped::Held),
+    (ZERO, Stepped::Ended),
+    (ONE, Stepped::Went),
+    (ZERO, Stepped::Ended),
+    (ONE, Stepped::Ended),
+];
+
+// The same on two targets.
+const BEGIN_TARGETS: [(Lun, Stepped); 14] = [
+    (ZERO, Stepped::Went),
+    (NEXT, Stepped::Held),
+    (ZERO, Stepped::Went),
+    (NEXT, Stepped::Held),
+    (ZERO, Stepped::Went),
+    (NEXT, Stepped::Held),
+    (ZERO, Stepped::NotReady),
+    (NEXT, Stepped::Went),
+    (ZERO, Stepped::Held),
+    (NEXT, Stepped::Went),
+    (ZERO, Stepped::Held),
+    (NEXT, Stepped::Went),
+    (ZERO, Stepped::Held),
+    (NEXT, Stepped::NotReady),
+];
+
+const END_TARGETS: [(Lun, Stepped); 6] = [
+    (ZERO, Stepped::Went),
+    (NEXT, Stepped::Held),
+    (ZERO, Stepped::Ended),
+    (NEXT, Stepped::Went),
+    (ZERO, Stepped::Ended),
+    (NEXT, Stepped::Ended),
+];
+
 // A sequencer on so many new dies.
 fn core_of<A: Allocator + Copy>(alloc: A, parts: Parts, count: u8) -> Result<Core<A>, Fail> {
     let geometry = Geometry::of(parts)?;
     let mut dies = Vec::with_capacity(alloc, usize::from(count))?;
     for _ in 0..count {
-        dies.push(LunDie::new(geometry)?)?;
+        dies.push(LunDie::new(alloc, geometry)?)?;
     }
     match Bus::new(alloc, geometry, dies) {
         Ok(bus) => Ok(Core::new(bus)),
@@ -98,19 +298,30 @@ fn job_of<A: Allocator + Copy>(
     }
 }
 
-fn load<A: Allocator>(core: &mut Core<A>, job: Job<A>) -> Result<(), Fail> {
-    match core.load(job.lun(), job) {
-        Ok(()) => Ok(()),
-        Err(_) => Err(Fail::from("the load is refused")),
+// The load of a job of the LUN `at` is refused so, with the job handed back.
+fn is_refused<A: Allocator + Copy>(
+    core: &mut Core<A>,
+    l: Lun,
+    job: Job<A>,
+    at: Lun,
+    fault: LoadFault,
+) -> bool {
+    match core.load(l, job) {
+        Ok(()) => false,
+        Err((told, job)) => told == fault && job.lun() == at,
     }
 }
 
-// Why a load is refused, with the LUN of the job that is handed back.
-fn load_refused<A: Allocator>(core: &mut Core<A>, l: Lun, job: Job<A>) -> Option<(LoadFault, Lun)> {
-    match core.load(l, job) {
-        Ok(()) => None,
-        Err((fault, job)) => Some((fault, job.lun())),
-    }
+// What would be answered to the load of an erase for `parts` and the LUN `at` onto `l`.
+fn admitted<A: Allocator + Copy>(
+    alloc: A,
+    core: &Core<A>,
+    l: Lun,
+    parts: Parts,
+    at: Lun,
+) -> Result<Result<(), LoadFault>, Fail> {
+    let job = job_of(alloc, parts, at, 0)?;
+    Ok(core.admits(l, &job))
 }
 
 // It is the erase on this LUN with no buffer.
@@ -120,88 +331,29 @@ fn is_erase<A: Allocator>(done: &Done<A>, l: Lun) -> bool {
         && done.job.buffer().is_empty()
 }
 
-// The code of what is unloaded, which is the erase on its LUN with no buffer.
-fn unloaded<A: Allocator>(rt: &impl Abort, core: &mut Core<A>, l: Lun) -> Result<u8, UnloadFault> {
-    let done = core.unload(l)?;
-    assert!(rt; is_erase(&done, l));
-    Ok(done.code)
+// An unload is answered so: with the code of the erase on this LUN, or a fault.
+fn is_unloaded<A: Allocator + Copy>(
+    core: &mut Core<A>,
+    l: Lun,
+    answer: Result<u8, UnloadFault>,
+) -> bool {
+    match core.unload(l) {
+        Ok(done) => answer == Ok(done.code) && is_erase(&done, l),
+        Err(fault) => answer == Err(fault),
+    }
 }
 
-fn readied<A: Allocator>(core: &mut Core<A>, l: Lun, fail: bool) -> bool {
-    core.ready(l, fail)
-}
-
-fn step<A: Allocator>(core: &mut Core<A>, l: Lun) -> Result<Stepped, Fail> {
-    Ok(core.step(l)?)
-}
-
-fn array_readied<A: Allocator>(core: &mut Core<A>, l: Lun) -> bool {
-    core.array_ready(l)
-}
-
-fn is_fresh<A: Allocator>(core: &Core<A>) -> bool {
-    core.is_fresh()
-}
-
-fn trace_of<A: Allocator>(core: &Core<A>) -> &[Item] {
-    core.trace()
-}
-
-fn has_bus<A: Allocator>(core: &Core<A>, l: Lun) -> bool {
-    core.holder() == Some(l)
-}
-
-// The numbers of LUN 0 of targets 0 and 1.
-fn numbers<A: Allocator>(core: &Core<A>) -> (Option<u32>, Option<u32>) {
-    (core.number(ZERO), core.number(NEXT))
-}
-
-// Steps LUNs one after another, which are answered so.
-fn steps<A: Allocator>(
-    rt: &impl Abort,
+// Steps of LUNs, one after another, are answered so.
+fn are_answered<A: Allocator + Copy>(
     core: &mut Core<A>,
     answers: &[(Lun, Stepped)],
-) -> Result<(), Fail> {
+) -> Result<bool, Fail> {
     for (l, answer) in answers {
-        assert_eq!(rt; core.step(*l)?, *answer);
+        if core.step(*l)? != *answer {
+            return Ok(false);
+        }
     }
-    Ok(())
-}
-
-fn cycle(kind: Kind, byte: u8) -> Item {
-    Item::Cyc(Cycle { ce: 0, kind, byte })
-}
-
-fn command(byte: u8) -> Item {
-    cycle(Kind::Cmd, byte)
-}
-
-fn address(byte: u8) -> Item {
-    cycle(Kind::Adr, byte)
-}
-
-fn output(byte: u8) -> Item {
-    cycle(Kind::Dout, byte)
-}
-
-fn ready(lun: u8, fail: bool) -> Item {
-    Item::Rdy { ce: 0, lun, fail }
-}
-
-// What an erase of block 1 of the one LUN of target 0 puts onto the bus.
-fn erase_of_block_1() -> [Item; 10] {
-    [
-        command(0x60),
-        address(0x04),
-        address(0x00),
-        address(0x00),
-        command(0xd0),
-        command(0x70),
-        output(0x80),
-        ready(0, false),
-        command(0x70),
-        output(0xe0),
-    ]
+    Ok(true)
 }
 
 // Whether each item is permitted after those before it.
@@ -219,254 +371,308 @@ fn is_legal(parts: Parts, targets: u8, items: &[Item]) -> Result<bool, Fail> {
     Ok(true)
 }
 
-// An erase up to its first poll, stepped alone.
-fn begin<A: Allocator>(rt: &impl Abort, core: &mut Core<A>, l: Lun) -> Result<(), Fail> {
-    let answers = [
-        (l, Stepped::Went),
-        (l, Stepped::Went),
-        (l, Stepped::Went),
-        (l, Stepped::NotReady),
-    ];
-    steps(rt, core, &answers)
+// No array becomes ready.
+fn no_array_works<A: Allocator + Copy>(core: &mut Core<A>) -> bool {
+    for lun in [ZERO, ONE, NEXT] {
+        if core.array_ready(lun) {
+            return false;
+        }
+    }
+    true
 }
 
-// What remains of it once the LUN is ready.
-fn end<A: Allocator>(rt: &impl Abort, core: &mut Core<A>, l: Lun) -> Result<(), Fail> {
-    steps(
-        rt,
-        core,
-        &[(l, Stepped::Went), (l, Stepped::Ended), (l, Stepped::Ended)],
-    )
+// What is tried of a sequencer, with what must come of it.
+#[derive(Clone, Copy)]
+enum Try<'a> {
+    // an erase for this geometry is loaded onto its LUN, its block that of an index
+    Load(Parts, Lun, u32),
+    // the load of an erase for this geometry and the second LUN onto the first is refused, and `admits` says so
+    Refused(Lun, Parts, Lun, LoadFault),
+    // an erase for this geometry would be loaded onto its LUN
+    Admitted(Parts, Lun),
+    // steps of LUNs, one after another, are answered so
+    Steps(&'a [(Lun, Stepped)]),
+    // a ready without failure or with it comes or not
+    Ready(Lun, bool, bool),
+    NoArray,
+    Unload(Lun, Result<u8, UnloadFault>),
+    HasBus(Lun, bool),
+    Fresh(bool),
+    // the numbers of LUN 0 of targets 0 and 1
+    Numbers(Option<u32>, Option<u32>),
+    // the items of the trace from a place on
+    Trace(usize, &'a [Item]),
+    // how many items there are
+    Items(usize),
+    // the trace is legal on such a channel
+    Legal(Parts, u8),
+}
+
+// What is seen of a sequencer besides its trace: which LUN has the bus, whether nothing has happened, and the numbers of LUN 0 of
+// targets 0 and 1.
+#[derive(Clone, Copy)]
+struct Seen {
+    holder: Option<Lun>,
+    fresh: bool,
+    numbers: (Option<u32>, Option<u32>),
+}
+
+// What is seen of it now.
+fn seen_of<A: Allocator + Copy>(core: &Core<A>) -> Seen {
+    Seen {
+        holder: core.holder(),
+        fresh: core.is_fresh(),
+        numbers: (core.number(ZERO), core.number(NEXT)),
+    }
+}
+
+// Whether what is seen is as it must be.
+fn is_seen(seen: Seen, trace: &[Item], wanted: Try) -> bool {
+    match wanted {
+        Try::HasBus(l, has) => (seen.holder == Some(l)) == has,
+        Try::Fresh(fresh) => seen.fresh == fresh,
+        Try::Numbers(first, second) => seen.numbers == (first, second),
+        Try::Trace(from, items) => trace.get(from..) == Some(items),
+        Try::Items(count) => trace.len() == count,
+        _ => false,
+    }
+}
+
+// An erase for `parts` is loaded onto its LUN.
+fn is_loaded<A: Allocator + Copy>(
+    alloc: A,
+    core: &mut Core<A>,
+    parts: Parts,
+    l: Lun,
+    base: u32,
+) -> Result<bool, Fail> {
+    let job = job_of(alloc, parts, l, base)?;
+    Ok(core.load(l, job).is_ok())
+}
+
+// The load of an erase for `parts` and the LUN `at` onto `l` is refused so, and `admits` says it before.
+fn is_refused_twice<A: Allocator + Copy>(
+    alloc: A,
+    core: &mut Core<A>,
+    l: Lun,
+    (parts, at): (Parts, Lun),
+    fault: LoadFault,
+) -> Result<bool, Fail> {
+    let asked = admitted(alloc, core, l, parts, at)?;
+    let job = job_of(alloc, parts, at, 0)?;
+    Ok(is_refused(core, l, job, at, fault) && asked == Err(fault))
+}
+
+// Whether what is tried comes as it must.
+fn comes<A: Allocator + Copy>(alloc: A, core: &mut Core<A>, wanted: Try) -> Result<bool, Fail> {
+    match wanted {
+        Try::Load(parts, l, base) => is_loaded(alloc, core, parts, l, base),
+        Try::Refused(l, parts, at, fault) => is_refused_twice(alloc, core, l, (parts, at), fault),
+        Try::Admitted(parts, l) => Ok(admitted(alloc, core, l, parts, l)?.is_ok()),
+        Try::Steps(answers) => are_answered(core, answers),
+        Try::Ready(l, fail, came) => Ok(core.ready(l, fail) == came),
+        Try::NoArray => Ok(no_array_works(core)),
+        Try::Unload(l, answer) => Ok(is_unloaded(core, l, answer)),
+        Try::Legal(parts, targets) => is_legal(parts, targets, core.trace()),
+        _ => Ok(is_seen(seen_of(core), core.trace(), wanted)),
+    }
+}
+
+// Tries one thing after another. The place of one that doesn't come as it must is told.
+fn try_all<A: Allocator + Copy>(
+    rt: &impl Abort,
+    alloc: A,
+    core: &mut Core<A>,
+    tries: &[Try],
+) -> Result<(), Fail> {
+    for (place, wanted) in tries.iter().enumerate() {
+        assert!(rt; comes(alloc, core, *wanted)?, "at {place}");
+    }
+    Ok(())
 }
 
 #[test]
 fn one_block_is_erased(rt: HostRuntime) -> Result<(), Fail> {
     let mut core = core_of(rt.alloc(), ONE_LUN, 1)?;
-    load(&mut core, job_of(rt.alloc(), ONE_LUN, ZERO, 4)?)?;
-    begin(&rt, &mut core, ZERO)?;
-    assert!(rt; !has_bus(&core, ZERO));
-    assert!(rt; readied(&mut core, ZERO, false));
-    end(&rt, &mut core, ZERO)?;
-    assert_eq!(rt; trace_of(&core), erase_of_block_1().as_slice());
-    assert_eq!(rt; unloaded(&rt, &mut core, ZERO), Ok(0));
-    assert_eq!(rt; step(&mut core, ZERO)?, Stepped::Empty);
-    Ok(())
+    let tries = [
+        Try::Load(ONE_LUN, ZERO, 4),
+        Try::Steps(&BEGIN),
+        Try::HasBus(ZERO, false),
+        Try::Ready(ZERO, false, true),
+        Try::Steps(&END),
+        Try::Trace(0, &ERASE_OF_BLOCK_1),
+        Try::Unload(ZERO, Ok(0)),
+        Try::Steps(&[(ZERO, Stepped::Empty)]),
+    ];
+    try_all(&rt, rt.alloc(), &mut core, &tries)
 }
 
 #[test]
 fn a_block_of_lun_1_is_erased(rt: HostRuntime) -> Result<(), Fail> {
     let mut core = core_of(rt.alloc(), TWO_LUNS, 2)?;
-    load(&mut core, job_of(rt.alloc(), TWO_LUNS, ONE, 0)?)?;
-    begin(&rt, &mut core, ONE)?;
-    assert!(rt; readied(&mut core, ONE, false));
-    end(&rt, &mut core, ONE)?;
-    let expected = [
-        command(0x60),
-        address(0x20),
-        address(0x00),
-        address(0x00),
-        command(0xd0),
-        command(0x78),
-        address(0x20),
-        address(0x00),
-        address(0x00),
-        output(0x80),
-        ready(1, false),
-        command(0x78),
-        address(0x20),
-        address(0x00),
-        address(0x00),
-        output(0xe0),
+    let tries = [
+        Try::Load(TWO_LUNS, ONE, 0),
+        Try::Steps(&BEGIN_ONE),
+        Try::Ready(ONE, false, true),
+        Try::Steps(&END_ONE),
+        Try::Trace(0, &ERASE_OF_LUN_1),
+        Try::Unload(ONE, Ok(0)),
     ];
-    assert_eq!(rt; trace_of(&core), expected.as_slice());
-    assert_eq!(rt; unloaded(&rt, &mut core, ONE), Ok(0));
-    Ok(())
-}
-
-// Two LUNs a and b stepped in turn, both ready after step 14.
-fn in_turn<A: Allocator>(rt: &impl Abort, core: &mut Core<A>, a: Lun, b: Lun) -> Result<(), Fail> {
-    let begun = [
-        (a, Stepped::Went),
-        (b, Stepped::Held),
-        (a, Stepped::Went),
-        (b, Stepped::Held),
-        (a, Stepped::Went),
-        (b, Stepped::Held),
-        (a, Stepped::NotReady),
-        (b, Stepped::Went),
-        (a, Stepped::Held),
-        (b, Stepped::Went),
-        (a, Stepped::Held),
-        (b, Stepped::Went),
-        (a, Stepped::Held),
-        (b, Stepped::NotReady),
-    ];
-    let ended = [
-        (a, Stepped::Went),
-        (b, Stepped::Held),
-        (a, Stepped::Ended),
-        (b, Stepped::Went),
-        (a, Stepped::Ended),
-        (b, Stepped::Ended),
-    ];
-    steps(rt, core, &begun)?;
-    assert!(rt; readied(core, a, false) && readied(core, b, false));
-    steps(rt, core, &ended)
+    try_all(&rt, rt.alloc(), &mut core, &tries)
 }
 
 #[test]
 fn two_luns_in_turn(rt: HostRuntime) -> Result<(), Fail> {
     let mut core = core_of(rt.alloc(), TWO_LUNS, 2)?;
-    load(&mut core, job_of(rt.alloc(), TWO_LUNS, ZERO, 0)?)?;
-    load(&mut core, job_of(rt.alloc(), TWO_LUNS, ONE, 0)?)?;
-    in_turn(&rt, &mut core, ZERO, ONE)?;
-    assert_eq!(rt; trace_of(&core).len(), 32);
-    assert!(rt; is_legal(TWO_LUNS, 1, trace_of(&core))?);
-    assert_eq!(rt; unloaded(&rt, &mut core, ONE), Ok(0));
-    assert_eq!(rt; unloaded(&rt, &mut core, ZERO), Ok(0));
-    Ok(())
+    let tries = [
+        Try::Load(TWO_LUNS, ZERO, 0),
+        Try::Load(TWO_LUNS, ONE, 0),
+        Try::Steps(&BEGIN_LUNS),
+        Try::Ready(ZERO, false, true),
+        Try::Ready(ONE, false, true),
+        Try::Steps(&END_LUNS),
+        Try::Items(32),
+        Try::Legal(TWO_LUNS, 1),
+        Try::Unload(ONE, Ok(0)),
+        Try::Unload(ZERO, Ok(0)),
+    ];
+    try_all(&rt, rt.alloc(), &mut core, &tries)
 }
 
 #[test]
 fn two_targets_in_turn(rt: HostRuntime) -> Result<(), Fail> {
     let mut core = core_of(rt.alloc(), ONE_LUN, 2)?;
-    assert_eq!(rt; numbers(&core), (Some(0), Some(1)));
-    load(&mut core, job_of(rt.alloc(), ONE_LUN, ZERO, 4)?)?;
-    load(&mut core, job_of(rt.alloc(), ONE_LUN, NEXT, 8)?)?;
-    in_turn(&rt, &mut core, ZERO, NEXT)?;
-    assert_eq!(rt; trace_of(&core).len(), 20);
-    assert!(rt; is_legal(ONE_LUN, 2, trace_of(&core))?);
-    assert_eq!(rt; unloaded(&rt, &mut core, ZERO), Ok(0));
-    assert_eq!(rt; unloaded(&rt, &mut core, NEXT), Ok(0));
-    Ok(())
+    let tries = [
+        Try::Numbers(Some(0), Some(1)),
+        Try::Load(ONE_LUN, ZERO, 4),
+        Try::Load(ONE_LUN, NEXT, 8),
+        Try::Steps(&BEGIN_TARGETS),
+        Try::Ready(ZERO, false, true),
+        Try::Ready(NEXT, false, true),
+        Try::Steps(&END_TARGETS),
+        Try::Items(20),
+        Try::Legal(ONE_LUN, 2),
+        Try::Unload(ZERO, Ok(0)),
+        Try::Unload(NEXT, Ok(0)),
+    ];
+    try_all(&rt, rt.alloc(), &mut core, &tries)
 }
 
 #[test]
 fn a_failure_is_shown(rt: HostRuntime) -> Result<(), Fail> {
     let mut core = core_of(rt.alloc(), ONE_LUN, 1)?;
-    load(&mut core, job_of(rt.alloc(), ONE_LUN, ZERO, 4)?)?;
-    begin(&rt, &mut core, ZERO)?;
-    assert!(rt; readied(&mut core, ZERO, true));
-    end(&rt, &mut core, ZERO)?;
-    let last = [ready(0, true), command(0x70), output(0xe1)];
-    assert_eq!(rt; trace_of(&core).len(), 10);
-    assert_eq!(rt; trace_of(&core).get(7..), Some(last.as_slice()));
-    assert_eq!(rt; unloaded(&rt, &mut core, ZERO), Ok(0));
-    Ok(())
+    let tries = [
+        Try::Load(ONE_LUN, ZERO, 4),
+        Try::Steps(&BEGIN),
+        Try::Ready(ZERO, true, true),
+        Try::Steps(&END),
+        Try::Items(10),
+        Try::Trace(7, &FAILURE),
+        Try::Unload(ZERO, Ok(0)),
+    ];
+    try_all(&rt, rt.alloc(), &mut core, &tries)
 }
 
+// Of another LUN, for one that isn't there, of another geometry; then onto a LUN whose job goes on.
 #[test]
 fn loads_that_are_refused(rt: HostRuntime) -> Result<(), Fail> {
     let mut core = core_of(rt.alloc(), ONE_LUN, 1)?;
-    // of another LUN, for one that isn't there, of another geometry
-    let job = job_of(rt.alloc(), ONE_LUN, NEXT, 0)?;
-    assert_eq!(rt;
-        load_refused(&mut core, ZERO, job),
-        Some((LoadFault::S2, NEXT))
-    );
-    let job = job_of(rt.alloc(), ONE_LUN, NEXT, 0)?;
-    assert_eq!(rt;
-        load_refused(&mut core, NEXT, job),
-        Some((LoadFault::S2, NEXT))
-    );
-    let job = job_of(rt.alloc(), TWO_LUNS, ZERO, 0)?;
-    assert_eq!(rt;
-        load_refused(&mut core, ZERO, job),
-        Some((LoadFault::S5, ZERO))
-    );
-    assert_eq!(rt; step(&mut core, ZERO)?, Stepped::Empty);
-    Ok(())
+    let tries = [
+        Try::Refused(ZERO, ONE_LUN, NEXT, LoadFault::S2),
+        Try::Refused(NEXT, ONE_LUN, NEXT, LoadFault::S2),
+        Try::Refused(ZERO, TWO_LUNS, ONE, LoadFault::S2),
+        Try::Refused(ZERO, TWO_LUNS, ZERO, LoadFault::S5),
+        Try::Steps(&[(ZERO, Stepped::Empty)]),
+        Try::Admitted(ONE_LUN, ZERO),
+        Try::Fresh(true),
+        Try::Load(ONE_LUN, ZERO, 4),
+        Try::Refused(ZERO, ONE_LUN, ZERO, LoadFault::S1),
+        Try::Refused(ZERO, ONE_LUN, NEXT, LoadFault::S1),
+        Try::Refused(ZERO, TWO_LUNS, ZERO, LoadFault::S1),
+        Try::Steps(&BEGIN),
+        Try::Trace(0, &BEGINNING),
+    ];
+    try_all(&rt, rt.alloc(), &mut core, &tries)
 }
 
-#[test]
-fn the_first_fault_of_a_load_is_told(rt: HostRuntime) -> Result<(), Fail> {
-    let mut core = core_of(rt.alloc(), ONE_LUN, 1)?;
-    let job = job_of(rt.alloc(), TWO_LUNS, ONE, 0)?;
-    assert_eq!(rt;
-        load_refused(&mut core, ZERO, job),
-        Some((LoadFault::S2, ONE))
-    );
-    load(&mut core, job_of(rt.alloc(), ONE_LUN, ZERO, 4)?)?;
-    for (parts, lun) in [(ONE_LUN, ZERO), (ONE_LUN, NEXT), (TWO_LUNS, ZERO)] {
-        let job = job_of(rt.alloc(), parts, lun, 0)?;
-        assert_eq!(rt;
-            load_refused(&mut core, ZERO, job),
-            Some((LoadFault::S1, lun))
-        );
-    }
-    // the job that is loaded goes on
-    begin(&rt, &mut core, ZERO)?;
-    assert_eq!(rt; trace_of(&core).get(1), Some(&address(0x04)));
-    Ok(())
-}
-
-// Makes a job for one target of one LUN, of a text for `parts` and a buffer of one byte or none. The fault if it is
-// refused, and whether text and buffer are handed back.
-fn made<A: Allocator + Copy>(
+// A job of one target of one LUN, of a text for `parts` and a buffer of these bytes, is refused so, with text and buffer handed
+// back, or made.
+fn is_made<A: Allocator + Copy>(
     alloc: A,
     parts: Parts,
     lun: Lun,
     base: u32,
     bytes: &[u8],
-) -> Result<Option<(LoadFault, bool)>, Fail> {
+    refused: Option<LoadFault>,
+) -> Result<bool, Fail> {
     let verified = verified(alloc, parts)?;
     let buffer = bytes.to_vec(alloc)?;
     match Job::new(Geometry::of(ONE_LUN)?, 1, lun, base, verified, buffer) {
-        Ok(_) => Ok(None),
-        Err((fault, verified, buffer)) => {
-            let same = verified.text().words() == ERASE.as_slice()
+        Ok(_) => Ok(refused.is_none()),
+        Err((fault, verified, buffer)) => Ok(
+            refused == Some(fault)
+                && verified.text().words() == ERASE.as_slice()
                 && verified.geometry().parts() == parts
-                && buffer.as_slice() == bytes;
-            Ok(Some((fault, same)))
-        }
+                && buffer.as_slice() == bytes,
+        ),
     }
 }
 
 #[test]
 fn jobs_that_are_refused(rt: HostRuntime) -> Result<(), Fail> {
-    let s2 = Some((LoadFault::S2, true));
-    assert_eq!(rt; made(rt.alloc(), ONE_LUN, NEXT, 0, &[])?, s2);
-    assert_eq!(rt; made(rt.alloc(), ONE_LUN, ONE, 0, &[])?, s2);
-    let s3 = Some((LoadFault::S3, true));
-    assert_eq!(rt; made(rt.alloc(), ONE_LUN, ZERO, 31, &[])?, None);
-    assert_eq!(rt; made(rt.alloc(), ONE_LUN, ZERO, 32, &[])?, s3);
-    assert_eq!(rt; made(rt.alloc(), ONE_LUN, ZERO, u32::MAX, &[])?, s3);
-    let s4 = Some((LoadFault::S4, true));
-    assert_eq!(rt; made(rt.alloc(), ONE_LUN, ZERO, 31, &[7])?, s4);
-    let s5 = Some((LoadFault::S5, true));
-    assert_eq!(rt; made(rt.alloc(), TWO_LUNS, ZERO, 31, &[])?, s5);
-    Ok(())
-}
-
-#[test]
-fn the_first_fault_of_a_job_is_told(rt: HostRuntime) -> Result<(), Fail> {
-    let s2 = Some((LoadFault::S2, true));
-    assert_eq!(rt; made(rt.alloc(), TWO_LUNS, ONE, 32, &[7])?, s2);
-    let s3 = Some((LoadFault::S3, true));
-    assert_eq!(rt; made(rt.alloc(), TWO_LUNS, ZERO, 32, &[7])?, s3);
-    let s4 = Some((LoadFault::S4, true));
-    assert_eq!(rt; made(rt.alloc(), TWO_LUNS, ZERO, 31, &[7])?, s4);
-    Ok(())
-}
-
-#[test]
-fn what_is_not_there_and_not_ended(rt: HostRuntime) -> Result<(), Fail> {
-    let mut core = core_of(rt.alloc(), ONE_LUN, 1)?;
-    for lun in [ZERO, ONE, NEXT] {
-        assert_eq!(rt; step(&mut core, lun)?, Stepped::Empty);
-        assert_eq!(rt; unloaded(&rt, &mut core, lun), Err(UnloadFault::U1));
-        assert!(rt; !readied(&mut core, lun, false));
+    let cases: [(Parts, Lun, u32, &[u8], Option<LoadFault>); 10] = [
+        (ONE_LUN, NEXT, 0, &[], Some(LoadFault::S2)),
+        (ONE_LUN, ONE, 0, &[], Some(LoadFault::S2)),
+        (ONE_LUN, ZERO, 31, &[], None),
+        (ONE_LUN, ZERO, 32, &[], Some(LoadFault::S3)),
+        (ONE_LUN, ZERO, u32::MAX, &[], Some(LoadFault::S3)),
+        (ONE_LUN, ZERO, 31, &[7], Some(LoadFault::S4)),
+        (TWO_LUNS, ZERO, 31, &[], Some(LoadFault::S5)),
+        // the first fault of several
+        (TWO_LUNS, ONE, 32, &[7], Some(LoadFault::S2)),
+        (TWO_LUNS, ZERO, 32, &[7], Some(LoadFault::S3)),
+        (TWO_LUNS, ZERO, 31, &[7], Some(LoadFault::S4)),
+    ];
+    for (place, (parts, lun, base, bytes, refused)) in cases.iter().enumerate() {
+        let same = is_made(rt.alloc(), *parts, *lun, *base, bytes, *refused)?;
+        assert!(rt; same, "at {place}");
     }
-    assert_eq!(rt; numbers(&core), (Some(0), None));
-    load(&mut core, job_of(rt.alloc(), ONE_LUN, ZERO, 4)?)?;
-    assert_eq!(rt; unloaded(&rt, &mut core, ZERO), Err(UnloadFault::U2));
-    begin(&rt, &mut core, ZERO)?;
-    assert_eq!(rt; unloaded(&rt, &mut core, ZERO), Err(UnloadFault::U2));
-    assert!(rt; readied(&mut core, ZERO, false) && !readied(&mut core, ZERO, false));
-    assert_eq!(rt; step(&mut core, ZERO)?, Stepped::Went);
-    assert!(rt; has_bus(&core, ZERO));
-    assert_eq!(rt; unloaded(&rt, &mut core, ZERO), Err(UnloadFault::U2));
     Ok(())
+}
+
+#[test]
+fn what_is_not_there(rt: HostRuntime) -> Result<(), Fail> {
+    let mut core = core_of(rt.alloc(), ONE_LUN, 1)?;
+    let tries = [
+        Try::Steps(&[(ZERO, Stepped::Empty)]),
+        Try::Unload(ZERO, Err(UnloadFault::U1)),
+        Try::Ready(ZERO, false, false),
+        Try::Steps(&[(ONE, Stepped::Empty)]),
+        Try::Unload(ONE, Err(UnloadFault::U1)),
+        Try::Ready(ONE, false, false),
+        Try::Steps(&[(NEXT, Stepped::Empty)]),
+        Try::Unload(NEXT, Err(UnloadFault::U1)),
+        Try::Ready(NEXT, false, false),
+        Try::Numbers(Some(0), None),
+    ];
+    try_all(&rt, rt.alloc(), &mut core, &tries)
+}
+
+#[test]
+fn what_has_not_ended(rt: HostRuntime) -> Result<(), Fail> {
+    let mut core = core_of(rt.alloc(), ONE_LUN, 1)?;
+    let tries = [
+        Try::Load(ONE_LUN, ZERO, 4),
+        Try::Unload(ZERO, Err(UnloadFault::U2)),
+        Try::Steps(&BEGIN),
+        Try::Unload(ZERO, Err(UnloadFault::U2)),
+        Try::Ready(ZERO, false, true),
+        Try::Ready(ZERO, false, false),
+        Try::Steps(&[(ZERO, Stepped::Went)]),
+        Try::HasBus(ZERO, true),
+        Try::Unload(ZERO, Err(UnloadFault::U2)),
+    ];
+    try_all(&rt, rt.alloc(), &mut core, &tries)
 }
 
 // The greatest block that a heap has left.
@@ -481,8 +687,20 @@ fn largest(heap: &LocalHeap) -> usize {
     0
 }
 
-// A step that may be refused for want of memory: then nothing has changed, and it goes on once there is memory. The items
-// that had come before it, None where it wasn't refused.
+// A step that was refused has changed nothing, and goes on once there is memory.
+fn is_made_good<'a>(
+    core: &mut Core<&'a LocalHeap>,
+    taken: &mut Option<Vec<u8, &'a LocalHeap>>,
+    before: &[Item],
+    holder: Option<Lun>,
+    answer: Stepped,
+) -> Result<bool, Fail> {
+    let same = core.trace() == before && core.holder() == holder;
+    *taken = None;
+    Ok(core.step(ZERO)? == answer && same)
+}
+
+// A step that may be refused for want of memory. The items that had come before it, None where it wasn't refused.
 fn tried<'a>(
     rt: &impl Abort,
     alloc: Global,
@@ -494,29 +712,25 @@ fn tried<'a>(
     let holder = core.holder();
     match core.step(ZERO) {
         Ok(told) => {
-            assert_eq!(rt; told, answer);
+            assert!(rt; told == answer);
             Ok(None)
         }
         Err(_) => {
-            assert_eq!(rt; core.trace(), before.as_slice());
-            assert_eq!(rt; core.holder(), holder);
-            *taken = None;
-            assert_eq!(rt; core.step(ZERO)?, answer);
+            assert!(rt; is_made_good(core, taken, before.as_slice(), holder, answer)?);
             Ok(Some(before.len()))
         }
     }
 }
 
-// Steps an erase where so many bytes of the heap are left. The items that had come before the step that was refused, None
-// where the bytes sufficed.
-fn refused_with(
+// Steps an erase up to its first poll where so many bytes of the heap are left. The items that had come before the step that was
+// refused, None where the bytes sufficed.
+fn begun_with<'a>(
     rt: &impl Abort,
     alloc: Global,
-    heap: &LocalHeap,
+    heap: &'a LocalHeap,
+    core: &mut Core<&'a LocalHeap>,
     left: usize,
 ) -> Result<Option<usize>, Fail> {
-    let mut core = core_of(heap, ONE_LUN, 1)?;
-    load(&mut core, job_of(heap, ONE_LUN, ZERO, 4)?)?;
     let rest = largest(heap).saturating_sub(left);
     let mut taken = Some(Vec::with_capacity(heap, rest)?);
     let mut refused = None;
@@ -526,15 +740,30 @@ fn refused_with(
         Stepped::Went,
         Stepped::NotReady,
     ] {
-        if let Some(came) = tried(rt, alloc, &mut core, &mut taken, answer)? {
+        if let Some(came) = tried(rt, alloc, core, &mut taken, answer)? {
             refused = Some(came);
         }
     }
-    drop(taken);
-    assert!(rt; readied(&mut core, ZERO, false));
-    end(rt, &mut core, ZERO)?;
-    assert_eq!(rt; trace_of(&core).len(), 10);
-    assert_eq!(rt; unloaded(rt, &mut core, ZERO), Ok(0));
+    Ok(refused)
+}
+
+// The same of a new sequencer, whose erase goes on to its end.
+fn refused_with(
+    rt: &impl Abort,
+    alloc: Global,
+    heap: &LocalHeap,
+    left: usize,
+) -> Result<Option<usize>, Fail> {
+    let mut core = core_of(heap, ONE_LUN, 1)?;
+    assert!(rt; is_loaded(heap, &mut core, ONE_LUN, ZERO, 4)?);
+    let refused = begun_with(rt, alloc, heap, &mut core, left)?;
+    let tries = [
+        Try::Ready(ZERO, false, true),
+        Try::Steps(&END),
+        Try::Items(10),
+        Try::Unload(ZERO, Ok(0)),
+    ];
+    try_all(rt, heap, &mut core, &tries)?;
     Ok(refused)
 }
 
@@ -558,103 +787,58 @@ fn refused_memory(rt: HostRuntime) -> Result<(), Fail> {
 #[test]
 fn is_fresh_until_something_happens(rt: HostRuntime) -> Result<(), Fail> {
     let mut core = core_of(rt.alloc(), TWO_LUNS, 2)?;
-    assert!(rt; is_fresh(&core));
-    assert_eq!(rt; step(&mut core, ONE)?, Stepped::Empty);
-    assert!(rt; is_fresh(&core));
-    load(&mut core, job_of(rt.alloc(), TWO_LUNS, ONE, 0)?)?;
-    assert!(rt; !is_fresh(&core) && trace_of(&core).is_empty());
-    begin(&rt, &mut core, ONE)?;
-    assert!(rt; !is_fresh(&core) && readied(&mut core, ONE, false));
-    end(&rt, &mut core, ONE)?;
-    assert_eq!(rt; unloaded(&rt, &mut core, ONE), Ok(0));
-    assert!(rt; !is_fresh(&core) && trace_of(&core).len() == 16);
-    Ok(())
-}
-
-// What would be answered to the load of an erase for `parts` on the LUN `at`, if it is loaded onto `l`.
-fn admitted<A: Allocator + Copy>(
-    alloc: A,
-    core: &Core<A>,
-    l: Lun,
-    parts: Parts,
-    at: Lun,
-) -> Result<Result<(), LoadFault>, Fail> {
-    let job = job_of(alloc, parts, at, 0)?;
-    Ok(core.admits(l, &job))
-}
-
-#[test]
-fn what_a_load_would_be_answered(rt: HostRuntime) -> Result<(), Fail> {
-    let mut core = core_of(rt.alloc(), ONE_LUN, 1)?;
-    let cases = [
-        (ZERO, ONE_LUN, NEXT, LoadFault::S2),
-        (NEXT, ONE_LUN, NEXT, LoadFault::S2),
-        (ZERO, TWO_LUNS, ONE, LoadFault::S2),
-        (ZERO, TWO_LUNS, ZERO, LoadFault::S5),
+    let tries = [
+        Try::Fresh(true),
+        Try::Steps(&[(ONE, Stepped::Empty)]),
+        Try::Fresh(true),
+        Try::Load(TWO_LUNS, ONE, 0),
+        Try::Fresh(false),
+        Try::Items(0),
+        Try::Steps(&BEGIN_ONE),
+        Try::Fresh(false),
+        Try::Ready(ONE, false, true),
+        Try::Steps(&END_ONE),
+        Try::Unload(ONE, Ok(0)),
+        Try::Fresh(false),
+        Try::Items(16),
     ];
-    for (l, parts, at, fault) in cases {
-        assert_eq!(rt; admitted(rt.alloc(), &core, l, parts, at)?, Err(fault));
-        let job = job_of(rt.alloc(), parts, at, 0)?;
-        assert_eq!(rt; load_refused(&mut core, l, job), Some((fault, at)));
-    }
-    assert_eq!(rt; admitted(rt.alloc(), &core, ZERO, ONE_LUN, ZERO)?, Ok(()));
-    assert!(rt; is_fresh(&core));
-    load(&mut core, job_of(rt.alloc(), ONE_LUN, ZERO, 4)?)?;
-    for (parts, at) in [(ONE_LUN, ZERO), (ONE_LUN, NEXT), (TWO_LUNS, ZERO)] {
-        assert_eq!(rt;
-            admitted(rt.alloc(), &core, ZERO, parts, at)?,
-            Err(LoadFault::S1)
-        );
-        let job = job_of(rt.alloc(), parts, at, 0)?;
-        assert_eq!(rt;
-            load_refused(&mut core, ZERO, job),
-            Some((LoadFault::S1, at))
-        );
-    }
-    // the job that is loaded goes on
-    begin(&rt, &mut core, ZERO)?;
-    assert_eq!(rt; trace_of(&core).get(1), Some(&address(0x04)));
-    Ok(())
-}
-
-// No array becomes ready, and the trace stays as it was.
-fn no_array_works<A: Allocator>(
-    rt: &impl Abort,
-    core: &mut Core<A>,
-    items: usize,
-) -> Result<(), Fail> {
-    for lun in [ZERO, ONE, NEXT] {
-        assert!(rt; !array_readied(core, lun));
-    }
-    assert_eq!(rt; trace_of(core).len(), items);
-    Ok(())
+    try_all(&rt, rt.alloc(), &mut core, &tries)
 }
 
 #[test]
 fn no_array_becomes_ready(rt: HostRuntime) -> Result<(), Fail> {
     let mut core = core_of(rt.alloc(), ONE_LUN, 1)?;
-    no_array_works(&rt, &mut core, 0)?;
-    load(&mut core, job_of(rt.alloc(), ONE_LUN, ZERO, 4)?)?;
-    no_array_works(&rt, &mut core, 0)?;
-    begin(&rt, &mut core, ZERO)?;
-    no_array_works(&rt, &mut core, 7)?;
-    assert!(rt; readied(&mut core, ZERO, false));
-    no_array_works(&rt, &mut core, 8)?;
-    end(&rt, &mut core, ZERO)?;
-    no_array_works(&rt, &mut core, 10)?;
-    assert_eq!(rt; trace_of(&core), erase_of_block_1().as_slice());
-    Ok(())
+    let tries = [
+        Try::NoArray,
+        Try::Items(0),
+        Try::Load(ONE_LUN, ZERO, 4),
+        Try::NoArray,
+        Try::Items(0),
+        Try::Steps(&BEGIN),
+        Try::NoArray,
+        Try::Items(7),
+        Try::Ready(ZERO, false, true),
+        Try::NoArray,
+        Try::Items(8),
+        Try::Steps(&END),
+        Try::NoArray,
+        Try::Trace(0, &ERASE_OF_BLOCK_1),
+    ];
+    try_all(&rt, rt.alloc(), &mut core, &tries)
 }
 
 #[test]
 fn the_bus_is_handed_back(rt: HostRuntime) -> Result<(), Fail> {
     let mut core = core_of(rt.alloc(), ONE_LUN, 1)?;
-    load(&mut core, job_of(rt.alloc(), ONE_LUN, ZERO, 4)?)?;
-    begin(&rt, &mut core, ZERO)?;
-    assert!(rt; readied(&mut core, ZERO, false));
-    end(&rt, &mut core, ZERO)?;
+    let tries = [
+        Try::Load(ONE_LUN, ZERO, 4),
+        Try::Steps(&BEGIN),
+        Try::Ready(ZERO, false, true),
+        Try::Steps(&END),
+    ];
+    try_all(&rt, rt.alloc(), &mut core, &tries)?;
     let bus = core.into_bus();
-    assert_eq!(rt; bus.trace(), erase_of_block_1().as_slice());
+    assert!(rt; bus.trace() == ERASE_OF_BLOCK_1.as_slice());
     // idle, and it shows its status, since 70 came last
     let idle = LunState {
         busy: false,
@@ -704,12 +888,18 @@ fn are_of_steps(replies: &[Reply]) -> bool {
     )
 }
 
-// The replies to an erase on LUN 0 that ends with code 0.
+// The reply to the unload of an erase on LUN 0 that has ended with code 0.
+fn is_of_unload(reply: &Reply) -> bool {
+    match reply {
+        Reply::Unload(Ok(done)) => is_erase(done, ZERO) && done.code == 0,
+        _ => false,
+    }
+}
+
+// The replies to such an erase.
 fn are_of_one(replies: &[Reply]) -> bool {
     match replies {
-        [Reply::Load(Ok(())), steps @ .., Reply::Unload(Ok(done))] => {
-            are_of_steps(steps) && is_erase(done, ZERO) && done.code == 0
-        }
+        [Reply::Load(Ok(())), steps @ .., unload] => are_of_steps(steps) && is_of_unload(unload),
         _ => false,
     }
 }
@@ -720,42 +910,70 @@ fn a_list_of_events_is_done(rt: HostRuntime) -> Result<(), Fail> {
     let told = ran(&mut core, rt.alloc(), events_of_one(rt.alloc())?);
     assert!(rt; told.rest.is_empty() && told.shortage.is_none());
     assert!(rt; are_of_one(told.replies.as_slice()));
-    assert_eq!(rt; trace_of(&core), erase_of_block_1().as_slice());
-    assert_eq!(rt; step(&mut core, ZERO)?, Stepped::Empty);
-    Ok(())
+    let tries = [
+        Try::Trace(0, &ERASE_OF_BLOCK_1),
+        Try::Steps(&[(ZERO, Stepped::Empty)]),
+    ];
+    try_all(&rt, rt.alloc(), &mut core, &tries)
 }
 
-// What a list of events that was cut short is short of, where it is told so.
-fn shortage_of<A: Allocator>(
-    rt: &impl Abort,
-    core: &Core<A>,
-    told: &Ran<A>,
-    count: usize,
-) -> Option<Shortage> {
-    match told.shortage {
-        None => assert!(rt; told.rest.is_empty() && told.replies.len() == count),
-        Some(Shortage::ForReplies) => {
-            assert!(rt; told.replies.is_empty() && told.rest.len() == count && is_fresh(core));
-        }
-        Some(Shortage::ForStep) => assert!(rt; matches!(told.rest.first(), Some(Event::Step(_)))),
+// What came of a list of events of so many: how many were done and how many not, whether nothing has happened, and whether a step
+// waits for memory.
+#[derive(Clone, Copy)]
+struct Left {
+    done: usize,
+    rest: usize,
+    fresh: bool,
+    step_waits: bool,
+}
+
+// What is left fits to what there was no memory for.
+fn is_told(shortage: Option<Shortage>, left: Left, count: usize) -> bool {
+    match shortage {
+        None => left.rest == 0 && left.done == count,
+        Some(Shortage::ForReplies) => left.done == 0 && left.rest == count && left.fresh,
+        Some(Shortage::ForStep) => left.step_waits,
     }
-    told.shortage
 }
 
-// Does the events of an erase where so many bytes of the heap are left, and then, with all of them, the rest. What there was no
-// memory for at first.
-fn cut_short(rt: &impl Abort, heap: &LocalHeap, left: usize) -> Result<Option<Shortage>, Fail> {
-    let mut core = core_of(heap, ONE_LUN, 1)?;
+// The first of the events is a step.
+fn begins_with_step<A: Allocator>(events: &[Event<A>]) -> bool {
+    matches!(events.first(), Some(Event::Step(_)))
+}
+
+// What is left after such a list.
+fn left_of<A: Allocator + Copy>(core: &Core<A>, told: &Ran<A>) -> Left {
+    Left {
+        done: told.replies.len(),
+        rest: told.rest.len(),
+        fresh: core.is_fresh(),
+        step_waits: begins_with_step(told.rest.as_slice()),
+    }
+}
+
+// Does the events of an erase where so many bytes of the heap are left. Those that weren't done, and what there was no memory for.
+fn done_with<'a>(
+    rt: &impl Abort,
+    heap: &'a LocalHeap,
+    core: &mut Core<&'a LocalHeap>,
+    left: usize,
+) -> Result<(Vec<Event<&'a LocalHeap>, &'a LocalHeap>, Option<Shortage>), Fail> {
     let events = events_of_one(heap)?;
     let count = events.len();
     let rest = largest(heap).saturating_sub(left);
-    let taken: Vec<u8, &LocalHeap> = Vec::with_capacity(heap, rest)?;
-    let told = run_events(&mut core, heap, events);
-    let shortage = shortage_of(rt, &core, &told, count);
-    drop(taken);
-    let again = run_events(&mut core, heap, told.rest);
+    let _taken: Vec<u8, &LocalHeap> = Vec::with_capacity(heap, rest)?;
+    let told = run_events(core, heap, events);
+    assert!(rt; is_told(told.shortage, left_of(core, &told), count));
+    Ok((told.rest, told.shortage))
+}
+
+// The same on a new sequencer, and then, with all of the heap, the rest. What there was no memory for at first.
+fn cut_short(rt: &impl Abort, heap: &LocalHeap, left: usize) -> Result<Option<Shortage>, Fail> {
+    let mut core = core_of(heap, ONE_LUN, 1)?;
+    let (rest, shortage) = done_with(rt, heap, &mut core, left)?;
+    let again = run_events(&mut core, heap, rest);
     assert!(rt; again.rest.is_empty());
-    assert_eq!(rt; core.trace(), erase_of_block_1().as_slice());
+    assert!(rt; core.trace() == ERASE_OF_BLOCK_1.as_slice());
     Ok(shortage)
 }
 
@@ -777,7 +995,7 @@ fn events_are_cut_short(rt: HostRuntime) -> Result<(), Fail> {
 }
 
 #[test]
-fn answers_are_shown(rt: HostRuntime) -> Result<(), Fail> {
+fn faults_of_loads_are_shown(rt: HostRuntime) -> Result<(), Fail> {
     let loads = [
         (LoadFault::S1, "the LUN has a job already"),
         (LoadFault::S2, "the LUN isn't there, or isn't the job's"),
@@ -795,6 +1013,11 @@ fn answers_are_shown(rt: HostRuntime) -> Result<(), Fail> {
     for (fault, text) in loads {
         assert_eq!(rt; fault.to_string(rt.alloc())?.as_str(), text);
     }
+    Ok(())
+}
+
+#[test]
+fn faults_of_unloads_are_shown(rt: HostRuntime) -> Result<(), Fail> {
     let unloads = [
         (UnloadFault::U1, "the LUN has no job"),
         (UnloadFault::U2, "the job hasn't ended"),
@@ -802,6 +1025,11 @@ fn answers_are_shown(rt: HostRuntime) -> Result<(), Fail> {
     for (fault, text) in unloads {
         assert_eq!(rt; fault.to_string(rt.alloc())?.as_str(), text);
     }
+    Ok(())
+}
+
+#[test]
+fn answers_of_steps_are_shown(rt: HostRuntime) -> Result<(), Fail> {
     let answers = [
         (Stepped::Empty, "empty"),
         (Stepped::Ended, "ended"),

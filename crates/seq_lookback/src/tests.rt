@@ -53,8 +53,8 @@ const NEXT: Lun = Lun { ce: 1, lun: 0 };
 fn core_of(alloc: Global, parts: Parts) -> Result<Core, Fail> {
     let geometry = Geometry::of(parts)?;
     let mut dies = Vec::with_capacity(alloc, 2)?;
-    dies.push(LunDie::new(geometry)?)?;
-    dies.push(LunDie::new(geometry)?)?;
+    dies.push(LunDie::new(alloc, geometry)?)?;
+    dies.push(LunDie::new(alloc, geometry)?)?;
     match Bus::new(alloc, geometry, dies) {
         Ok(bus) => Ok(Core::new(bus)),
         Err((fault, _)) => Err(fault.into()),

@@ -24,14 +24,14 @@ step_in-requires-clause-can g c =
 
 pub returns-in-Err-clause-err : goal.returns-in-Err-clause-err
 returns-in-Err-clause-err g c = (
-  untouched c.self.inside.bus c.step_in.new.bus c.self.inside.slots.items _ c.self.inside.holder c.step_in.ensures.same c.in-Err.ensures.err.0
+  untouched c.self.inside.bus c.step_in.new.bus c.self.inside.slots.items _ c.self.inside.holder c.in-Err.ensures.err.0
       (refilled (length c.self.inside.slots.items) c.self.inside.slots.items c.step_in.new.slots (c.step_in.auto.slots ∙ ap length c.as_mut_slice.ensures.value) refl ∙ (c.in-Err.ensures.err.1 ∙ c.as_mut_slice.ensures.value)) ∙ c.self.view_is,
   record { running = c.requires.running; free = c.requires.free },
 )
 
 pub invariant_of-self : goal.invariant_of-self
 invariant_of-self g c =
-    subst IsCore (sym (untouched c.self.inside.bus c.step_in.new.bus c.self.inside.slots.items _ c.self.inside.holder c.step_in.ensures.same c.in-Err.ensures.err.0
+    subst IsCore (sym (untouched c.self.inside.bus c.step_in.new.bus c.self.inside.slots.items _ c.self.inside.holder c.in-Err.ensures.err.0
     (refilled (length c.self.inside.slots.items) c.self.inside.slots.items c.step_in.new.slots (c.step_in.auto.slots ∙ ap length c.as_mut_slice.ensures.value) refl ∙ (c.in-Err.ensures.err.1 ∙ c.as_mut_slice.ensures.value)))) c.self.invariant
 
 pub returns-in-Ok-clause-came : goal.returns-in-Ok-clause-came

@@ -3,7 +3,7 @@ use Rattle.seq_core.specs.Shows.{CoreView}
 use Rattle.seq_core.specs.After.{is_held}
 use Rattle.seq_core.specs.Calls.{IsCore}
 use Rattle.seq_core.proofs.Cores.{empty_now, ended_now, held_now}
-use Rattle.seq_core.proofs.sequencer.Core.step.Goals as goal
+use Rattle.seq_core.proofs.sequencer.Core.answer_at_rest.Goals as goal
 
 pub returns-in-None-clause-came : goal.returns-in-None-clause-came
 returns-in-None-clause-came g c = empty_now c.args.self.now c.args.l (subst IsCore c.self.view_is c.self.invariant) c.in-None.ensures.value
