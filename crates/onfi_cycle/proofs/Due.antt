@@ -275,7 +275,7 @@ cycles_due s c f idle = at (leb (length s.targets) c.ce) refl
     at false e =
         let low : c.ce < length s.targets = grind (arith, nat_tests) in
         let less = less_there (target_after s.geometry (Cyc c)) s.targets c.ce 0
-              (λ t found. let one = luns_due s.geometry t.tail (has_driver t.luns) c 0 t.luns (fits_at s.geometry s.targets c.ce t f.targets found).tail idle in omega (arith, one)) low in
+        (λ t found. let one = luns_due s.geometry t.tail (has_driver t.luns) c 0 t.luns (fits_at s.geometry s.targets c.ce t f.targets found).tail idle in omega (arith, one)) low in
         omega (arith, less)
 
 found_on : (s : BusView) (i : Item) → judged s i ≡ None → (t : TargetView) × (slice_get s.targets (target_of i) ≡ Some t) × (judge s.geometry (length s.targets) t.tail t.luns i ≡ None)
@@ -301,12 +301,12 @@ readies_are_due =
       cycles = λ s i f is idle. cycle s i f is idle;
       readies = λ s ce lun fail h.
           ready_less s (Rdy ce lun fail) h (λ t j.
-              let one = one_due t.tail (BecameReady fail) (λ v. v.busy) t.luns lun (ready_due t.tail fail) (is_busy_there s.geometry (length s.targets) t ce lun fail j) in
-              subst (λ (vs : List LunView). due_of t.tail vs + 1 ≤ due_of t.tail t.luns) (ready_on_luns s.geometry t.tail (has_driver t.luns) ce lun fail t.luns) one);
+          let one = one_due t.tail (BecameReady fail) (λ v. v.busy) t.luns lun (ready_due t.tail fail) (is_busy_there s.geometry (length s.targets) t ce lun fail j) in
+          subst (λ (vs : List LunView). due_of t.tail vs + 1 ≤ due_of t.tail t.luns) (ready_on_luns s.geometry t.tail (has_driver t.luns) ce lun fail t.luns) one);
       array_readies = λ s ce lun h.
           ready_less s (Ard ce lun) h (λ t j.
-              let one = one_due t.tail ArrayBecameReady (λ v. v.array_busy) t.luns lun (array_ready_due t.tail) (is_array_busy_there s.geometry (length s.targets) t ce lun j) in
-              subst (λ (vs : List LunView). due_of t.tail vs + 1 ≤ due_of t.tail t.luns) (array_ready_on_luns s.geometry t.tail (has_driver t.luns) ce lun t.luns) one);
+          let one = one_due t.tail ArrayBecameReady (λ v. v.array_busy) t.luns lun (array_ready_due t.tail) (is_array_busy_there s.geometry (length s.targets) t ce lun j) in
+          subst (λ (vs : List LunView). due_of t.tail vs + 1 ≤ due_of t.tail t.luns) (array_ready_on_luns s.geometry t.tail (has_driver t.luns) ce lun t.luns) one);
       elsewhere = λ s i. changed_due (target_after s.geometry i) s.targets (target_of i);
     }
   where

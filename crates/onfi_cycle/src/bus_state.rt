@@ -29,8 +29,8 @@ use crate::readies::due_of;
 use crate::rules::{driver, judge};
 use crate::sequences::{extend, no_tail, target_cycle, target_of, wants_command};
 use crate::{
-    Command, Effect, Filling, Forbidden, Item, Latch, Lun, LunFacts, PageAddress, Queued, ReadColumn,
-    Register, TailFacts, TargetCycle, WorkQueue,
+    Command, Effect, Filling, Forbidden, Item, Latch, Lun, LunFacts, PageAddress, Queued,
+    ReadColumn, Register, TailFacts, TargetCycle, WorkQueue,
 };
 use arrayvec::ArrayVec;
 use nand_geometry::Geometry;

@@ -4,20 +4,22 @@ ghost use Rattle.onfi_cycle.specs.Rules.{ends_row};
 ghost use Rattle.onfi_cycle.specs.Command.{is_page_program};
 ghost use Rattle.onfi_cycle.specs.Filling.{filling, cycle_filling};
 
-use nand_geometry::Geometry;
 use crate::effects::{names_lun, page_address};
 use crate::sequences::{input_column, row, row_with, takes_inputs, target_cycle};
 use crate::{Command, Filling, Item, Lun, Opening, TailFacts, TargetCycle};
+use nand_geometry::Geometry;
 
 // This address is the last of a program's row.
 fn ends_program_row(t: TailFacts) -> bool
     ensures { result ≡ ends_row is_page_program t }
 {
     match t.opening {
-        Some(Opening {
-            opener: Command::PageProgram,
-            addresses,
-        }) => addresses == 4,
+        Some(
+            Opening {
+                opener: Command::PageProgram,
+                addresses,
+            },
+        ) => addresses == 4,
         _ => false,
     }
 }
