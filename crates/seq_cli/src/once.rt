@@ -1,5 +1,5 @@
 //! Running a word file once.
-ghost use Rattle.std.specs.Prelude.{◌≡◌, ◌≤◌, ℕ, ◌+◌, ◌*◌, List, ◌++◌, Some, None, Ok, IfOk, OnOk, IfErr, IfSome, length};
+ghost use Rattle.std.specs.Prelude.{◌≡◌, ◌≤◌, false, ℕ, ◌+◌, ◌*◌, List, ◌++◌, Some, None, Ok, IfOk, OnOk, IfErr, IfSome, length};
 ghost use Rattle.std.specs.Io.KnownBytes.{Appends};
 ghost use Rattle.std.specs.List.{All};
 ghost use Rattle.std.specs.String.{string_bytes};
@@ -10,8 +10,11 @@ ghost use Rattle.seq_cli.specs.declared.refusal.Refusal.{Refusal};
 ghost use Rattle.seq_cli.specs.Refusals.{line_of, Tells};
 ghost use Rattle.micro_word.specs.Text.{IsFileOf};
 ghost use Rattle.seq_core.specs.World.{fresh};
+ghost use Rattle.seq_core.specs.Calls.{IsEvent};
+ghost use Rattle.seq_core.specs.Event.{Ready};
+ghost use Rattle.seq_core.specs.Reply.{ToReady};
 ghost use Rattle.seq_core.specs.Shows.{IsAt, channel_in};
-ghost use Rattle.seq_cli.specs.Once.{one_lun, refused, the_channel, IsJobOf, IsRun};
+ghost use Rattle.seq_cli.specs.Once.{one_lun, the_lun, refused, the_channel, IsJobOf, IsRun};
 ghost use Rattle.seq_cli.specs.Lines.{end_line};
 ghost use Rattle.seq_cli.specs.Runs.{EndsWithin, HasRun, IsForTheLun, IsLoaded, RanAlone, TellsRun, TookTurn};
 ghost use Rattle.trace_text.specs.Line.{text, IsPrintable};
@@ -27,7 +30,7 @@ use micro_verify::{Verified, VerifyRefusal, verify};
 use micro_word::{WordRefusal, read};
 use nand_geometry::{Geometry, Parts};
 use onfi_cycle::{Item, Lun};
-use seq_core::{Core, Job, Stepped};
+use seq_core::{Core, Done, Job, Stepped};
 use std::alloc::{AllocError, Allocator};
 use std::io::{Read, Write};
 use target_bus::{Bus, BusFault};
@@ -116,6 +119,20 @@ fn new_core<A: Allocator + Copy>(alloc: A) -> Result<Core<A>, AllocError>
     }
 }
 
+// The LUN becomes ready, without failure.
+fn become_ready<A: Allocator + Copy>(core: &mut Core<A>) -> bool
+    ensures { IsEvent core.old (Ready the_lun false) (ToReady result) core.new }
+{
+    core.ready(THE_LUN, false)
+}
+
+// The code with which a job has ended.
+fn code_of<A: Allocator + Copy>(done: &Done<A>) -> u8
+    ensures { result ≡ done.now.code }
+{
+    done.code
+}
+
 // One turn of the one program: its next word is stepped, and its LUN becomes ready without failure if a poll says busy. It
 // tells whether the program has ended.
 fn turn<A: Allocator + Copy>(core: &mut Core<A>) -> Result<bool, AllocError>
@@ -124,7 +141,7 @@ fn turn<A: Allocator + Copy>(core: &mut Core<A>) -> Result<bool, AllocError>
     match core.step(THE_LUN)? {
         Stepped::Ended => Ok(true),
         Stepped::NotReady => {
-            core.ready(THE_LUN, false);
+            become_ready(core);
             Ok(false)
         }
         _ => Ok(false),
@@ -183,7 +200,7 @@ fn ran<A: Allocator + Copy>(alloc: A, job: Job<A>) -> Result<(Core<A>, u8), Allo
     let (mut core, turns) = started(alloc, job)?;
     run_to_end(&mut core, turns)?;
     match core.unload(THE_LUN) {
-        Ok(done) => Ok((core, done.code)),
+        Ok(done) => Ok((core, code_of(&done))),
         Err(_) => unreachable!(),
     }
 }

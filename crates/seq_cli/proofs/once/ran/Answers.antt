@@ -1,3 +1,5 @@
+use Rattle.std.proofs.Common.{subst, sym}
+use Rattle.seq_cli.specs.Runs.{RanAlone}
 use Rattle.seq_cli.proofs.Ends.{never_stays, ran_alone}
 use Rattle.seq_cli.proofs.once.ran.Goals as goal
 
@@ -7,4 +9,5 @@ unreachable-requires g c =
 
 pub returns : goal.returns
 returns g c =
-    ran_alone c.in_ok-core.core c.run_to_end.new.core c.unload.new.self c.args.job c.in-Ok.done.job c.in_ok-core.turns c.in-Ok.done.code c.requires c.in_ok-core.ensures.loaded c.in_ok-core.ensures.turns c.in_ok-run_to_end.ensures c.in-Ok.ensures.ok
+    subst (RanAlone c.args.job c.unload.new.self.past) (sym c.code_of.ensures)
+    (ran_alone c.in_ok-core.core c.run_to_end.new.core c.unload.new.self c.args.job c.in-Ok.done.job c.in_ok-core.turns c.in-Ok.done.code c.requires c.in_ok-core.ensures.loaded c.in_ok-core.ensures.turns c.in_ok-run_to_end.ensures c.in-Ok.ensures.ok)

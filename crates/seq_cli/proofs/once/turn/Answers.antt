@@ -12,7 +12,7 @@ returns-in-Ended g c =
 
 pub returns-in-NotReady : goal.returns-in-NotReady
 returns-in-NotReady g c =
-    ready_turn c.args.core.now c.step.new.self c.ready.new.self c.ready.result (subst (λ answer. IsEvent c.args.core.now (Step the_lun) (ToStep answer) c.step.new.self) c.in-NotReady.is c.in_ok-step.ensures.came) c.ready.ensures
+    ready_turn c.args.core.now c.step.new.self c.become_ready.new.core c.become_ready.result (subst (λ answer. IsEvent c.args.core.now (Step the_lun) (ToStep answer) c.step.new.self) c.in-NotReady.is c.in_ok-step.ensures.came) c.become_ready.ensures
 
 pub returns-in_default : goal.returns-in_default
 returns-in_default g c = more_turn c.args.core.now c.step.new.self c.in_ok-step.field-0 c.in_ok-step.ensures.came c.in_default.not-Ended c.in_default.not-NotReady
