@@ -1,3 +1,6 @@
+ghost use Rattle.std.specs.Prelude.{◌≡◌, false};
+ghost use Rattle.target_bus.specs.Bus.{is_output};
+
 use super::*;
 use linked_list_allocator::LocalHeap;
 use nand_geometry::Parts;
