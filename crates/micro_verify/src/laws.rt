@@ -69,7 +69,37 @@ pub fn unready_is_busy()
 
 ghost use Rattle.micro_verify.specs.Places.{LinesAreFew};
 
-/// A text with its loops written out has few lines: each word comes at most 4,096 times in each of two loops.
+/// A text with its loops written out has few lines: each word comes at most 4,096 times in each of four loops.
 pub fn lines_are_few()
     ensures { LinesAreFew }
+{}
+
+ghost use Rattle.micro_verify.specs.SafePrograms.{AcceptedLinesAreSafe};
+
+/// A text whose lines are accepted from the first state, word by word and in each way that a branch may go, is safe.
+pub fn accepted_lines_are_safe()
+    ensures { AcceptedLinesAreSafe }
+{}
+
+ghost use Rattle.micro_verify.specs.SafePrograms.{SomeAreSafe};
+
+/// Programs that are safe since they are accepted: a read and its data, on one LUN and on several; a read that lets others have the
+/// bus; a program of a page, also in parts; a change of the read column; an erase with its status, of two planes, and of two blocks in
+/// a loop; a cache read; the identifier, the parameter page and a reset.
+pub fn some_are_safe()
+    ensures { SomeAreSafe }
+{}
+
+ghost use Rattle.micro_verify.specs.Certified.{StatesMeetLaws};
+
+/// States meet what a certificate asks of a kind of state.
+pub fn states_meet_laws()
+    ensures { StatesMeetLaws }
+{}
+
+ghost use Rattle.micro_verify.specs.Certified.{CertifiedTextsAreSafe};
+
+/// A text with loops and branches is safe, for a geometry inside the limits, where states claimed for its places are its certificate.
+pub fn certified_texts_are_safe()
+    ensures { CertifiedTextsAreSafe }
 {}

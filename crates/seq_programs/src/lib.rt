@@ -1,0 +1,12 @@
+//! Programs on a channel: each that the verifier accepts, by hand or of a generator, run by the sequencer on one LUN and among
+//! others, with the buffers and images that come of it, and its trace checked. Only tests stand here.
+#![tactic(auto)]
+
+#[cfg(test)]
+mod channel;
+#[cfg(test)]
+mod programs;
+#[cfg(test)]
+mod random_tests;
+#[cfg(test)]
+mod tests;
