@@ -7,14 +7,17 @@ use Rattle.nand_geometry.specs.Limits.{page_len, planes}
 use Rattle.onfi_cycle.specs.declared.PageAddress.{PageAddress}
 use Rattle.onfi_cycle.specs.declared.Queued.{Queued}
 use Rattle.onfi_cycle.specs.declared.Queued.TheVariants.{Erase, Program}
-use Rattle.onfi_cycle.specs.Lun.{busy_after, queue_after}
+use Rattle.onfi_cycle.specs.declared.Effect.{Effect}
+use Rattle.onfi_cycle.specs.declared.Register.{Register}
+use Rattle.onfi_cycle.specs.declared.Register.TheVariants.{Empty, Page}
+use Rattle.onfi_cycle.specs.Lun.{busy_after, queue_after, register_after}
 use Rattle.onfi_cycle.specs.Content.{ArrayWork, left_by_all, same_page, queued_work_after, pending_work_after, content_after, failed_after, is_some_work}
 use Rattle.onfi_cycle.specs.Rules.{has_some, some_queued_clashes}
 use Rattle.die_model.specs.declared.Work.{Work}
 use Rattle.die_model.specs.declared.Work.TheVariants as w
 use Rattle.die_model.specs.Pages.{kept, page_in, is_given}
 use Rattle.onfi_cycle.specs.Bounds.{is_row}
-use Rattle.die_model.specs.Die.{Die, bytes_taken, plane_bytes, works_of, effect_of, is_row_of, row_of_work, goes_with, is_reset, members_after, closes, page_to_keep, AreKept, are_erases, are_programs, HasRows, IsDie}
+use Rattle.die_model.specs.Die.{Die, bytes_taken, plane_bytes, works_of, effect_of, is_row_of, row_of_work, goes_with, is_reset, members_after, closes, page_to_keep, AreKept, are_erases, are_programs, HasRows, IsDie, ShowsPage}
 use Rattle.die_model.proofs.Kept.{Entries, same_parts}
 
 pub not_closed : (reset closed busy : Bool) → (closed ≡ true → busy ≡ true) → (reset || not busy) ≡ true → reset ≡ false → closed ≡ false
@@ -286,3 +289,21 @@ taken_is d w.Identifier = refl
 taken_is d w.Parameters = refl
 taken_is d w.Cache = refl
 taken_is d w.CacheEnd = refl
+
+-- 5. the page that stands ready
+
+pub kept_lengths : (g : Parts) (work : Work) (old new : Entries) (registers : List (List ℕ)) (len : ℕ) → HasRows g old registers → is_row_of g (row_of_work work) ≡ true → Keeps (page_len g) (page_to_keep work) old new → len ≡ page_len g → (p : PageAddress) (bytes : List ℕ) → kept new p ≡ Some bytes → length bytes ≡ len
+kept_lengths g work old new registers len rows row k same p bytes is = (kept_rows g (page_to_keep work) registers old new (row_to_keep g work row) k rows).lengths p bytes is ∙ sym same
+
+closes_empty : (work : Work) (p : PageAddress) (r : Register) → closes work ≡ true → register_after (effect_of work) p r ≡ Empty
+closes_empty (w.Program at) p r h = refl
+closes_empty (w.Erase at) p r h = refl
+closes_empty work p r h = cc
+
+pub shows_begun : (g : Parts) (work : Work) (x : Effect) (p : PageAddress) (pages : Entries) (before after : List ℕ) (r held : Register) (closing : Bool) → x ≡ effect_of work → held ≡ register_after x p r → closing ≡ closes work → length before ≡ page_len g → length after ≡ length before → ((at : PageAddress) → held ≡ Page at → after ≡ page_in (length before) pages at) → ShowsPage g pages held after closing
+shows_begun g work x p pages before after r held closing ex eh ec was same f =
+    record {
+      page = λ at is. f at is ∙ ap (λ (n : ℕ). page_in n pages at) was;
+      width = same ∙ was;
+      ends = λ h. eh ∙ (ap (λ (y : Effect). register_after y p r) ex ∙ closes_empty work p r (sym ec ∙ h));
+    }

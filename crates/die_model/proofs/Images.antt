@@ -15,7 +15,9 @@ use Rattle.die_model.specs.Image.{four, is_written, count_of, header, magic}
 use Rattle.die_model.specs.Loading.{first_row, first_page, first_bytes, entry_len, is_page, row_fault, or_later, entries_fault, told, are_pages, ArePages, image_fault, count_told, entries_told, has_numbers}
 use Rattle.die_model.specs.Die.{AreKept, IsDie}
 use Rattle.onfi_cycle.specs.declared.Queued.{Queued}
-use Rattle.onfi_cycle.specs.Rules.{has_some}
+use Rattle.onfi_cycle.specs.declared.Register.{Register}
+use Rattle.onfi_cycle.specs.declared.Register.TheVariants.{Empty, Page, ParameterPage, Identifier}
+use Rattle.onfi_cycle.specs.Rules.{has_some, is_empty}
 use Rattle.std.specs.List.{starts_with}
 use Rattle.die_model.proofs.Kept.{Entries, ChangesAt, kept_after, same_parts}
 
@@ -261,3 +263,13 @@ loaded_is_die g parameters old new registers members closed busy there are die =
       works = die.works;
       some = die.some;
     }
+
+-- a new die shows no page
+pub shows_none : (a b c failed closed : Bool) (r : Register) (members : List Queued) → (a && (b && (c && (is_empty r && (not (has_some (cond closed [] members)) && (not (has_some (cond closed members [])) && failed)))))) ≡ true → (at : PageAddress) → r ≡ Page at → ⊥
+shows_none true true true failed closed Empty members h at e = cc
+shows_none true true true failed closed (Page p) members h at e = cc
+shows_none true true true failed closed ParameterPage members h at e = cc
+shows_none true true true failed closed Identifier members h at e = cc
+shows_none true true false failed closed r members h at e = cc
+shows_none true false c failed closed r members h at e = cc
+shows_none false b c failed closed r members h at e = cc

@@ -41,7 +41,7 @@ same_parts p at h = of p.block at.block p.page at.page h
 abbrev pub ChangesAt : PageAddress → Option (List ℕ) → Entries → Entries → Type 0
 ChangesAt at w old new = (q : ℕ × ℕ) → lookup (is_at (row_cmp q)) new ≡ cond (is_at (row_cmp (at.block, at.page)) q) w (lookup (is_at (row_cmp q)) old)
 
--- what is kept behind such a change
+-- what is kept after such a change
 pub kept_after : (at : PageAddress) (w : Option (List ℕ)) (old new : Entries) → ChangesAt at w old new → (p : PageAddress) → kept new p ≡ cond (same_page p at) w (kept old p)
 kept_after at w old new h p = h (p.block, p.page) ∙ ap (λ (b : Bool). cond b w (kept old p)) (row_same at p)
 

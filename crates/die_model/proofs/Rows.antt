@@ -68,7 +68,7 @@ take_whole [] (suc n) h = refl
 take_whole (r ∷ rows) zero h = absurd (omega (arith, h))
 take_whole (r ∷ rows) (suc n) h = ap (λ (t : List Queued). r ∷ t) (take_whole rows n (omega (arith, h)))
 
--- behind the rest of a list its first row is still in place
+-- after the rest of a list its first row is still in place
 pub first_there : (pages new : Entries) (rows : List Queued) (d : Queued) → 1 ≤ length rows → AreKept pages rows → are_erases rows || are_programs rows ≡ true → (are_programs (take (length rows - 1) (drop 1 rows)) ≡ true → (queue : List Queued) → AreKept pages queue → AreKept new queue) → AreKept new (get_or rows 0 d ∷ [])
 first_there pages new [] d some h alike f = absurd (omega (arith, some))
 first_there pages new (Erase q ∷ rows) d some h alike f = tt

@@ -165,7 +165,7 @@ effect_goes_on s past i l old new f a =
 
 -- 3. a program stays open
 
--- no work starts where a program is open behind the cycle
+-- no work starts where a program is open after the cycle
 calm_command : (g : Parts) (t : List TargetCycle) (latch : Latch) (c : Command) (lun : ℕ) → names_program (facts_of (with_cycle (CommandCycle c) t)) ≡ true → busy_after (command_effect g (facts_of t) latch c lun) false ≡ false
 calm_command g t latch k.ChangeWriteColumn lun h = of (wants_command (facts_of t) k.ChangeWriteColumn && names_lun g (row (facts_of t)) lun)
   where

@@ -8,7 +8,7 @@ use Rattle.onfi_cycle.specs.declared.PageAddress.{PageAddress}
 use Rattle.onfi_cycle.specs.declared.Queued.{Queued}
 use Rattle.onfi_cycle.specs.declared.Queued.TheVariants.{Erase, Program}
 use Rattle.onfi_cycle.specs.declared.Register.{Register}
-use Rattle.onfi_cycle.specs.declared.Register.TheVariants.{Empty}
+use Rattle.onfi_cycle.specs.declared.Register.TheVariants.{Empty, Page}
 use Rattle.onfi_cycle.specs.declared.Effect.{Effect}
 use Rattle.onfi_cycle.specs.declared.Effect.TheVariants.{ReadStarted, EraseStarted, ProgramStarted, IdRead, ParameterPageReadStarted, CacheReadContinued, CacheReadEnded, ResetStarted}
 use Rattle.onfi_cycle.specs.Lun.{busy_after, array_busy_after, array_page_after, register_after, queue_after}
@@ -115,7 +115,7 @@ abbrev pub bytes_taken : Die → Effect → List ℕ
 bytes_taken d (ProgramStarted queued at) = plane_bytes d.geometry d.planes at
 bytes_taken d _ = []
 
--- the die behind an effect: each fact by the step that the definitions of a channel take
+-- the die after an effect: each fact by the step that the definitions of a channel take
 pub record IsAfter (e : Effect) (old new : Die) : Type 0 where
   pub geometry : new.geometry ≡ old.geometry
   pub planes : new.planes ≡ old.planes
@@ -233,6 +233,17 @@ pub record IsDie (g : Parts) (parameters : List ℕ) (pages : List ((ℕ × ℕ)
   pub alike : are_erases members || are_programs members ≡ true
   pub works : closed ≡ true → busy ≡ true
   pub some : closed ≡ true → has_some members ≡ true
+
+-- while its register holds a page the bytes of that page stand ready, and works that wait for their end leave no page in it
+pub record ShowsPage (g : Parts) (pages : List ((ℕ × ℕ) × List ℕ)) (register : Register) (output : List ℕ) (closed : Bool) : Type 0 where
+  pub page : (at : PageAddress) → register ≡ Page at → output ≡ page_in (page_len g) pages at
+  pub width : length output ≡ page_len g
+  pub ends : closed ≡ true → register ≡ Empty
+
+-- what is true of every die, and of the bytes that stand ready
+pub record KeepsDie (g : Parts) (parameters : List ℕ) (pages : List ((ℕ × ℕ) × List ℕ)) (registers : List (List ℕ)) (members : List Queued) (closed busy : Bool) (register : Register) (output : List ℕ) : Type 0 where
+  pub die : IsDie g parameters pages registers members closed busy
+  pub shows : ShowsPage g pages register output closed
 
 -- a die fresh from the factory: every byte of every page and register is FF
 abbrev pub new_die : Parts → Die

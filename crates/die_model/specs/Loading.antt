@@ -1,5 +1,5 @@
 -- What an image says: its first fault, and the bytes of each page.
-use Rattle.std.specs.Prelude.{◌≡◌, ℕ, zero, suc, ◌+◌, ◌*◌, ◌==◌, Bool, true, false, ◌&&◌, not, nat_eq, nat_lt, if◌then◌else◌, List, codes, length, take, drop, replicate, Option, Some, None, Result, Err, IfErr}
+use Rattle.std.specs.Prelude.{◌≡◌, ℕ, zero, suc, ◌+◌, ◌*◌, ◌^◌, ◌<◌, ◌==◌, Bool, true, false, ◌&&◌, not, nat_eq, nat_lt, if◌then◌else◌, List, codes, length, take, drop, replicate, Option, Some, None, Result, Err, IfErr}
 use Rattle.std.specs.List.{starts_with}
 use Rattle.nand_geometry.specs.declared.Parts.{Parts}
 use Rattle.nand_geometry.specs.Limits.{page_len}
@@ -15,7 +15,7 @@ use Rattle.die_model.specs.declared.refusal.ImageRefusal.{ImageRefusal}
 use Rattle.die_model.specs.declared.refusal.ImageRefusal.TheVariants.{Fault, OutOfMemory}
 use Rattle.die_model.specs.Pages.{kept}
 use Rattle.die_model.specs.Die.{Die, page_of}
-use Rattle.die_model.specs.Image.{magic}
+use Rattle.die_model.specs.Image.{magic, count_of}
 
 -- the code under which a fault is told
 abbrev pub code : ImageFault → List ℕ
@@ -29,7 +29,7 @@ code Row = codes "I5"
 abbrev pub has_numbers : Parts → List ℕ → Bool
 has_numbers g bytes = u32_at bytes 4 == g.page_bytes && (u32_at bytes 8 == g.spare_bytes && (u32_at bytes 12 == g.pages && u32_at bytes 16 == g.blocks))
 
--- how many entries the header tells of, and the bytes behind it
+-- how many entries the header tells of, and the bytes that follow it
 abbrev pub count_told : List ℕ → ℕ
 count_told bytes = u32_at bytes 20
 
@@ -106,3 +106,16 @@ IsJudgedBy None result = IfErr result (λ e. e ≡ OutOfMemory)
 pub record IsLoaded (bytes : List ℕ) (old new : Die) : Type 0 where
   pub rest : new ≡ record old { pages = new.pages }
   pub pages : (p : PageAddress) → page_of new p ≡ page_told old.geometry bytes p
+
+-- the image of a die gives its pages again: it has no fault for a die of this geometry, and says the bytes of each page; and its count
+-- of entries fits four bytes
+pub record Restores (bytes : List ℕ) (d : Die) : Type 0 where
+  pub faultless : image_fault d.geometry bytes ≡ None
+  pub pages : (p : PageAddress) → page_told d.geometry bytes p ≡ page_of d p
+  pub count : count_of d.geometry d.pages < 2 ^ 32
+
+-- the law: what an image restores of a die, a new die of the same geometry has when it is loaded; each page has the same bytes
+abbrev pub ImagesRestore : Type 0
+ImagesRestore =
+    (bytes : List ℕ) (d old new : Die) → Restores bytes d → old.geometry ≡ d.geometry → IsLoaded bytes old new
+    → (p : PageAddress) → page_of new p ≡ page_of d p

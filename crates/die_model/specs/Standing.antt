@@ -75,7 +75,7 @@ IsWorked s past i l old new = WorkedBy s.geometry (filling s.geometry (facts_of 
 abbrev pub RowsFit : Parts → List Item → Lun → Type 0
 RowsFit g past l = RowFits g (facts_of (tail past l.ce)) l.lun (lun_view g past l)
 
--- the law: a die that stands for its LUN and on which a permitted item is worked stands for it behind the item
+-- the law: a die that stands for its LUN and on which a permitted item is worked stands for it after the item
 abbrev pub DiesGoOn : Type 0
 DiesGoOn =
     (s : Channel) (past : List Item) (i : Item) (l : Lun) (old new : Die) → broken s.geometry s.targets past i ≡ None

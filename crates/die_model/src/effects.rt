@@ -58,7 +58,7 @@ pub fn work_begun(effect: Effect) -> Option<Work>
     }
 }
 
-/// The die reads its cache behind an effect.
+/// The die reads its cache after an effect.
 pub fn caching_after(effect: Effect, before: bool) -> bool
     ensures { result ≡ caching_after effect before }
 {
@@ -75,7 +75,7 @@ pub fn caching_after(effect: Effect, before: bool) -> bool
     }
 }
 
-/// A work joins the rows that wait; they are closed behind it or not.
+/// A work joins the rows that wait; they are closed by it or not.
 pub fn join(members: &mut ArrayVec<Queued, 16>, work: Work) -> bool
     requires { is_reset work ≡ false → length members.old.items < 16 }
     ensures members { members.new.items ≡ members_after work members.old.items }

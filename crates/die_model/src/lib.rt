@@ -18,8 +18,10 @@ ghost use Rattle.die_model.specs.Standing.{WorkedBy, CanWork};
 ghost use Rattle.nand_geometry.specs.Page.{parameter_bytes};
 ghost use Rattle.onfi_cycle.specs.declared.PageAddress.{PageAddress as At};
 ghost use Rattle.die_model.specs.Die.{page_to_keep, is_program};
+ghost use Rattle.onfi_cycle.specs.declared.Register.{Register};
+ghost use Rattle.die_model.specs.Pages.{kept, page_in};
 ghost use Rattle.die_model.specs.Image.{image_of};
-ghost use Rattle.die_model.specs.Loading.{image_fault, IsJudgedBy, IsLoaded};
+ghost use Rattle.die_model.specs.Loading.{image_fault, IsJudgedBy, IsLoaded, Restores};
 ghost use Rattle.die_model.specs.Die.{CanBegin, IsAfter, effect_of, status_of, bytes_shown, is_new, new_die, page_of};
 
 use arrayvec::ArrayVec;
@@ -57,6 +59,21 @@ pub enum Work {
     CacheEnd,
 }
 
+// What a LUN does, and what its register holds.
+#[derive(Drop)]
+struct Activity {
+    register: Register,
+    array_page: PageAddress,
+    busy: bool,
+    caching: bool,
+    array_busy: bool,
+    // The rows that are queued, the newest first.
+    members: ArrayVec<Queued, 16>,
+    // The next ready ends them.
+    closed: bool,
+    failed: bool,
+}
+
 /// One LUN: its pages, its registers, and what its array does.
 #[derive(Drop)]
 pub struct LunDie<A: Allocator = Global> {
@@ -66,26 +83,19 @@ pub struct LunDie<A: Allocator = Global> {
     pages: Pages<A>,
     /// The page register of each plane.
     planes: Vec<Page<A>, A>,
-    register: Register,
-    array_page: PageAddress,
-    busy: bool,
-    caching: bool,
-    array_busy: bool,
-    /// The rows that are queued, the newest first.
-    members: ArrayVec<Queued, 16>,
-    /// The next ready ends them.
-    closed: bool,
-    failed: bool,
+    /// The bytes of the page that the register holds, if it holds one.
+    output: Page<A>,
+    activity: Activity,
 }
 
 impl<A: Allocator> Model for LunDie<A> {
-    ghost use Rattle.die_model.specs.Die.{Die, IsDie, die_with};
+    ghost use Rattle.die_model.specs.Die.{Die, KeepsDie, die_with};
 
     ghost Value = { Die };
 
-    ghost view = { λ d. die_with d.geometry d.pages d.planes.items d.register d.array_page d.busy d.caching d.array_busy d.members.items d.closed d.failed };
+    ghost view = { λ d. die_with d.geometry d.pages d.planes.items d.activity.register d.activity.array_page d.activity.busy d.activity.caching d.activity.array_busy d.activity.members.items d.activity.closed d.activity.failed };
 
-    ghost invariant = { λ d. IsDie d.geometry d.parameters.items d.pages d.planes.items d.members.items d.closed d.busy };
+    ghost invariant = { λ d. KeepsDie d.geometry d.parameters.items d.pages d.planes.items d.activity.members.items d.activity.closed d.activity.busy d.activity.register d.output };
 }
 
 /// The status while the array works: WP_N alone.
@@ -127,6 +137,20 @@ fn registers<A: Allocator + Copy>(
     Ok(all)
 }
 
+// The bytes of the page that a register holds, if it holds one.
+fn fetch<A: Allocator + Copy>(output: &mut Page<A>, pages: &Pages<A>, register: Register)
+    requires { (at : At) (bytes : List ℕ) → kept pages.now at ≡ Some bytes → length bytes ≡ length output.old }
+    ensures page { (at : At) → register ≡ Register.Page at → output.new ≡ page_in (length output.old) pages.now at }
+    ensures width { length output.new ≡ length output.old }
+{
+    if let Register::Page(at) = register {
+        match pages.get(at) {
+            Some(page) => output.copy_from(page.bytes()),
+            None => output.clear(),
+        }
+    }
+}
+
 impl<A: Allocator + Copy> LunDie<A> {
     /// A die fresh from the factory: every byte of every page is FF.
     pub fn new(alloc: A, geometry: Geometry) -> Result<LunDie<A>, AllocError>
@@ -140,19 +164,22 @@ impl<A: Allocator + Copy> LunDie<A> {
             geometry,
             pages: Pages::new(alloc),
             planes: registers(alloc, planes, len)?,
-            register: Register::Empty,
-            array_page: PageAddress { block: 0, page: 0 },
-            busy: false,
-            caching: false,
-            array_busy: false,
-            members: ArrayVec::new(),
-            closed: false,
-            failed: false,
+            output: Page::blank(alloc, len)?,
+            activity: Activity {
+                register: Register::Empty,
+                array_page: PageAddress { block: 0, page: 0 },
+                busy: false,
+                caching: false,
+                array_busy: false,
+                members: ArrayVec::new(),
+                closed: false,
+                failed: false,
+            },
         })
     }
 
-    // A byte of a page, if it has that column.
-    fn page_byte(&self, at: PageAddress, column: usize) -> Option<u8>
+    /// A byte of a page, if it has that column.
+    pub fn page_byte(&self, at: PageAddress, column: usize) -> Option<u8>
         ensures { result ≡ slice_get (page_of self.now at) column }
     {
         match self.pages.get(at) {
@@ -166,9 +193,9 @@ impl<A: Allocator + Copy> LunDie<A> {
     pub fn shown(&self, column: usize) -> Option<u8>
         ensures { result ≡ slice_get (bytes_shown self.now) column }
     {
-        match self.register {
+        match self.activity.register {
             Register::Empty => None,
-            Register::Page(at) => self.page_byte(at, column),
+            Register::Page(_) => self.output.bytes().get(column).copied(),
             Register::ParameterPage => self.parameters.get(column).copied(),
             Register::Identifier => IDENTIFIER.get(column).copied(),
         }
@@ -178,14 +205,14 @@ impl<A: Allocator + Copy> LunDie<A> {
     pub fn is_busy(&self) -> bool
         ensures { result ≡ self.now.busy }
     {
-        self.busy
+        self.activity.busy
     }
 
     /// The last work failed.
     pub fn has_failed(&self) -> bool
         ensures { result ≡ self.now.failed }
     {
-        self.failed
+        self.activity.failed
     }
 
     /// A copy of its pages.
@@ -201,14 +228,14 @@ impl<A: Allocator + Copy> LunDie<A> {
     pub fn forget_array_page(&mut self)
         ensures { self.new ≡ record self.old { array_page = record { block = 0; page = 0 } } }
     {
-        self.array_page = PageAddress { block: 0, page: 0 };
+        self.activity.array_page = PageAddress { block: 0, page: 0 };
     }
 
     /// Its array becomes ready after a cache read.
     pub fn array_ready(&mut self)
         ensures { IsAfter ArrayBecameReady self.old self.new }
     {
-        self.array_busy = false;
+        self.activity.array_busy = false;
     }
 
     /// The geometry of its target.
@@ -222,11 +249,11 @@ impl<A: Allocator + Copy> LunDie<A> {
     pub fn status(&self) -> Status
         ensures { result.0 ≡ status_of self.now }
     {
-        if self.busy {
+        if self.activity.busy {
             BUSY
-        } else if self.array_busy {
+        } else if self.activity.array_busy {
             ARRAY_BUSY
-        } else if self.failed {
+        } else if self.activity.failed {
             FAILED
         } else {
             READY
@@ -237,38 +264,38 @@ impl<A: Allocator + Copy> LunDie<A> {
     pub fn is_new(&self) -> bool
         ensures { result ≡ is_new self.now }
     {
-        !self.busy
-            && !self.array_busy
-            && !self.caching
-            && self.register == Register::Empty
-            && self.members.is_empty()
-            && !self.failed
+        !self.activity.busy
+            && !self.activity.array_busy
+            && !self.activity.caching
+            && self.activity.register == Register::Empty
+            && self.activity.members.is_empty()
+            && !self.activity.failed
     }
 
     /// Becomes ready, with failure or without. Without failure the works have taken effect. It takes no memory.
     pub fn finish(&mut self, fail: bool)
         ensures { IsAfter (BecameReady fail) self.old self.new }
     {
-        self.array_busy = array_busy_after(
+        self.activity.array_busy = array_busy_after(
             Effect::BecameReady { failed: fail },
-            self.busy,
-            self.caching,
-            self.array_busy,
+            self.activity.busy,
+            self.activity.caching,
+            self.activity.array_busy,
         );
-        self.busy = false;
-        if self.closed {
+        self.activity.busy = false;
+        if self.activity.closed {
             end_works(
                 &mut self.pages,
                 self.geometry.parts(),
                 self.planes.as_slice(),
-                self.members.as_slice(),
+                self.activity.members.as_slice(),
                 fail,
             );
-            self.members.clear();
-            self.closed = false;
-            self.failed = fail;
+            self.activity.members.clear();
+            self.activity.closed = false;
+            self.activity.failed = fail;
         } else {
-            self.failed = false;
+            self.activity.failed = false;
         }
     }
 
@@ -282,12 +309,22 @@ impl<A: Allocator + Copy> LunDie<A> {
         let effect = effect_of(work);
         let len = self.geometry.page_len() as usize;
         self.pages.keep_some(page_to_keep(work), len)?;
-        self.array_busy = array_busy_after(effect, self.busy, self.caching, self.array_busy);
-        self.caching = caching_after(effect, self.caching);
-        self.register = register_after(effect, self.array_page, self.register);
-        self.array_page = array_page_after(effect, self.array_page);
-        self.busy = busy_after(effect, self.busy);
-        self.closed = join(&mut self.members, work);
+        self.activity.array_busy = array_busy_after(
+            effect,
+            self.activity.busy,
+            self.activity.caching,
+            self.activity.array_busy,
+        );
+        self.activity.caching = caching_after(effect, self.activity.caching);
+        self.activity.register = register_after(
+            effect,
+            self.activity.array_page,
+            self.activity.register,
+        );
+        fetch(&mut self.output, &self.pages, self.activity.register);
+        self.activity.array_page = array_page_after(effect, self.activity.array_page);
+        self.activity.busy = busy_after(effect, self.activity.busy);
+        self.activity.closed = join(&mut self.activity.members, work);
         Ok(())
     }
 
@@ -296,7 +333,8 @@ impl<A: Allocator + Copy> LunDie<A> {
     /// in 4 bytes and then the bytes of the page. Numbers have their least significant byte first, and a row is that
     /// of LUN 0.
     pub fn image(&self) -> Result<Vec<u8, A>, AllocError>
-        ensures { IfOk result (λ v. v.items ≡ image_of self.now) }
+        ensures value { IfOk result (λ v. v.items ≡ image_of self.now) }
+        ensures restores { IfOk result (λ v. Restores v.items self.now) }
     {
         self.pages.image(&self.geometry)
     }

@@ -118,10 +118,10 @@ fn keep_entries<A: Allocator + Copy>(
     let len = entry_len(geometry);
     let mut rest = entries;
     for k in 0..count {
-        let (entry, behind) = rest.split_at(len);
+        let (entry, later) = rest.split_at(len);
         let at = page_address(geometry, number_at(rest, 0));
         pages.put(at, entry.split_at(ROW_LEN).1)?;
-        rest = behind;
+        rest = later;
     }
     Ok(())
 }

@@ -4,7 +4,7 @@ ghost use Rattle.std.specs.Option.{option_copied};
 ghost use Rattle.onfi_cycle.specs.declared.PageAddress.{PageAddress as At};
 ghost use Rattle.onfi_cycle.specs.Content.{same_page};
 ghost use Rattle.die_model.specs.Image.{entries_of, count_of, header};
-ghost use Rattle.die_model.specs.Pages.{kept, page_in, programmed, is_given};
+ghost use Rattle.die_model.specs.Pages.{kept, page_in, programmed, is_given, AreInOrder};
 
 use crate::image::{begin_image, count_entry, write_entry};
 use crate::page::Page;
@@ -130,7 +130,8 @@ impl<A: Allocator + Copy> Pages<A> {
 
     /// Writes the entries of an image, in the order of their rows.
     pub fn write_entries(&self, geometry: &Geometry, out: &mut Vec<u8, A>) -> Result<(), AllocError>
-        ensures { IfOk result (λ _. out.new.items ≡ out.old.items ++ entries_of geometry.now self.now) }
+        ensures value { IfOk result (λ _. out.new.items ≡ out.old.items ++ entries_of geometry.now self.now) }
+        ensures order { IfOk result (λ _. AreInOrder self.now) }
     {
         for (row, page) in &self.map {
             write_entry(geometry, row.0, row.1, page.bytes(), out)?;
@@ -140,7 +141,8 @@ impl<A: Allocator + Copy> Pages<A> {
 
     /// The image of a die that keeps these pages.
     pub fn image(&self, geometry: &Geometry) -> Result<Vec<u8, A>, AllocError>
-        ensures { IfOk result (λ v. v.items ≡ header geometry.now (count_of geometry.now self.now) ++ entries_of geometry.now self.now) }
+        ensures value { IfOk result (λ v. v.items ≡ header geometry.now (count_of geometry.now self.now) ++ entries_of geometry.now self.now) }
+        ensures order { IfOk result (λ _. AreInOrder self.now) }
     {
         let mut out = begin_image(self.alloc, geometry.parts(), self.count_entries(geometry))?;
         self.write_entries(geometry, &mut out)?;

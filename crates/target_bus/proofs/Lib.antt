@@ -3,3 +3,4 @@ pub mod Standing
 pub mod Due
 pub mod Shown
 pub mod Opened
+pub mod ByKind

@@ -7,7 +7,7 @@ use Rattle.nand_geometry.specs.Page.{parameter_bytes}
 use Rattle.onfi_cycle.specs.declared.Lun.{Lun}
 use Rattle.onfi_cycle.specs.declared.Item.{Item}
 use Rattle.onfi_cycle.specs.declared.Kind.{Kind}
-use Rattle.onfi_cycle.specs.declared.Kind.TheVariants.{Dout}
+use Rattle.onfi_cycle.specs.declared.Kind.TheVariants.{Adr, Din, Dout}
 use Rattle.onfi_cycle.specs.declared.PageAddress.{PageAddress}
 use Rattle.onfi_cycle.specs.declared.Forbidden.{Forbidden as Rule}
 use Rattle.onfi_cycle.specs.declared.Filling.{Filling}
@@ -18,7 +18,7 @@ use Rattle.onfi_cycle.specs.Lun.{effect_on}
 use Rattle.onfi_cycle.specs.Permitted.{broken}
 use Rattle.onfi_cycle.specs.Channel.{Channel}
 use Rattle.onfi_cycle.specs.State.{BusView, Follows}
-use Rattle.onfi_cycle.specs.Working.{works_on}
+use Rattle.onfi_cycle.specs.Working.{fills, works_on}
 use Rattle.onfi_cycle.specs.Readies.{starts_work, bus_due}
 use Rattle.die_model.specs.Pages.{page_in}
 use Rattle.die_model.specs.Die.{Die, page_of, is_new}
@@ -133,6 +133,16 @@ abbrev pub is_output : Kind → Bool
 is_output Dout = true
 is_output _ = false
 
+abbrev pub is_input : Kind → Bool
+is_input Din = true
+is_input _ = false
+
+-- a cycle of this kind may change a page register
+abbrev pub may_fill : Kind → Bool
+may_fill Adr = true
+may_fill Din = true
+may_fill _ = false
+
 -- a LUN of a target
 abbrev pub lun_at : (ce n : ℕ) → Lun
 lun_at ce n = record { ce = ce; lun = n }
@@ -148,6 +158,10 @@ pub record IsWorkedAt (g : Parts) (past : List Item) (i : Item) (l : Lun) (fille
 abbrev pub FindsWork : Parts → List Item → Item → (ce n : ℕ) → Option Worked → Type 0
 FindsWork g past i ce n None = (m : ℕ) → n ≤ m → m < g.luns → works_on g past i (lun_at ce m) ≡ false
 FindsWork g past i ce n (Some w) = IsWorkedAt g past i (lun_at ce w.lun) w.filling w.effect
+
+-- an item changes no page register of the LUNs before number n of a target
+abbrev pub LeavesBelow : Parts → List Item → Item → (ce n : ℕ) → Type 0
+LeavesBelow g past i ce n = (m : ℕ) → m < n → fills (filling g (facts_of (tail past ce)) i (lun_at ce m)) ≡ false
 
 -- a running state and its dies stand for a past
 pub record IsStanding (state : BusView) (opened : List Entries) (dies : List Die) (past : List Item) : Type 0 where

@@ -1,5 +1,5 @@
 //! The dies behind a bus: whether they are a channel, and what an item does to them.
-ghost use Rattle.std.specs.Prelude.{◌≡◌, ℕ, ◌*◌, ◌+◌, ◌<◌, ◌≤◌, ◌^◌, true, false, ◌||◌, List, ◌∷◌, ◌++◌, Some, None, IsOk, IfOk, IfSome, OnErr, length, map, slice_get, slice_set};
+ghost use Rattle.std.specs.Prelude.{◌≡◌, ℕ, ◌*◌, ◌+◌, ◌<◌, ◌≤◌, ◌^◌, true, false, ◌||◌, ◌&&◌, not, List, ◌∷◌, ◌++◌, Some, None, IsOk, IfOk, IfSome, OnErr, length, map, slice_get, slice_set};
 ghost use Rattle.std.specs.Option.{option_copied};
 ghost use Rattle.nand_geometry.specs.declared.Parts.{Parts};
 ghost use Rattle.nand_geometry.specs.Page.{parameter_bytes};
@@ -7,7 +7,9 @@ ghost use Rattle.onfi_cycle.specs.declared.Item.{Item};
 ghost use Rattle.onfi_cycle.specs.declared.Item.TheVariants.{Cyc, Rdy, Ard};
 ghost use Rattle.onfi_cycle.specs.declared.Kind.TheVariants.{Dout};
 ghost use Rattle.onfi_cycle.specs.Effect.{is_off};
-ghost use Rattle.onfi_cycle.specs.Lun.{drivers_from, latch};
+ghost use Rattle.onfi_cycle.specs.Lun.{drivers_from, latch, effect_on};
+ghost use Rattle.onfi_cycle.specs.Sequence.{facts_of, tail};
+ghost use Rattle.onfi_cycle.specs.Filling.{filling};
 ghost use Rattle.onfi_cycle.specs.Permitted.{broken};
 ghost use Rattle.onfi_cycle.specs.Channel.{Channel, is_cycle, cycle, bus_byte};
 ghost use Rattle.onfi_cycle.specs.Content.{shown, shown_by, byte_at};
@@ -17,7 +19,7 @@ ghost use Rattle.onfi_cycle.specs.Readies.{starts_work, bus_due};
 ghost use Rattle.onfi_cycle.specs.declared.Effect.TheVariants.{BecameReady, ArrayBecameReady};
 ghost use Rattle.die_model.specs.Die.{Die, IsAfter, is_program, status_of, bytes_shown};
 ghost use Rattle.die_model.specs.Standing.{IsDieOf, CanWork, WorkedBy};
-ghost use Rattle.target_bus.specs.Bus.{channel_on, Entries, are_targets, same_sizes, same_features, same_parts, is_new_of, are_new, starting, FindsWork, first_of, IsStanding, Permits, StandFor, WholeDies, forgotten};
+ghost use Rattle.target_bus.specs.Bus.{channel_on, Entries, are_targets, same_sizes, same_features, same_parts, is_new_of, are_new, starting, FindsWork, LeavesBelow, first_of, IsStanding, Permits, StandFor, WholeDies, forgotten, is_input, may_fill};
 
 use die_model::{LunDie, Pages};
 use nand_geometry::{Geometry, Parts};
@@ -133,7 +135,7 @@ pub fn forget_array_pages<A: Allocator + Copy>(dies: &mut [LunDie<A>])
 fn fills(filling: Filling) -> bool
     ensures { result ≡ fills filling }
 {
-    filling != Filling::Leaves
+    matches!(filling, Filling::Clears(_) | Filling::Fills(..))
 }
 
 // Work begins.
@@ -153,7 +155,43 @@ fn begins(effect: Effect) -> bool
     )
 }
 
-/// The LUN of a target that an item works on, and how.
+// A cycle of this kind may change a page register.
+fn may_fill(kind: Kind) -> bool
+    ensures { result ≡ may_fill kind }
+{
+    kind == Kind::Adr || kind == Kind::Din
+}
+
+// What a cycle does to the page registers of a LUN that is there.
+fn filling_by(state: &BusState, cycle: Cycle, l: Lun) -> Filling
+    ensures { (g : Parts) (n : ℕ) (past : List Item) → Follows g n state.now past → l.ce < n → result ≡ filling g (facts_of (tail past l.ce)) (Cyc cycle) l }
+{
+    if may_fill(cycle.kind) {
+        state.filling(Item::Cyc(cycle), l)
+    } else {
+        Filling::Leaves
+    }
+}
+
+// A cycle of this kind is an input.
+fn is_input(kind: Kind) -> bool
+    ensures { result ≡ is_input kind }
+{
+    kind == Kind::Din
+}
+
+// What a cycle does to a LUN that is there: an input does nothing.
+fn effect_by(state: &BusState, cycle: Cycle, l: Lun) -> Effect
+    ensures { (g : Parts) (n : ℕ) (past : List Item) → Follows g n state.now past → l.ce < n → l.lun < g.luns → result ≡ effect_on g past (Cyc cycle) l }
+{
+    if is_input(cycle.kind) {
+        Effect::Unaffected
+    } else {
+        state.effect(Item::Cyc(cycle), l)
+    }
+}
+
+/// The LUN of a target that a cycle works on, and how.
 #[derive(Clone, Copy, Debug, PartialEq, Eq)]
 pub struct Worked {
     pub lun: u8,
@@ -161,18 +199,21 @@ pub struct Worked {
     pub effect: Effect,
 }
 
-// Of the LUNs of a target from number n on, the one that an item works on.
-fn find_work(state: &BusState, item: Item, ce: u8, luns: u8, n: u8) -> Option<Worked>
+// Of the LUNs of its target from number n on, the one that a cycle works on.
+fn find_work(state: &BusState, cycle: Cycle, luns: u8, n: u8) -> Option<Worked>
     requires { n ≤ luns }
     ensures there { IfSome result (λ w. w.lun < luns) }
-    ensures past { (g : Parts) (targets : ℕ) (past : List Item) → Follows g targets state.now past → ce < targets → g.luns ≡ luns → FindsWork g past item ce n result }
+    ensures past { (g : Parts) (targets : ℕ) (past : List Item) → Follows g targets state.now past → cycle.ce < targets → g.luns ≡ luns → FindsWork g past (Cyc cycle) cycle.ce n result }
 {
     if n == luns {
         return None;
     }
-    let lun = Lun { ce, lun: n };
-    let filling = state.filling(item, lun);
-    let effect = state.effect(item, lun);
+    let lun = Lun {
+        ce: cycle.ce,
+        lun: n,
+    };
+    let filling = filling_by(state, cycle, lun);
+    let effect = effect_by(state, cycle, lun);
     if fills(filling) || begins(effect) {
         return Some(Worked {
             lun: n,
@@ -180,10 +221,11 @@ fn find_work(state: &BusState, item: Item, ce: u8, luns: u8, n: u8) -> Option<Wo
             effect,
         });
     }
-    find_work(state, item, ce, luns, n + 1)
+    find_work(state, cycle, luns, n + 1)
 }
 
 // Works the die of a number.
+#[inline(always)]
 fn work_in<A: Allocator + Copy>(
     dies: &mut [LunDie<A>],
     k: usize,
@@ -215,12 +257,74 @@ fn finish_array_in<A: Allocator + Copy>(dies: &mut [LunDie<A>], k: usize)
     dies[k].array_ready();
 }
 
+// The item may start work: a command alone can, and none other need be looked at.
+fn starts(item: Item) -> bool
+    ensures { result ≡ starts_work item }
+{
+    match item {
+        Item::Cyc(cycle) => cycle.kind == Kind::Cmd && starts_work(item),
+        _ => false,
+    }
+}
+
 /// How many works an item may start.
 pub fn starting(item: Item) -> usize
     ensures value { result ≡ starting item }
     ensures most { result ≤ 1 }
 {
-    if starts_work(item) { 1 } else { 0 }
+    if starts(item) { 1 } else { 0 }
+}
+
+// Works a permitted input on the dies: it changes a page register of one of them.
+fn work_input<A: Allocator + Copy>(
+    state: &BusState,
+    dies: &mut [LunDie<A>],
+    cycle: Cycle,
+) -> Result<(), AllocError>
+    requires few { length dies.old ≤ 16 }
+    requires permitted { Permits state.now dies.old (Cyc cycle) }
+    requires input { is_input cycle.kind ≡ true }
+    ensures ok { IfOk result (λ _. (opened : List Entries) (past : List Item) → IsStanding state.now opened dies.old past → broken state.now.geometry (length state.now.targets) past (Cyc cycle) ≡ None → StandFor (channel_on state.now.geometry (length state.now.targets) opened) (Cyc cycle ∷ past) dies.new) }
+    ensures err { OnErr result (dies.new ≡ dies.old) }
+    ensures memory { starts_work (Cyc cycle) ≡ false → IsOk result }
+{
+    state.facts_fit();
+    let luns = state.geometry().parts().luns;
+    for n in 0..luns {
+        let lun = Lun {
+            ce: cycle.ce,
+            lun: n,
+        };
+        let filling = state.filling(Item::Cyc(cycle), lun);
+        if fills(filling) {
+            let k = usize::from(cycle.ce) * usize::from(luns) + usize::from(n);
+            return work_in(dies, k, filling, Effect::Unaffected);
+        }
+    }
+    Ok(())
+}
+
+// Works a permitted cycle on the dies, whatever it is.
+fn work_found<A: Allocator + Copy>(
+    state: &BusState,
+    dies: &mut [LunDie<A>],
+    cycle: Cycle,
+) -> Result<(), AllocError>
+    requires few { length dies.old ≤ 16 }
+    requires permitted { Permits state.now dies.old (Cyc cycle) }
+    ensures ok { IfOk result (λ _. (opened : List Entries) (past : List Item) → IsStanding state.now opened dies.old past → broken state.now.geometry (length state.now.targets) past (Cyc cycle) ≡ None → StandFor (channel_on state.now.geometry (length state.now.targets) opened) (Cyc cycle ∷ past) dies.new) }
+    ensures err { OnErr result (dies.new ≡ dies.old) }
+    ensures memory { starts_work (Cyc cycle) ≡ false → IsOk result }
+{
+    state.facts_fit();
+    let luns = state.geometry().parts().luns;
+    match find_work(state, cycle, luns, 0) {
+        None => Ok(()),
+        Some(worked) => {
+            let k = usize::from(cycle.ce) * usize::from(luns) + usize::from(worked.lun);
+            work_in(dies, k, worked.filling, worked.effect)
+        }
+    }
 }
 
 /// Works a permitted cycle on the dies: on one of them at most. Without memory for that all stays as it was.
@@ -235,14 +339,10 @@ pub fn work<A: Allocator + Copy>(
     ensures err { OnErr result (dies.new ≡ dies.old) }
     ensures memory { starts_work (Cyc cycle) ≡ false → IsOk result }
 {
-    state.facts_fit();
-    let luns = state.geometry().parts().luns;
-    match find_work(state, Item::Cyc(cycle), cycle.ce, luns, 0) {
-        None => Ok(()),
-        Some(worked) => {
-            let k = usize::from(cycle.ce) * usize::from(luns) + usize::from(worked.lun);
-            work_in(dies, k, worked.filling, worked.effect)
-        }
+    if is_input(cycle.kind) {
+        work_input(state, dies, cycle)
+    } else {
+        work_found(state, dies, cycle)
     }
 }
 
@@ -345,6 +445,7 @@ pub fn shown_byte<A: Allocator + Copy>(state: &BusState, dies: &[LunDie<A>], ce:
 }
 
 /// The first rule that a cycle breaks.
+#[inline(always)]
 pub fn judge_cycle(state: &BusState, cycle: Cycle) -> Option<Forbidden>
     ensures state { result ≡ judged state.now (Cyc cycle) }
     ensures past { (g : Parts) (n : ℕ) (past : List Item) → Follows g n state.now past → result ≡ broken g n past (Cyc cycle) }
@@ -364,6 +465,7 @@ pub fn output(ce: u8, byte: u8) -> Cycle
 }
 
 /// The first rule that an output on a target breaks, whatever its byte.
+#[inline(always)]
 pub fn judge_output(state: &BusState, ce: u8) -> Option<Forbidden>
     ensures state { (byte : ℕ) → result ≡ judged state.now (cycle ce Dout byte) }
     ensures past { (g : Parts) (n : ℕ) (past : List Item) (byte : ℕ) → Follows g n state.now past → result ≡ broken g n past (cycle ce Dout byte) }
@@ -371,8 +473,50 @@ pub fn judge_output(state: &BusState, ce: u8) -> Option<Forbidden>
     state.judge(Item::Cyc(output(ce, 0)))
 }
 
+// Goes on by a permitted cycle that starts no work, which brings no ready.
+#[inline(always)]
+fn go_on_idly(state: &mut BusState, item: Item)
+    requires permitted { judged state.old item ≡ None }
+    requires cycle { is_cycle item ≡ true }
+    requires idle { starts_work item ≡ false }
+    ensures past { (g : Parts) (n : ℕ) (past : List Item) → Follows g n state.old past → Follows g n state.new (item ∷ past) }
+    ensures due { bus_due state.new ≤ bus_due state.old }
+{
+    readies_are_due();
+    state.facts_fit();
+    state.apply(item);
+}
+
+// The item is a cycle that starts no work.
+#[inline(always)]
+fn is_idle(item: Item) -> bool
+    ensures { result ≡ (is_cycle item && not (starts_work item)) }
+{
+    matches!(item, Item::Cyc(_)) && !starts(item)
+}
+
 /// Goes on by a permitted item, and tells how many readies are to come after it at most.
+#[inline(always)]
 pub fn go_on(state: &mut BusState, item: Item, due: usize) -> usize
+    requires permitted { judged state.old item ≡ None }
+    requires due { bus_due state.old ≤ due }
+    requires small { due < 2 ^ 62 }
+    ensures past { (g : Parts) (n : ℕ) (past : List Item) → Follows g n state.old past → Follows g n state.new (item ∷ past) }
+    ensures due { bus_due state.new ≤ result }
+    ensures idle { is_cycle item ≡ true → starts_work item ≡ false → result ≤ due }
+    ensures ready { is_cycle item ≡ false → result + 1 ≤ due }
+    ensures most { result ≤ due + 16 }
+{
+    if is_idle(item) {
+        go_on_idly(state, item);
+        due
+    } else {
+        go_on_counted(state, item, due)
+    }
+}
+
+// Goes on by a permitted item, and counts the readies that are to come on its target before and after.
+fn go_on_counted(state: &mut BusState, item: Item, due: usize) -> usize
     requires permitted { judged state.old item ≡ None }
     requires due { bus_due state.old ≤ due }
     requires small { due < 2 ^ 62 }

@@ -257,12 +257,20 @@ impl<A: Allocator + Copy> Bus<A> {
         Ok(())
     }
 
-    /// The dies, as the trace has left them.
-    pub fn into_dies(self) -> Vec<LunDie<A>, A>
+    // What is left of it: its dies.
+    fn left(self) -> Vec<LunDie<A>, A>
         ensures count { length result.items ≡ self.targets * self.geometry.luns }
         ensures dies { StandFor (channel_of self) self.past result.items }
     {
         let Bus { dies, .. } = self;
         dies
+    }
+
+    /// The dies, as the trace has left them.
+    pub fn into_dies(self) -> Vec<LunDie<A>, A>
+        ensures count { length result.items ≡ self.targets * self.geometry.luns }
+        ensures dies { StandFor (channel_of self) self.past result.items }
+    {
+        self.left()
     }
 }

@@ -2,17 +2,25 @@ use Rattle.std.proofs.Common.{subst, refl, ap, ◌∙◌, not}
 use Rattle.die_model.specs.Die.{Die, die_with, is_new}
 use Rattle.die_model.specs.Loading.{IsLoaded}
 use Rattle.onfi_cycle.specs.Rules.{is_empty}
-use Rattle.die_model.proofs.Images.{none_waits, loaded_is_die}
+use Rattle.die_model.proofs.Images.{none_waits, shows_none, loaded_is_die}
 use Rattle.die_model.proofs.LunDie.take_image.Goals as goal
 
 pub invariant_of-self : goal.invariant_of-self
 invariant_of-self g c =
     let i = c.self.inside in
-    let there = none_waits (not i.busy) (not i.array_busy) (not i.caching) (is_empty i.register) (not i.failed) i.closed i.members.items (ap is_new c.self.view_is ∙ c.requires.new) c.keep_image.new.pages in
-    loaded_is_die i.geometry i.parameters.items i.pages c.keep_image.new.pages i.planes.items i.members.items i.closed i.busy there c.in_ok-keep_image.ensures.inside c.self.invariant
+    let new = ap is_new c.self.view_is ∙ c.requires.new in
+    let there = none_waits (not i.activity.busy) (not i.activity.array_busy) (not i.activity.caching) (is_empty i.activity.register) (not i.activity.failed) i.activity.closed i.activity.members.items new c.keep_image.new.pages in
+    record {
+      die = loaded_is_die i.geometry i.parameters.items i.pages c.keep_image.new.pages i.planes.items i.activity.members.items i.activity.closed i.activity.busy there c.in_ok-keep_image.ensures.inside c.self.invariant.die;
+      shows = record {
+        page = λ at is. absurd (shows_none (not i.activity.busy) (not i.activity.array_busy) (not i.activity.caching) (not i.activity.failed) i.activity.closed i.activity.register i.activity.members.items new at is);
+        width = c.self.invariant.shows.width;
+        ends = c.self.invariant.shows.ends;
+      };
+    }
 
 pub returns-clause-ok : goal.returns-clause-ok
 returns-clause-ok g c =
     let i = c.self.inside in
-    subst (λ (o : Die). IsLoaded c.args.bytes.now o (die_with i.geometry c.keep_image.new.pages i.planes.items i.register i.array_page i.busy i.caching i.array_busy i.members.items i.closed i.failed)) c.self.view_is
+    subst (λ (o : Die). IsLoaded c.args.bytes.now o (die_with i.geometry c.keep_image.new.pages i.planes.items i.activity.register i.activity.array_page i.activity.busy i.activity.caching i.activity.array_busy i.activity.members.items i.activity.closed i.activity.failed)) c.self.view_is
     (record { rest = refl; pages = c.in_ok-keep_image.ensures.told })

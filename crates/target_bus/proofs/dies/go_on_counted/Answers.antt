@@ -4,7 +4,7 @@ use Rattle.onfi_cycle.specs.Readies.{due_there}
 use Rattle.onfi_cycle.specs.State.{bus_after}
 use Rattle.onfi_cycle.specs.Sequence.{target_of}
 use Rattle.target_bus.proofs.Due.{Counts, counts, there_at_most}
-use Rattle.target_bus.proofs.dies.go_on.Goals as goal
+use Rattle.target_bus.proofs.dies.go_on_counted.Goals as goal
 
 pub overflow_sub-result : goal.overflow_sub-result
 overflow_sub-result c = let most = there_at_most c.args.state.now.targets c.target_of-ce.result in omega (arith, most, c.due-before.ensures.value, c.requires.due)

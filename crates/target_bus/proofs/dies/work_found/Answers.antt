@@ -4,7 +4,7 @@ use Rattle.onfi_cycle.specs.declared.Item.TheVariants.{Cyc}
 use Rattle.target_bus.specs.Bus.{channel_on, StandFor}
 use Rattle.target_bus.proofs.Numbers.{placed}
 use Rattle.target_bus.proofs.Standing.{found_in, worked_there, can_work_at, none_works, one_works, cycle_there, no_program_at, on_ok}
-use Rattle.target_bus.proofs.dies.work.Goals as goal
+use Rattle.target_bus.proofs.dies.work_found.Goals as goal
 
 pub work_in-requires-clause-inside : goal.work_in-requires-clause-inside
 work_in-requires-clause-inside g c =
