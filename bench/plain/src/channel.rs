@@ -1,5 +1,5 @@
 //! The running state of a channel and its rules in plain Rust, without contracts: what the proved check is measured beside.
-//! The rules are those of docs/MODEL.md, all fifteen, and the commands those that the channel takes today.
+//! The rules are those of docs/MODEL.md, all fifteen, and so are the commands.
 
 #[derive(Clone, Copy)]
 pub struct Geometry {
@@ -20,10 +20,10 @@ fn width(count: u32) -> u32 {
 }
 
 impl Geometry {
-    pub fn one_lun() -> Geometry {
-        let (pages, blocks) = (4, 8);
+    /// One LUN of one plane.
+    pub fn one_lun(page_len: u32, pages: u32, blocks: u32) -> Geometry {
         Geometry {
-            page_len: 528,
+            page_len,
             pages,
             blocks,
             luns: 1,
@@ -36,7 +36,7 @@ impl Geometry {
         }
     }
 
-    fn row(&self, bytes: [u8; 3]) -> Row {
+    pub fn row(&self, bytes: [u8; 3]) -> Row {
         let row = u32::from_le_bytes([bytes[0], bytes[1], bytes[2], 0]);
         Row {
             lun: row >> (self.block_width + self.page_width),
@@ -57,13 +57,11 @@ impl Geometry {
 
 #[derive(Clone, Copy)]
 pub struct Row {
-    lun: u32,
-    block: u32,
-    page: u32,
+    pub lun: u32,
+    pub block: u32,
+    pub page: u32,
 }
 
-// The traces of the bench have no input yet.
-#[allow(dead_code)]
 #[derive(Clone, Copy)]
 pub enum Kind {
     Command,
@@ -72,17 +70,17 @@ pub enum Kind {
     Output,
 }
 
-// The traces of the bench have no array ready yet.
+// Nothing in the benches looks at the failure of a ready in a trace.
 #[allow(dead_code)]
 #[derive(Clone, Copy)]
 pub enum Item {
     Cycle { ce: u8, kind: Kind, byte: u8 },
-    Ready { ce: u8, lun: u8 },
+    Ready { ce: u8, lun: u8, fail: bool },
     ArrayReady { ce: u8, lun: u8 },
 }
 
 #[derive(Clone, Copy, PartialEq)]
-enum Phase {
+pub enum Phase {
     Outside,
     Inputs,
     FirstColumn,
@@ -90,18 +88,18 @@ enum Phase {
 }
 
 #[derive(Clone, Copy)]
-struct Tail {
+pub struct Tail {
     opener: Option<u8>,
     addresses: u8,
     phase: Phase,
-    row: [u8; 3],
-    column: u32,
-    inputs: u64,
+    pub row: [u8; 3],
+    pub column: u32,
+    pub inputs: u64,
     is_empty: bool,
 }
 
 #[derive(Clone, Copy, PartialEq)]
-enum Latch {
+pub enum Latch {
     Off,
     Status,
     Data,
@@ -116,12 +114,12 @@ enum Register {
 }
 
 #[derive(Clone)]
-struct Lun {
-    latch: Latch,
-    busy: bool,
+pub struct Lun {
+    pub latch: Latch,
+    pub busy: bool,
     closer: Option<u8>,
-    array_busy: bool,
-    array_page: Row,
+    pub array_busy: bool,
+    pub array_page: Row,
     register: Register,
     column: Option<u64>,
     outputs: u64,
@@ -129,14 +127,14 @@ struct Lun {
     queue: Vec<(bool, Row)>,
 }
 
-struct Target {
-    tail: Tail,
-    luns: Vec<Lun>,
+pub struct Target {
+    pub tail: Tail,
+    pub luns: Vec<Lun>,
 }
 
 pub struct Channel {
-    geometry: Geometry,
-    targets: Vec<Target>,
+    pub geometry: Geometry,
+    pub targets: Vec<Target>,
 }
 
 fn is_opener(command: u8) -> bool {
@@ -144,7 +142,8 @@ fn is_opener(command: u8) -> bool {
 }
 
 fn is_known(command: u8) -> bool {
-    matches!(command, 0x60 | 0x70 | 0x78 | 0xd0)
+    is_opener(command)
+        || matches!(command, 0x10 | 0x11 | 0x30 | 0x31 | 0x3f | 0x85 | 0xd0 | 0xd1 | 0xe0)
 }
 
 fn address_cycles(opener: u8) -> u8 {
@@ -169,7 +168,7 @@ fn last_of_row(opener: u8, addresses: u8) -> bool {
 }
 
 impl Tail {
-    fn opened(&self) -> Option<(u8, u8)> {
+    pub fn opened(&self) -> Option<(u8, u8)> {
         self.opener.map(|opener| (opener, self.addresses))
     }
 
@@ -207,7 +206,7 @@ impl Tail {
             })
     }
 
-    fn row_with(&self, byte: u8) -> [u8; 3] {
+    pub fn row_with(&self, byte: u8) -> [u8; 3] {
         [self.row[1], self.row[2], byte]
     }
 
@@ -298,7 +297,7 @@ impl Lun {
         }
     }
 
-    fn place(&self) -> Option<u64> {
+    pub fn place(&self) -> Option<u64> {
         if self.lost {
             None
         } else {
@@ -337,7 +336,7 @@ impl Lun {
     }
 }
 
-fn driver(luns: &[Lun]) -> Option<usize> {
+pub fn driver(luns: &[Lun]) -> Option<usize> {
     let mut on = (0..luns.len()).filter(|n| luns[*n].latch != Latch::Off);
     let first = on.next();
     if on.next().is_some() {
@@ -374,7 +373,7 @@ impl Channel {
                 None => Some(1),
                 Some(target) => target.judge(&self.geometry, kind, byte),
             },
-            Item::Ready { ce, lun } => match self.lun(ce, lun) {
+            Item::Ready { ce, lun, .. } => match self.lun(ce, lun) {
                 Some(lun) if lun.busy => None,
                 _ => Some(1),
             },
@@ -395,7 +394,7 @@ impl Channel {
             Item::Cycle { ce, kind, byte } => {
                 self.targets[usize::from(ce)].apply(&self.geometry, kind, byte)
             }
-            Item::Ready { ce, lun } => {
+            Item::Ready { ce, lun, .. } => {
                 let lun = &mut self.targets[usize::from(ce)].luns[usize::from(lun)];
                 lun.array_busy |= lun.is_caching();
                 lun.busy = false;

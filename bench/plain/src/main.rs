@@ -1,6 +1,9 @@
-//! How fast a trace is checked in plain Rust: `plain [ITEMS]` makes the trace that `trace_bench` makes, and checks it.
+//! How fast a trace is checked, and how fast a bus is, in plain Rust: `plain [ITEMS]` makes the trace that `trace_bench` makes,
+//! and checks it; `plain bus [PAGES]` does on its bus what `bus_bench` does on ours.
 
+mod bus;
 mod channel;
+mod work;
 
 use channel::{check, Geometry, Item, Kind};
 use std::hint::black_box;
@@ -19,20 +22,32 @@ fn item_at(place: usize) -> Item {
         4 => cycle(Kind::Command, 0xd0),
         5 | 8 => cycle(Kind::Command, 0x70),
         6 => cycle(Kind::Output, 0x80),
-        7 => Item::Ready { ce: 0, lun: 0 },
+        7 => Item::Ready { ce: 0, lun: 0, fail: false },
         _ => cycle(Kind::Output, 0xe0),
     }
 }
 
-fn main() {
-    let count = std::env::args().nth(1).map_or(1000, |n| n.parse().expect("a number of items"));
+fn number(argument: Option<String>, default: usize) -> usize {
+    argument.map_or(default, |n| n.parse().expect("a number"))
+}
+
+fn check_trace(count: usize) {
     let items: Vec<Item> = (0..count).map(item_at).collect();
     let start = Instant::now();
-    let verdict = check(Geometry::one_lun(), 1, black_box(&items));
+    let verdict = check(Geometry::one_lun(528, 4, 8), 1, black_box(&items));
     let millis = start.elapsed().as_millis().max(1);
     match verdict {
         Ok(()) => println!("{count} items, each permitted"),
         Err((place, rule)) => println!("item {place}: F{rule}"),
     }
     eprintln!("{millis} ms, {} items per second", count as u128 * 1000 / millis);
+}
+
+fn main() {
+    let mut arguments = std::env::args().skip(1).peekable();
+    if arguments.next_if_eq("bus").is_some() {
+        work::run(number(arguments.next(), 10));
+    } else {
+        check_trace(number(arguments.next(), 1000));
+    }
 }
