@@ -33,6 +33,7 @@ use Rattle.onfi_cycle.specs.Readies.{starts, cycle_starts, starts_work, is_param
 use Rattle.onfi_cycle.proofs.Applied.{ready_on_luns, array_ready_on_luns}
 use Rattle.onfi_cycle.proofs.Others.{first_passed}
 use Rattle.onfi_cycle.proofs.EffectBounds.{identity_waits}
+use Rattle.onfi_cycle.proofs.Working.{target_fits_at}
 
 -- ---- effects that leave all readies as they are
 
@@ -261,9 +262,6 @@ beyond change [] k h = refl
 beyond change (s ∷ targets) zero h = absurd (omega arith)
 beyond change (s ∷ targets) (suc k) h = ap (λ (ts : List TargetView). s ∷ ts) (beyond change targets k (omega arith))
 
-fits_at : (g : Parts) (targets : List TargetView) (k : ℕ) (v : TargetView) → All (TargetFits g) targets → slice_get targets k ≡ Some v → TargetFits g v
-fits_at g targets k v all found = subst (TargetFits g) (get_or_from_slice_get targets k v v found) (all k v (slice_get_within targets k v found))
-
 cycles_due : (s : BusView) (c : Cycle) → BusFits s → cycle_starts (target_cycle c.kind c.byte) ≡ false → bus_due (bus_after (Cyc c) s) ≤ bus_due s
 cycles_due s c f idle = at (leb (length s.targets) c.ce) refl
   where
@@ -275,7 +273,7 @@ cycles_due s c f idle = at (leb (length s.targets) c.ce) refl
     at false e =
         let low : c.ce < length s.targets = grind (arith, nat_tests) in
         let less = less_there (target_after s.geometry (Cyc c)) s.targets c.ce 0
-        (λ t found. let one = luns_due s.geometry t.tail (has_driver t.luns) c 0 t.luns (fits_at s.geometry s.targets c.ce t f.targets found).tail idle in omega (arith, one)) low in
+        (λ t found. let one = luns_due s.geometry t.tail (has_driver t.luns) c 0 t.luns (target_fits_at s.geometry s.targets c.ce t f.targets found).tail idle in omega (arith, one)) low in
         omega (arith, less)
 
 found_on : (s : BusView) (i : Item) → judged s i ≡ None → (t : TargetView) × (slice_get s.targets (target_of i) ≡ Some t) × (judge s.geometry (length s.targets) t.tail t.luns i ≡ None)

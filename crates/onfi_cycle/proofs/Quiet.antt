@@ -36,13 +36,13 @@ pub record LeftBy (a : Effect) : Type 0 where
   pub content : (g : Parts) (q : List ArrayWork) (p : PageAddress) (old : List ℕ) → content_after g a q p old ≡ old
   pub column : (k : ReadColumn) → IsSameOrLost k (read_column_after a k)
 
-lost_or_same : (k : ReadColumn) (b : Bool) → IsSameOrLost k (record k { lost = k.lost || b })
-lost_or_same k true = inr (ap (λ (l : Bool). record k { lost = l }) (or_true k.lost))
+lost_or_same : (k : ReadColumn) (b : Bool) → ltb 0 k.outputs ≡ b → IsSameOrLost k (record k { lost = k.lost || b })
+lost_or_same k true e = inr (ap (λ (l : Bool). record k { lost = l }) (or_true k.lost), e)
   where
     or_true : (x : Bool) → (x || true) ≡ true
     or_true true = refl
     or_true false = refl
-lost_or_same k false = inl (ap (λ (l : Bool). record k { lost = l }) (or_false k.lost))
+lost_or_same k false e = inl (ap (λ (l : Bool). record k { lost = l }) (or_false k.lost))
   where
     or_false : (x : Bool) → (x || false) ≡ x
     or_false true = refl
@@ -51,7 +51,7 @@ lost_or_same k false = inl (ap (λ (l : Bool). record k { lost = l }) (or_false 
 pub left_by_quiet : (a : Effect) → is_quiet a ≡ true → LeftBy a
 left_by_quiet Unaffected h = record { busy = λ b. refl; closer = λ c. refl; array_busy = λ b c d. refl; array_page = λ p. refl; register = λ p r. refl; queue = λ q. refl; queued_work = λ b q. refl; pending_work = λ b q p. refl; failed = λ p b. refl; content = λ g q p old. refl; column = λ k. inl refl }
 left_by_quiet DataOutputEnabled h = record { busy = λ b. refl; closer = λ c. refl; array_busy = λ b c d. refl; array_page = λ p. refl; register = λ p r. refl; queue = λ q. refl; queued_work = λ b q. refl; pending_work = λ b q p. refl; failed = λ p b. refl; content = λ g q p old. refl; column = λ k. inl refl }
-left_by_quiet StatusRowAwaited h = record { busy = λ b. refl; closer = λ c. refl; array_busy = λ b c d. refl; array_page = λ p. refl; register = λ p r. refl; queue = λ q. refl; queued_work = λ b q. refl; pending_work = λ b q p. refl; failed = λ p b. refl; content = λ g q p old. refl; column = λ k. lost_or_same k (ltb 0 k.outputs) }
+left_by_quiet StatusRowAwaited h = record { busy = λ b. refl; closer = λ c. refl; array_busy = λ b c d. refl; array_page = λ p. refl; register = λ p r. refl; queue = λ q. refl; queued_work = λ b q. refl; pending_work = λ b q p. refl; failed = λ p b. refl; content = λ g q p old. refl; column = λ k. lost_or_same k (ltb 0 k.outputs) refl }
 left_by_quiet Deselected h = record { busy = λ b. refl; closer = λ c. refl; array_busy = λ b c d. refl; array_page = λ p. refl; register = λ p r. refl; queue = λ q. refl; queued_work = λ b q. refl; pending_work = λ b q p. refl; failed = λ p b. refl; content = λ g q p old. refl; column = λ k. inl refl }
 left_by_quiet _ h = cc
 

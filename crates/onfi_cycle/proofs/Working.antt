@@ -219,7 +219,7 @@ at_place g t n (x ∷ vs) (suc k) v f found =
     let later : n + 1 + k ≡ n + suc k = omega arith in
     subst (λ (j : ℕ). AtPlace g t j v) later (at_place g t (n + 1) vs k v f.3 found)
 
-target_fits_at : (g : Parts) (targets : List TargetView) (k : ℕ) (v : TargetView) → All (TargetFits g) targets → slice_get targets k ≡ Some v → TargetFits g v
+pub target_fits_at : (g : Parts) (targets : List TargetView) (k : ℕ) (v : TargetView) → All (TargetFits g) targets → slice_get targets k ≡ Some v → TargetFits g v
 target_fits_at g targets k v all found =
     subst (TargetFits g) (get_or_from_slice_get targets k v v found) (all k v (slice_get_within targets k v found))
 

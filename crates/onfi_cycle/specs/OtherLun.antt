@@ -1,5 +1,5 @@
 -- What the work of one LUN leaves of the other LUNs.
-use Rattle.std.specs.Prelude.{◌≡◌, ◌≢◌, ◌⊎◌, ℕ, ◌<◌, ◌==◌, Bool, true, false, ◌&&◌, if◌then◌else◌, List, ◌∷◌, None}
+use Rattle.std.specs.Prelude.{◌≡◌, ◌≢◌, ◌⊎◌, ℕ, ◌<◌, ◌==◌, Bool, true, false, ◌&&◌, nat_lt, if◌then◌else◌, List, ◌∷◌, None}
 use Rattle.nand_geometry.specs.declared.Parts.{Parts}
 use Rattle.onfi_cycle.specs.declared.Command.{Command}
 use Rattle.onfi_cycle.specs.declared.Command.TheVariants.{ProgramConfirm, ProgramPlane, ReadConfirm, ReadCacheSequential, ReadCacheEnd, BlockEraseConfirm, BlockErasePlane, ChangeReadColumnConfirm}
@@ -49,9 +49,9 @@ is_of g past m (Cyc c) = c.ce == m.ce && keeps_to g past m (target_cycle c.kind 
 is_of g past m (Rdy ce lun fail) = ce == m.ce && lun == m.lun
 is_of g past m (Ard ce lun) = ce == m.ce && lun == m.lun
 
--- the column is as it was, or is now lost
+-- the column is as it was; or data was read since it was given, and it is now lost
 abbrev pub IsSameOrLost : ReadColumn → ReadColumn → Type 0
-IsSameOrLost old new = (new ≡ old) ⊎ (new ≡ record old { lost = true })
+IsSameOrLost old new = (new ≡ old) ⊎ ((new ≡ record old { lost = true }) × (nat_lt 0 old.outputs ≡ true))
 
 -- the item changes of this LUN its tail, its latch and its column alone, and the column only to lost
 pub record KeepsLun (g : Parts) (past : List Item) (i : Item) (l : Lun) : Type 0 where

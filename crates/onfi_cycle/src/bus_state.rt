@@ -363,6 +363,7 @@ impl TargetState {
     }
 
     // What an item leaves of its target.
+    #[inline(always)]
     fn apply(&mut self, geometry: &Geometry, item: Item)
         requires limits { InLimits geometry.now }
         requires fits { TargetFits geometry.now self.old }
@@ -420,6 +421,7 @@ fn target_at(targets: &[TargetState], ce: u8) -> Option<&TargetState>
 }
 
 // The first rule that an item breaks on these targets.
+#[inline(always)]
 fn judge_on(geometry: &Geometry, targets: &[TargetState], item: Item) -> Option<Forbidden>
     requires { BusFits (bus geometry.now targets.now) }
     ensures { result ≡ judged (bus geometry.now targets.now) item }
@@ -472,6 +474,7 @@ fn due_on(geometry: &Geometry, target: &TargetState) -> usize
 }
 
 // Goes on by an item that is permitted on these targets.
+#[inline(always)]
 fn apply_on(geometry: &Geometry, targets: &mut [TargetState], item: Item)
     requires fits { BusFits (bus geometry.now targets.old) }
     requires permitted { judged (bus geometry.now targets.old) item ≡ None }
@@ -535,6 +538,7 @@ impl BusState {
 
     /// The first rule that an item breaks, None where it is permitted: what the definition says of it after the past
     /// that this state follows (docs/MODEL.md, "Rules").
+    #[inline(always)]
     pub fn judge(&self, item: Item) -> Option<Forbidden>
         ensures state { result ≡ judged self.now item }
         ensures past { (g : Parts) (n : ℕ) (past : List Item) → Follows g n self.now past → result ≡ broken g n past item }
@@ -543,6 +547,7 @@ impl BusState {
     }
 
     /// Goes on by an item that [`judge`](BusState::judge) permits. The state then follows the past with that item.
+    #[inline(always)]
     pub fn apply(&mut self, item: Item)
         requires { judged self.old item ≡ None }
         ensures state { self.new ≡ bus_after item self.old }
@@ -566,6 +571,7 @@ impl BusState {
     }
 
     /// What an item does to the page registers of a LUN that is there.
+    #[inline(always)]
     pub fn filling(&self, item: Item, l: Lun) -> Filling
         ensures past { (g : Parts) (n : ℕ) (past : List Item) → Follows g n self.now past → l.ce < n → result ≡ filling g (facts_of (tail past l.ce)) item l }
     {

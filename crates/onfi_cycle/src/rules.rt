@@ -85,7 +85,7 @@ fn breaks_f1<Q: WorkQueue>(targets: u8, luns: &[LunFacts<Q>], item: Item) -> boo
 }
 
 /// The command needs what the parameter page doesn't declare.
-fn is_undeclared(geometry: &Geometry, command: Command) -> bool
+pub fn is_undeclared(geometry: &Geometry, command: Command) -> bool
     ensures { result ≡ is_undeclared geometry.now command }
 {
     let parts = geometry.parts();
@@ -605,6 +605,7 @@ fn judge_output<Q: WorkQueue>(
 }
 
 /// The first of F3 to F15 that a cycle breaks: what is forbidden of a cycle whose command F2 lets pass.
+#[inline(always)]
 pub fn judge_known_cycle<Q: WorkQueue>(
     geometry: &Geometry,
     t: TailFacts,
@@ -623,6 +624,7 @@ pub fn judge_known_cycle<Q: WorkQueue>(
 }
 
 /// The first of F2 to F15 that a cycle breaks.
+#[inline(always)]
 pub fn judge_cycle<Q: WorkQueue>(
     geometry: &Geometry,
     t: TailFacts,
@@ -641,6 +643,7 @@ pub fn judge_cycle<Q: WorkQueue>(
 
 /// The first rule that an item breaks, by the facts of its target: those of the tail and of each LUN, in order.
 /// `targets` is the number of chip enables.
+#[inline(always)]
 pub fn judge<Q: WorkQueue>(
     geometry: &Geometry,
     targets: u8,

@@ -17,6 +17,7 @@ pub fn target_of(item: Item) -> u8
 }
 
 /// A cycle without its chip enable. The byte of an output isn't looked at.
+#[inline(always)]
 pub fn target_cycle(kind: Kind, byte: u8) -> TargetCycle
     ensures { result ≡ target_cycle kind byte }
 {
@@ -337,7 +338,8 @@ pub fn wants(t: TailFacts, cycle: TargetCycle) -> bool
     }
 }
 
-fn is_proper_beginning(opener: Command, addresses: usize) -> bool
+/// So many addresses after an opener are the beginning of a sequence, and not the command 00h alone.
+pub fn is_proper_beginning(opener: Command, addresses: usize) -> bool
     ensures { result ≡ is_proper_beginning opener addresses }
 {
     match opener {

@@ -99,7 +99,7 @@ never_refused c later j fault h same at event =
 
 -- ---- the turns
 
-pub enough_turns : (j : Job) (x : Microprogram) (words : List Word) → x ≡ j.text → words ≡ x.words → IsShaped j.text.words → 2 * length (unrolled j.text.words) + 1 ≤ 33554432 * length words + 1
+pub enough_turns : (j : Job) (x : Microprogram) (words : List Word) → x ≡ j.text → words ≡ x.words → IsShaped j.text.words → 2 * length (unrolled j.text.words) + 1 ≤ 562949953421312 * length words + 1
 enough_turns j x words same is shaped =
     let few = lines_are_few j.text.words shaped in
     let all : length words ≡ length j.text.words = ap (length {A = Word}) (is ∙ ap (λ (y : Microprogram). y.words) same) in

@@ -9,7 +9,7 @@ use Rattle.micro_word.specs.declared.refusal.WordRefusal.TheVariants.{Fault, Out
 use Rattle.micro_word.specs.Text.{Microprogram, IsFileOf}
 use Rattle.micro_word.specs.Reading.{reading}
 use Rattle.micro_verify.specs.declared.refusal.Fault.{Fault as TextFault}
-use Rattle.micro_verify.specs.State.{fault_of}
+use Rattle.micro_verify.specs.Faults.{fault_of}
 use Rattle.micro_verify.specs.Program.{Job}
 use Rattle.micro_verify.specs.Verified.{VerifiedText}
 use Rattle.seq_core.specs.declared.answers.LoadFault.{LoadFault}
@@ -50,7 +50,7 @@ refused_text base x (Some fault) = Some (refusal_line (reason_name fault.reason)
 
 -- that of a file, of its text, or of its job
 abbrev pub refused_file : ℕ → Result Microprogram WordRefusal → Option (List ℕ)
-refused_file base (Ok x) = refused_text base x (fault_of one_lun x.budget x.words)
+refused_file base (Ok x) = refused_text base x (fault_of one_lun x)
 refused_file base (Err (Fault code word)) = Some (refusal_line (word_fault_name code) word)
 refused_file base (Err OutOfMemory) = None
 

@@ -136,8 +136,8 @@ fn with_budget(place: usize, byte: u8) -> [u8; 36]
 
 #[test]
 fn texts_that_are_refused(rt: HostRuntime) -> Result<(), Fail> {
-    let mut get = with_budget(28, 0x03);
-    get[30] = 1;
+    let mut jump = with_budget(28, 0x10);
+    jump[30] = 4;
     let files = [
         (
             &changed(32, 0x0a),
@@ -157,7 +157,7 @@ fn texts_that_are_refused(rt: HostRuntime) -> Result<(), Fail> {
         (
             &changed(28, 0),
             "refused V14 at 3\n",
-            "word 3: the program may end while its LUN is busy, or in the middle of a command sequence\n",
+            "word 3: the program may end while its LUN is busy, has a row queued or reads a cache, or in the middle of a command sequence\n",
         ),
         (
             &changed(12, 4),
@@ -165,14 +165,14 @@ fn texts_that_are_refused(rt: HostRuntime) -> Result<(), Fail> {
             "word 2: the bus cycles up to here are more than the budget in the header\n",
         ),
         (
-            &with_budget(17, 0x00),
+            &with_budget(17, 0x42),
             "refused V16 at 0\n",
-            "word 0: not supported yet: programs may use `end`, `cmd 60`, `cmd d0`, `addr` and `wait`\n",
+            "word 0: programs may not use this command on this die; `brs`, `loop`, `next` and `jmp` are not supported yet\n",
         ),
         (
-            &get,
+            &jump,
             "refused V16 at 3\n",
-            "word 3: not supported yet: programs may use `end`, `cmd 60`, `cmd d0`, `addr` and `wait`\n",
+            "word 3: programs may not use this command on this die; `brs`, `loop`, `next` and `jmp` are not supported yet\n",
         ),
     ];
     for (file, line, words) in files {
@@ -226,7 +226,10 @@ fn the_other_refusals(rt: HostRuntime) -> Result<(), Fail> {
             text(Reason::V2),
             "word 7: a `loop` or a `next` has no partner",
         ),
-        (text(Reason::V3), "word 7: loops are nested deeper than two"),
+        (
+            text(Reason::V3),
+            "word 7: loops are nested deeper than four",
+        ),
         (
             text(Reason::V4),
             "word 7: the branch leads back, or into or out of a loop",
@@ -241,7 +244,7 @@ fn the_other_refusals(rt: HostRuntime) -> Result<(), Fail> {
         ),
         (
             text(Reason::V12),
-            "word 7: a column may be past the end of the page",
+            "word 7: a column may be past the end of the page or of the register",
         ),
         (
             text(Reason::V13),

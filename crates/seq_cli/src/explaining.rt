@@ -24,7 +24,7 @@ fn reason_text(reason: Reason) -> &'static str {
     match reason {
         Reason::V1 => "the program has no words",
         Reason::V2 => "a `loop` or a `next` has no partner",
-        Reason::V3 => "loops are nested deeper than two",
+        Reason::V3 => "loops are nested deeper than four",
         Reason::V4 => "the branch leads back, or into or out of a loop",
         Reason::V5 => "the last word isn't `end`",
         Reason::V7 => {
@@ -34,14 +34,14 @@ fn reason_text(reason: Reason) -> &'static str {
         Reason::V9 => "the bus would be let go in the middle of a command sequence",
         Reason::V10 => "the program may go past the end of its buffer",
         Reason::V11 => "a row or a plane may be outside the die",
-        Reason::V12 => "a column may be past the end of the page",
+        Reason::V12 => "a column may be past the end of the page or of the register",
         Reason::V13 => "no status may have been read before this branch",
         Reason::V14 => {
-            "the program may end while its LUN is busy, or in the middle of a command sequence"
+            "the program may end while its LUN is busy, has a row queued or reads a cache, or in the middle of a command sequence"
         }
         Reason::V15 => "the bus cycles up to here are more than the budget in the header",
         Reason::V16 => {
-            "not supported yet: programs may use `end`, `cmd 60`, `cmd d0`, `addr` and `wait`"
+            "programs may not use this command on this die; `brs`, `loop`, `next` and `jmp` are not supported yet"
         }
     }
 }

@@ -5,7 +5,7 @@ ghost use Rattle.std.specs.List.{All};
 ghost use Rattle.std.specs.String.{string_bytes};
 ghost use Rattle.micro_word.specs.Reading.{reading};
 ghost use Rattle.micro_verify.specs.Lines.{unrolled};
-ghost use Rattle.micro_verify.specs.State.{fault_of};
+ghost use Rattle.micro_verify.specs.Faults.{fault_of};
 ghost use Rattle.seq_cli.specs.declared.refusal.Refusal.{Refusal};
 ghost use Rattle.seq_cli.specs.Refusals.{line_of, Tells};
 ghost use Rattle.micro_word.specs.Text.{IsFileOf};
@@ -49,8 +49,8 @@ const ONE_LUN: Parts = Parts {
     cache: false,
 };
 
-// How often a word comes at most: 4,096 times in each of two loops.
-const MOST_PASSES: usize = 4096 * 4096;
+// How often a word comes at most: 4,096 times in each of four loops.
+const MOST_PASSES: usize = 4096 * 4096 * 4096 * 4096;
 
 // Its LUN.
 const THE_LUN: Lun = Lun { ce: 0, lun: 0 };
@@ -69,7 +69,7 @@ fn geometry() -> Geometry
 fn verified<A: Allocator>(alloc: A, bytes: &[u8]) -> Result<Verified<A>, NotRun>
     ensures text { IfOk result (λ v. reading bytes.now ≡ Ok v.text) }
     ensures file { IfOk result (λ v. IsFileOf bytes.now v.text) }
-    ensures faultless { IfOk result (λ v. fault_of one_lun v.text.budget v.text.words ≡ None) }
+    ensures faultless { IfOk result (λ v. fault_of one_lun v.text ≡ None) }
     ensures geometry { IfOk result (λ v. v.geometry ≡ one_lun) }
     ensures refused { (base : ℕ) → IfErr result (λ e. Tells e (refused base bytes.now)) }
 {

@@ -37,11 +37,11 @@ nested_way = refl
 same : (a b : Word) → Some a ≡ Some b → a ≡ b
 same a b h = cc
 
-nothing_there : (at from : ℕ) → length (unrolling (drop at []) from).outer ≤ 2
+nothing_there : (at from : ℕ) → length (unrolling (drop at []) from).outer ≤ 4
 nothing_there zero from = omega arith
 nothing_there (suc at) from = omega arith
 
-nested_depth : (at : ℕ) → length (from_word nested at).outer ≤ 2
+nested_depth : (at : ℕ) → length (from_word nested at).outer ≤ 4
 nested_depth zero = omega arith
 nested_depth (suc zero) = omega arith
 nested_depth (suc (suc zero)) = omega arith

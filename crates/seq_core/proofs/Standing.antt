@@ -187,8 +187,8 @@ same_depth words [] (inner ∷ loops) h = absurd h
 same_depth words (after ∷ outer) [] h = absurd h
 same_depth words (after ∷ outer) (inner ∷ loops) h = ap suc (same_depth words outer loops h.1)
 
--- loops stay two deep at most
-pub few_loops : (words : List Word) (ahead : List Line) (at : ℕ) (loops : List OpenLoop) → IsShaped words → StandsAt words ahead at loops → length loops ≤ 2
+-- loops stay four deep at most
+pub few_loops : (words : List Word) (ahead : List Line) (at : ℕ) (loops : List OpenLoop) → IsShaped words → StandsAt words ahead at loops → length loops ≤ 4
 few_loops words ahead at loops shaped s =
     let same = same_depth words (from_word words at).outer loops s.around in
     let few = shaped.depth at in

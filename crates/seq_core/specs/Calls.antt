@@ -57,12 +57,12 @@ pub record CanPlay (s : Channel) (past : List Item) (l : Lun) (buffer : List ℕ
   pub own : MovesAreOwn s l moved past
   pub inside : fits (length buffer) r.place word ≡ true
 
--- there is a next word, it can be played, and loops stay two deep at most
+-- there is a next word, it can be played, and loops stay four deep at most
 pub record CanStep (s : Channel) (past : List Item) (v : Progress) : Type 0 where
   pub word : Word
   pub here : slice_get v.job.text.words v.at ≡ Some word
   pub can : CanPlay s past v.job.lun v.job.buffer v.registers word
-  pub room : length (loops_behind v.at v.loops word) ≤ 2
+  pub room : length (loops_behind v.at v.loops word) ≤ 4
 
 -- these moves make of the trace the later one, and take these bytes
 abbrev pub Plays : Channel → ℕ → List Move → List Item → List Item → List ℕ → Type 0

@@ -123,7 +123,7 @@ impl<A: Allocator> Job<A> {
         self.verified.geometry()
     }
 
-    /// The text. Its loops pair, two deep at most, and its branches lead on inside their loop.
+    /// The text. Its loops pair, four deep at most, and its branches lead on inside their loop.
     pub fn text(&self) -> &Text<A>
         ensures value { result.now ≡ self.now.text }
         ensures shaped { IsShaped self.now.text.words }

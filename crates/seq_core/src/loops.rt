@@ -6,7 +6,7 @@ use arrayvec::ArrayVec;
 use micro_word::Word;
 
 /// How deep loops are nested at most.
-pub(crate) const DEPTH: usize = 2;
+pub(crate) const DEPTH: usize = 4;
 
 /// A loop that goes on: the place of its first word, and how many turns are left behind this one.
 #[derive(Clone, Copy, Debug, Default, PartialEq, Eq)]
@@ -45,7 +45,7 @@ pub(crate) fn go_behind(
     word: Word,
 ) -> usize
     requires inside { at < 1024 }
-    requires room { length (loops_behind at (reverse loops.old.items) word) ≤ 2 }
+    requires room { length (loops_behind at (reverse loops.old.items) word) ≤ 4 }
     ensures place { result ≡ place_behind at (reverse loops.old.items) status word }
     ensures loops { reverse loops.new.items ≡ loops_behind at (reverse loops.old.items) word }
 {

@@ -148,7 +148,7 @@ impl<A: Allocator> Slot<A> {
     fn go_on(&mut self, word: Word, status: u8) -> Stepped
         requires place { reaches self.old.registers.place word < 2 ^ 32 }
         requires inside { self.old.at < 1024 }
-        requires room { length (loops_behind self.old.at self.old.loops word) ≤ 2 }
+        requires room { length (loops_behind self.old.at self.old.loops word) ≤ 4 }
         ensures answer { result ≡ outcome_of word status }
         ensures slot { self.new ≡ behind_word self.old word status }
     {
@@ -178,7 +178,7 @@ impl<A: Allocator + Copy> Slot<A> {
         ensures slot { OnOk result (self.new ≡ with_buffer self.old self.new.job.buffer) }
         ensures place { IfOk result (λ r. reaches self.old.registers.place r.0 < 2 ^ 32) }
         ensures inside { OnOk result (self.new.at < 1024) }
-        ensures room { IfOk result (λ r. length (loops_behind self.new.at self.new.loops r.0) ≤ 2) }
+        ensures room { IfOk result (λ r. length (loops_behind self.new.at self.new.loops r.0) ≤ 4) }
         ensures err { OnErr result (IsUntouched bus.old bus.new × (self.new ≡ self.old)) }
     {
         let word = self.next_word();
