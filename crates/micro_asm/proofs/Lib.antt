@@ -1,1 +1,11 @@
 pub mod Written
+pub mod Cuts
+pub mod Numbers
+pub mod LineByLine
+pub mod Steps
+pub mod Words
+pub mod Spelled
+pub mod Again
+pub mod WrittenLines
+pub mod Back
+pub mod Ranges

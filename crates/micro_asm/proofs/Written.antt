@@ -1,8 +1,8 @@
 -- What is written of a word is its line, and of a text its lines one after another.
-use Rattle.std.proofs.Common.{◌≡◌, ℕ, ◌+◌, Bool, Option, Some, List, [], ◌∷◌, ◌++◌, drop, sym, ap, ◌∙◌}
+use Rattle.std.proofs.Common.{◌≡◌, ℕ, ◌+◌, ◌≤◌, Bool, Option, Some, List, [], ◌∷◌, ◌++◌, length, drop, sym, ap, ◌∙◌}
 use Rattle.std.specs.Prelude.{codes}
 use Rattle.std.specs.Fmt.{decimal, AppendsText, ◌++?◌}
-use Rattle.std.proofs.lemmas.List.{append_assoc}
+use Rattle.std.proofs.lemmas.List.{append_assoc, append-nil, drop_all}
 use Rattle.micro_word.specs.declared.word.Word.{Word}
 use Rattle.micro_word.specs.declared.word.Word.TheVariants.{Command, BranchOnStatus}
 use Rattle.micro_asm.specs.Assembly.{hex_byte, word_text, is_target, ended, label_line, word_lines}
@@ -24,3 +24,7 @@ lines_on all at old mid new whole named word next is_named is_mid is_new before 
     ∙ (append_assoc (old ++ label_line (is_target all at) at) line rest
     ∙ (append_assoc old (label_line (is_target all at) at) (line ++ rest)
     ∙ (sym (ap (λ (ws : List Word). old ++ word_lines all at ws) next) ∙ before)))
+
+-- all the words are written
+pub lines_done : (all : List Word) (at : ℕ) (so_far whole : List ℕ) → length all ≤ at → so_far ++ word_lines all at (drop at all) ≡ whole → so_far ≡ whole
+lines_done all at so_far whole past same = sym (ap (λ (ws : List Word). so_far ++ word_lines all at ws) (drop_all at all past) ∙ append-nil so_far) ∙ same

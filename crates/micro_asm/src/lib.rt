@@ -1,9 +1,26 @@
-//! Microprograms as assembly text (docs/ASSEMBLY.md). Today the text of a microprogram is written; reading one is to come.
+//! Microprograms as assembly text (docs/ASSEMBLY.md), read and written.
 #![tactic(auto)]
 
+mod assembling;
+#[cfg(test)]
+mod assembling_tests;
+mod fields;
+mod heading;
 mod labels;
+pub mod laws;
+mod line;
+mod lines;
+mod message;
+mod names;
+mod operands;
+mod refusal;
+mod statement;
+mod survey;
 #[cfg(test)]
 mod tests;
 mod writing;
 
+pub use assembling::assemble;
+pub use message::AsmMessage;
+pub use refusal::{AsmFault, AsmRefusal};
 pub use writing::disassemble;

@@ -3,6 +3,7 @@ ghost use Rattle.std.specs.Prelude.{◌≡◌, ◌++◌, ◌<◌, Bool, OnOk, If
 ghost use Rattle.std.specs.String.{string_bytes};
 ghost use Rattle.micro_word.specs.declared.word.Word.TheVariants.{Command, BranchOnStatus};
 ghost use Rattle.micro_asm.specs.Assembly.{word_text, label_line, ended, header_lines, assembly};
+ghost use Rattle.micro_asm.specs.Reading.{Spells};
 
 use crate::labels::targets;
 use micro_word::{Text, Word};
@@ -71,9 +72,12 @@ fn push_header<A: Allocator>(lines: &mut String<A>, text: &Text<A>) -> Result<()
 
 /// The assembly text of a microprogram: three lines for its header, and then a line for each word, with single spaces
 /// and lower-case hexadecimal; a word to which a branch leads has its label `Lk:` on a line before it, k being the number of the
-/// word. `AllocError` is answered only where memory was refused.
+/// word. The lines spell the microprogram, so `assemble` gives it back, or `OutOfMemory`. `AllocError` is answered only where memory
+/// was refused.
 pub fn disassemble<A: Allocator>(alloc: A, text: &Text<A>) -> Result<String<A>, AllocError>
-    ensures { IfOk result (λ lines. string_bytes lines ≡ assembly text.now) }
+    ensures written { IfOk result (λ lines. string_bytes lines ≡ assembly text.now) }
+    // The lines spell the microprogram.
+    ensures spells { IfOk result (λ lines. Spells (string_bytes lines) text.now) }
 {
     let mut lines = String::new(alloc);
     push_header(&mut lines, text)?;

@@ -1,0 +1,189 @@
+//! The lines of a text, one after another: the header, the words, and the place of each label.
+
+ghost use Rattle.std.specs.Prelude.{◌≡◌, ◌+◌, ◌<◌, ◌^◌, Ok, OnOk, IfOk, IfErr, is_some};
+ghost use Rattle.micro_asm.specs.Fits.{SeenFits, SettingFits, EntryFits, LineFits};
+ghost use Rattle.micro_asm.specs.Kept.{seen};
+ghost use Rattle.micro_asm.specs.Reading.{placed, with_heading, with_setting, with_label, with_entry, with_line, nothing_seen, with_lines, lines, IsRefusalOf};
+ghost use Rattle.micro_asm.specs.Shown.{shown_line, shown_entry};
+
+use crate::heading::Heading;
+use crate::line::spelled;
+use crate::lines::next_line;
+use crate::refusal::{AsmFault, AsmRefusal};
+use crate::statement::{Entry, Setting, Statement};
+use micro_word::MAX_WORDS;
+use std::alloc::{AllocError, Allocator};
+use std::collections::BTreeMap;
+
+// A word and the number of its line.
+#[derive(Clone, Copy)]
+pub(crate) struct Pending<'a> {
+    pub(crate) line: usize,
+    pub(crate) entry: Entry<'a>,
+}
+
+// What has been read in front of a line.
+#[derive(Drop)]
+pub(crate) struct Survey<'a, A: Allocator> {
+    pub(crate) line: usize,
+    pub(crate) heading: Heading,
+    pub(crate) entries: Vec<Pending<'a>, A>,
+    pub(crate) labels: BTreeMap<&'a [u8], usize, A>,
+}
+
+pub(crate) fn fault(code: AsmFault, line: usize) -> AsmRefusal
+    ensures { result ≡ AsmRefusal.Fault code line }
+{
+    AsmRefusal::Fault { code, line }
+}
+
+impl<'a, A: Allocator + Clone> Survey<'a, A> {
+    // A header line, which must be the next.
+    fn add_setting(&mut self, setting: Setting) -> Result<(), AsmRefusal>
+        requires setting { SettingFits setting }
+        requires room { self.old.line < 2 ^ 63 }
+        requires fits { SeenFits (seen self.old) }
+        ensures ok { OnOk result (with_heading (seen self.old) (with_setting self.old.heading setting) ≡ Ok (seen self.new)) }
+        ensures err { IfErr result (λ e. IsRefusalOf e (with_heading (seen self.old) (with_setting self.old.heading setting))) }
+        ensures fits { OnOk result (SeenFits (seen self.new)) }
+        ensures line { OnOk result (self.new.line ≡ self.old.line + 1) }
+    {
+        match self.heading.with_setting(setting) {
+            Some(heading) => {
+                self.heading = heading;
+                self.line += 1;
+                Ok(())
+            }
+            None => Err(fault(AsmFault::A8, self.line)),
+        }
+    }
+
+    // Whether a line before has this label.
+    fn has_label(&self, name: &[u8]) -> bool
+        ensures { result ≡ is_some ((seen self.now).labels name.now) }
+    {
+        self.labels.get(name).is_some()
+    }
+
+    // A label, which names the next word.
+    #[tactic(auto, unfolding(crate::specs::Reading::with_label))]
+    fn add_label(&mut self, last: usize, name: &'a [u8]) -> Result<(), AsmRefusal>
+        requires room { self.old.line < 2 ^ 63 }
+        requires fits { SeenFits (seen self.old) }
+        ensures ok { OnOk result (with_label last (seen self.old) name.now ≡ Ok (seen self.new)) }
+        ensures err { IfErr result (λ e. IsRefusalOf e (with_label last (seen self.old) name.now)) }
+        ensures fits { OnOk result (SeenFits (seen self.new)) }
+        ensures line { OnOk result (self.new.line ≡ self.old.line + 1) }
+    {
+        if self.heading.is_heading() {
+            return Err(fault(AsmFault::A8, self.line));
+        }
+        if self.has_label(name) {
+            return Err(fault(AsmFault::A5, self.line));
+        }
+        if self.line >= last {
+            return Err(fault(AsmFault::A6, self.line));
+        }
+        let place = self.entries.len();
+        self.labels.insert(name, place)?;
+        self.line += 1;
+        Ok(())
+    }
+
+    // A word.
+    #[tactic(auto, unfolding(crate::specs::Reading::with_entry))]
+    fn add_entry(&mut self, word: Entry<'a>) -> Result<(), AsmRefusal>
+        requires word { EntryFits (shown_entry word) }
+        requires room { self.old.line < 2 ^ 63 }
+        requires fits { SeenFits (seen self.old) }
+        ensures ok { OnOk result (with_entry (seen self.old) (shown_entry word.entry) ≡ Ok (seen self.new)) }
+        ensures err { IfErr result (λ e. IsRefusalOf e (with_entry (seen self.old) (shown_entry word.entry))) }
+        ensures fits { OnOk result (SeenFits (seen self.new)) }
+        ensures line { OnOk result (self.new.line ≡ self.old.line + 1) }
+    {
+        if self.heading.is_heading() {
+            return Err(fault(AsmFault::A8, self.line));
+        }
+        if self.entries.len() >= MAX_WORDS {
+            return Err(fault(AsmFault::A7, self.line));
+        }
+        let line = self.line;
+        self.entries.push(Pending { line, entry: word })?;
+        self.line += 1;
+        Ok(())
+    }
+
+    // A line in its place.
+    #[tactic(auto, unfolding(crate::specs::Reading::placed))]
+    fn place(&mut self, last: usize, statement: Statement<'a>) -> Result<(), AsmRefusal>
+        requires line { LineFits (shown_line statement) }
+        requires room { self.old.line < 2 ^ 63 }
+        requires fits { SeenFits (seen self.old) }
+        ensures ok { OnOk result (placed last (seen self.old) (shown_line statement.entry) ≡ Ok (seen self.new)) }
+        ensures err { IfErr result (λ e. IsRefusalOf e (placed last (seen self.old) (shown_line statement.entry))) }
+        ensures fits { OnOk result (SeenFits (seen self.new)) }
+        ensures line { OnOk result (self.new.line ≡ self.old.line + 1) }
+    {
+        match statement {
+            Statement::Nothing => {
+                self.line += 1;
+                Ok(())
+            }
+            Statement::Header(setting) => self.add_setting(setting),
+            Statement::Label(name) => self.add_label(last, name),
+            Statement::Entered(entry) => self.add_entry(entry),
+        }
+    }
+
+    // A line, judged by itself and then by its place.
+    #[tactic(auto, unfolding(crate::specs::Reading::with_line))]
+    fn add_line(&mut self, last: usize, line: &'a [u8]) -> Result<(), AsmRefusal>
+        requires room { self.old.line < 2 ^ 63 }
+        requires fits { SeenFits (seen self.old) }
+        ensures ok { OnOk result (with_line last (seen self.old) line.now ≡ Ok (seen self.new)) }
+        ensures err { IfErr result (λ e. IsRefusalOf e (with_line last (seen self.old) line.now)) }
+        ensures fits { OnOk result (SeenFits (seen self.new)) }
+        ensures line { OnOk result (self.new.line ≡ self.old.line + 1) }
+    {
+        match spelled(self.heading.is_heading(), line) {
+            Ok(statement) => self.place(last, statement),
+            Err(code) => Err(fault(code, self.line)),
+        }
+    }
+}
+
+// Nothing is read yet.
+fn nothing_seen<'a, A: Allocator + Clone>(alloc: A) -> Result<Survey<'a, A>, AllocError>
+    ensures value { IfOk result (λ s. seen s ≡ nothing_seen) }
+    ensures line { IfOk result (λ s. s.line ≡ 1) }
+{
+    let entries = Vec::new(alloc.clone()?);
+    Ok(Survey {
+        line: 1,
+        heading: Heading::Empty,
+        entries,
+        labels: BTreeMap::new(alloc),
+    })
+}
+
+// The lines of a text, `last` being the number of the last line with a word.
+#[tactic(auto, unfolding(crate::specs::Reading::with_lines))]
+pub(crate) fn survey_of<'a, A: Allocator + Clone>(
+    alloc: A,
+    text: &'a [u8],
+    last: usize,
+) -> Result<Survey<'a, A>, AsmRefusal>
+    ensures ok { IfOk result (λ s. with_lines last nothing_seen (lines text.entry.now) ≡ Ok (seen s)) }
+    ensures fits { IfOk result (λ s. SeenFits (seen s)) }
+    ensures err { IfErr result (λ e. IsRefusalOf e (with_lines last nothing_seen (lines text.entry.now))) }
+{
+    let mut survey = nothing_seen(alloc)?;
+    let mut rest = text;
+    'lines: while let Some((line, behind)) = next_line(rest) {
+        if let Err(refusal) = survey.add_line(last, line) {
+            return Err(refusal);
+        }
+        rest = behind;
+    }
+    Ok(survey)
+}
