@@ -60,7 +60,12 @@ pub mod Certified
 pub mod CertifiedTexts
 pub mod WorkedCertificates
 pub mod Scan
-pub mod Shaping
 pub mod Checking
 pub mod Nested
 pub mod Shaped
+pub mod Joining
+pub mod Ahead
+pub mod ShapeNested
+pub mod ShapeTable
+pub mod OfWords
+pub mod Verdicts

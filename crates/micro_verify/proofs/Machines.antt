@@ -26,7 +26,7 @@ no_reason_none : (b c : Bool) → b ≡ true → c ≡ (b && c)
 no_reason_none true c h = refl
 no_reason_none false c h = absurd cc
 
-branch_reason : (g : Parts) (text : Bounds) (s : State) (mask target : ℕ) → s.registers.polled ≡ is_none (reason_against g text s (BranchOnStatus mask target))
+pub branch_reason : (g : Parts) (text : Bounds) (s : State) (mask target : ℕ) → s.registers.polled ≡ is_none (reason_against g text s (BranchOnStatus mask target))
 unfolding reason_against breaks_V7 breaks_V8 breaks_V9 breaks_V10 breaks_V11 breaks_V12 breaks_V13 breaks_V14 breaks_V15 breaks_V16
 branch_reason g text s mask target = at s.registers.polled refl
   where

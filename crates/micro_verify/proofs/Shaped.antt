@@ -1,12 +1,10 @@
--- A text that passes the test of its shape is shaped for whoever goes by places.
+-- A text whose loops and branches are nested is shaped for whoever goes by places.
 use Rattle.std.proofs.Common.{◌≡◌, ℕ, suc, ◌+◌, List, [], ◌∷◌, refl, sym, ap, ◌∙◌, arith, length, drop}
 use Rattle.micro_word.specs.declared.word.Word.{Word}
 use Rattle.micro_word.specs.declared.word.Word.TheVariants.{BranchOnStatus, Loop, Next, Jump}
 use Rattle.micro_verify.specs.Lines.{Line, Unrolling, looped, word_before, unrolling}
 use Rattle.micro_verify.specs.Nested.{without_first, loops_before, loops, loops_at, LeadsForward, StandsIn, IsNested}
-use Rattle.micro_verify.specs.Places.{from_word, LeadsTo, FitsAt}
-use Rattle.micro_verify.specs.Certified.{NestedIsShaped}
-use Rattle.micro_verify.proofs.Nested.{nested_of}
+use Rattle.micro_verify.specs.Places.{from_word, LeadsTo, FitsAt, IsShaped}
 use Rattle.micro_verify.proofs.Ways.{closes, leads}
 
 -- as many loops follow as there are around
@@ -57,9 +55,8 @@ fits words nested at (Loop turns) h =
     record { some = h.some; most = h.most; ends = omega (arith, deep, ends) }
 fits words nested at word h = tt
 
-pub nested_is_shaped : NestedIsShaped
-nested_is_shaped words h =
-    let nested = nested_of words h in
+pub nested_is_shaped : (words : List Word) → IsNested words → IsShaped words
+nested_is_shaped words nested =
     record {
       paired = none_follows (from_word words 0).outer (as_deep words 0 ∙ ap (length {A = ℕ}) nested.paired);
       depth = λ at. let deep = as_deep (drop at words) at in let few = nested.depth at in omega (arith, deep, few);

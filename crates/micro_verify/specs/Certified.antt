@@ -1,12 +1,13 @@
 -- The law: states meet what a certificate asks of a kind of state.
-use Rattle.std.specs.Prelude.{◌≡◌, ◌≤◌, Bool, true, ◌&&◌, List, Option}
+use Rattle.std.specs.Prelude.{◌≡◌, ◌≤◌, Bool, true, ◌&&◌, List, Option, None, is_none}
 use Rattle.nand_geometry.specs.declared.Parts.{Parts}
 use Rattle.nand_geometry.specs.Limits.{InLimits}
-use Rattle.micro_word.specs.declared.word.Word.{Word}
-use Rattle.micro_word.specs.Text.{Microprogram}
+use Rattle.micro_word.specs.declared.format.Format.TheVariants.{Two}
+use Rattle.micro_word.specs.Text.{Microprogram, FitsFormat}
 use Rattle.micro_verify.specs.Safe.{IsSafe}
 use Rattle.micro_verify.specs.State.{State, Bounds, bounds_of}
-use Rattle.micro_verify.specs.Nested.{IsNested, is_nested}
+use Rattle.micro_verify.specs.Nested.{IsNested}
+use Rattle.micro_verify.specs.Shape.{shape_fault}
 use Rattle.micro_verify.specs.Places.{IsShaped}
 use Rattle.micro_verify.specs.Certificate.{Laws, is_certified}
 use Rattle.micro_verify.specs.Order.{At, machine}
@@ -19,10 +20,10 @@ abbrev pub CertifiedTextsAreSafe : Type 0
 CertifiedTextsAreSafe =
     (text : Microprogram) (g : Parts) (claims : List (Option State)) → InLimits g → 1 ≤ text.rows → IsNested text.words → is_certified (machine g (bounds_of text)) text.words claims ≡ true → IsSafe text g
 
--- the law: a text that passes the test of its shape is shaped for whoever goes by places
-abbrev pub NestedIsShaped : Type 0
-NestedIsShaped = (words : List Word) → is_nested words ≡ true → IsShaped words
+-- the law: a text without a fault of its shape is nested, and shaped for whoever goes by places
+abbrev pub ShapeIsNested : Type 0
+ShapeIsNested = (text : Microprogram) → FitsFormat Two text → shape_fault text.words ≡ None → IsNested text.words × IsShaped text.words
 
--- the claims are a certificate of a text whose loops and branches are nested
+-- the shape of a text is right, and the claims are its certificate
 abbrev pub is_shown : Parts → Microprogram → List (Option State) → Bool
-is_shown g text claims = is_nested text.words && is_certified (machine g (bounds_of text)) text.words claims
+is_shown g text claims = is_none (shape_fault text.words) && is_certified (machine g (bounds_of text)) text.words claims

@@ -5,9 +5,10 @@ ghost use Rattle.micro_verify.specs.State.{bounds_of};
 
 use crate::check::is_certified;
 use crate::search::find;
-use crate::shape::is_nested;
+use crate::shape::shape_fault;
 use crate::state::State;
-use crate::verifying::{Verified, bounds_of};
+use crate::verified::Verified;
+use crate::verifying::bounds_of;
 use micro_word::Text;
 use nand_geometry::Geometry;
 use std::alloc::{AllocError, Allocator, Global};
@@ -61,7 +62,8 @@ fn is_shown<A: Allocator, B: Allocator>(
     ensures { result ≡ is_shown geometry.now text.now claims.now }
 {
     let words = text.words();
-    is_nested(words) && is_certified(geometry, bounds_of(text), words, claims.claims.as_slice())
+    shape_fault(words).is_none()
+        && is_certified(geometry, bounds_of(text), words, claims.claims.as_slice())
 }
 
 // A text with its certificate, as one that is verified.
@@ -75,7 +77,11 @@ fn shown_by<A: Allocator, B: Allocator>(
 {
     let _ = text.words();
     let _ = geometry.parts();
-    Verified { text, geometry }
+    Verified {
+        text,
+        geometry,
+        walked: 0,
+    }
 }
 
 /// Verifies a text with branches and loops for a geometry, by claims for its places: exactly when its loops pair, four deep at most, its

@@ -20,7 +20,7 @@ pub(crate) fn step(geometry: &Geometry, bounds: Bounds, state: &State, word: Wor
 }
 
 // What is claimed before the word at a place.
-fn claim(claims: &[Option<State>], at: usize) -> Option<State>
+pub(crate) fn claim(claims: &[Option<State>], at: usize) -> Option<State>
     ensures { result ≡ claim claims.now at }
 {
     if at < claims.len() { claims[at] } else { None }
@@ -62,7 +62,7 @@ fn loop_holds(
 }
 
 // What is claimed before a word leads to what is claimed where the word leads.
-fn word_holds(
+pub(crate) fn word_holds(
     geometry: &Geometry,
     bounds: Bounds,
     words: &[Word],

@@ -1,156 +1,227 @@
-//! What two states both claim, for the search. Nothing rests on what is found here: the check decides.
+//! What two states both claim.
+ghost use Rattle.std.specs.Prelude.{◌≡◌, min};
+ghost use Rattle.micro_verify.specs.Joins.{greater_bound, joined_growth, joined_span, joined_pages, joined_registers, joined_place, both_know, joined_drift, joined_name, joined_shown, joined_target, joined_held, joined_output, joined_rows, joined_closer, joined_cached, joined_lun, joined};
 
-use crate::planes::Planes;
 use crate::span::{Growth, Span};
 use crate::state::{
     CachedPage, Drift, Held, KnownLun, KnownTarget, LastCloser, NamedRow, OutputColumn, PageRange,
     Place, QueuedRows, Registers, Shown, State,
 };
 
-const ANY_NUMBER: Span = Span {
-    lo: 0,
-    hi: None,
-    grown: None,
-};
-
-const ANY_PAGE: PageRange = PageRange {
-    lo: 0,
-    hi: u32::MAX,
-};
-
-fn upper(one: Option<u64>, other: Option<u64>) -> Option<u64> {
-    Some(one?.max(other?))
+fn lesser(one: u64, other: u64) -> u64
+    ensures { result ≡ min one other }
+{
+    if one <= other { one } else { other }
 }
 
-impl Growth {
-    fn join(self, other: Growth) -> Growth {
-        Growth {
-            lo: self.lo.min(other.lo),
-            hi: upper(self.hi, other.hi),
-        }
+fn greater_bound(one: Option<u64>, other: Option<u64>) -> Option<u64>
+    ensures { result ≡ greater_bound one other }
+{
+    match (one, other) {
+        (Some(one), Some(other)) => Some(if one <= other { other } else { one }),
+        _ => None,
+    }
+}
+
+fn joined_growth(one: Option<Growth>, other: Option<Growth>) -> Option<Growth>
+    ensures { result ≡ joined_growth one other }
+{
+    match (one, other) {
+        (Some(one), Some(other)) => Some(Growth {
+            lo: lesser(one.lo, other.lo),
+            hi: greater_bound(one.hi, other.hi),
+        }),
+        _ => None,
     }
 }
 
 impl Span {
-    fn join(self, other: Span) -> Span {
+    pub(crate) fn join(self, other: Span) -> Span
+        ensures { result ≡ joined_span self other }
+    {
         Span {
-            lo: self.lo.min(other.lo),
-            hi: upper(self.hi, other.hi),
-            grown: match (self.grown, other.grown) {
-                (Some(one), Some(other)) => Some(one.join(other)),
-                _ => None,
-            },
-        }
-    }
-
-    // With no bound where the other passes it.
-    fn widen(self, other: Span) -> Span {
-        let joined = self.join(other);
-        Span {
-            lo: if joined.lo < self.lo { 0 } else { self.lo },
-            hi: if joined.hi == self.hi { self.hi } else { None },
-            grown: joined.grown,
-        }
-    }
-
-    fn meet(self, other: Span, wide: bool) -> Span {
-        if wide {
-            self.widen(other)
-        } else {
-            self.join(other)
+            lo: lesser(self.lo, other.lo),
+            hi: greater_bound(self.hi, other.hi),
+            grown: joined_growth(self.grown, other.grown),
         }
     }
 }
 
 impl PageRange {
-    fn meet(self, other: PageRange, wide: bool) -> PageRange {
-        if wide {
-            return ANY_PAGE;
-        }
+    fn join(self, other: PageRange) -> PageRange
+        ensures { result ≡ joined_pages self other }
+    {
         PageRange {
-            lo: self.lo.min(other.lo),
-            hi: self.hi.max(other.hi),
+            lo: if self.lo <= other.lo {
+                self.lo
+            } else {
+                other.lo
+            },
+            hi: if self.hi <= other.hi {
+                other.hi
+            } else {
+                self.hi
+            },
         }
     }
 }
 
 impl Registers {
-    fn meet(&self, other: &Registers, wide: bool) -> Registers {
+    fn join(&self, other: &Registers) -> Registers
+        ensures { result ≡ joined_registers self.now other.now }
+    {
         Registers {
-            column: self.column.meet(other.column, wide),
+            column: self.column.join(other.column),
             planes: self.planes.or(other.planes),
-            index: self.index.meet(other.index, wide),
-            page: self.page.meet(other.page, wide),
-            place: self.place.meet(other.place, wide),
-            cost: self.cost.meet(other.cost, wide),
+            index: self.index.join(other.index),
+            page: self.page.join(other.page),
+            place: self.place.join(other.place),
+            cost: self.cost.join(other.cost),
             polled: self.polled && other.polled,
         }
     }
 }
 
 impl Place {
-    fn join(self, other: Place) -> Place {
+    // One place, or that nothing is open, or nothing.
+    fn join(self, other: Place) -> Place
+        ensures { result ≡ joined_place self other }
+    {
         if self.is_same(other) {
             self
-        } else if !self.is_open() && !other.is_open() {
-            Place::Closed
-        } else {
+        } else if self.is_open() || other.is_open() {
             Place::Unknown
+        } else {
+            Place::Closed
         }
     }
 }
 
-fn same_drift(one: Option<Drift>, other: Option<Drift>) -> Option<Drift> {
-    if one == other { one } else { None }
+fn joined_drift(one: Option<Drift>, other: Option<Drift>) -> Option<Drift>
+    ensures { result ≡ joined_drift one other }
+{
+    match (one, other) {
+        (Some(one), Some(other)) if one == other => Some(one),
+        _ => None,
+    }
 }
 
 impl NamedRow {
-    fn meet(&self, other: &NamedRow, wide: bool) -> NamedRow {
+    fn join(self, other: NamedRow) -> NamedRow
+        ensures { result ≡ joined_name self other }
+    {
         NamedRow {
-            index: self.index.meet(other.index, wide),
+            index: self.index.join(other.index),
             planes: self.planes.or(other.planes),
-            page: self.page.max(other.page),
-            drift: same_drift(self.drift, other.drift),
+            page: if self.page <= other.page {
+                other.page
+            } else {
+                self.page
+            },
+            drift: joined_drift(self.drift, other.drift),
         }
+    }
+}
+
+impl Shown {
+    fn join(self, other: Shown) -> Shown
+        ensures { result ≡ joined_shown self other }
+    {
+        Shown {
+            status: self.status || other.status,
+            register: self.register || other.register,
+        }
+    }
+}
+
+fn joined_columns(one: Option<Span>, other: Option<Span>) -> Option<Span>
+    ensures { result ≡ both_know joined_span one other }
+{
+    match (one, other) {
+        (Some(one), Some(other)) => Some(one.join(other)),
+        _ => None,
+    }
+}
+
+fn joined_named(one: Option<NamedRow>, other: Option<NamedRow>) -> Option<NamedRow>
+    ensures { result ≡ both_know joined_name one other }
+{
+    match (one, other) {
+        (Some(one), Some(other)) => Some(one.join(other)),
+        _ => None,
+    }
+}
+
+fn joined_shows(one: Option<Shown>, other: Option<Shown>) -> Option<Shown>
+    ensures { result ≡ both_know joined_shown one other }
+{
+    match (one, other) {
+        (Some(one), Some(other)) => Some(one.join(other)),
+        _ => None,
+    }
+}
+
+impl KnownTarget {
+    fn join(&self, other: &KnownTarget) -> KnownTarget
+        ensures { result ≡ joined_target self.now other.now }
+    {
+        KnownTarget {
+            tail: self.tail.join(other.tail),
+            column: joined_columns(self.column, other.column),
+            named: joined_named(self.named, other.named),
+            shows: joined_shows(self.shows, other.shows),
+        }
+    }
+}
+
+impl Held {
+    fn join(self, other: Held) -> Held
+        ensures { result ≡ joined_held self other }
+    {
+        Held {
+            page: self.page || other.page,
+            parameters: self.parameters || other.parameters,
+            identifier: self.identifier || other.identifier,
+        }
+    }
+}
+
+fn joined_registered(one: Option<Held>, other: Option<Held>) -> Option<Held>
+    ensures { result ≡ both_know joined_held one other }
+{
+    match (one, other) {
+        (Some(one), Some(other)) => Some(one.join(other)),
+        _ => None,
     }
 }
 
 impl OutputColumn {
-    fn meet(&self, other: &OutputColumn, wide: bool) -> OutputColumn {
+    fn join(self, other: OutputColumn) -> OutputColumn
+        ensures { result ≡ joined_output self other }
+    {
         OutputColumn {
-            at: self.at.meet(other.at, wide),
+            at: self.at.join(other.at),
             read: self.read || other.read,
         }
     }
 }
 
-impl KnownTarget {
-    fn meet(&self, other: &KnownTarget, wide: bool) -> KnownTarget {
-        KnownTarget {
-            tail: self.tail.join(other.tail),
-            column: match (self.column, other.column) {
-                (Some(one), Some(other)) => Some(one.meet(other, wide)),
-                _ => None,
-            },
-            named: match (self.named, other.named) {
-                (Some(one), Some(other)) => Some(one.meet(&other, wide)),
-                _ => None,
-            },
-            shows: match (self.shows, other.shows) {
-                (Some(one), Some(other)) => Some(Shown {
-                    status: one.status || other.status,
-                    register: one.register || other.register,
-                }),
-                _ => None,
-            },
-        }
+fn joined_outputs(one: Option<OutputColumn>, other: Option<OutputColumn>) -> Option<OutputColumn>
+    ensures { result ≡ both_know joined_output one other }
+{
+    match (one, other) {
+        (Some(one), Some(other)) => Some(one.join(other)),
+        _ => None,
     }
 }
 
 impl QueuedRows {
-    fn join(self, other: QueuedRows) -> QueuedRows {
+    fn join(self, other: QueuedRows) -> QueuedRows
+        ensures { result ≡ joined_rows self other }
+    {
         match (self, other) {
-            (QueuedRows::NoRows, rows) | (rows, QueuedRows::NoRows) => rows,
+            (QueuedRows::NoRows, rows) => rows,
+            (QueuedRows::SomeRows { .. }, QueuedRows::NoRows) => self,
             (
                 QueuedRows::SomeRows {
                     erase,
@@ -172,84 +243,54 @@ impl QueuedRows {
     }
 }
 
+impl LastCloser {
+    fn join(self, other: LastCloser) -> LastCloser
+        ensures { result ≡ joined_closer self other }
+    {
+        LastCloser {
+            read: self.read || other.read,
+            cache: self.cache || other.cache,
+            other: self.other || other.other,
+        }
+    }
+}
+
+impl CachedPage {
+    fn join(self, other: CachedPage) -> CachedPage
+        ensures { result ≡ joined_cached self other }
+    {
+        CachedPage {
+            index: self.index.join(other.index),
+            page: self.page.join(other.page),
+        }
+    }
+}
+
 impl KnownLun {
-    fn meet(&self, other: &KnownLun, wide: bool) -> KnownLun {
+    fn join(&self, other: &KnownLun) -> KnownLun
+        ensures { result ≡ joined_lun self.now other.now }
+    {
         KnownLun {
             busy: self.busy || other.busy,
-            register: match (self.register, other.register) {
-                (Some(one), Some(other)) => Some(Held {
-                    page: one.page || other.page,
-                    parameters: one.parameters || other.parameters,
-                    identifier: one.identifier || other.identifier,
-                }),
-                _ => None,
-            },
-            column: match (self.column, other.column) {
-                (Some(one), Some(other)) => Some(one.meet(&other, wide)),
-                _ => None,
-            },
+            register: joined_registered(self.register, other.register),
+            column: joined_outputs(self.column, other.column),
             queue: self.queue.join(other.queue),
-            last: LastCloser {
-                read: self.last.read || other.last.read,
-                cache: self.last.cache || other.last.cache,
-                other: self.last.other || other.last.other,
-            },
-            cached: CachedPage {
-                index: self.cached.index.meet(other.cached.index, wide),
-                page: self.cached.page.meet(other.cached.page, wide),
-            },
+            last: self.last.join(other.last),
+            cached: self.cached.join(other.cached),
         }
     }
 }
 
 impl State {
-    /// What both claim; where `wide`, with no bound for a number that the other takes past it.
-    pub(crate) fn meet(&self, other: &State, wide: bool) -> State {
+    /// What both claim.
+    #[tactic(auto, unfolding(crate::specs::Joins::joined))]
+    pub(crate) fn join(&self, other: &State) -> State
+        ensures { result ≡ joined self.now other.now }
+    {
         State {
-            registers: self.registers.meet(&other.registers, wide),
-            target: self.target.meet(&other.target, wide),
-            lun: self.lun.meet(&other.lun, wide),
-        }
-    }
-
-    /// Nothing is known.
-    pub(crate) fn unknown() -> State {
-        State {
-            registers: Registers {
-                column: ANY_NUMBER,
-                planes: Planes {
-                    zero: true,
-                    one: true,
-                    two: true,
-                    three: true,
-                },
-                index: ANY_NUMBER,
-                page: ANY_PAGE,
-                place: ANY_NUMBER,
-                cost: ANY_NUMBER,
-                polled: false,
-            },
-            target: KnownTarget {
-                tail: Place::Unknown,
-                column: None,
-                named: None,
-                shows: None,
-            },
-            lun: KnownLun {
-                busy: true,
-                register: None,
-                column: None,
-                queue: QueuedRows::AnyRows,
-                last: LastCloser {
-                    read: true,
-                    cache: true,
-                    other: true,
-                },
-                cached: CachedPage {
-                    index: ANY_NUMBER,
-                    page: ANY_NUMBER,
-                },
-            },
+            registers: self.registers.join(&other.registers),
+            target: self.target.join(&other.target),
+            lun: self.lun.join(&other.lun),
         }
     }
 }

@@ -103,3 +103,18 @@ ghost use Rattle.micro_verify.specs.Certified.{CertifiedTextsAreSafe};
 pub fn certified_texts_are_safe()
     ensures { CertifiedTextsAreSafe }
 {}
+
+ghost use Rattle.micro_verify.specs.Joins.{JoinsClaimLess};
+
+/// What two states both claim is no more than either of them claims.
+pub fn joins_claim_less()
+    ensures { JoinsClaimLess }
+{}
+
+ghost use Rattle.micro_verify.specs.Certified.{ShapeIsNested};
+
+/// A text without a fault of its shape is nested: each loop has its `next`, four are around a word at most, and branches lead forward in
+/// the same turn of the same loop. So it is shaped for whoever goes by places.
+pub fn shape_is_nested()
+    ensures { ShapeIsNested }
+{}

@@ -1,7 +1,8 @@
 //! The search for a certificate. Nothing rests on what it finds: the check decides.
-ghost use Rattle.std.specs.Prelude.{◌≡◌, length};
+ghost use Rattle.std.specs.Prelude.{◌≡◌, ◌≤◌, length};
 
 use crate::check::step;
+use crate::following::reach;
 use crate::state::{Bounds, State};
 use micro_word::Word;
 use nand_geometry::Geometry;
@@ -18,18 +19,17 @@ struct Walked {
     again: u8,
 }
 
-// A place is reached from a state too.
-fn reach(claims: &mut [Option<State>], at: usize, state: &State) {
-    if at < claims.len() {
-        claims[at] = Some(match claims[at] {
-            None => *state,
-            Some(claimed) => claimed.meet(state, false),
-        });
-    }
-}
+const NOT_WALKED: Walked = Walked {
+    head: 0,
+    entry: None,
+    turns: 1,
+    again: 0,
+};
 
 // Nothing is claimed from one place to another.
-fn forget(claims: &mut [Option<State>], from: usize, to: usize) {
+fn forget(claims: &mut [Option<State>], from: usize, to: usize)
+    ensures { length claims.new ≡ length claims.old }
+{
     for at in from..to {
         if at < claims.len() {
             claims[at] = None;
@@ -45,7 +45,9 @@ fn lead(
     at: usize,
     state: &State,
     word: Word,
-) -> bool {
+) -> bool
+    ensures { length claims.new ≡ length claims.old }
+{
     match word {
         Word::BranchOnStatus { target, .. } => {
             reach(claims, at.saturating_add(1), state);
@@ -71,14 +73,16 @@ fn lead(
 // twelfth nothing is known.
 fn wider(head: &State, heads: &State, again: u8) -> State {
     match again {
-        0..=6 => head.meet(heads, false),
-        7..=10 => head.meet(heads, true),
+        0..=6 => head.join(heads),
+        7..=10 => head.widen(heads),
         _ => State::unknown().at_head(),
     }
 }
 
 // At the `next` of a loop: the loop once more, where a later turn may begin with more than is claimed at its head.
-fn once_more(claims: &mut [Option<State>], at: usize, walked: &Walked) -> Option<Walked> {
+fn once_more(claims: &mut [Option<State>], at: usize, walked: &Walked) -> Option<Walked>
+    ensures { length claims.new ≡ length claims.old }
+{
     if at >= claims.len() || walked.head >= claims.len() {
         return None;
     }
@@ -100,74 +104,127 @@ fn once_more(claims: &mut [Option<State>], at: usize, walked: &Walked) -> Option
     })
 }
 
+/// What a search comes to: how many words it walked, and the place where it found something against a word.
+#[derive(Drop)]
+pub(crate) struct Found {
+    pub walked: u32,
+    pub stopped: Option<usize>,
+}
+
+// The walk is at a place, in so many loops.
+#[derive(Drop)]
+struct Walk {
+    at: usize,
+    depth: usize,
+    loops: [Walked; DEPTH],
+}
+
+impl Walk {
+    // A loop is entered, where there is room for it.
+    fn enter(&mut self, claims: &mut [Option<State>], turns: u16) -> bool
+        ensures { length claims.new ≡ length claims.old }
+    {
+        if self.depth >= DEPTH || self.at >= claims.len() {
+            return false;
+        }
+        let entry = claims[self.at];
+        self.at += 1;
+        self.loops[self.depth] = Walked {
+            head: self.at,
+            entry,
+            turns,
+            again: 0,
+        };
+        self.depth += 1;
+        if let Some(state) = entry {
+            reach(claims, self.at, &state.at_head());
+        }
+        true
+    }
+
+    // At a `next`: back to its loop, or on.
+    fn turn(&mut self, claims: &mut [Option<State>]) -> bool
+        ensures { length claims.new ≡ length claims.old }
+    {
+        if self.depth == 0 || self.depth > DEPTH {
+            return false;
+        }
+        match once_more(claims, self.at, &self.loops[self.depth - 1]) {
+            Some(again) => {
+                self.at = again.head;
+                self.loops[self.depth - 1] = again;
+            }
+            None => {
+                self.depth -= 1;
+                self.at = self.at.saturating_add(1);
+            }
+        }
+        true
+    }
+
+    // One word on. Whether nothing is against it.
+    fn step(
+        &mut self,
+        geometry: &Geometry,
+        bounds: Bounds,
+        claims: &mut [Option<State>],
+        word: Word,
+    ) -> bool
+        ensures { length claims.new ≡ length claims.old }
+    {
+        match word {
+            Word::Loop { turns } => self.enter(claims, turns),
+            Word::Next => self.turn(claims),
+            _ => {
+                let at = self.at;
+                self.at = at.saturating_add(1);
+                at >= claims.len()
+                    || match claims[at] {
+                        None => true,
+                        Some(state) => lead(geometry, bounds, claims, at, &state, word),
+                    }
+            }
+        }
+    }
+}
+
 /// Fills in what is claimed before each word, by walking at most so many words. Where the walk finds something against a word it
-/// stops there, and tells the place.
+/// stops there.
 pub(crate) fn find(
     geometry: &Geometry,
     bounds: Bounds,
     words: &[Word],
     claims: &mut [Option<State>],
     most: u32,
-) -> Result<(), usize>
-    requires { length words.now ≡ length claims.old }
+) -> Found
+    ensures few { result.walked ≤ most }
+    ensures length { length claims.new ≡ length claims.old }
 {
     let all = claims.len();
     forget(claims, 0, all);
     reach(claims, 0, &State::first());
-    let mut loops = [Walked {
-        head: 0,
-        entry: None,
-        turns: 1,
-        again: 0,
-    }; DEPTH];
-    let mut depth: usize = 0;
-    let mut at: usize = 0;
-    for _ in 0..most {
+    let mut walk = Walk {
+        at: 0,
+        depth: 0,
+        loops: [NOT_WALKED; DEPTH],
+    };
+    for walked in 0..most {
+        let at = walk.at;
         if at >= words.len() {
-            return if depth == 0 { Ok(()) } else { Err(words.len()) };
+            return Found {
+                walked,
+                stopped: None,
+            };
         }
-        match words[at] {
-            Word::Loop { turns } => {
-                if depth >= DEPTH {
-                    return Err(at);
-                }
-                let entry = claims[at];
-                loops[depth] = Walked {
-                    head: at + 1,
-                    entry,
-                    turns,
-                    again: 0,
-                };
-                depth += 1;
-                at += 1;
-                if let Some(state) = entry {
-                    reach(claims, at, &state.at_head());
-                }
-            }
-            Word::Next => {
-                if depth == 0 || depth > DEPTH {
-                    return Err(at);
-                }
-                match once_more(claims, at, &loops[depth - 1]) {
-                    Some(again) => {
-                        at = again.head;
-                        loops[depth - 1] = again;
-                    }
-                    None => {
-                        depth -= 1;
-                        at += 1;
-                    }
-                }
-            }
-            word => {
-                if let Some(state) = claims[at] {
-                    if !lead(geometry, bounds, claims, at, &state, word) {
-                        return Err(at);
-                    }
-                }
-                at += 1;
-            }
+        if !walk.step(geometry, bounds, claims, words[at]) {
+            return Found {
+                walked,
+                stopped: Some(at),
+            };
         }
     }
-    Err(at)
+    Found {
+        walked: most,
+        stopped: None,
+    }
 }

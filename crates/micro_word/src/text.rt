@@ -92,6 +92,11 @@ impl<A: Allocator> Text<A> {
         self.budget
     }
 
+    /// Where the words have their memory from.
+    pub fn allocator(&self) -> &A {
+        self.words.allocator()
+    }
+
     /// The words, taken out of the text.
     pub fn into_words(self) -> Vec<Word, A>
         ensures { result.items ≡ self.words }

@@ -1,5 +1,5 @@
 -- What running a word file once comes to: the line of its refusal, or the text of its run.
-use Rattle.std.specs.Prelude.{◌≡◌, ℕ, true, false, List, [], ◌∷◌, ◌++◌, Option, Some, None, Result, Ok, Err, replicate, reverse}
+use Rattle.std.specs.Prelude.{◌≡◌, ℕ, true, false, List, [], ◌∷◌, ◌++◌, ◌⊎◌, ⊤, Option, Some, None, Result, Ok, Err, replicate, reverse}
 use Rattle.nand_geometry.specs.declared.Parts.{Parts}
 use Rattle.onfi_cycle.specs.declared.Lun.{Lun}
 use Rattle.onfi_cycle.specs.Permitted.{is_legal}
@@ -11,7 +11,7 @@ use Rattle.micro_word.specs.Reading.{reading}
 use Rattle.micro_verify.specs.declared.refusal.Fault.{Fault as TextFault}
 use Rattle.micro_verify.specs.Faults.{fault_of}
 use Rattle.micro_verify.specs.Program.{Job}
-use Rattle.micro_verify.specs.Verified.{VerifiedText}
+use Rattle.micro_verify.specs.Verified.{VerifiedText, IsOfLoops}
 use Rattle.seq_core.specs.declared.answers.LoadFault.{LoadFault}
 use Rattle.seq_core.specs.World.{Slot, World, slot_of, fresh}
 use Rattle.seq_core.specs.Event.{Load}
@@ -21,6 +21,11 @@ use Rattle.seq_core.specs.Job.{job_of, job_fault}
 use Rattle.target_bus.specs.Bus.{channel_on}
 use Rattle.seq_core.specs.Alone.{alone_on}
 use Rattle.trace_text.specs.Line.{text}
+use Rattle.seq_cli.specs.declared.refusal.Refusal.{Refusal}
+use Rattle.seq_cli.specs.declared.refusal.Refusal.TheVariants.{Text}
+use Rattle.seq_cli.specs.declared.refusal.NotRun.{NotRun}
+use Rattle.seq_cli.specs.declared.refusal.NotRun.TheVariants.{Refused, OutOfMemory as NoMemory}
+use Rattle.seq_cli.specs.Refusals.{line_of}
 use Rattle.seq_cli.specs.Lines.{word_fault_name, reason_name, load_fault_name, refusal_line, end_line}
 
 -- one LUN of 8 blocks of 4 pages of 512 + 16 bytes
@@ -54,9 +59,23 @@ refused_file base (Ok x) = refused_text base x (fault_of one_lun x)
 refused_file base (Err (Fault code word)) = Some (refusal_line (word_fault_name code) word)
 refused_file base (Err OutOfMemory) = None
 
--- the line of the refusal of a file at a base, if it is refused
+-- the line of the refusal of a file at a base, if it is refused. Of a text with loops, the fault of its shape or of its job
 abbrev pub refused : ℕ → List ℕ → Option (List ℕ)
 refused base bytes = refused_file base (reading bytes)
+
+-- a text with loops whose shape is right may also be refused at some word of it, for a reason against a word
+abbrev pub IsOfLoopsIn : List ℕ → Refusal → Type 0
+IsOfLoopsIn bytes (Text reason word) = (x : Microprogram) × (reading bytes ≡ Ok x) × IsOfLoops x (record { word = word; reason = reason })
+IsOfLoopsIn bytes _ = ⊥
+
+-- what a file at a base may be refused for
+abbrev pub MayBeRefused : ℕ → List ℕ → Refusal → Type 0
+MayBeRefused base bytes refusal = (refused base bytes ≡ Some (line_of refusal)) ⊎ IsOfLoopsIn bytes refusal
+
+-- why it isn't run: a refusal that it may have, or want of memory
+abbrev pub Tells : NotRun → ℕ → List ℕ → Type 0
+Tells (Refused refusal) base bytes = MayBeRefused base bytes refusal
+Tells NoMemory base bytes = ⊤
 
 -- the job of a text, its buffer all 00
 abbrev pub the_job : ℕ → Microprogram → Job

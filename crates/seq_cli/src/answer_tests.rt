@@ -64,6 +64,31 @@ fn a_run(rt: HostRuntime) -> Result<(), Fail> {
     Ok(())
 }
 
+// Two blocks erased in a loop: `loop 2`, the erase, `rowadd 4`, `next`, `end 0`.
+const ERASE_TWO: [u8; 48] = [
+    0x4e, 0x4d, 0x50, 0x31, 8, 0, 5, 0, 0, 0, 0, 0, 10, 0, 0, 0, 0x0e, 0, 2, 0, 1, 0x60, 0, 0, 2,
+    2, 3, 0, 1, 0xd0, 0, 0, 0x0a, 0, 0, 0, 7, 0, 4, 0, 0x0f, 0, 0, 0, 0, 0, 0, 0,
+];
+
+const RUN_TWO: &str =
+    "0 C 60\n0 A 04\n0 A 00\n0 A 00\n0 C d0\n0 C 70\n0 O 80\n0 R 0 0\n0 C 70\n0 O e0\n0 C 60\n0 A 08\n0 A 00\n0 A 00\n0 C d0\n0 C 70\n0 O 80\n0 R 0 0\n0 C 70\n0 O e0\nend 0\n";
+
+#[test]
+fn a_run_with_a_loop(rt: HostRuntime) -> Result<(), Fail> {
+    let words = owned(rt.alloc(), &["onfiseq", "once", "--base", "4"])?;
+    let answer = answer_to(rt.alloc(), Ok(words), &ERASE_TWO);
+    expect(&rt, answer, 0, RUN_TWO, "");
+    let mut few_rows = ERASE_TWO;
+    few_rows[6] = 4;
+    expect_refusal(
+        &rt,
+        &few_rows,
+        "refused V11 at 2\n",
+        "word 2: a row or a plane may be outside the die\n",
+    )?;
+    Ok(())
+}
+
 // A file with one byte turned into another.
 fn changed(place: usize, byte: u8) -> [u8; 36]
     requires { place < 36 }
@@ -138,6 +163,9 @@ fn with_budget(place: usize, byte: u8) -> [u8; 36]
 fn texts_that_are_refused(rt: HostRuntime) -> Result<(), Fail> {
     let mut jump = with_budget(28, 0x10);
     jump[30] = 4;
+    let mut branch = with_budget(28, 0x0d);
+    branch[29] = 1;
+    branch[30] = 4;
     let files = [
         (
             &changed(32, 0x0a),
@@ -167,12 +195,27 @@ fn texts_that_are_refused(rt: HostRuntime) -> Result<(), Fail> {
         (
             &with_budget(17, 0x42),
             "refused V16 at 0\n",
-            "word 0: programs may not use this command on this die; `brs`, `loop`, `next` and `jmp` are not supported yet\n",
+            "word 0: programs may not use this command on this die\n",
+        ),
+        (
+            &with_budget(28, 0x0f),
+            "refused V2 at 3\n",
+            "word 3: a `loop` or a `next` has no partner\n",
+        ),
+        (
+            &with_budget(28, 0x10),
+            "refused V4 at 3\n",
+            "word 3: the branch leads back, or into or out of a loop\n",
+        ),
+        (
+            &branch,
+            "refused V13 at 3\n",
+            "word 3: no status may have been read before this branch\n",
         ),
         (
             &jump,
-            "refused V16 at 3\n",
-            "word 3: programs may not use this command on this die; `brs`, `loop`, `next` and `jmp` are not supported yet\n",
+            "refused V14 at 4\n",
+            "word 4: the program may end while its LUN is busy, has a row queued or reads a cache, or in the middle of a command sequence\n",
         ),
     ];
     for (file, line, words) in files {
@@ -216,7 +259,7 @@ fn a_base_outside_the_die(rt: HostRuntime) -> Result<(), Fail> {
     Ok(())
 }
 
-// What no file of today is refused for.
+// What no file above is refused for.
 #[test]
 fn the_other_refusals(rt: HostRuntime) -> Result<(), Fail> {
     let text = |reason| Refusal::Text { reason, word: 7 };

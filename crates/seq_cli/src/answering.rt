@@ -1,8 +1,10 @@
 //! What the program does with its words, what it says on standard error, and its status.
-ghost use Rattle.std.specs.Prelude.{◌≡◌, List, ℕ, IfSome, Some};
+ghost use Rattle.std.specs.Prelude.{◌≡◌, List, ℕ, IfSome};
 ghost use Rattle.std.specs.Io.KnownBytes.{Appends};
+ghost use Rattle.seq_cli.specs.declared.refusal.Refusal.{Refusal};
+ghost use Rattle.seq_cli.specs.Refusals.{line_of};
 ghost use Rattle.seq_cli.specs.Exits.{status};
-ghost use Rattle.seq_cli.specs.Once.{refused, IsRun};
+ghost use Rattle.seq_cli.specs.Once.{MayBeRefused, IsRun};
 
 use crate::command_line::{self, Command};
 use crate::exit::Exit;
@@ -43,8 +45,8 @@ pub fn run_file<A: Allocator, R: Read, W: Write, E: Write>(
 ) -> u8
     ensures done { result ≡ 0 → IfSome (R.remaining input.old) (λ bytes. (written : List ℕ) × IsRun base bytes written
         × Appends (W.contents output.old) (W.contents output.new) written) }
-    ensures refused { result ≡ 1 → IfSome (R.remaining input.old) (λ bytes. (line : List ℕ) × (refused base bytes ≡ Some line)
-        × Appends (W.contents output.old) (W.contents output.new) line) }
+    ensures refused { result ≡ 1 → IfSome (R.remaining input.old) (λ bytes. (refusal : Refusal) × MayBeRefused base bytes refusal
+        × Appends (W.contents output.old) (W.contents output.new) (line_of refusal)) }
 {
     let exit = once_on(alloc, input, output, base);
     end(errors, exit)

@@ -40,9 +40,7 @@ fn reason_text(reason: Reason) -> &'static str {
             "the program may end while its LUN is busy, has a row queued or reads a cache, or in the middle of a command sequence"
         }
         Reason::V15 => "the bus cycles up to here are more than the budget in the header",
-        Reason::V16 => {
-            "programs may not use this command on this die; `brs`, `loop`, `next` and `jmp` are not supported yet"
-        }
+        Reason::V16 => "programs may not use this command on this die",
     }
 }
 

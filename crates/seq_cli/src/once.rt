@@ -7,14 +7,14 @@ ghost use Rattle.micro_word.specs.Reading.{reading};
 ghost use Rattle.micro_verify.specs.Lines.{unrolled};
 ghost use Rattle.micro_verify.specs.Faults.{fault_of};
 ghost use Rattle.seq_cli.specs.declared.refusal.Refusal.{Refusal};
-ghost use Rattle.seq_cli.specs.Refusals.{line_of, Tells};
+ghost use Rattle.seq_cli.specs.Refusals.{line_of};
 ghost use Rattle.micro_word.specs.Text.{IsFileOf};
 ghost use Rattle.seq_core.specs.World.{fresh};
 ghost use Rattle.seq_core.specs.Calls.{IsEvent};
 ghost use Rattle.seq_core.specs.Event.{Ready};
 ghost use Rattle.seq_core.specs.Reply.{ToReady};
 ghost use Rattle.seq_core.specs.Shows.{IsAt, channel_in};
-ghost use Rattle.seq_cli.specs.Once.{one_lun, the_lun, refused, the_channel, IsJobOf, IsRun};
+ghost use Rattle.seq_cli.specs.Once.{one_lun, the_lun, refused, MayBeRefused, Tells, the_channel, IsJobOf, IsRun};
 ghost use Rattle.seq_cli.specs.Lines.{end_line};
 ghost use Rattle.seq_cli.specs.Runs.{EndsWithin, HasRun, IsForTheLun, IsLoaded, RanAlone, TellsRun, TookTurn};
 ghost use Rattle.trace_text.specs.Line.{text, IsPrintable};
@@ -71,7 +71,7 @@ fn verified<A: Allocator>(alloc: A, bytes: &[u8]) -> Result<Verified<A>, NotRun>
     ensures file { IfOk result (λ v. IsFileOf bytes.now v.text) }
     ensures faultless { IfOk result (λ v. fault_of one_lun v.text ≡ None) }
     ensures geometry { IfOk result (λ v. v.geometry ≡ one_lun) }
-    ensures refused { (base : ℕ) → IfErr result (λ e. Tells e (refused base bytes.now)) }
+    ensures refused { (base : ℕ) → IfErr result (λ e. Tells e base bytes.now) }
 {
     let text = match read(alloc, bytes) {
         Ok(text) => text,
@@ -94,7 +94,7 @@ fn made_job<A: Allocator + Clone>(alloc: A, bytes: &[u8], base: u32) -> Result<J
     ensures job { IfOk result (λ j. IsJobOf base bytes.now j) }
     ensures alone { IfOk result (λ j. IsForTheLun j) }
     ensures accepted { IfOk result (λ j. refused base bytes.now ≡ None) }
-    ensures refused { IfErr result (λ e. Tells e (refused base bytes.now)) }
+    ensures refused { IfErr result (λ e. Tells e base bytes.now) }
 {
     let verified = verified(alloc.clone()?, bytes)?;
     let buffer = vec![in alloc; 0; verified.text().buffer() as usize]?;
@@ -246,7 +246,7 @@ fn run<A: Allocator, R: Read, W: Write>(
     ensures done { result ≡ Ok Exit.Done → IfSome (R.remaining input.old) (λ bytes. (written : List ℕ) × IsRun base bytes written
         × Appends (W.contents output.old) (W.contents output.new) written) }
     ensures refused { (refusal : Refusal) → result ≡ Ok (Exit.Refused refusal) → IfSome (R.remaining input.old) (λ bytes.
-        (refused base bytes ≡ Some (line_of refusal)) × Appends (W.contents output.old) (W.contents output.new) (line_of refusal)) }
+        MayBeRefused base bytes refusal × Appends (W.contents output.old) (W.contents output.new) (line_of refusal)) }
 {
     let bytes = read_all(alloc, input)?;
     match made_job(alloc, bytes.as_slice(), base) {
@@ -280,7 +280,7 @@ pub fn once_on<A: Allocator, R: Read, W: Write>(
     ensures done { result ≡ Exit.Done → IfSome (R.remaining input.old) (λ bytes. (written : List ℕ) × IsRun base bytes written
         × Appends (W.contents output.old) (W.contents output.new) written) }
     ensures refused { (refusal : Refusal) → result ≡ Exit.Refused refusal → IfSome (R.remaining input.old) (λ bytes.
-        (refused base bytes ≡ Some (line_of refusal)) × Appends (W.contents output.old) (W.contents output.new) (line_of refusal)) }
+        MayBeRefused base bytes refusal × Appends (W.contents output.old) (W.contents output.new) (line_of refusal)) }
 {
     match run(alloc, input, output, base) {
         Ok(exit) => exit,

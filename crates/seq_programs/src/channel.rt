@@ -1,7 +1,7 @@
 //! Channels on which programs are played.
 
 use die_model::LunDie;
-use micro_verify::{Claims, Verified, certify, verify};
+use micro_verify::verify;
 use micro_word::{Text, Word};
 use nand_geometry::{Geometry, Parts};
 use onfi_cycle::Lun;
@@ -71,17 +71,6 @@ fn buffer_of(alloc: Global, program: Program<'_>) -> Result<Vec<u8>, Fail> {
     Ok(buffer)
 }
 
-// The text, verified; by claims that are found for it if it has branches or loops. None where it is refused.
-fn verified(alloc: Global, geometry: Geometry, text: Text) -> Result<Option<Verified>, Fail> {
-    match verify(text, geometry) {
-        Ok(verified) => Ok(Some(verified)),
-        Err((_, text)) => {
-            let claims = Claims::find(alloc, &text, &geometry)?;
-            Ok(certify(text, geometry, &claims).ok())
-        }
-    }
-}
-
 /// The program as a job of a LUN, or None where it is refused.
 pub(crate) fn job_of(
     alloc: Global,
@@ -95,7 +84,7 @@ pub(crate) fn job_of(
     let Ok(text) = Text::of(program.rows, program.buffer, program.budget, words) else {
         return Err(Fail::from("the words are no text"));
     };
-    let Some(verified) = verified(alloc, geometry, text)? else {
+    let Ok(verified) = verify(text, geometry) else {
         return Ok(None);
     };
     let buffer = buffer_of(alloc, program)?;

@@ -3,7 +3,11 @@
 #![tactic(auto)]
 
 #[cfg(test)]
+mod assembly_tests;
+#[cfg(test)]
 mod channel;
+#[cfg(test)]
+mod plain_tests;
 #[cfg(test)]
 mod programs;
 #[cfg(test)]

@@ -1,0 +1,66 @@
+-- What is known of the last word, to which failures lead: it may end, whatever states met there.
+use Rattle.std.proofs.Common.{◌≡◌, Bool, true, false, not, ◌||◌, cond, Option, Some, None, refl, ap}
+use Rattle.std.specs.Prelude.{is_none}
+use Rattle.nand_geometry.specs.declared.Parts.{Parts}
+use Rattle.micro_word.specs.declared.word.Word.TheVariants.{End}
+use Rattle.micro_word.specs.Text.{Microprogram}
+use Rattle.micro_verify.specs.declared.state.Place.{Place}
+use Rattle.micro_verify.specs.declared.state.Place.TheVariants.{Closed, Unknown}
+use Rattle.micro_verify.specs.declared.state.QueuedRows.{QueuedRows}
+use Rattle.micro_verify.specs.declared.state.QueuedRows.TheVariants.{NoRows, SomeRows, AnyRows}
+use Rattle.micro_verify.specs.declared.state.State.{State}
+use Rattle.micro_verify.specs.State.{bounds_of}
+use Rattle.micro_verify.specs.Against.{is_open_place, may_be_queued, may_be_unready}
+use Rattle.micro_verify.specs.Order.{same_place}
+use Rattle.micro_verify.specs.Joins.{joined, joined_rows}
+use Rattle.micro_verify.specs.Reasons.{reason_against, breaks_V7, breaks_V8, breaks_V9, breaks_V10, breaks_V11, breaks_V12, breaks_V13, breaks_V14, breaks_V15, breaks_V16}
+use Rattle.micro_verify.specs.Faults.{met, reason_at}
+use Rattle.micro_plain.proofs.Basics.{neither}
+
+-- what no way leads to may stand there, and what is known to be idle
+abbrev pub may_end : Option State → Bool
+may_end None = true
+may_end (Some s) = not (may_be_unready s)
+
+either : (a b : Bool) → a ≡ false → b ≡ false → (a || b) ≡ false
+either false b h k = k
+either true b h k = absurd cc
+
+closed_place : (p q : Place) (same : Bool) → is_open_place p ≡ false → is_open_place q ≡ false → is_open_place (cond same p (cond (is_open_place p || is_open_place q) Unknown Closed)) ≡ false
+closed_place p q true hp hq = hp
+closed_place p q false hp hq = rw (hp, hq) refl
+
+no_rows : (q r : QueuedRows) → may_be_queued q ≡ false → may_be_queued r ≡ false → may_be_queued (joined_rows q r) ≡ false
+no_rows NoRows r hq hr = hr
+no_rows (SomeRows erase planes d) r hq hr = absurd cc
+no_rows AnyRows r hq hr = absurd cc
+
+-- two states that may end meet in one that may end
+pub ready_joined : (s t : State) → may_be_unready s ≡ false → may_be_unready t ≡ false → may_be_unready (joined s t) ≡ false
+unfolding joined
+ready_joined s t hs ht =
+    let s1 = neither (s.lun.busy || is_open_place s.target.tail || may_be_queued s.lun.queue) s.lun.last.cache hs in
+    let s2 = neither (s.lun.busy || is_open_place s.target.tail) (may_be_queued s.lun.queue) s1.0 in
+    let s3 = neither s.lun.busy (is_open_place s.target.tail) s2.0 in
+    let t1 = neither (t.lun.busy || is_open_place t.target.tail || may_be_queued t.lun.queue) t.lun.last.cache ht in
+    let t2 = neither (t.lun.busy || is_open_place t.target.tail) (may_be_queued t.lun.queue) t1.0 in
+    let t3 = neither t.lun.busy (is_open_place t.target.tail) t2.0 in
+    either _ _
+    (either _ _
+    (either _ _ (either _ _ s3.0 t3.0) (closed_place s.target.tail t.target.tail (same_place s.target.tail t.target.tail) s3.1 t3.1))
+    (no_rows s.lun.queue t.lun.queue s2.1 t2.1))
+    (either _ _ s1.1 t1.1)
+
+false_of : (a : Bool) → not a ≡ true → a ≡ false
+false_of false h = refl
+false_of true h = cc
+
+pub met_may_end : (f : Option State) (t : State) → may_end f ≡ true → may_be_unready t ≡ false → may_end (Some (met f t)) ≡ true
+met_may_end None t h k = ap not k
+met_may_end (Some s) t h k = ap not (ready_joined s t (false_of (may_be_unready s) h) k)
+
+-- then nothing is against an `end`
+pub end_is_fine : (g : Parts) (x : Microprogram) (f : Option State) → may_end f ≡ true → is_none (reason_at g (bounds_of x) f (End 1)) ≡ true
+unfolding reason_against breaks_V7 breaks_V8 breaks_V9 breaks_V10 breaks_V11 breaks_V12 breaks_V13 breaks_V14 breaks_V15 breaks_V16
+end_is_fine g x None h = refl
+end_is_fine g x (Some s) h = let ready = false_of (may_be_unready s) h in rw (ready) refl

@@ -1,0 +1,132 @@
+-- From rest to rest: over each operation nothing is against the words.
+use Rattle.std.proofs.Common.{◌≡◌, ℕ, ◌+◌, ◌^◌, ◌≤◌, ◌<◌, ◌==◌, Bool, true, false, nat_le, nat_lt, List, ◌∷◌, Option, Some, arith}
+use Rattle.nand_geometry.specs.declared.Parts.{Parts}
+use Rattle.nand_geometry.specs.Limits.{page_len, planes}
+use Rattle.onfi_cycle.specs.Command.{command}
+use Rattle.micro_word.specs.declared.word.Word.{Word}
+use Rattle.micro_word.specs.declared.word.Word.TheVariants.{Command, Address, Get, Put, Seek, Column, Row, Plane, Wait, BranchOnStatus}
+use Rattle.micro_word.specs.Text.{Microprogram}
+use Rattle.micro_verify.specs.declared.span.Span.{Span}
+use Rattle.micro_verify.specs.declared.span.Growth.{Growth}
+use Rattle.micro_verify.specs.declared.planes.Planes.{Planes}
+use Rattle.micro_verify.specs.declared.state.PageRange.{PageRange}
+use Rattle.micro_verify.specs.declared.state.Shown.{Shown}
+use Rattle.micro_verify.specs.declared.state.Held.{Held}
+use Rattle.micro_verify.specs.declared.state.OutputColumn.{OutputColumn}
+use Rattle.micro_verify.specs.declared.state.QueuedRows.TheVariants.{NoRows}
+use Rattle.micro_verify.specs.declared.state.CachedPage.{CachedPage}
+use Rattle.micro_verify.specs.declared.state.State.{State}
+use Rattle.micro_verify.specs.Spans.{greatest_bound}
+use Rattle.micro_verify.specs.Planes.{just_plane, are_below}
+use Rattle.micro_verify.specs.State.{closed}
+use Rattle.micro_verify.specs.Reasons.{reason_against, breaks_V7, breaks_V8, breaks_V9, breaks_V10, breaks_V11, breaks_V12, breaks_V13, breaks_V14, breaks_V15, breaks_V16}
+use Rattle.micro_verify.specs.Accepts.{state_after}
+use Rattle.micro_verify.specs.Faults.{met}
+use Rattle.micro_plain.proofs.Basics.{le_test, lt_test, not_lt_test, not_le_test, not_zero}
+use Rattle.micro_plain.proofs.Following.{goes_well}
+
+-- nothing is open, the LUN is ready, its queue empty and no cache read, so many cycles being paid at most; the rest may be anything
+abbrev pub at_rest : (column : Span) (planes : Planes) (index : Span) (page : PageRange) (place : Span) (least : ℕ) (grown : Option Growth) (polled : Bool) (shows : Option Shown) (register : Option Held) (output : Option OutputColumn) (read other : Bool) (cached : CachedPage) (paid : ℕ) → State
+at_rest column planes index page place least grown polled shows register output read other cached paid =
+    record {
+      registers = record { column = column; planes = planes; index = index; page = page; place = place; cost = record { lo = least; hi = Some paid; grown = grown }; polled = polled };
+      target = closed shows;
+      lun = record { busy = false; register = register; column = output; queue = NoRows; last = record { read = read; cache = false; other = other }; cached = cached };
+    }
+
+-- from every state at rest, so many cycles being paid, all goes well
+abbrev pub FromRest : Parts → Microprogram → (failed : Option State) → (paid : ℕ) → List Word → Type 0
+FromRest g x f paid words =
+    (column : Span) (planes : Planes) (index : Span) (page : PageRange) (place : Span) (least : ℕ) (grown : Option Growth) (polled : Bool) (shows : Option Shown) (register : Option Held) (output : Option OutputColumn) (read other : Bool) (cached : CachedPage)
+    → goes_well g x (at_rest column planes index page place least grown polled shows register output read other cached paid) f words ≡ true
+
+-- the same where a way has led to the last word from the very state
+abbrev pub FromBranch : Parts → Microprogram → (failed : Option State) → (paid : ℕ) → List Word → Type 0
+FromBranch g x f paid words =
+    (column : Span) (planes : Planes) (index : Span) (page : PageRange) (place : Span) (least : ℕ) (grown : Option Growth) (polled : Bool) (shows : Option Shown) (register : Option Held) (output : Option OutputColumn) (read other : Bool) (cached : CachedPage)
+    → goes_well g x (at_rest column planes index page place least grown polled shows register output read other cached paid) (Some (met f (at_rest column planes index page place least grown polled shows register output read other cached paid))) words ≡ true
+
+pub read_goes_well : (g : Parts) (x : Microprogram) (f : Option State) (row plane column place len paid : ℕ) (rest : List Word)
+    → plane ≤ 3 → are_below (planes g) (just_plane plane) ≡ true → row + 1 ≤ x.rows → x.rows ≤ 4096 → 1 ≤ len → column + len ≤ page_len g → page_len g ≤ 20480 → place + len ≤ x.buffer → x.buffer ≤ 16777215
+    → paid + 8 + len ≤ x.budget → x.budget < 2 ^ 32 → FromRest g x f (paid + 1 + 5 + 1 + 1 + len) rest
+    → FromRest g x f paid (Row row ∷ Plane plane ∷ Column column ∷ Seek place ∷ Command 0x00 ∷ Address 0 5 ∷ Command 0x30 ∷ Wait ∷ Command 0x00 ∷ Get len ∷ rest)
+unfolding command reason_against breaks_V7 breaks_V8 breaks_V9 breaks_V10 breaks_V11 breaks_V12 breaks_V13 breaks_V14 breaks_V15 breaks_V16 state_after
+read_goes_well g x f row plane column place len paid rest p below r rows l inside long buffered buffer cost budget on = λ c ps i pg pl least grown polled shows register output read other cached.
+    (let plane_there : nat_lt 3 plane ≡ false = not_lt_test 3 plane p in
+    let row_kept : nat_le row greatest_bound ≡ true = le_test row greatest_bound (omega (arith, r, rows)) in
+    let row_more : nat_le (row + 1) greatest_bound ≡ true = le_test (row + 1) greatest_bound (omega (arith, r, rows)) in
+    let row_there : nat_le (row + 1) x.rows ≡ true = le_test (row + 1) x.rows r in
+    let column_kept : nat_le column greatest_bound ≡ true = le_test column greatest_bound (omega (arith, inside, long)) in
+    let column_more : nat_le (column + 1) greatest_bound ≡ true = le_test (column + 1) greatest_bound (omega (arith, inside, long)) in
+    let column_len : nat_le (column + len) greatest_bound ≡ true = le_test (column + len) greatest_bound (omega (arith, inside, long)) in
+    let column_there : nat_le (column + 1) (page_len g) ≡ true = le_test (column + 1) (page_len g) (omega (arith, inside, l)) in
+    let column_inside : nat_le (column + len) (page_len g) ≡ true = le_test (column + len) (page_len g) inside in
+    let not_past : nat_le (page_len g) column ≡ false = not_le_test (page_len g) column (omega (arith, inside, l)) in
+    let place_kept : nat_le place greatest_bound ≡ true = le_test place greatest_bound (omega (arith, buffered, buffer)) in
+    let place_len : nat_le (place + len) greatest_bound ≡ true = le_test (place + len) greatest_bound (omega (arith, buffered, buffer)) in
+    let place_inside : nat_le (place + len) x.buffer ≡ true = le_test (place + len) x.buffer buffered in
+    let kept1 : nat_le (paid + 1) greatest_bound ≡ true = le_test _ _ (omega (arith, cost, budget)) in
+    let kept2 : nat_le (paid + 1 + 5) greatest_bound ≡ true = le_test _ _ (omega (arith, cost, budget)) in
+    let kept3 : nat_le (paid + 1 + 5 + 1) greatest_bound ≡ true = le_test _ _ (omega (arith, cost, budget)) in
+    let kept4 : nat_le (paid + 1 + 5 + 1 + 1) greatest_bound ≡ true = le_test _ _ (omega (arith, cost, budget)) in
+    let kept5 : nat_le (paid + 1 + 5 + 1 + 1 + len) greatest_bound ≡ true = le_test _ _ (omega (arith, cost, budget)) in
+    let paid1 : nat_le (paid + 1) x.budget ≡ true = le_test _ _ (omega (arith, cost)) in
+    let paid2 : nat_le (paid + 1 + 5) x.budget ≡ true = le_test _ _ (omega (arith, cost)) in
+    let paid3 : nat_le (paid + 1 + 5 + 1) x.budget ≡ true = le_test _ _ (omega (arith, cost)) in
+    let paid4 : nat_le (paid + 1 + 5 + 1 + 1) x.budget ≡ true = le_test _ _ (omega (arith, cost)) in
+    let paid5 : nat_le (paid + 1 + 5 + 1 + 1 + len) x.budget ≡ true = le_test _ _ (omega (arith, cost)) in
+    let some : nat_lt 0 len ≡ true = lt_test 0 len l in
+    let costs : (len == 0) ≡ false = not_zero len l in
+    rw (plane_there, below, row_kept, row_more, row_there, column_kept, column_more, column_len, column_there, column_inside, not_past, place_kept, place_len, place_inside, kept1, kept2, kept3, kept4, kept5, paid1, paid2, paid3, paid4, paid5, some, costs)
+    (on _ _ _ _ _ _ _ _ _ _ _ _ _ _))
+
+pub program_goes_well : (g : Parts) (x : Microprogram) (f : Option State) (row plane column place len paid failure : ℕ) (rest : List Word)
+    → plane ≤ 3 → are_below (planes g) (just_plane plane) ≡ true → row + 1 ≤ x.rows → x.rows ≤ 4096 → 1 ≤ len → column + len ≤ page_len g → page_len g ≤ 20480 → place + len ≤ x.buffer → x.buffer ≤ 16777215
+    → paid + 7 + len ≤ x.budget → x.budget < 2 ^ 32 → FromBranch g x f (paid + 1 + 5 + len + 1) rest
+    → FromRest g x f paid (Row row ∷ Plane plane ∷ Column column ∷ Seek place ∷ Command 0x80 ∷ Address 0 5 ∷ Put len ∷ Command 0x10 ∷ Wait ∷ BranchOnStatus 0x01 failure ∷ rest)
+unfolding command reason_against breaks_V7 breaks_V8 breaks_V9 breaks_V10 breaks_V11 breaks_V12 breaks_V13 breaks_V14 breaks_V15 breaks_V16 state_after
+program_goes_well g x f row plane column place len paid failure rest p below r rows l inside long buffered buffer cost budget on = λ c ps i pg pl least grown polled shows register output read other cached.
+    (let plane_there : nat_lt 3 plane ≡ false = not_lt_test 3 plane p in
+    let row_kept : nat_le row greatest_bound ≡ true = le_test row greatest_bound (omega (arith, r, rows)) in
+    let row_more : nat_le (row + 1) greatest_bound ≡ true = le_test (row + 1) greatest_bound (omega (arith, r, rows)) in
+    let row_there : nat_le (row + 1) x.rows ≡ true = le_test (row + 1) x.rows r in
+    let column_kept : nat_le column greatest_bound ≡ true = le_test column greatest_bound (omega (arith, inside, long)) in
+    let column_more : nat_le (column + 1) greatest_bound ≡ true = le_test (column + 1) greatest_bound (omega (arith, inside, long)) in
+    let column_len : nat_le (column + len) greatest_bound ≡ true = le_test (column + len) greatest_bound (omega (arith, inside, long)) in
+    let column_there : nat_le (column + 1) (page_len g) ≡ true = le_test (column + 1) (page_len g) (omega (arith, inside, l)) in
+    let column_inside : nat_le (column + len) (page_len g) ≡ true = le_test (column + len) (page_len g) inside in
+    let not_past : nat_le (page_len g) column ≡ false = not_le_test (page_len g) column (omega (arith, inside, l)) in
+    let place_kept : nat_le place greatest_bound ≡ true = le_test place greatest_bound (omega (arith, buffered, buffer)) in
+    let place_len : nat_le (place + len) greatest_bound ≡ true = le_test (place + len) greatest_bound (omega (arith, buffered, buffer)) in
+    let place_inside : nat_le (place + len) x.buffer ≡ true = le_test (place + len) x.buffer buffered in
+    let kept1 : nat_le (paid + 1) greatest_bound ≡ true = le_test _ _ (omega (arith, cost, budget)) in
+    let kept2 : nat_le (paid + 1 + 5) greatest_bound ≡ true = le_test _ _ (omega (arith, cost, budget)) in
+    let kept3 : nat_le (paid + 1 + 5 + len) greatest_bound ≡ true = le_test _ _ (omega (arith, cost, budget)) in
+    let kept4 : nat_le (paid + 1 + 5 + len + 1) greatest_bound ≡ true = le_test _ _ (omega (arith, cost, budget)) in
+    let paid1 : nat_le (paid + 1) x.budget ≡ true = le_test _ _ (omega (arith, cost)) in
+    let paid2 : nat_le (paid + 1 + 5) x.budget ≡ true = le_test _ _ (omega (arith, cost)) in
+    let paid3 : nat_le (paid + 1 + 5 + len) x.budget ≡ true = le_test _ _ (omega (arith, cost)) in
+    let paid4 : nat_le (paid + 1 + 5 + len + 1) x.budget ≡ true = le_test _ _ (omega (arith, cost)) in
+    let some : nat_lt 0 len ≡ true = lt_test 0 len l in
+    let costs : (len == 0) ≡ false = not_zero len l in
+    rw (some, costs, plane_there, below, row_kept, row_more, row_there, column_kept, column_more, column_len, column_there, column_inside, not_past, place_kept, place_len, place_inside, kept1, kept2, kept3, kept4, paid1, paid2, paid3, paid4)
+    (on _ _ _ _ _ _ _ _ _ _ _ _ _ _))
+
+pub erase_goes_well : (g : Parts) (x : Microprogram) (f : Option State) (row plane paid failure : ℕ) (rest : List Word)
+    → plane ≤ 3 → are_below (planes g) (just_plane plane) ≡ true → row + 1 ≤ x.rows → x.rows ≤ 4096
+    → paid + 5 ≤ x.budget → x.budget < 2 ^ 32 → FromBranch g x f (paid + 1 + 3 + 1) rest
+    → FromRest g x f paid (Row row ∷ Plane plane ∷ Command 0x60 ∷ Address 2 3 ∷ Command 0xd0 ∷ Wait ∷ BranchOnStatus 0x01 failure ∷ rest)
+unfolding command reason_against breaks_V7 breaks_V8 breaks_V9 breaks_V10 breaks_V11 breaks_V12 breaks_V13 breaks_V14 breaks_V15 breaks_V16 state_after
+erase_goes_well g x f row plane paid failure rest p below r rows cost budget on = λ c ps i pg pl least grown polled shows register output read other cached.
+    (let plane_there : nat_lt 3 plane ≡ false = not_lt_test 3 plane p in
+    let row_kept : nat_le row greatest_bound ≡ true = le_test row greatest_bound (omega (arith, r, rows)) in
+    let row_more : nat_le (row + 1) greatest_bound ≡ true = le_test (row + 1) greatest_bound (omega (arith, r, rows)) in
+    let row_there : nat_le (row + 1) x.rows ≡ true = le_test (row + 1) x.rows r in
+    let kept1 : nat_le (paid + 1) greatest_bound ≡ true = le_test _ _ (omega (arith, cost, budget)) in
+    let kept2 : nat_le (paid + 1 + 3) greatest_bound ≡ true = le_test _ _ (omega (arith, cost, budget)) in
+    let kept3 : nat_le (paid + 1 + 3 + 1) greatest_bound ≡ true = le_test _ _ (omega (arith, cost, budget)) in
+    let paid1 : nat_le (paid + 1) x.budget ≡ true = le_test _ _ (omega (arith, cost)) in
+    let paid2 : nat_le (paid + 1 + 3) x.budget ≡ true = le_test _ _ (omega (arith, cost)) in
+    let paid3 : nat_le (paid + 1 + 3 + 1) x.budget ≡ true = le_test _ _ (omega (arith, cost)) in
+    rw (plane_there, below, row_kept, row_more, row_there, kept1, kept2, kept3, paid1, paid2, paid3)
+    (on _ _ _ _ _ _ _ _ _ _ _ _ _ _))
