@@ -1,0 +1,4 @@
+pub mod Lazy
+pub mod Cause
+pub mod CauseRows
+pub mod Counters
