@@ -508,13 +508,41 @@ const ALL_ERASED: Program<'static> = Program {
     ..NONE
 };
 
+// Each of the eight blocks, in a loop.
+const EIGHT_BLOCKS: [Word; 8] = [
+    Word::Loop { turns: 8 },
+    ERASE,
+    ROW,
+    START_ERASE,
+    Word::Wait,
+    Word::RowAdd { rows: 4 },
+    Word::Next,
+    END,
+];
+
+const EIGHT_ERASED: Program<'static> = Program {
+    rows: 29,
+    budget: 40,
+    words: &EIGHT_BLOCKS,
+    ..NONE
+};
+
 const PLANES_ERASED: Program<'static> = Program {
     budget: 10,
     words: &ERASE_PLANES,
     ..NONE
 };
 
-const IMAGES: [Images<'static>; 9] = [
+const IMAGES: [Images<'static>; 10] = [
+    Images {
+        parts: ONE_LUN,
+        before: &PAGES,
+        base: 0,
+        programs: &[EIGHT_ERASED],
+        failing: NO_FAILURE,
+        len: 24,
+        bytes: &[(20, 0)],
+    },
     Images {
         parts: TWO_LUNS,
         before: &PAGES,
