@@ -1,10 +1,9 @@
 use crate::made::{CACHED, Operations, PLAIN, PLANED, SHARED, made};
 use die_model::LunDie;
 use nand_geometry::{Geometry, Parts};
-use onfi_cycle::effects::{is_cache_read, output_column};
-use onfi_cycle::sequences::target_of;
 use onfi_cycle::{
-    Cycle, Forbidden, Item, Kind, Lun, LunFacts, LunState, PageAddress, Queued, WorkQueue, judge,
+    Cycle, Forbidden, Item, Kind, Lun, LunFacts, LunState, PageAddress, Queued, WorkQueue,
+    is_cache_read, judge, output_column,
 };
 use onfi_lookback::WrittenPage;
 use onfi_lookback::content::{content, driven_byte};
@@ -224,7 +223,7 @@ fn answer(bus: &mut Bus, item: Item) -> Result<Told, Fail> {
     if came {
         Ok(Told::Came(item))
     } else {
-        Ok(Told::Broken(Forbidden::F1))
+        Ok(Told::Broken(Forbidden::NotThere))
     }
 }
 
@@ -240,7 +239,7 @@ fn looks(alloc: Global, channel: &Channel, past: &[Item]) -> Result<Looks, Fail>
 
 // The rule that an item breaks after a past of which these are the looks.
 fn broken(channel: &Channel, looks: &Looks, past: &[Item], item: Item) -> Option<Forbidden> {
-    let ce = target_of(item);
+    let ce = item.target();
     let t = tail_facts(past, ce);
     match looks.get(usize::from(ce)) {
         Some(luns) => judge(&channel.geometry, channel.targets, t, luns, item),

@@ -3,8 +3,11 @@
 #![tactic(auto)]
 
 use seq_cli::answer;
+use seq_files::MapFiles;
 use std::alloc::{AllocError, Global};
 use std::io::{self, Write};
+use std::sync::Wait;
+use std::thread::Threads;
 
 // The erase of one block: cmd 60, addr 2 3, cmd d0, wait, end 0; rows 1, budget 5.
 const ERASE: [u8; 36] = [
@@ -32,37 +35,147 @@ const END: [u8; 20] = [
     0x00, 0x03, 0x00, 0x00,
 ];
 
-fn words_at(alloc: Global, base: &str) -> Result<Vec<String>, AllocError> {
+// The erase as assembly text, and the same without its wait.
+const SOURCE: &str = "rows 1\nbuffer 0\nbudget 5\ncmd 60\naddr 2 3\ncmd d0\nwait\nend 0\n";
+
+const NO_WAIT: &str = "rows 1\nbuffer 0\nbudget 5\ncmd 60\naddr 2 3\ncmd d0\nend 0\n";
+
+// The trace of the erase at row 4, and one whose second opener meets a busy LUN.
+const TRACE: &str =
+    "0 C 60\n0 A 04\n0 A 00\n0 A 00\n0 C d0\n0 C 70\n0 O 80\n0 R 0 0\n0 C 70\n0 O e0\n";
+
+const TOO_SOON: &str = "0 C 60\n0 A 00\n0 A 00\n0 A 00\n0 C d0\n0 C 60\n";
+
+// The bytes of the parameter page of one LUN of 8 blocks of 4 pages of 512 + 16 bytes that aren't 0, with their places.
+const PAGE: [(usize, u8); 12] = [
+    (0, 0x4f),
+    (1, 0x4e),
+    (2, 0x46),
+    (3, 0x49),
+    (81, 2),
+    (84, 16),
+    (92, 4),
+    (96, 8),
+    (100, 1),
+    (101, 0x23),
+    (254, 0x11),
+    (255, 0x56),
+];
+
+fn page() -> [u8; 256] {
+    let mut page = [0u8; 256];
+    for (place, byte) in PAGE {
+        if place < 256 {
+            page[place] = byte;
+        }
+    }
+    page
+}
+
+// The words of a command line.
+fn words_of(alloc: Global, line: &str) -> Result<Vec<String>, AllocError> {
     let mut words = Vec::new(alloc);
-    for word in ["onfiseq", "once", "--base", base] {
+    for word in line.split(' ') {
         words.push(String::from_str(alloc, word)?)?;
     }
     Ok(words)
 }
 
-// Prints what these words come to at this file.
-fn show<R: Print + AllocGlobal>(
+// The files that the commands are run on.
+fn files(alloc: Global) -> Result<MapFiles, AllocError> {
+    let mut files = MapFiles::new(alloc);
+    files.put("die.page", &page())?;
+    files.put("erase.asm", SOURCE.as_bytes())?;
+    files.put("no_wait.asm", NO_WAIT.as_bytes())?;
+    files.put("bad.asm", b"rows 1\nbuffer 0\nbudget 5\naddr 3 3\n")?;
+    files.put("old.nmp", &ERASE)?;
+    files.put("erase.trace", TRACE.as_bytes())?;
+    files.put("too_soon.trace", TOO_SOON.as_bytes())?;
+    files.put("bad.trace", b"0 C 60\n0 C D0\n")?;
+    Ok(files)
+}
+
+// Prints what these words come to, with this file on standard input.
+fn show<R: Print + AllocGlobal + Threads + Wait + Sync>(
     rt: &R,
+    files: &mut MapFiles,
     words: io::Result<Vec<String>>,
     file: &[u8],
 ) -> io::Result<()> {
     let mut input = file;
     let mut output = Vec::new(rt.alloc());
     let mut errors = Vec::new(rt.alloc());
-    let status = answer(rt.alloc(), words, &mut input, &mut output, &mut errors);
+    let status = answer(
+        rt,
+        rt.alloc(),
+        words,
+        files,
+        &mut input,
+        &mut output,
+        &mut errors,
+    );
     println!(rt; "status {status}, standard output:")?;
     io::writer(rt).write_all(output.as_slice())?;
     println!(rt; "and standard error:")?;
     io::writer(rt).write_all(errors.as_slice())
 }
 
+// What `once` comes to at a base.
+fn once<R: Print + AllocGlobal + Threads + Wait + Sync>(
+    rt: &R,
+    base: &str,
+    file: &[u8],
+) -> io::Result<()> {
+    let line = format!(in rt.alloc(); "onfiseq once --base {base}")?;
+    let words = words_of(rt.alloc(), line.as_str())?;
+    show(rt, &mut MapFiles::new(rt.alloc()), Ok(words), file)
+}
+
+// The command lines on the files, one after another.
+const LINES: [&str; 17] = [
+    "asm erase.asm erase.nmp",
+    "dis erase.nmp",
+    "verify die.page erase.nmp",
+    "check die.page 1 erase.trace",
+    "upgrade old.nmp new.nmp",
+    "dis new.nmp",
+    "asm bad.asm bad.nmp",
+    "asm no_wait.asm no_wait.nmp",
+    "verify die.page no_wait.nmp",
+    "verify erase.asm erase.nmp",
+    "verify die.page erase.asm",
+    "check die.page 1 too_soon.trace",
+    "check die.page 4 bad.trace",
+    "dis bad.nmp",
+    "check die.page 5 erase.trace",
+    "check nothing 1 erase.trace",
+    "--version",
+];
+
+// What each line comes to, on the files that the lines before it left.
+fn commands<R: Print + AllocGlobal + Threads + Wait + Sync>(rt: &R) -> io::Result<()> {
+    let mut files = files(rt.alloc())?;
+    for line in LINES {
+        println!(rt; "onfiseq {line}")?;
+        let line = format!(in rt.alloc(); "onfiseq {line}")?;
+        let words = words_of(rt.alloc(), line.as_str())?;
+        show(rt, &mut files, Ok(words), &[])?;
+    }
+    let same = files.get("erase.nmp") == files.get("new.nmp");
+    println!(rt; "the assembled file and the upgraded one are the same: {same}")
+}
+
 fn main(rt: HostRuntime) -> io::Result<()> {
-    show(&rt, Ok(words_at(rt.alloc(), "4")?), &ERASE)?;
-    show(&rt, Ok(words_at(rt.alloc(), "31")?), &END)?;
-    show(&rt, Ok(words_at(rt.alloc(), "32")?), &ERASE)?;
-    show(&rt, Ok(words_at(rt.alloc(), "4")?), &READ)?;
-    show(&rt, Ok(words_at(rt.alloc(), "0")?), &JUMP)?;
-    show(&rt, Ok(words_at(rt.alloc(), "0")?), &ERASE[..15])?;
-    show(&rt, Err(io::Error::from(io::ErrorKind::InvalidData)), &[])?;
-    show(&rt, Err(io::Error::from(io::ErrorKind::OutOfMemory)), &[])
+    once(&rt, "4", &ERASE)?;
+    once(&rt, "31", &END)?;
+    once(&rt, "32", &ERASE)?;
+    once(&rt, "4", &READ)?;
+    once(&rt, "0", &JUMP)?;
+    once(&rt, "0", &ERASE[..15])?;
+    let mut files = MapFiles::new(rt.alloc());
+    let utf8 = Err(io::Error::from(io::ErrorKind::InvalidData));
+    show(&rt, &mut files, utf8, &[])?;
+    let memory = Err(io::Error::from(io::ErrorKind::OutOfMemory));
+    show(&rt, &mut files, memory, &[])?;
+    commands(&rt)
 }

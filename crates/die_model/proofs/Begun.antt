@@ -4,12 +4,12 @@ use Rattle.std.proofs.lemmas.List.{length-replicate}
 use Rattle.std.specs.Option.{unwrap_or, is_some}
 use Rattle.nand_geometry.specs.declared.Parts.{Parts}
 use Rattle.nand_geometry.specs.Limits.{page_len, planes}
-use Rattle.onfi_cycle.specs.declared.PageAddress.{PageAddress}
-use Rattle.onfi_cycle.specs.declared.Queued.{Queued}
-use Rattle.onfi_cycle.specs.declared.Queued.TheVariants.{Erase, Program}
-use Rattle.onfi_cycle.specs.declared.Effect.{Effect}
-use Rattle.onfi_cycle.specs.declared.Register.{Register}
-use Rattle.onfi_cycle.specs.declared.Register.TheVariants.{Empty, Page}
+use Rattle.onfi_cycle.specs.declared.effect.PageAddress.{PageAddress}
+use Rattle.onfi_cycle.specs.declared.lun_facts.Queued.{Queued}
+use Rattle.onfi_cycle.specs.declared.lun_facts.Queued.TheVariants.{Erase, Program}
+use Rattle.onfi_cycle.specs.declared.effect.Effect.{Effect}
+use Rattle.onfi_cycle.specs.declared.lun_facts.Register.{Register}
+use Rattle.onfi_cycle.specs.declared.lun_facts.Register.TheVariants.{Empty, Page}
 use Rattle.onfi_cycle.specs.Lun.{busy_after, queue_after, register_after}
 use Rattle.onfi_cycle.specs.Content.{ArrayWork, left_by_all, same_page, queued_work_after, pending_work_after, content_after, failed_after, is_some_work}
 use Rattle.onfi_cycle.specs.Rules.{has_some, some_queued_clashes}

@@ -4,7 +4,7 @@ use Rattle.std.specs.Option.{is_some, unwrap_or}
 use Rattle.nand_geometry.specs.Row.{parts_of}
 use Rattle.nand_geometry.specs.declared.Parts.{Parts}
 use Rattle.nand_geometry.specs.Limits.{page_len}
-use Rattle.onfi_cycle.specs.declared.PageAddress.{PageAddress}
+use Rattle.onfi_cycle.specs.declared.effect.PageAddress.{PageAddress}
 use Rattle.onfi_cycle.specs.Content.{same_page}
 use Rattle.onfi_cycle.specs.Bounds.{is_row}
 use Rattle.onfi_cycle.specs.Effect.{page_address}
@@ -14,9 +14,9 @@ use Rattle.die_model.specs.Pages.{kept, page_in}
 use Rattle.die_model.specs.Image.{four, is_written, count_of, header, magic}
 use Rattle.die_model.specs.Loading.{first_row, first_page, first_bytes, entry_len, is_page, row_fault, or_later, entries_fault, told, are_pages, ArePages, image_fault, count_told, entries_told, has_numbers}
 use Rattle.die_model.specs.Die.{AreKept, IsDie}
-use Rattle.onfi_cycle.specs.declared.Queued.{Queued}
-use Rattle.onfi_cycle.specs.declared.Register.{Register}
-use Rattle.onfi_cycle.specs.declared.Register.TheVariants.{Empty, Page, ParameterPage, Identifier}
+use Rattle.onfi_cycle.specs.declared.lun_facts.Queued.{Queued}
+use Rattle.onfi_cycle.specs.declared.lun_facts.Register.{Register}
+use Rattle.onfi_cycle.specs.declared.lun_facts.Register.TheVariants.{Empty, Page, ParameterPage, Identifier}
 use Rattle.onfi_cycle.specs.Rules.{has_some, is_empty}
 use Rattle.std.specs.List.{starts_with}
 use Rattle.die_model.proofs.Kept.{Entries, ChangesAt, kept_after, same_parts}

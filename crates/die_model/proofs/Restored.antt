@@ -20,7 +20,7 @@ use Rattle.nand_geometry.specs.Row.{row_number, parts_of, is_inside}
 use Rattle.nand_geometry.specs.Reading.{u32_at}
 use Rattle.nand_geometry.proofs.FieldLemmas.{width_fits, beside}
 use Rattle.nand_geometry.proofs.RowLemmas.{row_fits}
-use Rattle.onfi_cycle.specs.declared.PageAddress.{PageAddress}
+use Rattle.onfi_cycle.specs.declared.effect.PageAddress.{PageAddress}
 use Rattle.onfi_cycle.specs.Bounds.{is_row}
 use Rattle.onfi_cycle.specs.Content.{same_page}
 use Rattle.onfi_cycle.specs.Effect.{page_address}

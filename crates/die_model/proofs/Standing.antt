@@ -2,27 +2,27 @@
 use Rattle.std.proofs.Common.{◌≡◌, ◌≢◌, ℕ, ◌%◌, ◌<◌, ◌==◌, Bool, true, false, ◌&&◌, ◌||◌, cond, not, List, [], ◌∷◌, Option, Some, None, length, replicate, refl, sym, ap, subst, ◌∙◌, arith, set}
 use Rattle.nand_geometry.specs.declared.Parts.{Parts}
 use Rattle.nand_geometry.specs.Limits.{page_len, planes}
-use Rattle.onfi_cycle.specs.declared.Command.{Command}
-use Rattle.onfi_cycle.specs.declared.Command.TheVariants as k
-use Rattle.onfi_cycle.specs.declared.Effect.{Effect}
-use Rattle.onfi_cycle.specs.declared.Effect.TheVariants as e
+use Rattle.onfi_cycle.specs.declared.command.Command.{Command}
+use Rattle.onfi_cycle.specs.declared.command.Command.TheVariants as k
+use Rattle.onfi_cycle.specs.declared.effect.Effect.{Effect}
+use Rattle.onfi_cycle.specs.declared.effect.Effect.TheVariants as e
 use Rattle.std.proofs.Common.{eq-eqb, length-set}
 use Rattle.std.proofs.lemmas.List.{get_or-set_same, get_or-set_other}
 use Rattle.std.proofs.lemmas.Nat.{pow_pos}
 use Rattle.std.proofs.Math.Nat.{mod-lt}
-use Rattle.onfi_cycle.specs.declared.Cycle.{Cycle}
-use Rattle.onfi_cycle.specs.Rules.{ends_row, some_queued_clashes, planes_clash, named_lun_is, is_some_and, refused_by, is_refused_by, breaks_F9, breaks_F10}
-use Rattle.onfi_cycle.specs.declared.Item.{Item}
-use Rattle.onfi_cycle.specs.declared.Item.TheVariants.{Cyc, Rdy, Ard}
-use Rattle.onfi_cycle.specs.declared.Lun.{Lun}
-use Rattle.onfi_cycle.specs.declared.Latch.{Latch}
-use Rattle.onfi_cycle.specs.declared.Opening.{Opening}
-use Rattle.onfi_cycle.specs.declared.PageAddress.{PageAddress}
-use Rattle.onfi_cycle.specs.declared.Queued.{Queued}
-use Rattle.onfi_cycle.specs.declared.Queued.TheVariants.{Erase, Program}
-use Rattle.onfi_cycle.specs.declared.TailFacts.{TailFacts}
-use Rattle.onfi_cycle.specs.declared.TargetCycle.{TargetCycle}
-use Rattle.onfi_cycle.specs.declared.TargetCycle.TheVariants.{CommandCycle, AddressCycle, InputCycle, OutputCycle}
+use Rattle.onfi_cycle.specs.declared.item.Cycle.{Cycle}
+use Rattle.onfi_cycle.specs.Rules.{ends_row, some_queued_clashes, planes_clash, named_lun_is, is_some_and, refused_by, is_refused_by, breaks_lun_busy, breaks_queue_clash}
+use Rattle.onfi_cycle.specs.declared.item.Item.{Item}
+use Rattle.onfi_cycle.specs.declared.item.Item.TheVariants.{Cyc, Rdy, Ard}
+use Rattle.onfi_cycle.specs.declared.item.Lun.{Lun}
+use Rattle.onfi_cycle.specs.declared.lun_facts.Latch.{Latch}
+use Rattle.onfi_cycle.specs.declared.tail_facts.Opening.{Opening}
+use Rattle.onfi_cycle.specs.declared.effect.PageAddress.{PageAddress}
+use Rattle.onfi_cycle.specs.declared.lun_facts.Queued.{Queued}
+use Rattle.onfi_cycle.specs.declared.lun_facts.Queued.TheVariants.{Erase, Program}
+use Rattle.onfi_cycle.specs.declared.tail_facts.TailFacts.{TailFacts}
+use Rattle.onfi_cycle.specs.declared.target_cycle.TargetCycle.{TargetCycle}
+use Rattle.onfi_cycle.specs.declared.target_cycle.TargetCycle.TheVariants.{CommandCycle, AddressCycle, InputCycle, OutputCycle}
 use Rattle.onfi_cycle.specs.Sequence.{opened, row_bytes, row_after_address, tail, with_cycle, begins_sequence, is_nil, input_column, opening, data_phase, phase_after_address, row_with, facts_of, filled, row, target_cycle, wants_command, wants_address, takes_inputs, wants_column}
 use Rattle.onfi_cycle.specs.Bounds.{names_program}
 use Rattle.onfi_cycle.specs.Effect.{names_lun, page_address, is_off, is_data, confirm_effect, command_effect, opening_address_effect, address_effect, cycle_effect}
@@ -31,12 +31,12 @@ use Rattle.onfi_cycle.specs.Content.{ArrayWork, ProgramsPage, queued_work, queue
 use Rattle.onfi_cycle.specs.Permitted.{broken}
 use Rattle.onfi_cycle.specs.Channel.{Channel}
 use Rattle.die_model.specs.Die.{Die, IsAfter, page_of, plane_bytes, bytes_taken, caching_after, queued_of, pending_of, works_of}
-use Rattle.onfi_cycle.specs.declared.Filling.{Filling}
-use Rattle.onfi_cycle.specs.declared.Filling.TheVariants.{Leaves, Clears, Fills}
+use Rattle.onfi_cycle.specs.declared.fillings.Filling.{Filling}
+use Rattle.onfi_cycle.specs.declared.fillings.Filling.TheVariants.{Leaves, Clears, Fills}
 use Rattle.onfi_cycle.specs.Filling.{cycle_filling, filling, filled_by}
 use Rattle.die_model.specs.Standing.{HasBytes, IsFilling, IsDieOf, WorkedBy, RowsFit, DiesGoOn}
-use Rattle.onfi_cycle.specs.declared.DataPhase.{DataPhase}
-use Rattle.onfi_cycle.specs.declared.DataPhase.TheVariants.{Outside, Inputs, FirstColumn, SecondColumn}
+use Rattle.onfi_cycle.specs.declared.tail_facts.DataPhase.{DataPhase}
+use Rattle.onfi_cycle.specs.declared.tail_facts.DataPhase.TheVariants.{Outside, Inputs, FirstColumn, SecondColumn}
 use Rattle.onfi_cycle.specs.Command.{is_page_program, at_last_row, addresses_the_array}
 use Rattle.onfi_cycle.specs.LunView.{LunView}
 use Rattle.std.specs.List.{slice_get}
@@ -491,13 +491,13 @@ record Passed (g : Parts) (past : List Item) (l : Lun) (at : PageAddress) : Type
   apart : some_queued_clashes g false at (queue g past l) ≡ false
 
 passed : (g : Parts) (n : ℕ) (past : List Item) (i : Item) (l : Lun) (at : PageAddress) → broken g n past i ≡ None → l.lun < g.luns → IsLastAddress g past i l at → Passed g past l at
-unfolding breaks_F9 breaks_F10
+unfolding breaks_lun_busy breaks_queue_clash
 passed g n past i l at h low j =
     let t = facts_of (tail past l.ce) in
     let rules = permitted_keeps g n past j.c (sym (ap (broken g n past) j.is) ∙ h) in
     let same : j.c.ce ≡ l.ce = eqb_is j.c.ce l.ce j.ce in
-    let f9 : breaks_F9 g t (luns_of g past l.ce) (AddressCycle j.byte) ≡ false = subst (λ (k : TargetCycle). breaks_F9 g t (luns_of g past l.ce) k ≡ false) j.cycle (subst (λ (ce : ℕ). breaks_F9 g (facts_of (tail past ce)) (luns_of g past ce) (target_cycle j.c.kind j.c.byte) ≡ false) same rules.f9) in
-    let f10 : breaks_F10 g t (luns_of g past l.ce) (AddressCycle j.byte) ≡ false = subst (λ (k : TargetCycle). breaks_F10 g t (luns_of g past l.ce) k ≡ false) j.cycle (subst (λ (ce : ℕ). breaks_F10 g (facts_of (tail past ce)) (luns_of g past ce) (target_cycle j.c.kind j.c.byte) ≡ false) same rules.f10) in
+    let f9 : breaks_lun_busy g t (luns_of g past l.ce) (AddressCycle j.byte) ≡ false = subst (λ (k : TargetCycle). breaks_lun_busy g t (luns_of g past l.ce) k ≡ false) j.cycle (subst (λ (ce : ℕ). breaks_lun_busy g (facts_of (tail past ce)) (luns_of g past ce) (target_cycle j.c.kind j.c.byte) ≡ false) same rules.f9) in
+    let f10 : breaks_queue_clash g t (luns_of g past l.ce) (AddressCycle j.byte) ≡ false = subst (λ (k : TargetCycle). breaks_queue_clash g t (luns_of g past l.ce) k ≡ false) j.cycle (subst (λ (ce : ℕ). breaks_queue_clash g (facts_of (tail past ce)) (luns_of g past ce) (target_cycle j.c.kind j.c.byte) ≡ false) same rules.f10) in
     let ends : ends_row addresses_the_array t ≡ true = ap (opened (λ c n. addresses_the_array c && at_last_row c n)) j.opens ∙ program_addresses_array j.o.opener j.o.addresses j.ends in
     record {
       ready = sym (named_test g past l (row_with t j.byte) (λ v. v.busy) low j.here) ∙ not_and _ _ ends f9;

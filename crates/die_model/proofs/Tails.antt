@@ -1,19 +1,19 @@
 -- What a cycle makes of the program that a tail opens.
 use Rattle.std.proofs.Common.{◌≡◌, ℕ, ◌==◌, Bool, true, false, ◌&&◌, ◌||◌, cond, List, [], ◌∷◌, Option, Some, None, replicate, refl, sym, ap, ◌∙◌}
 use Rattle.nand_geometry.specs.declared.Parts.{Parts}
-use Rattle.onfi_cycle.specs.declared.Command.{Command}
-use Rattle.onfi_cycle.specs.declared.Command.TheVariants.{PageProgram, ChangeWriteColumn}
-use Rattle.onfi_cycle.specs.declared.DataPhase.{DataPhase}
-use Rattle.onfi_cycle.specs.declared.DataPhase.TheVariants.{Outside, Inputs, FirstColumn, SecondColumn}
-use Rattle.onfi_cycle.specs.declared.Opening.{Opening}
-use Rattle.onfi_cycle.specs.declared.TargetCycle.{TargetCycle}
-use Rattle.onfi_cycle.specs.declared.TargetCycle.TheVariants.{CommandCycle, AddressCycle, InputCycle, OutputCycle}
+use Rattle.onfi_cycle.specs.declared.command.Command.{Command}
+use Rattle.onfi_cycle.specs.declared.command.Command.TheVariants.{PageProgram, ChangeWriteColumn}
+use Rattle.onfi_cycle.specs.declared.tail_facts.DataPhase.{DataPhase}
+use Rattle.onfi_cycle.specs.declared.tail_facts.DataPhase.TheVariants.{Outside, Inputs, FirstColumn, SecondColumn}
+use Rattle.onfi_cycle.specs.declared.tail_facts.Opening.{Opening}
+use Rattle.onfi_cycle.specs.declared.target_cycle.TargetCycle.{TargetCycle}
+use Rattle.onfi_cycle.specs.declared.target_cycle.TargetCycle.TheVariants.{CommandCycle, AddressCycle, InputCycle, OutputCycle}
 use Rattle.onfi_cycle.specs.Command.{is_opener, is_page_program, at_last_row}
 use Rattle.onfi_cycle.specs.Sequence.{with_cycle, continued, opening, opened, one_address_more, data_phase, takes_inputs, wants_column, phase_after_command, phase_after_address, phase_after_input, row_bytes, row_after_address, facts_of, filled, row, row_with, input_column}
 use Rattle.onfi_cycle.specs.Bounds.{names_program}
 use Rattle.onfi_cycle.specs.Effect.{names_lun, page_address}
 use Rattle.onfi_cycle.specs.Rules.{ends_row}
-use Rattle.onfi_cycle.specs.declared.Filling.TheVariants.{Leaves, Clears, Fills}
+use Rattle.onfi_cycle.specs.declared.fillings.Filling.TheVariants.{Leaves, Clears, Fills}
 use Rattle.onfi_cycle.specs.Filling.{cycle_filling}
 
 abbrev is_data : DataPhase → Bool

@@ -4,13 +4,13 @@ use Rattle.std.specs.Option.{IsSome}
 use Rattle.nand_geometry.specs.declared.Parts.{Parts}
 use Rattle.nand_geometry.specs.Limits.{InLimits, page_len, planes}
 use Rattle.nand_geometry.specs.Page.{parameter_bytes}
-use Rattle.onfi_cycle.specs.declared.PageAddress.{PageAddress}
-use Rattle.onfi_cycle.specs.declared.Queued.{Queued}
-use Rattle.onfi_cycle.specs.declared.Queued.TheVariants.{Erase, Program}
-use Rattle.onfi_cycle.specs.declared.Register.{Register}
-use Rattle.onfi_cycle.specs.declared.Register.TheVariants.{Empty, Page}
-use Rattle.onfi_cycle.specs.declared.Effect.{Effect}
-use Rattle.onfi_cycle.specs.declared.Effect.TheVariants.{ReadStarted, EraseStarted, ProgramStarted, IdRead, ParameterPageReadStarted, CacheReadContinued, CacheReadEnded, ResetStarted}
+use Rattle.onfi_cycle.specs.declared.effect.PageAddress.{PageAddress}
+use Rattle.onfi_cycle.specs.declared.lun_facts.Queued.{Queued}
+use Rattle.onfi_cycle.specs.declared.lun_facts.Queued.TheVariants.{Erase, Program}
+use Rattle.onfi_cycle.specs.declared.lun_facts.Register.{Register}
+use Rattle.onfi_cycle.specs.declared.lun_facts.Register.TheVariants.{Empty, Page}
+use Rattle.onfi_cycle.specs.declared.effect.Effect.{Effect}
+use Rattle.onfi_cycle.specs.declared.effect.Effect.TheVariants.{ReadStarted, EraseStarted, ProgramStarted, IdRead, ParameterPageReadStarted, CacheReadContinued, CacheReadEnded, ResetStarted}
 use Rattle.onfi_cycle.specs.Lun.{busy_after, array_busy_after, array_page_after, register_after, queue_after}
 use Rattle.onfi_cycle.specs.Content.{ArrayWork, ErasesBlock, ProgramsPage, queued_work_after, pending_work_after, content_after, failed_after, register_bytes}
 use Rattle.onfi_cycle.specs.Bounds.{is_row}

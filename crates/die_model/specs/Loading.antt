@@ -5,7 +5,7 @@ use Rattle.nand_geometry.specs.declared.Parts.{Parts}
 use Rattle.nand_geometry.specs.Limits.{page_len}
 use Rattle.nand_geometry.specs.Reading.{u32_at}
 use Rattle.nand_geometry.specs.Row.{parts_of, is_inside}
-use Rattle.onfi_cycle.specs.declared.PageAddress.{PageAddress}
+use Rattle.onfi_cycle.specs.declared.effect.PageAddress.{PageAddress}
 use Rattle.onfi_cycle.specs.Bounds.{is_row}
 use Rattle.onfi_cycle.specs.Content.{same_page}
 use Rattle.onfi_cycle.specs.Effect.{page_address}

@@ -1,8 +1,8 @@
 //! What works do to the pages.
 ghost use Rattle.std.specs.Prelude.{◌≡◌, ℕ, ◌%◌, ◌<◌, ◌||◌, if◌then◌else◌, true, false, List, [], ◌∷◌, Some, None, length, slice_get};
 ghost use Rattle.nand_geometry.specs.Limits.{InLimits, page_len, planes};
-ghost use Rattle.onfi_cycle.specs.declared.PageAddress.{PageAddress as At};
-ghost use Rattle.onfi_cycle.specs.declared.Queued.{Queued as Row};
+ghost use Rattle.onfi_cycle.specs.declared.effect.PageAddress.{PageAddress as At};
+ghost use Rattle.onfi_cycle.specs.declared.lun_facts.Queued.{Queued as Row};
 ghost use Rattle.onfi_cycle.specs.Content.{left_by, left_by_all};
 ghost use Rattle.die_model.specs.Pages.{kept, page_in};
 ghost use Rattle.die_model.specs.Die.{effect_of, work_begun, work_of, works_of, AreKept, is_erase, are_erases, are_programs, HasRows, caching_after, members_after, closes, is_reset, page_to_keep};

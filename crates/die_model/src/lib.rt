@@ -13,12 +13,12 @@ mod tests;
 
 ghost use Rattle.std.specs.Prelude.{◌≡◌, ℕ, ◌%◌, ◌<◌, true, false, List, [], ◌∷◌, Some, None, IsOk, slice_set, slice_index_or, if◌then◌else◌, IfOk, OnErr, length, slice_get, replicate};
 ghost use Rattle.nand_geometry.specs.Limits.{page_len, planes};
-ghost use Rattle.onfi_cycle.specs.declared.Effect.TheVariants.{BecameReady, ArrayBecameReady};
+ghost use Rattle.onfi_cycle.specs.declared.effect.Effect.TheVariants.{BecameReady, ArrayBecameReady};
 ghost use Rattle.die_model.specs.Standing.{WorkedBy, CanWork};
 ghost use Rattle.nand_geometry.specs.Page.{parameter_bytes};
-ghost use Rattle.onfi_cycle.specs.declared.PageAddress.{PageAddress as At};
+ghost use Rattle.onfi_cycle.specs.declared.effect.PageAddress.{PageAddress as At};
 ghost use Rattle.die_model.specs.Die.{page_to_keep, is_program};
-ghost use Rattle.onfi_cycle.specs.declared.Register.{Register};
+ghost use Rattle.onfi_cycle.specs.declared.lun_facts.Register.{Register};
 ghost use Rattle.die_model.specs.Pages.{kept, page_in};
 ghost use Rattle.die_model.specs.Image.{image_of};
 ghost use Rattle.die_model.specs.Loading.{image_fault, IsJudgedBy, IsLoaded, Restores};
@@ -28,8 +28,10 @@ use arrayvec::ArrayVec;
 use effects::{caching_after, effect_of, end_works, join, page_to_keep, plane_of, work_begun};
 use loading::{image_fault, keep_image};
 use nand_geometry::Geometry;
-use onfi_cycle::effects::{array_busy_after, array_page_after, busy_after, register_after};
-use onfi_cycle::{Effect, Filling, PageAddress, Queued, Register, Status};
+use onfi_cycle::{
+    Effect, Filling, PageAddress, Queued, Register, Status, array_busy_after, array_page_after,
+    busy_after, register_after,
+};
 use page::Page;
 pub use pages::Pages;
 pub use refusal::{ImageFault, ImageRefusal};

@@ -2,7 +2,7 @@
 ghost use Rattle.std.specs.Prelude.{◌≡◌, ◌+◌, ◌*◌, ◌≤◌, true, List, [], None, IfOk, length, replicate};
 ghost use Rattle.nand_geometry.specs.Limits.{page_len};
 ghost use Rattle.nand_geometry.specs.Reading.{u32_at};
-ghost use Rattle.onfi_cycle.specs.declared.PageAddress.{PageAddress as At};
+ghost use Rattle.onfi_cycle.specs.declared.effect.PageAddress.{PageAddress as At};
 ghost use Rattle.die_model.specs.Pages.{page_in};
 ghost use Rattle.die_model.specs.Loading.{has_numbers, is_page, row_fault, entry_len, entries_fault, image_fault, told, page_told, are_pages, ArePages};
 
@@ -10,7 +10,7 @@ use crate::pages::Pages;
 use crate::refusal::ImageFault;
 use byteorder::{ByteOrder, LittleEndian};
 use nand_geometry::{Geometry, Parts};
-use onfi_cycle::effects::page_address;
+use onfi_cycle::page_address;
 use std::alloc::{AllocError, Allocator};
 
 // How many bytes come before the entries.

@@ -1,9 +1,10 @@
 -- A taken job keeps what the taker holds.
-use Rattle.std.proofs.Common.{◌≡◌, ℕ, ◌+◌, ◌<◌, ◌≤◌, List, [], ◌∷◌, ◌++◌, length, set, slice_index, slice_index_or, slice_get, Some, refl, sym, ap, ◌∙◌, subst, arith, length-append, length-set, get_or-set_same, get_or-set_other}
+use Rattle.std.proofs.Common.{◌≡◌, ◌⊎◌, ◌↔◌, inl, inr, ℕ, zero, suc, ◌+◌, ◌<◌, ◌≤◌, ◌==◌, ◌&&◌, Bool, true, false, List, [], ◌∷◌, ◌++◌, length, set, slice_index, slice_index_or, slice_get, Some, refl, sym, ap, ◌∙◌, subst, arith, length-append, length-set, get_or-set_same, get_or-set_other}
 use Rattle.std.proofs.lemmas.List.{append-nil}
 use Rattle.std.proofs.Math.ListN.{get_or-append}
 use Rattle.std.proofs.Math.Seq.{get_or-append_seam}
 use Rattle.std.proofs.lemmas.Option.{slice_get-get_or}
+use Rattle.std.proofs.lemmas.Bool.{cases_lt, eqb-true}
 use mathlib.Core.Logic.{dite}
 use native.Mathlib.Decide.{ℕ_discrete}
 use Rattle.crossbeam_queue.specs.Passes.{Pass, view}
@@ -11,7 +12,7 @@ use Rattle.job_queue.specs.declared.rule.QueuedJob.{QueuedJob}
 use Rattle.job_queue.specs.declared.rule.View.{View}
 use Rattle.job_queue.specs.declared.rule.View.TheVariants.{Taker}
 use Rattle.job_queue.specs.Rule.{of_host, IsInOrder, TakesNext, with_next_host}
-use Rattle.job_queue.specs.Passes.{Counts}
+use Rattle.job_queue.specs.Passes.{Counts, all_are_zero}
 use Rattle.job_queue.specs.Holding.{taken_in, taken_of, IsTakerPass}
 use Rattle.job_queue.proofs.Jobs.{of_host-append, of_host-mine, of_host-other}
 
@@ -71,3 +72,32 @@ module _ {J : Type 0} where
         room = length-append put (0 ∷ []) ∙ ap (λ k. k + 1) h.room;
         counted = subst (λ ts. Counts (counts ++ 0 ∷ []) (hosts + 1) ts) (sym is) (counts_more counts hosts (taken_of p) h.counted h.order);
       }
+
+both_true : (a b : Bool) → (a && b) ≡ true → (a ≡ true) × (b ≡ true)
+both_true true b h = (refl, h)
+both_true false b h = cc
+
+zeros_at : (counts : List ℕ) → all_are_zero counts ≡ true → (h : ℕ) → slice_index counts h ≡ 0
+zeros_at [] all h = refl
+zeros_at (n ∷ counts) all zero = eqb-true n 0 (both_true (n == 0) (all_are_zero counts) all).0
+zeros_at (n ∷ counts) all (suc h) = zeros_at counts (both_true (n == 0) (all_are_zero counts) all).1 h
+
+zeros_all : (counts : List ℕ) → ((h : ℕ) → h < length counts → slice_index counts h ≡ 0) → all_are_zero counts ≡ true
+zeros_all [] each = refl
+zeros_all (n ∷ counts) each = rw (each 0 (omega arith)) (zeros_all counts (λ h lt. each (suc h) (omega (arith, lt))))
+
+module _ {J : Type 0} where
+  none_of_any : (ts : List (QueuedJob J)) → ((h : ℕ) → length (of_host h ts) ≡ 0) → ts ≡ []
+  none_of_any [] each = refl
+  none_of_any (x ∷ ts) each = absurd (let longer = ap length (of_host-mine x ts x.host refl) in let zero_is = each x.host in omega (arith, longer, zero_is))
+
+  -- no job was taken exactly where each host's number is 0
+  pub none_taken : (p : Pass (QueuedJob J) (View J)) (hosts : ℕ) (put counts : List ℕ) (told : Bool) (taken : List (QueuedJob J)) → IsTakerPass p hosts put counts → told ≡ all_are_zero counts → taken_of p ≡ taken → (told ≡ true) ↔ (taken ≡ [])
+  none_taken p hosts put counts told taken h is same = (
+    λ t. sym same ∙ none_of_any (taken_of p) (λ host. at (sym is ∙ t) host (cases_lt host hosts)),
+    λ e. is ∙ zeros_all counts (λ host lt. let below : host < hosts = (let size = h.counted.0 in omega (arith, lt, size)) in h.counted.1 host below ∙ ap (λ ts. length (of_host host ts)) (same ∙ e)),
+  )
+    where
+      at : all_are_zero counts ≡ true → (host : ℕ) → (host < hosts) ⊎ (hosts ≤ host) → length (of_host host (taken_of p)) ≡ 0
+      at all host (inl lt) = sym (h.counted.1 host lt) ∙ zeros_at counts all host
+      at all host (inr le) = ap length (h.order.none host le)

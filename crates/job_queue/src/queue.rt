@@ -1,6 +1,6 @@
 // The queue, the hosts' passes and the taker.
-ghost use Rattle.std.specs.Prelude.{◌≡◌, ◌<◌, ◌≤◌, [], ◌∷◌, ◌++◌, IfOk, OnOk, IfSome, IfNone, ◌^◌, ◌-◌, ◌+◌};
-ghost use Rattle.job_queue.specs.Passes.{owns, AreNew};
+ghost use Rattle.std.specs.Prelude.{◌≡◌, ◌↔◌, ◌<◌, ◌≤◌, [], ◌∷◌, ◌++◌, IfOk, OnOk, IfSome, IfNone, ◌^◌, ◌-◌, ◌+◌, true};
+ghost use Rattle.job_queue.specs.Passes.{owns, AreNew, all_are_zero};
 ghost use Rattle.job_queue.specs.Rule.{TakesNext};
 
 use crate::rule::{Hosts, QueueRule, QueuedJob, Stores, Takes, View};
@@ -166,6 +166,16 @@ impl<J: Drop, A: Allocator + Clone> JobQueue<J, A> {
     }
 }
 
+// Each number is 0.
+fn all_are_zero(numbers: &[u64]) -> bool
+    ensures { result ≡ all_are_zero numbers.now }
+{
+    match numbers {
+        [] => true,
+        [first, rest @ ..] => *first == 0 && all_are_zero(rest),
+    }
+}
+
 impl<J, A: Allocator> Taker<J, A> {
     // The pass of the next host.
     fn next_host(&mut self) -> Result<HostPass<J>, AllocError>
@@ -184,6 +194,13 @@ impl<J, A: Allocator> Taker<J, A> {
             host,
             next: 0,
         })
+    }
+
+    /// No job was taken.
+    pub fn is_fresh(&self) -> bool
+        ensures { result ≡ true ↔ self.now.taken ≡ [] }
+    {
+        all_are_zero(self.tally.taken.as_slice())
     }
 
     /// Takes the oldest job that is queued, if there is one.

@@ -125,7 +125,9 @@ fn a_full_queue_gives_the_job_back(rt: HostRuntime) -> Result<(), Fail> {
     let (queue, first, second, mut taker) = two_hosts(rt.alloc(), 1)?;
     let first = store(&rt, &queue, first, 10);
     let first = store_too_much(&rt, &queue, first, 11);
+    assert!(rt; taker.is_fresh());
     assert_eq!(rt; next(&rt, &mut taker), Some((0, 0, 10)));
+    assert!(rt; !taker.is_fresh());
     assert_eq!(rt; next(&rt, &mut taker), None);
     let tally = close(&rt, queue, vec![in rt.alloc(); first, second]?, taker);
     assert_eq!(rt; tally.put.as_slice(), [1, 0].as_slice());

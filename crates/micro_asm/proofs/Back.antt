@@ -18,7 +18,7 @@ use Rattle.micro_word.specs.declared.word.Word.TheVariants as word
 use Rattle.micro_word.specs.Text.{Microprogram, FitsFormat}
 use Rattle.micro_word.specs.Word.{IsInRange}
 use Rattle.micro_asm.specs.declared.refusal.AsmRefusal.{AsmRefusal}
-use Rattle.micro_asm.specs.declared.refusal.AsmFault.TheVariants.{A1}
+use Rattle.micro_asm.specs.declared.refusal.AsmFault.TheVariants.{UnknownWord}
 use Rattle.micro_asm.specs.declared.heading.Numbers.{Numbers}
 use Rattle.micro_asm.specs.declared.heading.Heading.TheVariants as heading
 use Rattle.micro_asm.specs.declared.names.Name.{Name}
@@ -94,7 +94,7 @@ last_high found n (l ∷ ls) h =
     omega (arith, both.0, later)
 
 -- a line that is read as a word begins with a word's name
-no_entry_of : (o : Option (List ℕ)) (t : Bool) (e : Entry) → (ok_or o A1 >>= λ name. if t then Err A1 else Ok (Label name)) ≡ Ok (Entered e) → ⊥
+no_entry_of : (o : Option (List ℕ)) (t : Bool) (e : Entry) → (ok_or o UnknownWord >>= λ name. if t then Err UnknownWord else Ok (Label name)) ≡ Ok (Entered e) → ⊥
 no_entry_of None t e h = cc
 no_entry_of (Some name) true e h = cc
 no_entry_of (Some name) false e h = cc

@@ -12,7 +12,7 @@ use Rattle.micro_word.specs.declared.word.Word.TheVariants as word
 use Rattle.micro_word.specs.Text.{Microprogram, FitsFormat}
 use Rattle.micro_word.specs.Word.{IsInRange}
 use Rattle.micro_asm.specs.declared.refusal.AsmFault.{AsmFault}
-use Rattle.micro_asm.specs.declared.refusal.AsmFault.TheVariants.{A1, A2, A3, A4, A5, A6, A7, A8}
+use Rattle.micro_asm.specs.declared.refusal.AsmFault.TheVariants.{UnknownWord, BadOperand, OperandOutOfRange, NoSuchLabel, LabelTwice, LabelAfterLastWord, TooManyWords, HeaderOutOfOrder}
 use Rattle.micro_asm.specs.declared.refusal.AsmRefusal.{AsmRefusal}
 use Rattle.micro_asm.specs.declared.refusal.AsmRefusal.TheVariants.{Fault}
 use Rattle.micro_asm.specs.declared.heading.Numbers.{Numbers}
@@ -41,7 +41,7 @@ abbrev read_as : Read → Read
 read_as r = r
 
 abbrev choose : Bool → Line → Read
-choose t l = if t then Ok l else Err A3
+choose t l = if t then Ok l else Err OperandOutOfRange
 
 -- ---- operands
 
@@ -98,7 +98,7 @@ number_tested kind n true is =
     number_fits kind n (leb-true (least kind) n parts.0) (leb-true n (greatest kind) parts.1)
 number_tested kind n false is = tt
 
-number_read : (kind : Counted) (o : Option ℕ) → IfOk (ok_or o A2 >>= λ n. choose (leb (least kind) n && leb n (greatest kind)) (with_number kind n)) LineFits
+number_read : (kind : Counted) (o : Option ℕ) → IfOk (ok_or o BadOperand >>= λ n. choose (leb (least kind) n && leb n (greatest kind)) (with_number kind n)) LineFits
 number_read kind None = tt
 number_read kind (Some n) = number_tested kind n (leb (least kind) n && leb n (greatest kind)) refl
 
@@ -118,7 +118,7 @@ one_byte : (o : Option (List ℕ)) → IfSome (and_then o byte_of) (λ b. b < 25
 one_byte None = tt
 one_byte (Some field) = byte_fits field
 
-byte_read : (o : Option ℕ) → IfSome o (λ b. b < 256) → IfOk (read_as (ok_or o A2 >>= λ byte. Ok (plain_line (word.Command byte)))) LineFits
+byte_read : (o : Option ℕ) → IfSome o (λ b. b < 256) → IfOk (read_as (ok_or o BadOperand >>= λ byte. Ok (plain_line (word.Command byte)))) LineFits
 byte_read None h = tt
 byte_read (Some byte) h = h
 
@@ -134,15 +134,15 @@ address_tested from count true is =
     (omega arith, some, most)
 address_tested from count false is = tt
 
-address_second : (from : ℕ) (o : Option ℕ) → IfOk (ok_or o A2 >>= λ count. choose (leb 1 count && leb (from + count) 5) (plain_line (word.Address from count))) LineFits
+address_second : (from : ℕ) (o : Option ℕ) → IfOk (ok_or o BadOperand >>= λ count. choose (leb 1 count && leb (from + count) 5) (plain_line (word.Address from count))) LineFits
 address_second from None = tt
 address_second from (Some count) = address_tested from count (leb 1 count && leb (from + count) 5) refl
 
-address_first : (first second : Option ℕ) → IfOk (ok_or first A2 >>= λ from. ok_or second A2 >>= λ count. choose (leb 1 count && leb (from + count) 5) (plain_line (word.Address from count))) LineFits
+address_first : (first second : Option ℕ) → IfOk (ok_or first BadOperand >>= λ from. ok_or second BadOperand >>= λ count. choose (leb 1 count && leb (from + count) 5) (plain_line (word.Address from count))) LineFits
 address_first None second = tt
 address_first (Some from) second = address_second from second
 
-address_pair : (o : Option (List ℕ × List ℕ)) → IfOk (ok_or o A2 >>= λ pair. ok_or (number_of pair.0) A2 >>= λ from. ok_or (number_of pair.1) A2 >>= λ count. choose (leb 1 count && leb (from + count) 5) (plain_line (word.Address from count))) LineFits
+address_pair : (o : Option (List ℕ × List ℕ)) → IfOk (ok_or o BadOperand >>= λ pair. ok_or (number_of pair.0) BadOperand >>= λ from. ok_or (number_of pair.1) BadOperand >>= λ count. choose (leb 1 count && leb (from + count) 5) (plain_line (word.Address from count))) LineFits
 address_pair None = tt
 address_pair (Some pair) = address_first (number_of pair.0) (number_of pair.1)
 
@@ -150,17 +150,17 @@ address_fits : (operands : List (List ℕ)) → IfOk (address_line operands) Lin
 unfolding address_line
 address_fits operands = address_pair (two operands)
 
-mask_tested : (mask : ℕ) (to : List ℕ) (t : Bool) → mask < 256 → eqb mask 0 ≡ t → IfOk (if t then Err A3 else read_as (Ok (Entered (Branch mask to)))) LineFits
+mask_tested : (mask : ℕ) (to : List ℕ) (t : Bool) → mask < 256 → eqb mask 0 ≡ t → IfOk (if t then Err OperandOutOfRange else read_as (Ok (Entered (Branch mask to)))) LineFits
 mask_tested mask to true small is = tt
 mask_tested mask to false small is =
     let some : 1 ≤ mask = grind (arith, nat_tests) in
     (some, small)
 
-mask_read : (to : List ℕ) (o : Option ℕ) → IfSome o (λ b. b < 256) → IfOk (ok_or o A2 >>= λ mask. if eqb mask 0 then Err A3 else read_as (Ok (Entered (Branch mask to)))) LineFits
+mask_read : (to : List ℕ) (o : Option ℕ) → IfSome o (λ b. b < 256) → IfOk (ok_or o BadOperand >>= λ mask. if eqb mask 0 then Err OperandOutOfRange else read_as (Ok (Entered (Branch mask to)))) LineFits
 mask_read to None h = tt
 mask_read to (Some mask) h = mask_tested mask to (eqb mask 0) h refl
 
-branch_read : (r : Result (List ℕ) AsmFault) (field : List ℕ) → IfOk (r >>= λ to. ok_or (byte_of field) A2 >>= λ mask. if eqb mask 0 then Err A3 else read_as (Ok (Entered (Branch mask to)))) LineFits
+branch_read : (r : Result (List ℕ) AsmFault) (field : List ℕ) → IfOk (r >>= λ to. ok_or (byte_of field) BadOperand >>= λ mask. if eqb mask 0 then Err OperandOutOfRange else read_as (Ok (Entered (Branch mask to)))) LineFits
 branch_read (Err e) field = tt
 branch_read (Ok to) field = mask_read to (byte_of field) (byte_fits field)
 
@@ -177,7 +177,7 @@ jump_fits : (operands : List (List ℕ)) → IfOk (jump_line operands) LineFits
 unfolding jump_line
 jump_fits operands = jump_read (target_of operands)
 
-label_read : (o : Option (List ℕ)) (t : Bool) → IfOk (ok_or o A1 >>= λ label. if t then Err A1 else read_as (Ok (Label label))) LineFits
+label_read : (o : Option (List ℕ)) (t : Bool) → IfOk (ok_or o UnknownWord >>= λ label. if t then Err UnknownWord else read_as (Ok (Label label))) LineFits
 label_read None t = tt
 label_read (Some label) true = tt
 label_read (Some label) false = tt
@@ -236,14 +236,14 @@ heading_fits seen (Some h) fits one = record { heading = one; count = fits.count
 heading_fits seen None fits one = tt
 
 label_tested : (seen : Seen) (name : List ℕ) (a b c : Bool) → SeenFits seen
-    → IfOk (if a then Err (Fault A8 seen.line) else (if b then Err (Fault A5 seen.line) else (if c then told (Ok (record { line = seen.line + 1; heading = seen.heading; entries = seen.entries; labels = update bytes_eq seen.labels name (Some (length seen.entries)) })) else Err (Fault A6 seen.line)))) SeenFits
+    → IfOk (if a then Err (Fault HeaderOutOfOrder seen.line) else (if b then Err (Fault LabelTwice seen.line) else (if c then told (Ok (record { line = seen.line + 1; heading = seen.heading; entries = seen.entries; labels = update bytes_eq seen.labels name (Some (length seen.entries)) })) else Err (Fault LabelAfterLastWord seen.line)))) SeenFits
 label_tested seen name true b c fits = tt
 label_tested seen name false true c fits = tt
 label_tested seen name false false true fits = record { heading = fits.heading; count = fits.count; entries = fits.entries }
 label_tested seen name false false false fits = tt
 
 entry_tested : (seen : Seen) (entry : Entry) (a b : Bool) → ltb (length seen.entries) 1024 ≡ b → SeenFits seen → EntryFits entry
-    → IfOk (if a then Err (Fault A8 seen.line) else (if b then told (Ok (record { line = seen.line + 1; heading = seen.heading; entries = seen.entries ++ (seen.line, entry) ∷ []; labels = seen.labels })) else Err (Fault A7 seen.line))) SeenFits
+    → IfOk (if a then Err (Fault HeaderOutOfOrder seen.line) else (if b then told (Ok (record { line = seen.line + 1; heading = seen.heading; entries = seen.entries ++ (seen.line, entry) ∷ []; labels = seen.labels })) else Err (Fault TooManyWords seen.line))) SeenFits
 entry_tested seen entry true b is fits one = tt
 entry_tested seen entry false false is fits one = tt
 entry_tested seen entry false true is fits one =
@@ -331,7 +331,7 @@ record WordsFit (n many : ℕ) (words : List Word) : Type 0 where
   pub fit : AllByRecursion (IsInRange Two n) words
 
 words_then : (n count line : ℕ) (o : Option Word) (r : Result (List Word) AsmRefusal) → IfSome o (IsInRange Two n) → IfOk r (WordsFit n count)
-    → IfOk (ok_or o (Fault A4 line) >>= λ w. r >>= λ words. all_words (Ok (w ∷ words))) (WordsFit n (count + 1))
+    → IfOk (ok_or o (Fault NoSuchLabel line) >>= λ w. r >>= λ words. all_words (Ok (w ∷ words))) (WordsFit n (count + 1))
 words_then n count line None r h k = tt
 words_then n count line (Some w) (Err e) h k = tt
 words_then n count line (Some w) (Ok words) h k = record { count = omega (arith, k.count); fit = (h, k.fit) }
@@ -362,7 +362,7 @@ program_fits numbers n words header most fits = record {
 }
 
 given_then : (n line : ℕ) (o : Option Numbers) (r : Result (List Word) AsmRefusal) → n ≤ 1024 → IfSome o NumbersFit → IfOk r (WordsFit n n)
-    → IfOk (ok_or o (Fault A8 line) >>= λ numbers. r >>= λ words. whole_text (Ok (program numbers words))) (FitsFormat Two)
+    → IfOk (ok_or o (Fault HeaderOutOfOrder line) >>= λ numbers. r >>= λ words. whole_text (Ok (program numbers words))) (FitsFormat Two)
 given_then n line None r most h k = tt
 given_then n line (Some numbers) (Err e) most h k = tt
 given_then n line (Some numbers) (Ok words) most h k = program_fits numbers n words h most k

@@ -6,3 +6,4 @@ pub mod Reading
 pub mod Fits
 pub mod Kept
 pub mod Again
+pub mod Codes

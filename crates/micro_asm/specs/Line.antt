@@ -6,7 +6,7 @@ use Rattle.std.specs.Str.Parse.{digits_value}
 use Rattle.micro_word.specs.declared.word.Word.{Word}
 use Rattle.micro_word.specs.declared.word.Word.TheVariants.{End, Command, Address, Get, Put, Seek, Column, RowAdd, Row, Plane, Wait, Yield, ReadStatus, Loop, Next}
 use Rattle.micro_asm.specs.declared.refusal.AsmFault.{AsmFault}
-use Rattle.micro_asm.specs.declared.refusal.AsmFault.TheVariants.{A1, A2, A3}
+use Rattle.micro_asm.specs.declared.refusal.AsmFault.TheVariants.{UnknownWord, BadOperand, OperandOutOfRange}
 use Rattle.micro_asm.specs.declared.names.Counted.{Counted}
 use Rattle.micro_asm.specs.declared.names.Counted.TheVariants as counted
 use Rattle.micro_asm.specs.declared.names.Bare.{Bare}
@@ -194,8 +194,8 @@ two _ = None
 -- one decimal number in the range of the name
 unfoldable pub counted_line : Counted → List (List ℕ) → Result Line AsmFault
 counted_line kind operands = do
-  n ← ok_or (and_then (one operands) number_of) A2
-  if nat_le (least kind) n && nat_le n (greatest kind) then Ok (with_number kind n) else Err A3
+  n ← ok_or (and_then (one operands) number_of) BadOperand
+  if nat_le (least kind) n && nat_le n (greatest kind) then Ok (with_number kind n) else Err OperandOutOfRange
 
 -- no operand
 abbrev pub bare_word : Bare → Word
@@ -206,35 +206,35 @@ bare_word bare.Next = Next
 
 unfoldable pub bare_line : Bare → List (List ℕ) → Result Line AsmFault
 bare_line kind [] = Ok (plain_line (bare_word kind))
-bare_line kind (_ ∷ _) = Err A2
+bare_line kind (_ ∷ _) = Err BadOperand
 
 -- a byte
 unfoldable pub command_line : List (List ℕ) → Result Line AsmFault
 command_line operands = do
-  byte ← ok_or (and_then (one operands) byte_of) A2
+  byte ← ok_or (and_then (one operands) byte_of) BadOperand
   Ok (plain_line (Command byte))
 
 -- the first of the five address bytes and their count, none past the fifth
 unfoldable pub address_line : List (List ℕ) → Result Line AsmFault
 address_line operands = do
-  pair ← ok_or (two operands) A2
-  from ← ok_or (number_of pair.0) A2
-  count ← ok_or (number_of pair.1) A2
-  if nat_le 1 count && nat_le (from + count) 5 then Ok (plain_line (Address from count)) else Err A3
+  pair ← ok_or (two operands) BadOperand
+  from ← ok_or (number_of pair.0) BadOperand
+  count ← ok_or (number_of pair.1) BadOperand
+  if nat_le 1 count && nat_le (from + count) 5 then Ok (plain_line (Address from count)) else Err OperandOutOfRange
 
 -- a label that has the form of one, and nothing behind it
 unfoldable pub target_of : List (List ℕ) → Result (List ℕ) AsmFault
-target_of [] = Err A2
-target_of (to ∷ []) = if is_label to then Ok to else Err A1
-target_of (to ∷ _) = if is_label to then Err A2 else Err A1
+target_of [] = Err BadOperand
+target_of (to ∷ []) = if is_label to then Ok to else Err UnknownWord
+target_of (to ∷ _) = if is_label to then Err BadOperand else Err UnknownWord
 
 -- a mask with a bit, and a label
 unfoldable pub branch_line : List (List ℕ) → Result Line AsmFault
-branch_line [] = Err A2
+branch_line [] = Err BadOperand
 branch_line (field ∷ operands) = do
   to ← target_of operands
-  mask ← ok_or (byte_of field) A2
-  if mask == 0 then Err A3 else Ok (Entered (Branch mask to))
+  mask ← ok_or (byte_of field) BadOperand
+  if mask == 0 then Err OperandOutOfRange else Ok (Entered (Branch mask to))
 
 unfoldable pub jump_line : List (List ℕ) → Result Line AsmFault
 jump_line operands = do
@@ -253,8 +253,8 @@ named_line name.Jump operands = jump_line operands
 -- a label stands alone
 unfoldable pub label_line : List ℕ → List (List ℕ) → Result Line AsmFault
 label_line first operands = do
-  name ← ok_or (label_of first) A1
-  if nat_lt 0 (length operands) then Err A1 else Ok (Label name)
+  name ← ok_or (label_of first) UnknownWord
+  if nat_lt 0 (length operands) then Err UnknownWord else Ok (Label name)
 
 abbrev pub first_line : Option Name → List ℕ → List (List ℕ) → Result Line AsmFault
 first_line (Some name) first operands = named_line name operands

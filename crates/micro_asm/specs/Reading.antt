@@ -7,7 +7,7 @@ use Rattle.micro_word.specs.declared.word.Word.{Word}
 use Rattle.micro_word.specs.declared.word.Word.TheVariants.{BranchOnStatus, Jump}
 use Rattle.micro_word.specs.Text.{Microprogram}
 use Rattle.micro_asm.specs.declared.refusal.AsmFault.{AsmFault}
-use Rattle.micro_asm.specs.declared.refusal.AsmFault.TheVariants.{A4, A5, A6, A7, A8}
+use Rattle.micro_asm.specs.declared.refusal.AsmFault.TheVariants.{NoSuchLabel, LabelTwice, LabelAfterLastWord, TooManyWords, HeaderOutOfOrder}
 use Rattle.micro_asm.specs.declared.refusal.AsmRefusal.{AsmRefusal}
 use Rattle.micro_asm.specs.declared.refusal.AsmRefusal.TheVariants.{Fault, OutOfMemory}
 use Rattle.micro_asm.specs.declared.heading.Numbers.{Numbers}
@@ -70,23 +70,23 @@ nothing_seen = record { line = 1; heading = heading.Empty; entries = []; labels 
 
 abbrev pub with_heading : Seen → Option Heading → Result Seen AsmRefusal
 with_heading seen (Some h) = Ok (record { line = seen.line + 1; heading = h; entries = seen.entries; labels = seen.labels })
-with_heading seen None = Err (Fault A8 seen.line)
+with_heading seen None = Err (Fault HeaderOutOfOrder seen.line)
 
 -- a label names the next word; `last` is the number of the last line with a word
 unfoldable pub with_label : ℕ → Seen → List ℕ → Result Seen AsmRefusal
 with_label last seen name =
-    if is_heading seen.heading then Err (Fault A8 seen.line) else (
-    if is_some (seen.labels name) then Err (Fault A5 seen.line) else (
+    if is_heading seen.heading then Err (Fault HeaderOutOfOrder seen.line) else (
+    if is_some (seen.labels name) then Err (Fault LabelTwice seen.line) else (
     if nat_lt seen.line last
     then Ok (record { line = seen.line + 1; heading = seen.heading; entries = seen.entries; labels = update bytes_eq seen.labels name (Some (length seen.entries)) })
-    else Err (Fault A6 seen.line)))
+    else Err (Fault LabelAfterLastWord seen.line)))
 
 unfoldable pub with_entry : Seen → Entry → Result Seen AsmRefusal
 with_entry seen entry =
-    if is_heading seen.heading then Err (Fault A8 seen.line) else (
+    if is_heading seen.heading then Err (Fault HeaderOutOfOrder seen.line) else (
     if nat_lt (length seen.entries) 1024
     then Ok (record { line = seen.line + 1; heading = seen.heading; entries = seen.entries ++ (seen.line, entry) ∷ []; labels = seen.labels })
-    else Err (Fault A7 seen.line))
+    else Err (Fault TooManyWords seen.line))
 
 -- a line in its place
 unfoldable pub placed : ℕ → Seen → Line → Result Seen AsmRefusal
@@ -128,7 +128,7 @@ led words labels (line.Jump to) = and_then (place_of words (labels to)) (λ plac
 unfoldable pub words_of : ℕ → (List ℕ → Option ℕ) → List (ℕ × Entry) → Result (List Word) AsmRefusal
 words_of words labels [] = Ok []
 words_of words labels (e ∷ es) = do
-  word ← ok_or (led words labels e.1) (Fault A4 e.0)
+  word ← ok_or (led words labels e.1) (Fault NoSuchLabel e.0)
   others ← words_of words labels es
   Ok (word ∷ others)
 
@@ -140,7 +140,7 @@ program numbers words = record { rows = numbers.rows; buffer = numbers.buffer; b
 -- what the lines give once all are read: a header line that is missing at the end is told of the line behind the last
 unfoldable pub given : Seen → Result Microprogram AsmRefusal
 given seen = do
-  numbers ← ok_or (numbers_of seen.heading) (Fault A8 seen.line)
+  numbers ← ok_or (numbers_of seen.heading) (Fault HeaderOutOfOrder seen.line)
   words ← words_of (length seen.entries) seen.labels seen.entries
   Ok (program numbers words)
 

@@ -64,7 +64,7 @@ fn words_of<A: Allocator>(alloc: A, survey: &Survey<'_, A>) -> Result<Vec<Word, 
     for pending in survey.entries.as_slice() {
         match led(survey, pending.entry) {
             Some(word) => words.push(word)?,
-            None => return Err(fault(AsmFault::A4, pending.line)),
+            None => return Err(fault(AsmFault::NoSuchLabel, pending.line)),
         }
     }
     Ok(words)
@@ -86,7 +86,7 @@ fn given<A: Allocator>(alloc: A, survey: &Survey<'_, A>) -> Result<Text<A>, AsmR
     ensures err { IfErr result (λ e. IsRefusalOf e (given (seen survey.now))) }
 {
     let Some(numbers) = survey.heading.numbers() else {
-        return Err(fault(AsmFault::A8, survey.line));
+        return Err(fault(AsmFault::HeaderOutOfOrder, survey.line));
     };
     match words_of(alloc, survey) {
         Ok(words) => Ok(text_of(numbers, words)),

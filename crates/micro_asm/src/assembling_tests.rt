@@ -23,100 +23,192 @@ type Table<'a> = &'a [(&'static str, AsmFault, usize)];
 const ERASES: Table<'static> = &[
     (
         "rows 1\nbuffer 0\nbudget 5\ncmd 6g\naddr 2 3\ncmd d0\nwait\nbrs 01 L6\nend 0\nL6:\nend 1\n",
-        AsmFault::A2,
+        AsmFault::BadOperand,
         4,
     ),
     (
         "rows 1\nbuffer 0\nbudget 5\ncmd 60\naddr 3 3\ncmd d0\nwait\nbrs 01 L6\nend 0\nL6:\nend 1\n",
-        AsmFault::A3,
+        AsmFault::OperandOutOfRange,
         5,
     ),
     (
         "rows 1\nbuffer 0\nbudget 5\ncmd 60\naddr 2 3\ncmd d0\nwait\nbrs 01 L7\nend 0\nL6:\nend 1\n",
-        AsmFault::A4,
+        AsmFault::NoSuchLabel,
         8,
     ),
     (
         "rows 1\nbuffer 0\nbudget 5\ncmd 60\naddr 2 3\ncmd d0\nwait\nbrs 01 L6\nL6:\nL6:\nend 1\n",
-        AsmFault::A5,
+        AsmFault::LabelTwice,
         10,
     ),
     (
         "rows 1\nbuffer 0\nbudget 5\ncmd 60\naddr 2 3\ncmd d0\nwait\nbrs 01 L6\nend 0\nL6:\n",
-        AsmFault::A6,
+        AsmFault::LabelAfterLastWord,
         10,
     ),
     (
         "rows 1\nbuffer 0\ncmd 60\naddr 2 3\ncmd d0\nwait\nbrs 01 L6\nend 0\nL6:\nend 1\n",
-        AsmFault::A8,
+        AsmFault::HeaderOutOfOrder,
         3,
     ),
-    ("", AsmFault::A8, 1),
+    ("", AsmFault::HeaderOutOfOrder, 1),
 ];
 
 // Faults of single lines.
 const LINES: Table<'static> = &[
     (
         "rows 1\nbuffer 0\nbudget 0\nrows 1\nend 0\n",
-        AsmFault::A1,
+        AsmFault::UnknownWord,
         4,
     ),
-    ("rows 1\nbuffer 0\nbudget 0\nwait\r\n", AsmFault::A1, 4),
-    ("rows 1\nbuffer 0\nbudget 0\nWAIT\n", AsmFault::A1, 4),
-    ("rows 1\nbuffer 0\nbudget 0\nx: wait\n", AsmFault::A1, 4),
-    ("rows 1\nbuffer 0\nbudget 0\n9x:\nend 0\n", AsmFault::A1, 4),
-    ("rows 1\nbuffer 0\nbudget 0\njmp 9x\n", AsmFault::A1, 4),
-    ("rows 1\nbuffer 0\nbudget 0\nbrs 0 9x\n", AsmFault::A1, 4),
-    ("rows 1\nbuffer 0\nbudget 0\né\n", AsmFault::A1, 4),
-    ("rows 1\nbuffer 0\nbudget 0\nend 0\r\n", AsmFault::A2, 4),
-    ("rows 1\nbuffer 0\nbudget 0\nend\n", AsmFault::A2, 4),
-    ("rows 1\nbuffer 0\nbudget 0\nwait 1\n", AsmFault::A2, 4),
-    ("rows 1\nbuffer 0\nbudget 0\nend +1\n", AsmFault::A2, 4),
-    ("rows 1\nbuffer 0\nbudget 0\ncmd 6\n", AsmFault::A2, 4),
-    ("rows 1\nbuffer 0\nbudget 0\njmp\n", AsmFault::A2, 4),
+    (
+        "rows 1\nbuffer 0\nbudget 0\nwait\r\n",
+        AsmFault::UnknownWord,
+        4,
+    ),
+    (
+        "rows 1\nbuffer 0\nbudget 0\nWAIT\n",
+        AsmFault::UnknownWord,
+        4,
+    ),
+    (
+        "rows 1\nbuffer 0\nbudget 0\nx: wait\n",
+        AsmFault::UnknownWord,
+        4,
+    ),
+    (
+        "rows 1\nbuffer 0\nbudget 0\n9x:\nend 0\n",
+        AsmFault::UnknownWord,
+        4,
+    ),
+    (
+        "rows 1\nbuffer 0\nbudget 0\njmp 9x\n",
+        AsmFault::UnknownWord,
+        4,
+    ),
+    (
+        "rows 1\nbuffer 0\nbudget 0\nbrs 0 9x\n",
+        AsmFault::UnknownWord,
+        4,
+    ),
+    ("rows 1\nbuffer 0\nbudget 0\né\n", AsmFault::UnknownWord, 4),
+    (
+        "rows 1\nbuffer 0\nbudget 0\nend 0\r\n",
+        AsmFault::BadOperand,
+        4,
+    ),
+    ("rows 1\nbuffer 0\nbudget 0\nend\n", AsmFault::BadOperand, 4),
+    (
+        "rows 1\nbuffer 0\nbudget 0\nwait 1\n",
+        AsmFault::BadOperand,
+        4,
+    ),
+    (
+        "rows 1\nbuffer 0\nbudget 0\nend +1\n",
+        AsmFault::BadOperand,
+        4,
+    ),
+    (
+        "rows 1\nbuffer 0\nbudget 0\ncmd 6\n",
+        AsmFault::BadOperand,
+        4,
+    ),
+    ("rows 1\nbuffer 0\nbudget 0\njmp\n", AsmFault::BadOperand, 4),
     (
         "rows 1\nbuffer 0\nbudget 0\nx: brs 01 x y\n",
-        AsmFault::A1,
+        AsmFault::UnknownWord,
         4,
     ),
     (
         "rows 1\nbuffer 0\nbudget 0\nend 0\nbrs 01 x y\n",
-        AsmFault::A2,
+        AsmFault::BadOperand,
         5,
     ),
-    ("rows 1\nbuffer 0\nbudget 0\nbrs 00 x\n", AsmFault::A3, 4),
-    ("rows 1\nbuffer 0\nbudget 0\nend 256\n", AsmFault::A3, 4),
-    ("rows 1\nbuffer 16777216\nbudget 0\n", AsmFault::A3, 2),
-    ("rows 0\nbuffer 0\nbudget 0\n", AsmFault::A3, 1),
-    ("rows 1\nbuffer 0\nbudget 9999999999\n", AsmFault::A3, 3),
-    ("rows 1\nbuffer 0\nbudget 00000000001\n", AsmFault::A2, 3),
-    ("rows 1\nbuffer 0\nbudget 0\nget 0\n", AsmFault::A3, 4),
-    ("rows 1\nbuffer 0\nbudget 0\nloop 4097\n", AsmFault::A3, 4),
+    (
+        "rows 1\nbuffer 0\nbudget 0\nbrs 00 x\n",
+        AsmFault::OperandOutOfRange,
+        4,
+    ),
+    (
+        "rows 1\nbuffer 0\nbudget 0\nend 256\n",
+        AsmFault::OperandOutOfRange,
+        4,
+    ),
+    (
+        "rows 1\nbuffer 16777216\nbudget 0\n",
+        AsmFault::OperandOutOfRange,
+        2,
+    ),
+    (
+        "rows 0\nbuffer 0\nbudget 0\n",
+        AsmFault::OperandOutOfRange,
+        1,
+    ),
+    (
+        "rows 1\nbuffer 0\nbudget 9999999999\n",
+        AsmFault::OperandOutOfRange,
+        3,
+    ),
+    (
+        "rows 1\nbuffer 0\nbudget 00000000001\n",
+        AsmFault::BadOperand,
+        3,
+    ),
+    (
+        "rows 1\nbuffer 0\nbudget 0\nget 0\n",
+        AsmFault::OperandOutOfRange,
+        4,
+    ),
+    (
+        "rows 1\nbuffer 0\nbudget 0\nloop 4097\n",
+        AsmFault::OperandOutOfRange,
+        4,
+    ),
 ];
 
 // Faults that go by the place of a line.
 const PLACES: Table<'static> = &[
-    ("wait\n", AsmFault::A8, 1),
-    ("x:\n", AsmFault::A8, 1),
-    ("rows 1\nbudget 0\n", AsmFault::A8, 2),
-    ("rows 1\nrows 0\n", AsmFault::A3, 2),
-    ("rows 1\nfoo\n", AsmFault::A1, 2),
-    ("rows 1\nbuffer 0\n", AsmFault::A8, 3),
-    ("; no more\n\nrows 1\nbuffer 0", AsmFault::A8, 5),
-    ("rows 1\nbuffer 0\nbudget 0\nx:\nfoo\n", AsmFault::A6, 4),
-    ("rows 1\nbuffer 0\nbudget 0\nx:\ncmd 6g\n", AsmFault::A2, 5),
-    ("rows 1\nbuffer 0\nbudget 0\njmp y\nx:\n", AsmFault::A6, 5),
+    ("wait\n", AsmFault::HeaderOutOfOrder, 1),
+    ("x:\n", AsmFault::HeaderOutOfOrder, 1),
+    ("rows 1\nbudget 0\n", AsmFault::HeaderOutOfOrder, 2),
+    ("rows 1\nrows 0\n", AsmFault::OperandOutOfRange, 2),
+    ("rows 1\nfoo\n", AsmFault::UnknownWord, 2),
+    ("rows 1\nbuffer 0\n", AsmFault::HeaderOutOfOrder, 3),
+    (
+        "; no more\n\nrows 1\nbuffer 0",
+        AsmFault::HeaderOutOfOrder,
+        5,
+    ),
+    (
+        "rows 1\nbuffer 0\nbudget 0\nx:\nfoo\n",
+        AsmFault::LabelAfterLastWord,
+        4,
+    ),
+    (
+        "rows 1\nbuffer 0\nbudget 0\nx:\ncmd 6g\n",
+        AsmFault::BadOperand,
+        5,
+    ),
+    (
+        "rows 1\nbuffer 0\nbudget 0\njmp y\nx:\n",
+        AsmFault::LabelAfterLastWord,
+        5,
+    ),
     (
         "rows 1\nbuffer 0\nbudget 0\njmp y\njmp z\nend 0\n",
-        AsmFault::A4,
+        AsmFault::NoSuchLabel,
         4,
     ),
     (
         "rows 1\nbuffer 0\nbudget 0\nx:\nend 0\nx:\n",
-        AsmFault::A5,
+        AsmFault::LabelTwice,
         6,
     ),
-    ("rows 1\nbuffer 0\nbudget 0\nx:\ny:\n", AsmFault::A6, 4),
+    (
+        "rows 1\nbuffer 0\nbudget 0\nx:\ny:\n",
+        AsmFault::LabelAfterLastWord,
+        4,
+    ),
 ];
 
 // Labels of 32 characters, and of 33.
@@ -126,12 +218,12 @@ const LONG_LABEL: &str =
 const LABELS: Table<'static> = &[
     (
         "rows 1\nbuffer 0\nbudget 0\nabcdefghijklmnopqrstuvwxyz_012345:\nend 0\n",
-        AsmFault::A1,
+        AsmFault::UnknownWord,
         4,
     ),
     (
         "rows 1\nbuffer 0\nbudget 0\njmp abcdefghijklmnopqrstuvwxyz_012345\n",
-        AsmFault::A1,
+        AsmFault::UnknownWord,
         4,
     ),
 ];
@@ -163,7 +255,7 @@ const EXAMPLES: &[(&str, &str)] = &[
 fn all_refused(rt: &impl Abort, alloc: Global, table: Table<'_>) {
     for (text, code, line) in table {
         let wanted = Some(AsmRefusal::Fault {
-            code: *code,
+            fault: *code,
             line: *line,
         });
         assert_eq!(rt; assemble(alloc, text).err(), wanted, "{text}");
@@ -216,7 +308,7 @@ fn as_many_words_as_may_stand(rt: HostRuntime) -> Result<(), Fail> {
     assert_eq!(rt; most.words().len(), 1024);
     let more = assemble(rt.alloc(), waits(rt.alloc(), 1025)?.as_str()).err();
     let wanted = AsmRefusal::Fault {
-        code: AsmFault::A7,
+        fault: AsmFault::TooManyWords,
         line: 1028,
     };
     assert_eq!(rt; more, Some(wanted));

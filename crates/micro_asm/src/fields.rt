@@ -19,8 +19,8 @@ fn cut_at_blank(text: &[u8]) -> Option<(&[u8], &[u8])>
     Some((&text[..at], behind))
 }
 
-// The line without its comment.
-pub(crate) fn before_comment(line: &[u8]) -> &[u8]
+/// The line without its comment.
+pub fn before_comment(line: &[u8]) -> &[u8]
     ensures { result.now ≡ before_comment line.entry.now }
 {
     match memchr(b';', line) {
@@ -29,8 +29,8 @@ pub(crate) fn before_comment(line: &[u8]) -> &[u8]
     }
 }
 
-// The first field, and what stands behind it.
-pub(crate) fn next_field(text: &[u8]) -> Option<(&[u8], &[u8])>
+/// The first field, and what stands after it.
+pub fn next_field(text: &[u8]) -> Option<(&[u8], &[u8])>
     ensures some { IfSome result (λ x. fields text.entry.now ≡ x.0.now ∷ fields x.1.now) }
     ensures none { IfNone result (fields text.entry.now ≡ []) }
 {
@@ -48,8 +48,8 @@ pub(crate) fn next_field(text: &[u8]) -> Option<(&[u8], &[u8])>
     }
 }
 
-// The only field.
-pub(crate) fn one_field(text: &[u8]) -> Option<&[u8]>
+/// The only field.
+pub fn one_field(text: &[u8]) -> Option<&[u8]>
     ensures { option_copied result ≡ one (fields text.entry.now) }
 {
     let (field, behind) = next_field(text)?;

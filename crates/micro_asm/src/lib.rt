@@ -21,6 +21,9 @@ mod tests;
 mod writing;
 
 pub use assembling::assemble;
+pub use fields::{before_comment, next_field, one_field};
+pub use lines::next_line;
 pub use message::AsmMessage;
+pub use operands::number_of;
 pub use refusal::{AsmFault, AsmRefusal};
 pub use writing::disassemble;

@@ -52,12 +52,12 @@ fn counted_line<'a>(kind: Counted, operands: &[u8]) -> Result<Statement<'a>, Asm
     ensures value { IsLine result (counted_line kind (fields operands.now)) }
     ensures fits { IfOk result (λ s. LineFits (shown_line s)) }
 {
-    let field = one_field(operands).ok_or(AsmFault::A2)?;
-    let n = number_of(field).ok_or(AsmFault::A2)?;
+    let field = one_field(operands).ok_or(AsmFault::BadOperand)?;
+    let n = number_of(field).ok_or(AsmFault::BadOperand)?;
     if kind.least() <= n && n <= kind.greatest() {
         Ok(with_number(kind, n))
     } else {
-        Err(AsmFault::A3)
+        Err(AsmFault::OperandOutOfRange)
     }
 }
 
@@ -69,7 +69,7 @@ fn bare_line<'a>(kind: Bare, operands: &[u8]) -> Result<Statement<'a>, AsmFault>
 {
     match next_field(operands) {
         None => Ok(plain(kind.word())),
-        Some(_) => Err(AsmFault::A2),
+        Some(_) => Err(AsmFault::BadOperand),
     }
 }
 
@@ -79,8 +79,8 @@ fn command_line<'a>(operands: &[u8]) -> Result<Statement<'a>, AsmFault>
     ensures value { IsLine result (command_line (fields operands.now)) }
     ensures fits { IfOk result (λ s. LineFits (shown_line s)) }
 {
-    let field = one_field(operands).ok_or(AsmFault::A2)?;
-    let byte = byte_of(field).ok_or(AsmFault::A2)?;
+    let field = one_field(operands).ok_or(AsmFault::BadOperand)?;
+    let byte = byte_of(field).ok_or(AsmFault::BadOperand)?;
     Ok(plain(Word::Command { byte }))
 }
 
@@ -90,11 +90,11 @@ fn address_line<'a>(operands: &[u8]) -> Result<Statement<'a>, AsmFault>
     ensures value { IsLine result (address_line (fields operands.now)) }
     ensures fits { IfOk result (λ s. LineFits (shown_line s)) }
 {
-    let (first, second) = two_fields(operands).ok_or(AsmFault::A2)?;
-    let from = number_of(first).ok_or(AsmFault::A2)?;
-    let count = number_of(second).ok_or(AsmFault::A2)?;
+    let (first, second) = two_fields(operands).ok_or(AsmFault::BadOperand)?;
+    let from = number_of(first).ok_or(AsmFault::BadOperand)?;
+    let count = number_of(second).ok_or(AsmFault::BadOperand)?;
     if count < 1 || from > 5 || count > 5 - from {
-        return Err(AsmFault::A3);
+        return Err(AsmFault::OperandOutOfRange);
     }
     Ok(plain(Word::Address {
         from: from as u8,
@@ -108,13 +108,13 @@ fn target_of(operands: &[u8]) -> Result<&[u8], AsmFault>
     ensures ok { IfOk result (λ to. target_of (fields operands.entry.now) ≡ Ok to.now) }
     ensures err { IfErr result (λ e. target_of (fields operands.entry.now) ≡ Err e) }
 {
-    let (to, behind) = next_field(operands).ok_or(AsmFault::A2)?;
+    let (to, behind) = next_field(operands).ok_or(AsmFault::BadOperand)?;
     if !is_label(to) {
-        return Err(AsmFault::A1);
+        return Err(AsmFault::UnknownWord);
     }
     match next_field(behind) {
         None => Ok(to),
-        Some(_) => Err(AsmFault::A2),
+        Some(_) => Err(AsmFault::BadOperand),
     }
 }
 
@@ -124,11 +124,11 @@ fn branch_line(operands: &[u8]) -> Result<Statement<'_>, AsmFault>
     ensures value { IsLine result (branch_line (fields operands.entry.now)) }
     ensures fits { IfOk result (λ s. LineFits (shown_line s)) }
 {
-    let (field, behind) = next_field(operands).ok_or(AsmFault::A2)?;
+    let (field, behind) = next_field(operands).ok_or(AsmFault::BadOperand)?;
     let to = target_of(behind)?;
-    let mask = byte_of(field).ok_or(AsmFault::A2)?;
+    let mask = byte_of(field).ok_or(AsmFault::BadOperand)?;
     if mask == 0 {
-        return Err(AsmFault::A3);
+        return Err(AsmFault::OperandOutOfRange);
     }
     Ok(Statement::Entered(Entry::Branch { mask, to }))
 }
@@ -164,10 +164,10 @@ fn label_line<'a>(first: &'a [u8], operands: &[u8]) -> Result<Statement<'a>, Asm
     ensures value { IsLine result (label_line first.entry.now (fields operands.now)) }
     ensures fits { IfOk result (λ s. LineFits (shown_line s)) }
 {
-    let name = label_of(first).ok_or(AsmFault::A1)?;
+    let name = label_of(first).ok_or(AsmFault::UnknownWord)?;
     match next_field(operands) {
         None => Ok(Statement::Label(name)),
-        Some(_) => Err(AsmFault::A1),
+        Some(_) => Err(AsmFault::UnknownWord),
     }
 }
 

@@ -6,8 +6,8 @@ ghost use Rattle.micro_asm.specs.Reading.{lines, last_word};
 use crate::line::begins_word;
 use memchr::memchr;
 
-// The first line, and what stands behind it.
-pub(crate) fn next_line(text: &[u8]) -> Option<(&[u8], &[u8])>
+/// The first line, and what stands after it.
+pub fn next_line(text: &[u8]) -> Option<(&[u8], &[u8])>
     ensures some { IfSome result (λ x. lines text.entry.now ≡ x.0.now ∷ lines x.1.now) }
     ensures shorter { IfSome result (λ x. length x.1.now < length text.entry.now) }
     ensures none { IfNone result (lines text.entry.now ≡ []) }

@@ -23,12 +23,13 @@ impl<'a> AsmMessage<'a> {
 impl fmt::Display for AsmMessage<'_> {
     fn fmt<W: fmt::Write>(&self, f: &mut fmt::Formatter<W>) -> fmt::Result {
         match self.refusal {
-            AsmRefusal::Fault { code, line } => {
+            AsmRefusal::Fault { fault, line } => {
                 let stood = line_at(self.text, line);
                 write!(
                     f,
-                    "line {line}: `{stood}`: {} ({code:?})",
-                    wanted(code, stood)
+                    "line {line}: `{stood}`: {} ({})",
+                    wanted(fault, stood),
+                    fault.code()
                 )
             }
             AsmRefusal::OutOfMemory => f.write_str("out of memory"),
@@ -49,16 +50,17 @@ fn line_at(text: &str, line: usize) -> &str {
 }
 
 // What a line with a fault ought to be.
-fn wanted(code: AsmFault, line: &str) -> &'static str {
-    match code {
-        AsmFault::A1 =>
+fn wanted(fault: AsmFault, line: &str) -> &'static str {
+    match fault {
+        AsmFault::UnknownWord =>
             "a word, or a label alone on its line (a letter, then letters, digits or _, 32 at most)",
-        AsmFault::A2 | AsmFault::A3 => operands_of(line),
-        AsmFault::A4 => "no line has this label",
-        AsmFault::A5 => "a line before has this label",
-        AsmFault::A6 => "a label names the next word, and there is none",
-        AsmFault::A7 => "a text has 1,024 words at most",
-        AsmFault::A8 => "the first three lines are rows N, buffer N and budget N, in this order",
+        AsmFault::BadOperand | AsmFault::OperandOutOfRange => operands_of(line),
+        AsmFault::NoSuchLabel => "no line has this label",
+        AsmFault::LabelTwice => "a line before has this label",
+        AsmFault::LabelAfterLastWord => "a label names the next word, and there is none",
+        AsmFault::TooManyWords => "a text has 1,024 words at most",
+        AsmFault::HeaderOutOfOrder =>
+            "the first three lines are rows N, buffer N and budget N, in this order",
     }
 }
 

@@ -31,9 +31,9 @@ fn value_of(field: &[u8]) -> u64
     text.parse::<u64>().unwrap()
 }
 
-// A decimal number of one to ten digits.
+/// A decimal number of one to ten digits.
 #[tactic(auto, unfolding(crate::specs::Line::number_of))]
-pub(crate) fn number_of(field: &[u8]) -> Option<u64>
+pub fn number_of(field: &[u8]) -> Option<u64>
     ensures { result ≡ number_of field.now }
 {
     if !field.is_empty() && field.len() <= 10 && is_decimal(field) {

@@ -2,6 +2,7 @@
 
 ghost use Rattle.std.specs.Prelude.{◌≡◌};
 ghost use Rattle.micro_asm.specs.declared.refusal.AsmRefusal.TheVariants.{OutOfMemory};
+ghost use Rattle.micro_asm.specs.Codes.{asm_fault_code};
 
 use std::alloc::{AllocError, AllocFailed};
 use thiserror::Error;
@@ -11,36 +12,54 @@ use thiserror::Error;
 pub enum AsmFault {
     /// The line begins with no word's name, and is no label either; or a label hasn't the form of one.
     #[error("unknown word or bad label")]
-    A1,
+    UnknownWord,
     /// An operand is missing, is one too many, or is no number of its form.
     #[error("an operand is missing, one too many or not a number")]
-    A2,
+    BadOperand,
     /// An operand is out of its range.
     #[error("an operand is out of range")]
-    A3,
+    OperandOutOfRange,
     /// No label has the name to which a branch leads.
     #[error("no such label")]
-    A4,
+    NoSuchLabel,
     /// A line before has the same label.
     #[error("the label stands twice")]
-    A5,
+    LabelTwice,
     /// No word stands behind the label.
     #[error("the label stands behind the last word")]
-    A6,
+    LabelAfterLastWord,
     /// The word is the 1,025th.
     #[error("more than 1,024 words")]
-    A7,
+    TooManyWords,
     /// A header line is missing here, or another one is to stand here.
     #[error("a header line is missing or out of order")]
-    A8,
+    HeaderOutOfOrder,
+}
+
+impl AsmFault {
+    /// Its code, `A1` to `A8`.
+    pub fn code(self) -> &'static str
+        ensures { result.now ≡ asm_fault_code self }
+    {
+        match self {
+            AsmFault::UnknownWord => "A1",
+            AsmFault::BadOperand => "A2",
+            AsmFault::OperandOutOfRange => "A3",
+            AsmFault::NoSuchLabel => "A4",
+            AsmFault::LabelTwice => "A5",
+            AsmFault::LabelAfterLastWord => "A6",
+            AsmFault::TooManyWords => "A7",
+            AsmFault::HeaderOutOfOrder => "A8",
+        }
+    }
 }
 
 /// Why a text gives no microprogram.
 #[derive(Clone, Copy, Debug, PartialEq, Eq, Error)]
 pub enum AsmRefusal {
     /// The lowest line with a fault, counted from 1, and its first fault.
-    #[error("line {line}: {code} ({code:?})")]
-    Fault { code: AsmFault, line: usize },
+    #[error("line {line}: {fault} ({})", .fault.code())]
+    Fault { fault: AsmFault, line: usize },
     /// Memory was refused.
     #[error("out of memory")]
     OutOfMemory,

@@ -31,10 +31,10 @@ pub(crate) struct Survey<'a, A: Allocator> {
     pub(crate) labels: BTreeMap<&'a [u8], usize, A>,
 }
 
-pub(crate) fn fault(code: AsmFault, line: usize) -> AsmRefusal
-    ensures { result ≡ AsmRefusal.Fault code line }
+pub(crate) fn fault(fault: AsmFault, line: usize) -> AsmRefusal
+    ensures { result ≡ AsmRefusal.Fault fault line }
 {
-    AsmRefusal::Fault { code, line }
+    AsmRefusal::Fault { fault, line }
 }
 
 impl<'a, A: Allocator + Clone> Survey<'a, A> {
@@ -54,7 +54,7 @@ impl<'a, A: Allocator + Clone> Survey<'a, A> {
                 self.line += 1;
                 Ok(())
             }
-            None => Err(fault(AsmFault::A8, self.line)),
+            None => Err(fault(AsmFault::HeaderOutOfOrder, self.line)),
         }
     }
 
@@ -76,13 +76,13 @@ impl<'a, A: Allocator + Clone> Survey<'a, A> {
         ensures line { OnOk result (self.new.line ≡ self.old.line + 1) }
     {
         if self.heading.is_heading() {
-            return Err(fault(AsmFault::A8, self.line));
+            return Err(fault(AsmFault::HeaderOutOfOrder, self.line));
         }
         if self.has_label(name) {
-            return Err(fault(AsmFault::A5, self.line));
+            return Err(fault(AsmFault::LabelTwice, self.line));
         }
         if self.line >= last {
-            return Err(fault(AsmFault::A6, self.line));
+            return Err(fault(AsmFault::LabelAfterLastWord, self.line));
         }
         let place = self.entries.len();
         self.labels.insert(name, place)?;
@@ -102,10 +102,10 @@ impl<'a, A: Allocator + Clone> Survey<'a, A> {
         ensures line { OnOk result (self.new.line ≡ self.old.line + 1) }
     {
         if self.heading.is_heading() {
-            return Err(fault(AsmFault::A8, self.line));
+            return Err(fault(AsmFault::HeaderOutOfOrder, self.line));
         }
         if self.entries.len() >= MAX_WORDS {
-            return Err(fault(AsmFault::A7, self.line));
+            return Err(fault(AsmFault::TooManyWords, self.line));
         }
         let line = self.line;
         self.entries.push(Pending { line, entry: word })?;

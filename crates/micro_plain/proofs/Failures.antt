@@ -4,17 +4,17 @@ use Rattle.std.specs.Prelude.{is_none}
 use Rattle.nand_geometry.specs.declared.Parts.{Parts}
 use Rattle.micro_word.specs.declared.word.Word.TheVariants.{End}
 use Rattle.micro_word.specs.Text.{Microprogram}
-use Rattle.micro_verify.specs.declared.state.Place.{Place}
-use Rattle.micro_verify.specs.declared.state.Place.TheVariants.{Closed, Unknown}
-use Rattle.micro_verify.specs.declared.state.QueuedRows.{QueuedRows}
-use Rattle.micro_verify.specs.declared.state.QueuedRows.TheVariants.{NoRows, SomeRows, AnyRows}
-use Rattle.micro_verify.specs.declared.state.State.{State}
-use Rattle.micro_verify.specs.State.{bounds_of}
-use Rattle.micro_verify.specs.Against.{is_open_place, may_be_queued, may_be_unready}
-use Rattle.micro_verify.specs.Order.{same_place}
-use Rattle.micro_verify.specs.Joins.{joined, joined_rows}
-use Rattle.micro_verify.specs.Reasons.{reason_against, breaks_V7, breaks_V8, breaks_V9, breaks_V10, breaks_V11, breaks_V12, breaks_V13, breaks_V14, breaks_V15, breaks_V16}
-use Rattle.micro_verify.specs.Faults.{met, reason_at}
+use Rattle.micro_claims.specs.declared.state.Place.{Place}
+use Rattle.micro_claims.specs.declared.state.Place.TheVariants.{Closed, Unknown}
+use Rattle.micro_claims.specs.declared.state.QueuedRows.{QueuedRows}
+use Rattle.micro_claims.specs.declared.state.QueuedRows.TheVariants.{NoRows, SomeRows, AnyRows}
+use Rattle.micro_claims.specs.declared.state.State.{State}
+use Rattle.micro_claims.specs.State.{bounds_of}
+use Rattle.micro_claims.specs.Against.{is_open_place, may_be_queued, may_be_unready}
+use Rattle.micro_claims.specs.Order.{same_place}
+use Rattle.micro_claims.specs.Joins.{joined, joined_rows}
+use Rattle.micro_claims.specs.Reasons.{reason_against, breaks_cycle_forbidden, breaks_address_unaligned, breaks_handover_in_sequence, breaks_buffer_passed, breaks_row_or_plane_outside, breaks_column_too_large, breaks_no_status, breaks_ends_too_soon, breaks_over_budget, breaks_command_not_allowed}
+use Rattle.micro_walk.specs.Faults.{met, reason_at}
 use Rattle.micro_plain.proofs.Basics.{neither}
 
 -- what no way leads to may stand there, and what is known to be idle
@@ -61,6 +61,6 @@ met_may_end (Some s) t h k = ap not (ready_joined s t (false_of (may_be_unready 
 
 -- then nothing is against an `end`
 pub end_is_fine : (g : Parts) (x : Microprogram) (f : Option State) → may_end f ≡ true → is_none (reason_at g (bounds_of x) f (End 1)) ≡ true
-unfolding reason_against breaks_V7 breaks_V8 breaks_V9 breaks_V10 breaks_V11 breaks_V12 breaks_V13 breaks_V14 breaks_V15 breaks_V16
+unfolding reason_against breaks_cycle_forbidden breaks_address_unaligned breaks_handover_in_sequence breaks_buffer_passed breaks_row_or_plane_outside breaks_column_too_large breaks_no_status breaks_ends_too_soon breaks_over_budget breaks_command_not_allowed
 end_is_fine g x None h = refl
 end_is_fine g x (Some s) h = let ready = false_of (may_be_unready s) h in rw (ready) refl

@@ -5,15 +5,15 @@ use Rattle.std.proofs.lemmas.List.{length-set}
 use Rattle.nand_geometry.specs.declared.Parts.{Parts}
 use Rattle.micro_word.specs.declared.word.Word.{Word}
 use Rattle.micro_word.specs.declared.word.Word.TheVariants.{End, BranchOnStatus, Loop, Next, Jump}
-use Rattle.micro_verify.specs.declared.refusal.Reason.{Reason}
-use Rattle.micro_verify.specs.declared.state.State.{State}
+use Rattle.micro_claims.specs.declared.refusal.Reason.{Reason}
+use Rattle.micro_claims.specs.declared.state.State.{State}
 use Rattle.micro_word.specs.Text.{Microprogram}
-use Rattle.micro_verify.specs.State.{bounds_of}
-use Rattle.micro_verify.specs.Reasons.{reason_against}
-use Rattle.micro_verify.specs.Accepts.{state_after}
-use Rattle.micro_verify.specs.Certificate.{claim}
-use Rattle.micro_verify.specs.Faults.{met, reached, led, led_from, reason_at, fault_or, followed}
-use Rattle.micro_verify.proofs.Ahead.{claim_there, claim_elsewhere}
+use Rattle.micro_claims.specs.State.{bounds_of}
+use Rattle.micro_claims.specs.Reasons.{reason_against}
+use Rattle.micro_claims.specs.Accepts.{state_after}
+use Rattle.micro_claims.specs.Certificate.{claim}
+use Rattle.micro_walk.specs.Faults.{met, reached, led, led_from, reason_at, fault_or, followed}
+use Rattle.micro_walk.proofs.Ahead.{claim_there, claim_elsewhere}
 use Rattle.micro_plain.proofs.Basics.{both}
 
 -- each branch leads to the last word, and `end 1` stands behind the first `end`

@@ -5,7 +5,7 @@ use Rattle.std.proofs.lemmas.Bool.Decides.{nat_tests}
 use Rattle.std.proofs.Math.Pow.{pow_mono}
 use Rattle.nand_geometry.specs.declared.Parts.{Parts}
 use Rattle.nand_geometry.specs.Limits.{InLimits, page_len, planes, indices}
-use Rattle.micro_verify.specs.Planes.{just_plane, are_below}
+use Rattle.micro_claims.specs.Planes.{just_plane, are_below}
 use Rattle.micro_plain.specs.declared.operation.PlainOp.{PlainOp}
 use Rattle.micro_plain.specs.declared.operation.PlainOp.TheVariants.{Read, Program, Erase}
 use Rattle.micro_plain.specs.declared.refusal.PlainFault.TheVariants.{NoOperations, TooManyWords}

@@ -6,22 +6,22 @@ use Rattle.onfi_cycle.specs.Command.{command}
 use Rattle.micro_word.specs.declared.word.Word.{Word}
 use Rattle.micro_word.specs.declared.word.Word.TheVariants.{Command, Address, Get, Put, Seek, Column, Row, Plane, Wait, BranchOnStatus}
 use Rattle.micro_word.specs.Text.{Microprogram}
-use Rattle.micro_verify.specs.declared.span.Span.{Span}
-use Rattle.micro_verify.specs.declared.span.Growth.{Growth}
-use Rattle.micro_verify.specs.declared.planes.Planes.{Planes}
-use Rattle.micro_verify.specs.declared.state.PageRange.{PageRange}
-use Rattle.micro_verify.specs.declared.state.Shown.{Shown}
-use Rattle.micro_verify.specs.declared.state.Held.{Held}
-use Rattle.micro_verify.specs.declared.state.OutputColumn.{OutputColumn}
-use Rattle.micro_verify.specs.declared.state.QueuedRows.TheVariants.{NoRows}
-use Rattle.micro_verify.specs.declared.state.CachedPage.{CachedPage}
-use Rattle.micro_verify.specs.declared.state.State.{State}
-use Rattle.micro_verify.specs.Spans.{greatest_bound}
-use Rattle.micro_verify.specs.Planes.{just_plane, are_below}
-use Rattle.micro_verify.specs.State.{closed}
-use Rattle.micro_verify.specs.Reasons.{reason_against, breaks_V7, breaks_V8, breaks_V9, breaks_V10, breaks_V11, breaks_V12, breaks_V13, breaks_V14, breaks_V15, breaks_V16}
-use Rattle.micro_verify.specs.Accepts.{state_after}
-use Rattle.micro_verify.specs.Faults.{met}
+use Rattle.micro_claims.specs.declared.span.Span.{Span}
+use Rattle.micro_claims.specs.declared.span.Growth.{Growth}
+use Rattle.micro_claims.specs.declared.planes.Planes.{Planes}
+use Rattle.micro_claims.specs.declared.state.PageRange.{PageRange}
+use Rattle.micro_claims.specs.declared.state.Shown.{Shown}
+use Rattle.micro_claims.specs.declared.state.Held.{Held}
+use Rattle.micro_claims.specs.declared.state.OutputColumn.{OutputColumn}
+use Rattle.micro_claims.specs.declared.state.QueuedRows.TheVariants.{NoRows}
+use Rattle.micro_claims.specs.declared.state.CachedPage.{CachedPage}
+use Rattle.micro_claims.specs.declared.state.State.{State}
+use Rattle.micro_claims.specs.Spans.{greatest_bound}
+use Rattle.micro_claims.specs.Planes.{just_plane, are_below}
+use Rattle.micro_claims.specs.State.{closed}
+use Rattle.micro_claims.specs.Reasons.{reason_against, breaks_cycle_forbidden, breaks_address_unaligned, breaks_handover_in_sequence, breaks_buffer_passed, breaks_row_or_plane_outside, breaks_column_too_large, breaks_no_status, breaks_ends_too_soon, breaks_over_budget, breaks_command_not_allowed}
+use Rattle.micro_claims.specs.Accepts.{state_after}
+use Rattle.micro_walk.specs.Faults.{met}
 use Rattle.micro_plain.proofs.Basics.{le_test, lt_test, not_lt_test, not_le_test, not_zero}
 use Rattle.micro_plain.proofs.Following.{goes_well}
 
@@ -50,7 +50,7 @@ pub read_goes_well : (g : Parts) (x : Microprogram) (f : Option State) (row plan
     → plane ≤ 3 → are_below (planes g) (just_plane plane) ≡ true → row + 1 ≤ x.rows → x.rows ≤ 4096 → 1 ≤ len → column + len ≤ page_len g → page_len g ≤ 20480 → place + len ≤ x.buffer → x.buffer ≤ 16777215
     → paid + 8 + len ≤ x.budget → x.budget < 2 ^ 32 → FromRest g x f (paid + 1 + 5 + 1 + 1 + len) rest
     → FromRest g x f paid (Row row ∷ Plane plane ∷ Column column ∷ Seek place ∷ Command 0x00 ∷ Address 0 5 ∷ Command 0x30 ∷ Wait ∷ Command 0x00 ∷ Get len ∷ rest)
-unfolding command reason_against breaks_V7 breaks_V8 breaks_V9 breaks_V10 breaks_V11 breaks_V12 breaks_V13 breaks_V14 breaks_V15 breaks_V16 state_after
+unfolding command reason_against breaks_cycle_forbidden breaks_address_unaligned breaks_handover_in_sequence breaks_buffer_passed breaks_row_or_plane_outside breaks_column_too_large breaks_no_status breaks_ends_too_soon breaks_over_budget breaks_command_not_allowed state_after
 read_goes_well g x f row plane column place len paid rest p below r rows l inside long buffered buffer cost budget on = λ c ps i pg pl least grown polled shows register output read other cached.
     (let plane_there : nat_lt 3 plane ≡ false = not_lt_test 3 plane p in
     let row_kept : nat_le row greatest_bound ≡ true = le_test row greatest_bound (omega (arith, r, rows)) in
@@ -84,7 +84,7 @@ pub program_goes_well : (g : Parts) (x : Microprogram) (f : Option State) (row p
     → plane ≤ 3 → are_below (planes g) (just_plane plane) ≡ true → row + 1 ≤ x.rows → x.rows ≤ 4096 → 1 ≤ len → column + len ≤ page_len g → page_len g ≤ 20480 → place + len ≤ x.buffer → x.buffer ≤ 16777215
     → paid + 7 + len ≤ x.budget → x.budget < 2 ^ 32 → FromBranch g x f (paid + 1 + 5 + len + 1) rest
     → FromRest g x f paid (Row row ∷ Plane plane ∷ Column column ∷ Seek place ∷ Command 0x80 ∷ Address 0 5 ∷ Put len ∷ Command 0x10 ∷ Wait ∷ BranchOnStatus 0x01 failure ∷ rest)
-unfolding command reason_against breaks_V7 breaks_V8 breaks_V9 breaks_V10 breaks_V11 breaks_V12 breaks_V13 breaks_V14 breaks_V15 breaks_V16 state_after
+unfolding command reason_against breaks_cycle_forbidden breaks_address_unaligned breaks_handover_in_sequence breaks_buffer_passed breaks_row_or_plane_outside breaks_column_too_large breaks_no_status breaks_ends_too_soon breaks_over_budget breaks_command_not_allowed state_after
 program_goes_well g x f row plane column place len paid failure rest p below r rows l inside long buffered buffer cost budget on = λ c ps i pg pl least grown polled shows register output read other cached.
     (let plane_there : nat_lt 3 plane ≡ false = not_lt_test 3 plane p in
     let row_kept : nat_le row greatest_bound ≡ true = le_test row greatest_bound (omega (arith, r, rows)) in
@@ -116,7 +116,7 @@ pub erase_goes_well : (g : Parts) (x : Microprogram) (f : Option State) (row pla
     → plane ≤ 3 → are_below (planes g) (just_plane plane) ≡ true → row + 1 ≤ x.rows → x.rows ≤ 4096
     → paid + 5 ≤ x.budget → x.budget < 2 ^ 32 → FromBranch g x f (paid + 1 + 3 + 1) rest
     → FromRest g x f paid (Row row ∷ Plane plane ∷ Command 0x60 ∷ Address 2 3 ∷ Command 0xd0 ∷ Wait ∷ BranchOnStatus 0x01 failure ∷ rest)
-unfolding command reason_against breaks_V7 breaks_V8 breaks_V9 breaks_V10 breaks_V11 breaks_V12 breaks_V13 breaks_V14 breaks_V15 breaks_V16 state_after
+unfolding command reason_against breaks_cycle_forbidden breaks_address_unaligned breaks_handover_in_sequence breaks_buffer_passed breaks_row_or_plane_outside breaks_column_too_large breaks_no_status breaks_ends_too_soon breaks_over_budget breaks_command_not_allowed state_after
 erase_goes_well g x f row plane paid failure rest p below r rows cost budget on = λ c ps i pg pl least grown polled shows register output read other cached.
     (let plane_there : nat_lt 3 plane ≡ false = not_lt_test 3 plane p in
     let row_kept : nat_le row greatest_bound ≡ true = le_test row greatest_bound (omega (arith, r, rows)) in

@@ -3,9 +3,9 @@ use Rattle.std.proofs.Common.{◌≡◌, ℕ, zero, suc, ◌+◌, ◌-◌, ◌<�
 use Rattle.std.specs.List.{slice_get}
 use Rattle.micro_word.specs.declared.word.Word.{Word}
 use Rattle.micro_word.specs.declared.word.Word.TheVariants.{Loop, Next}
-use Rattle.micro_verify.specs.Nested.{loops, closer, first_of}
-use Rattle.micro_verify.specs.Shape.{is_unpaired, is_too_deep, leads_astray, first_where, is_end_there, ends, shape_fault}
-use Rattle.micro_verify.specs.Faults.{has_loop}
+use Rattle.micro_program.specs.Nested.{loops, closer, first_of}
+use Rattle.micro_walk.specs.Shape.{is_unpaired, is_too_deep, leads_astray, first_where, is_end_there, ends, shape_fault}
+use Rattle.micro_walk.specs.Faults.{has_loop}
 use Rattle.micro_plain.specs.declared.operation.PlainOp.{PlainOp}
 use Rattle.micro_plain.specs.declared.operation.PlainOp.TheVariants.{Read, Program, Erase}
 use Rattle.micro_plain.specs.Plain.{operation_words, operations_len, words_from, plain_words}

@@ -5,15 +5,16 @@ use Rattle.nand_geometry.specs.declared.Parts.{Parts}
 use Rattle.nand_geometry.specs.Limits.{InLimits}
 use Rattle.micro_word.specs.declared.word.Word.{Word}
 use Rattle.micro_word.specs.Text.{Microprogram}
-use Rattle.micro_verify.specs.declared.refusal.Fault.{Fault}
-use Rattle.micro_verify.specs.declared.refusal.VerifyRefusal.TheVariants.{Refusal, OutOfMemory}
-use Rattle.micro_verify.specs.declared.state.State.{State}
-use Rattle.micro_verify.specs.State.{bounds_of, first_state, exactly, just_plane, not_cached}
-use Rattle.micro_verify.specs.Certificate.{claim}
-use Rattle.micro_verify.specs.Reasons.{reason_against, breaks_V7, breaks_V8, breaks_V9, breaks_V10, breaks_V11, breaks_V12, breaks_V13, breaks_V14, breaks_V15, breaks_V16}
-use Rattle.micro_verify.specs.Shape.{or_fault}
-use Rattle.micro_verify.specs.Faults.{known_first, met, followed, has_loop}
-use Rattle.micro_verify.proofs.Ahead.{claim_there, claim_elsewhere, known_length}
+use Rattle.micro_claims.specs.declared.refusal.Fault.{Fault}
+use Rattle.micro_claims.specs.declared.state.State.{State}
+use Rattle.micro_claims.specs.State.{bounds_of, first_state, not_cached}
+use Rattle.micro_claims.specs.Spans.{exactly}
+use Rattle.micro_claims.specs.Planes.{just_plane}
+use Rattle.micro_claims.specs.Certificate.{claim}
+use Rattle.micro_claims.specs.Reasons.{reason_against, breaks_cycle_forbidden, breaks_address_unaligned, breaks_handover_in_sequence, breaks_buffer_passed, breaks_row_or_plane_outside, breaks_column_too_large, breaks_no_status, breaks_ends_too_soon, breaks_over_budget, breaks_command_not_allowed}
+use Rattle.micro_walk.specs.Shape.{or_fault}
+use Rattle.micro_walk.specs.Faults.{known_first, met, followed, has_loop}
+use Rattle.micro_walk.proofs.Ahead.{claim_there, claim_elsewhere, known_length}
 use Rattle.micro_plain.specs.declared.operation.PlainOp.{PlainOp}
 use Rattle.micro_plain.specs.declared.operation.PlainOp.TheVariants.{Read, Program, Erase}
 use Rattle.micro_plain.specs.Plain.{operations_len, rows_of, buffer_of, budget_of, words_from, plain_text, PlainTextsAreFaultless, PlainTextsAreAccepted}
@@ -46,7 +47,7 @@ behind x paid later op ops d h =
 
 -- from rest all goes well over the operations, whatever states have met at the last word
 rest_goes_well : (g : Parts) → InLimits g → (x : Microprogram) (failure : ℕ) (ops : List PlainOp) (f : Option State) (paid : ℕ) → AllInside g ops → Bounded x paid ops → may_end f ≡ true → FromRest g x f paid (words_from failure ops)
-unfolding reason_against breaks_V7 breaks_V8 breaks_V9 breaks_V10 breaks_V11 breaks_V12 breaks_V13 breaks_V14 breaks_V15 breaks_V16
+unfolding reason_against breaks_cycle_forbidden breaks_address_unaligned breaks_handover_in_sequence breaks_buffer_passed breaks_row_or_plane_outside breaks_column_too_large breaks_no_status breaks_ends_too_soon breaks_over_budget breaks_command_not_allowed
 rest_goes_well g l x failure [] f paid inside d e = λ column planes index page place least grown polled shows register output read other cached. end_is_fine g x f e
 rest_goes_well g l x failure (Read row plane column place len ∷ ops) f paid inside d e =
     let fits = part_fits g row plane column place len inside.0 in
@@ -125,6 +126,5 @@ plain_texts_are_faultless g l ops none =
 
 -- a refusal would tell a fault, or a loop
 pub plain_texts_are_accepted : PlainTextsAreAccepted
-plain_texts_are_accepted g l ops none OutOfMemory told = refl
-plain_texts_are_accepted g l ops none (Refusal word reason) (inl fault) = (let clash = sym (plain_texts_are_faultless g l ops none) ∙ fault in absurd cc)
-plain_texts_are_accepted g l ops none (Refusal word reason) (inr loops) = (let clash = sym (no_loop (operations_len ops + 1) ops) ∙ loops.loops in absurd cc)
+plain_texts_are_accepted g l ops none fault (inl is) = (let clash = sym (plain_texts_are_faultless g l ops none) ∙ is in absurd cc)
+plain_texts_are_accepted g l ops none fault (inr loops) = (let clash = sym (no_loop (operations_len ops + 1) ops) ∙ loops.loops in absurd cc)

@@ -7,10 +7,9 @@ use Rattle.micro_word.specs.declared.word.Word.{Word}
 use Rattle.micro_word.specs.declared.word.Word.TheVariants.{End, Command, Address, Get, Put, Seek, Column, Row, Plane, Wait, BranchOnStatus}
 use Rattle.micro_word.specs.Word.{limit}
 use Rattle.micro_word.specs.Text.{Microprogram}
-use Rattle.micro_verify.specs.declared.refusal.VerifyRefusal.{VerifyRefusal}
-use Rattle.micro_verify.specs.declared.refusal.VerifyRefusal.TheVariants.{OutOfMemory as NoMemory}
-use Rattle.micro_verify.specs.Faults.{fault_of}
-use Rattle.micro_verify.specs.Verified.{MayTell}
+use Rattle.micro_walk.specs.Faults.{fault_of}
+use Rattle.micro_claims.specs.declared.refusal.Fault.{Fault as TextFault}
+use Rattle.micro_walk.specs.Verdicts.{MayBe}
 use Rattle.micro_plain.specs.declared.operation.PlainOp.{PlainOp}
 use Rattle.micro_plain.specs.declared.operation.PlainOp.TheVariants.{Read, Program, Erase}
 use Rattle.micro_plain.specs.declared.refusal.PlainFault.{PlainFault}
@@ -134,7 +133,6 @@ code (OperandOutside at) = codes "L3"
 abbrev pub PlainTextsAreFaultless : Type 0
 PlainTextsAreFaultless = (g : Parts) → InLimits g → (ops : List PlainOp) → plain_fault g ops ≡ None → fault_of g (plain_text ops) ≡ None
 
--- so the verifier refuses no such text, want of memory aside
+-- so nothing may be told against such a text: the verifier refuses none, want of memory aside
 abbrev pub PlainTextsAreAccepted : Type 0
-PlainTextsAreAccepted =
-    (g : Parts) → InLimits g → (ops : List PlainOp) → plain_fault g ops ≡ None → (refusal : VerifyRefusal) → MayTell refusal g (plain_text ops) → refusal ≡ NoMemory
+PlainTextsAreAccepted = (g : Parts) → InLimits g → (ops : List PlainOp) → plain_fault g ops ≡ None → (fault : TextFault) → MayBe g (plain_text ops) fault → ⊥

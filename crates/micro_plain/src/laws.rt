@@ -9,7 +9,7 @@ pub fn plain_texts_are_faultless()
 
 ghost use Rattle.micro_plain.specs.Plain.{PlainTextsAreAccepted};
 
-/// Whatever [`micro_verify::verify`] may tell of the text of operations that aren't refused, it is that memory was wanted.
+/// Nothing that a verifier may tell is against the text of operations that aren't refused.
 pub fn plain_texts_are_accepted()
     ensures { PlainTextsAreAccepted }
 {}

@@ -6,7 +6,8 @@ ghost use Rattle.micro_plain.specs.Plain.{operations_len, words_from, plain_word
 
 use crate::operation::PlainOp;
 use crate::refusal::{PlainFault, PlainRefusal};
-use micro_verify::Verified;
+use micro_program::Verified;
+use micro_walk::faultless;
 use micro_word::{MAX_WORDS, Text, Word};
 use nand_geometry::Geometry;
 use std::alloc::{AllocError, Allocator};
@@ -157,5 +158,5 @@ pub fn plain<A: Allocator>(
         return Err(PlainRefusal::Fault(fault));
     }
     let text = text_of(alloc, ops)?;
-    Ok(Verified::of(text, geometry))
+    Ok(faultless(text, geometry))
 }

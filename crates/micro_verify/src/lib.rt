@@ -1,38 +1,25 @@
-//! What microprograms mean, and what a verifier promises of them.
+//! Verifying microprograms: which texts are safe, and why another isn't.
 //!
-//! The definitions stand in `specs/`: the lines of a text with its loops written out (`Lines`), a job and its program in
-//! progress (`Program`), the cycles of a word (`Moves`), what they make of a trace (`Played`), one step (`Step`), the
-//! promise that a program is safe whatever else its channel does (`Safe`), and all actions of a job as one list (`Actions`).
-//! The verifier's: what is known before a word (`State`), the reasons against it (`Against`, `Reasons`), what it leaves (`Leaves`,
-//! `Accepts`), what two states both claim (`Joins`), the shape of a text (`Nested`, `Shape`), its fault (`Faults`), what a verifier
-//! answers (`Verified`), and certificates of texts with loops (`Certificate`, `Order`, `Certified`).
+//! [`verify`] walks a text (`micro_walk`) and makes a `Verified` of it (`micro_program`). The definitions in `specs/` say what a refusal is
+//! worth: `Lazy` has the run of a straight text on a channel of one LUN that becomes ready as late as it may, `Cause` what stands after
+//! that run where the text is refused, and the law: wherever such a text is refused for a word, the cause is there.
 #![tactic(auto)]
 
-mod certifying;
-mod check;
-mod following;
-mod join;
+mod lacking;
 pub mod laws;
-mod leaves;
-mod looping;
-mod order;
-mod planes;
-mod reasons;
+mod moves;
+mod playing;
 mod refusal;
-mod search;
-mod shape;
-mod span;
-mod state;
-mod tail_places;
-mod verified;
+mod registers;
+mod showing;
 mod verifying;
-mod widen;
 
-pub use certifying::{Claims, certify};
-pub use refusal::{Fault, Reason, VerifyRefusal};
-pub use verified::Verified;
+pub use refusal::VerifyRefusal;
+pub use showing::Counter;
 pub use verifying::verify;
 
+#[cfg(test)]
+mod counter_tests;
 #[cfg(test)]
 mod loop_tests;
 #[cfg(test)]

@@ -1,4 +1,5 @@
-use crate::{Verified, VerifyRefusal, verify};
+use crate::{VerifyRefusal, verify};
+use micro_program::Verified;
 use micro_word::{Text, Word};
 use nand_geometry::{Geometry, Parts};
 use std::alloc::{AllocError, Global};

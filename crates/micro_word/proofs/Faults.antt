@@ -2,7 +2,7 @@
 use Rattle.std.proofs.Common.{◌≡◌, ℕ, zero, suc, ◌+◌, Bool, true, false, cond, List, [], ◌∷◌, drop, Option, Some, None, Result, Ok, Err, refl, ap}
 use Rattle.std.specs.Prelude.{ok_or, slice_index}
 use Rattle.micro_word.specs.declared.refusal.WordFault.{WordFault}
-use Rattle.micro_word.specs.declared.refusal.WordFault.TheVariants.{M1, M2, M3, M4, M5, M6}
+use Rattle.micro_word.specs.declared.refusal.WordFault.TheVariants.{TooShort, UnknownFormat, TooManyWords, UnknownCode, UnusedFieldSet, OutOfRange}
 use Rattle.micro_word.specs.declared.refusal.WordRefusal.{WordRefusal}
 use Rattle.micro_word.specs.declared.refusal.WordRefusal.TheVariants.{Fault, OutOfMemory}
 use Rattle.micro_word.specs.declared.reading.Header.{Header}
@@ -38,19 +38,19 @@ of_option (Some x) code word = of_value x
 of_option None code word = of_fault code word
 
 judged_is_fault : (h : Header) (bytes : List ℕ) → IsNotMemory (judged h bytes)
-judged_is_fault h bytes = of_test _ _ _ (of_fault M3 0) (of_test _ _ _ (of_value h) (of_fault M6 0))
+judged_is_fault h bytes = of_test _ _ _ (of_fault TooManyWords 0) (of_test _ _ _ (of_value h) (of_fault OutOfRange 0))
 
 header_is_fault : (bytes : List ℕ) → IsNotMemory (header_at bytes)
 unfolding header_at
-header_is_fault bytes = of_test _ _ _ (of_fault M1 0) (of_bind (ok_or (format_at bytes) (Fault M2 0)) (λ format. judged (header_in format bytes) bytes) (of_option (format_at bytes) M2 0) (λ format. judged_is_fault (header_in format bytes) bytes))
+header_is_fault bytes = of_test _ _ _ (of_fault TooShort 0) (of_bind (ok_or (format_at bytes) (Fault UnknownFormat 0)) (λ format. judged (header_in format bytes) bytes) (of_option (format_at bytes) UnknownFormat 0) (λ format. judged_is_fault (header_in format bytes) bytes))
 
 word_is_fault : (h : Header) (place : ℕ) (bytes : List ℕ) → IsNotMemory (word_at h place bytes)
 unfolding word_at
 word_is_fault h place bytes =
-    of_bind (ok_or (word_of h.format (slice_index bytes 0) (slice_index bytes 1) (u16_at bytes 2)) (Fault M4 place))
-    (λ w. cond (has_stray h.format w (slice_index bytes 1) (u16_at bytes 2)) (Err (Fault M5 place)) (cond (is_in_range h.format h.words w) (Ok w) (Err (Fault M6 place))))
-    (of_option (word_of h.format (slice_index bytes 0) (slice_index bytes 1) (u16_at bytes 2)) M4 place)
-    (λ w. of_test _ _ _ (of_fault M5 place) (of_test _ _ _ (of_value w) (of_fault M6 place)))
+    of_bind (ok_or (word_of h.format (slice_index bytes 0) (slice_index bytes 1) (u16_at bytes 2)) (Fault UnknownCode place))
+    (λ w. cond (has_stray h.format w (slice_index bytes 1) (u16_at bytes 2)) (Err (Fault UnusedFieldSet place)) (cond (is_in_range h.format h.words w) (Ok w) (Err (Fault OutOfRange place))))
+    (of_option (word_of h.format (slice_index bytes 0) (slice_index bytes 1) (u16_at bytes 2)) UnknownCode place)
+    (λ w. of_test _ _ _ (of_fault UnusedFieldSet place) (of_test _ _ _ (of_value w) (of_fault OutOfRange place)))
 
 words_are_fault : (h : Header) (place count : ℕ) (bytes : List ℕ) → IsNotMemory (words_at h place count bytes)
 unfolding words_at

@@ -8,7 +8,7 @@ use Rattle.std.proofs.lemmas.List.{append-nil, nil_from_length}
 use Rattle.micro_word.specs.declared.format.Format.{Format}
 use Rattle.micro_word.specs.declared.format.Format.TheVariants.{One, Two}
 use Rattle.micro_word.specs.declared.word.Word.{Word}
-use Rattle.micro_word.specs.declared.refusal.WordFault.TheVariants.{M7}
+use Rattle.micro_word.specs.declared.refusal.WordFault.TheVariants.{TrailingBytes}
 use Rattle.micro_word.specs.declared.refusal.WordRefusal.{WordRefusal}
 use Rattle.micro_word.specs.declared.refusal.WordRefusal.TheVariants.{Fault}
 use Rattle.micro_word.specs.declared.reading.Header.{Header}
@@ -52,11 +52,11 @@ done x = Ok x
 pub reading_takes : (bytes : List ℕ) (x : Microprogram) → IsBytes bytes → reading bytes ≡ Ok x → TextTaken bytes x
 unfolding reading
 reading_takes bytes x fits e =
-    let a = bind_ok (header_at bytes) (λ h. words_at h 0 h.words (drop 16 bytes) >>= λ ws. cond (ltb (16 + 4 * h.words) (length bytes)) (Err (Fault M7 0)) (Ok (text_of h ws))) x e in
+    let a = bind_ok (header_at bytes) (λ h. words_at h 0 h.words (drop 16 bytes) >>= λ ws. cond (ltb (16 + 4 * h.words) (length bytes)) (Err (Fault TrailingBytes 0)) (Ok (text_of h ws))) x e in
     let h : Header = a.0 in
-    let b = bind_ok (words_at h 0 h.words (drop 16 bytes)) (λ ws. cond (ltb (16 + 4 * h.words) (length bytes)) (Err (Fault M7 0)) (Ok (text_of h ws))) x a.2 in
+    let b = bind_ok (words_at h 0 h.words (drop 16 bytes)) (λ ws. cond (ltb (16 + 4 * h.words) (length bytes)) (Err (Fault TrailingBytes 0)) (Ok (text_of h ws))) x a.2 in
     let ws : List Word = b.0 in
-    let g = passed_false (ltb (16 + 4 * h.words) (length bytes)) (Fault M7 0) (Ok (text_of h ws)) x b.2 in
+    let g = passed_false (ltb (16 + 4 * h.words) (length bytes)) (Fault TrailingBytes 0) (Ok (text_of h ws)) x b.2 in
     let short : length bytes ≤ 16 + 4 * h.words = ltb-false _ _ g.0 in
     let first = header_takes bytes h fits a.1 in
     let long = first.sound.long in

@@ -8,7 +8,7 @@ use Rattle.std.proofs.lemmas.Bool.Decides.{nat_tests, Decides-eqb}
 use Rattle.std.proofs.lemmas.Slice.Eq.{starts_is}
 use Rattle.micro_word.specs.declared.format.Format.{Format}
 use Rattle.micro_word.specs.declared.format.Format.TheVariants.{One, Two}
-use Rattle.micro_word.specs.declared.refusal.WordFault.TheVariants.{M1, M2, M3, M6}
+use Rattle.micro_word.specs.declared.refusal.WordFault.TheVariants.{TooShort, UnknownFormat, TooManyWords, OutOfRange}
 use Rattle.micro_word.specs.declared.refusal.WordRefusal.TheVariants.{Fault}
 use Rattle.micro_word.specs.declared.reading.Header.{Header}
 use Rattle.micro_word.specs.Word.{limit, is_header_in_range}
@@ -99,13 +99,13 @@ good_of h bytes s = let some_rows = s.some_rows in let rows = s.rows in let buff
 pub header_takes : (bytes : List ℕ) (h : Header) → IsBytes bytes → header_at bytes ≡ Ok h → HeaderTaken bytes h
 unfolding header_at
 header_takes bytes h fits e =
-    let first = passed_false (ltb (length bytes) 16) (Fault M1 0) (ok_or (format_at bytes) (Fault M2 0) >>= λ format. judged (header_in format bytes) bytes) h e in
+    let first = passed_false (ltb (length bytes) 16) (Fault TooShort 0) (ok_or (format_at bytes) (Fault UnknownFormat 0) >>= λ format. judged (header_in format bytes) bytes) h e in
     let long : 16 ≤ length bytes = ltb-false _ _ first.0 in
-    let second = bind_ok (ok_or (format_at bytes) (Fault M2 0)) (λ format. judged (header_in format bytes) bytes) h first.1 in
-    let format-is = some_of (format_at bytes) (Fault M2 0) second.0 second.1 in
+    let second = bind_ok (ok_or (format_at bytes) (Fault UnknownFormat 0)) (λ format. judged (header_in format bytes) bytes) h first.1 in
+    let format-is = some_of (format_at bytes) (Fault UnknownFormat 0) second.0 second.1 in
     let found : Header = header_in second.0 bytes in
-    let third = passed_false (lacks_words found bytes) (Fault M3 0) (cond (is_header_in_range found.format found.rows found.buffer) (Ok found) (Err (Fault M6 0))) h second.2 in
-    let fourth = passed_true (is_header_in_range found.format found.rows found.buffer) (Fault M6 0) found h third.1 in
+    let third = passed_false (lacks_words found bytes) (Fault TooManyWords 0) (cond (is_header_in_range found.format found.rows found.buffer) (Ok found) (Err (Fault OutOfRange 0))) h second.2 in
+    let fourth = passed_true (is_header_in_range found.format found.rows found.buffer) (Fault OutOfRange 0) found h third.1 in
     let same : found ≡ h = fourth.1 in
     let budget : found.budget < 2 ^ 32 = omega (arith, fits 12, fits 13, fits 14, fits 15) in
     subst (λ (x : Header). HeaderTaken bytes x) same (record { parts = header_parts second.0 bytes fits long format-is; sound = sound_of found bytes third.0 fourth.0; budget = budget })

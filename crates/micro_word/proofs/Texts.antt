@@ -5,7 +5,7 @@ use Rattle.std.proofs.lemmas.Bool.{ltb-false, le-ltb}
 use Rattle.std.proofs.lemmas.Bool.Decides.{nat_tests}
 use Rattle.micro_word.specs.declared.format.Format.TheVariants.{Two}
 use Rattle.micro_word.specs.declared.word.Word.{Word}
-use Rattle.micro_word.specs.declared.refusal.WordFault.TheVariants.{M3, M6}
+use Rattle.micro_word.specs.declared.refusal.WordFault.TheVariants.{TooManyWords, OutOfRange}
 use Rattle.micro_word.specs.declared.refusal.WordRefusal.{WordRefusal}
 use Rattle.micro_word.specs.declared.refusal.WordRefusal.TheVariants.{Fault}
 use Rattle.micro_word.specs.Word.{IsInRange, is_in_range, is_header_in_range}
@@ -35,7 +35,7 @@ no_fault_at : (o : Option ℕ) → fault_at o ≡ None → o ≡ None
 no_fault_at None e = refl
 no_fault_at (Some place) e = absurd cc
 
-no_fault : (many good : Bool) (o : Option ℕ) → cond many (Some (Fault M3 0)) (cond good (fault_at o) (Some (Fault M6 0))) ≡ None → (many ≡ false) × (good ≡ true) × (o ≡ None)
+no_fault : (many good : Bool) (o : Option ℕ) → cond many (Some (Fault TooManyWords 0)) (cond good (fault_at o) (Some (Fault OutOfRange 0))) ≡ None → (many ≡ false) × (good ≡ true) × (o ≡ None)
 no_fault true good o e = absurd cc
 no_fault false true o e = (refl, refl, no_fault_at o e)
 no_fault false false o e = absurd cc

@@ -4,7 +4,7 @@ use Rattle.std.specs.Prelude.{IfSome, ok_or, slice_index}
 use Rattle.std.specs.List.{flat_map, AllByRecursion}
 use Rattle.std.proofs.lemmas.List.{get_or-drop, drop-drop}
 use Rattle.micro_word.specs.declared.word.Word.{Word}
-use Rattle.micro_word.specs.declared.refusal.WordFault.TheVariants.{M4, M5, M6}
+use Rattle.micro_word.specs.declared.refusal.WordFault.TheVariants.{UnknownCode, UnusedFieldSet, OutOfRange}
 use Rattle.micro_word.specs.declared.refusal.WordRefusal.{WordRefusal}
 use Rattle.micro_word.specs.declared.refusal.WordRefusal.TheVariants.{Fault}
 use Rattle.micro_word.specs.declared.reading.Header.{Header}
@@ -67,10 +67,10 @@ word_takes header place bytes w fits long e =
     let b = u16_at bytes 2 in
     let format = header.format in
     let words = header.words in
-    let found = bind_ok (ok_or (word_of format code a b) (Fault M4 place)) (λ x. cond (has_stray format x a b) (Err (Fault M5 place)) (cond (is_in_range format words x) (Ok x) (Err (Fault M6 place)))) w e in
-    let is : word_of format code a b ≡ Some found.0 = some_of (word_of format code a b) (Fault M4 place) found.0 found.1 in
-    let clean = passed_false (has_stray format found.0 a b) (Fault M5 place) (cond (is_in_range format words found.0) (Ok found.0) (Err (Fault M6 place))) w found.2 in
-    let ranged = passed_true (is_in_range format words found.0) (Fault M6 place) found.0 w clean.1 in
+    let found = bind_ok (ok_or (word_of format code a b) (Fault UnknownCode place)) (λ x. cond (has_stray format x a b) (Err (Fault UnusedFieldSet place)) (cond (is_in_range format words x) (Ok x) (Err (Fault OutOfRange place)))) w e in
+    let is : word_of format code a b ≡ Some found.0 = some_of (word_of format code a b) (Fault UnknownCode place) found.0 found.1 in
+    let clean = passed_false (has_stray format found.0 a b) (Fault UnusedFieldSet place) (cond (is_in_range format words found.0) (Ok found.0) (Err (Fault OutOfRange place))) w found.2 in
+    let ranged = passed_true (is_in_range format words found.0) (Fault OutOfRange place) found.0 w clean.1 in
     let range : IsInRange format words found.0 = in_range format words found.0 ranged.0 in
     let small_2 = fits 2 in
     let small_3 = fits 3 in

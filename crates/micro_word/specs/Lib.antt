@@ -1,3 +1,4 @@
 pub mod Word
 pub mod Text
 pub mod Reading
+pub mod Codes

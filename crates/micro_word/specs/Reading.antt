@@ -4,7 +4,7 @@ use Rattle.std.specs.List.{starts_with}
 use Rattle.micro_word.specs.declared.format.Format.{Format}
 use Rattle.micro_word.specs.declared.format.Format.TheVariants.{One, Two}
 use Rattle.micro_word.specs.declared.word.Word.{Word}
-use Rattle.micro_word.specs.declared.refusal.WordFault.TheVariants.{M1, M2, M3, M4, M5, M6, M7}
+use Rattle.micro_word.specs.declared.refusal.WordFault.TheVariants.{TooShort, UnknownFormat, TooManyWords, UnknownCode, UnusedFieldSet, OutOfRange, TrailingBytes}
 use Rattle.micro_word.specs.declared.refusal.WordRefusal.{WordRefusal}
 use Rattle.micro_word.specs.declared.refusal.WordRefusal.TheVariants.{Fault, OutOfMemory}
 use Rattle.micro_word.specs.declared.reading.Header.{Header}
@@ -44,19 +44,19 @@ lacks_words h bytes = nat_lt 1024 h.words || nat_lt (length bytes) (16 + 4 * h.w
 
 -- the header, if its words are there and its numbers in range
 abbrev pub judged : Header → List ℕ → Result Header WordRefusal
-judged h bytes = if lacks_words h bytes then Err (Fault M3 0) else (if is_header_in_range h.format h.rows h.buffer then Ok h else Err (Fault M6 0))
+judged h bytes = if lacks_words h bytes then Err (Fault TooManyWords 0) else (if is_header_in_range h.format h.rows h.buffer then Ok h else Err (Fault OutOfRange 0))
 
 -- the header of a file that holds all its words
 unfoldable pub header_at : List ℕ → Result Header WordRefusal
 header_at bytes =
-    if nat_lt (length bytes) 16 then Err (Fault M1 0) else
-    (ok_or (format_at bytes) (Fault M2 0) >>= λ format. judged (header_in format bytes) bytes)
+    if nat_lt (length bytes) 16 then Err (Fault TooShort 0) else
+    (ok_or (format_at bytes) (Fault UnknownFormat 0) >>= λ format. judged (header_in format bytes) bytes)
 
 -- the word in the first four bytes, which is word number `place` of its text
 unfoldable pub word_at : Header → ℕ → List ℕ → Result Word WordRefusal
 word_at header place bytes = do
-  word ← ok_or (word_of header.format (slice_index bytes 0) (slice_index bytes 1) (u16_at bytes 2)) (Fault M4 place)
-  if has_stray header.format word (slice_index bytes 1) (u16_at bytes 2) then Err (Fault M5 place) else (if is_in_range header.format header.words word then Ok word else Err (Fault M6 place))
+  word ← ok_or (word_of header.format (slice_index bytes 0) (slice_index bytes 1) (u16_at bytes 2)) (Fault UnknownCode place)
+  if has_stray header.format word (slice_index bytes 1) (u16_at bytes 2) then Err (Fault UnusedFieldSet place) else (if is_in_range header.format header.words word then Ok word else Err (Fault OutOfRange place))
 
 -- so many words, the first of which is word number `place`
 unfoldable pub words_at : Header → ℕ → ℕ → List ℕ → Result (List Word) WordRefusal
@@ -71,7 +71,7 @@ unfoldable pub reading : List ℕ → Result Microprogram WordRefusal
 reading bytes = do
   header ← header_at bytes
   words ← words_at header 0 header.words (drop 16 bytes)
-  if nat_lt (16 + 4 * header.words) (length bytes) then Err (Fault M7 0) else Ok (record { rows = header.rows; buffer = header.buffer; budget = header.budget; words = words })
+  if nat_lt (16 + 4 * header.words) (length bytes) then Err (Fault TrailingBytes 0) else Ok (record { rows = header.rows; buffer = header.buffer; budget = header.budget; words = words })
 
 -- ---- a text that was not read
 
@@ -82,10 +82,10 @@ out_of_range words place (w ∷ ws) = if is_in_range Two words w then out_of_ran
 
 abbrev pub fault_at : Option ℕ → Option WordRefusal
 fault_at None = None
-fault_at (Some place) = Some (Fault M6 place)
+fault_at (Some place) = Some (Fault OutOfRange place)
 
 -- the first fault of a microprogram of these rows, this buffer and these words, in format 2
 unfoldable pub fault_of : ℕ → ℕ → List Word → Option WordRefusal
 fault_of rows buffer words =
-    if nat_lt 1024 (length words) then Some (Fault M3 0) else (
-    if is_header_in_range Two rows buffer then fault_at (out_of_range (length words) 0 words) else Some (Fault M6 0))
+    if nat_lt 1024 (length words) then Some (Fault TooManyWords 0) else (
+    if is_header_in_range Two rows buffer then fault_at (out_of_range (length words) 0 words) else Some (Fault OutOfRange 0))

@@ -56,9 +56,9 @@ impl Header {
         ensures length { IfOk result (λ header. 16 + 4 * header.words ≤ length bytes.now) }
     {
         if bytes.len() < 16 {
-            return Err(fault(WordFault::M1, 0));
+            return Err(fault(WordFault::TooShort, 0));
         }
-        let format = format_of(bytes).ok_or(fault(WordFault::M2, 0))?;
+        let format = format_of(bytes).ok_or(fault(WordFault::UnknownFormat, 0))?;
         let header = Header {
             format,
             words: u16_of(bytes, 4),
@@ -69,10 +69,10 @@ impl Header {
         if usize::from(header.words) > MAX_WORDS
             || bytes.len() < 16 + 4 * usize::from(header.words)
         {
-            return Err(fault(WordFault::M3, 0));
+            return Err(fault(WordFault::TooManyWords, 0));
         }
         if !header.format.is_header_in_range(header.rows, header.buffer) {
-            return Err(fault(WordFault::M6, 0));
+            return Err(fault(WordFault::OutOfRange, 0));
         }
         Ok(header)
     }
@@ -85,12 +85,15 @@ impl Header {
     {
         let a = bytes[1];
         let b = u16_of(bytes, 2);
-        let word = Word::of(self.format, bytes[0], a, b).ok_or(fault(WordFault::M4, place))?;
+        let word = Word::of(self.format, bytes[0], a, b).ok_or(fault(
+            WordFault::UnknownCode,
+            place,
+        ))?;
         if word.has_stray(self.format, a, b) {
-            return Err(fault(WordFault::M5, place));
+            return Err(fault(WordFault::UnusedFieldSet, place));
         }
         if !word.is_in_range(self.format, usize::from(self.words)) {
-            return Err(fault(WordFault::M6, place));
+            return Err(fault(WordFault::OutOfRange, place));
         }
         Ok(word)
     }
@@ -139,7 +142,7 @@ fn all<A: Allocator>(alloc: A, bytes: &[u8]) -> Result<Text<A>, WordRefusal>
     let body = bytes.split_at(16).1;
     check_words(header, body)?;
     if 16 + 4 * usize::from(header.words) < bytes.len() {
-        return Err(fault(WordFault::M7, 0));
+        return Err(fault(WordFault::TrailingBytes, 0));
     }
     let words = words_of(alloc, header, body)?;
     Ok(Text::new(header.rows, header.buffer, header.budget, words))

@@ -2,6 +2,7 @@
 
 ghost use Rattle.std.specs.Prelude.{◌≡◌};
 ghost use Rattle.micro_word.specs.declared.refusal.WordRefusal.TheVariants.{OutOfMemory};
+ghost use Rattle.micro_word.specs.Codes.{word_fault_code};
 
 use std::alloc::{AllocError, AllocFailed};
 use thiserror::Error;
@@ -11,27 +12,44 @@ use thiserror::Error;
 #[derive(Clone, Copy, Debug, PartialEq, Eq, Error)]
 pub enum WordFault {
     #[error("the file is too short for a header of 16 bytes")]
-    M1,
+    TooShort,
     #[error("the file is neither NMP1 nor NMP2")]
-    M2,
+    UnknownFormat,
     #[error("the header tells of more words than 1024 or than the file has")]
-    M3,
+    TooManyWords,
     #[error("no word has this code")]
-    M4,
+    UnknownCode,
     #[error("a field without a meaning for this word is set")]
-    M5,
+    UnusedFieldSet,
     #[error("a number is out of its range")]
-    M6,
+    OutOfRange,
     #[error("the file goes on behind its words")]
-    M7,
+    TrailingBytes,
+}
+
+impl WordFault {
+    /// Its code, `M1` to `M7`.
+    pub fn code(self) -> &'static str
+        ensures { result.now ≡ word_fault_code self }
+    {
+        match self {
+            WordFault::TooShort => "M1",
+            WordFault::UnknownFormat => "M2",
+            WordFault::TooManyWords => "M3",
+            WordFault::UnknownCode => "M4",
+            WordFault::UnusedFieldSet => "M5",
+            WordFault::OutOfRange => "M6",
+            WordFault::TrailingBytes => "M7",
+        }
+    }
 }
 
 /// Why there is no text.
 #[derive(Clone, Copy, Debug, PartialEq, Eq, Error)]
 pub enum WordRefusal {
     /// The first fault, and the number of its word, counted from 0. A fault that is of no word tells 0.
-    #[error("{code:?} at word {word}: {code}")]
-    Fault { code: WordFault, word: usize },
+    #[error("{} at word {word}: {fault}", .fault.code())]
+    Fault { fault: WordFault, word: usize },
     /// Memory was refused to a text without a fault.
     #[error("out of memory")]
     OutOfMemory,

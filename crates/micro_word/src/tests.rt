@@ -17,8 +17,8 @@ const LONG_GET: [u8; 28] = [
     0x0c, 0x00, 0x00, 0x00, 0x03, 0x01, 0x00, 0x00, 0x00, 0x00, 0x00, 0x00,
 ];
 
-fn fault(code: WordFault, word: usize) -> Option<WordRefusal> {
-    Some(WordRefusal::Fault { code, word })
+fn fault(fault: WordFault, word: usize) -> Option<WordRefusal> {
+    Some(WordRefusal::Fault { fault, word })
 }
 
 fn refusal(alloc: Global, bytes: &[u8]) -> Option<WordRefusal> {
@@ -80,14 +80,14 @@ fn cut_files(rt: HostRuntime) {
     for len in 0..16 {
         assert_eq!(rt;
             refusal(rt.alloc(), &ERASE[..len]),
-            fault(WordFault::M1, 0),
+            fault(WordFault::TooShort, 0),
             "cut to {len}"
         );
     }
     for len in 16..36 {
         assert_eq!(rt;
             refusal(rt.alloc(), &ERASE[..len]),
-            fault(WordFault::M3, 0),
+            fault(WordFault::TooManyWords, 0),
             "cut to {len}"
         );
     }
@@ -100,18 +100,18 @@ fn changed_files(rt: HostRuntime) -> Result<(), Fail> {
         bytes[place] = 0x00;
         assert_eq!(rt;
             refusal(rt.alloc(), &bytes),
-            fault(WordFault::M2, 0),
+            fault(WordFault::UnknownFormat, 0),
             "byte {place}"
         );
     }
     // (byte, its value, the fault, the word)
     let changes = [
-        (29, 0x01, WordFault::M5, 3),
-        (6, 0x00, WordFault::M6, 0),
-        (10, 0x01, WordFault::M6, 0),
-        (4, 0x06, WordFault::M3, 0),
-        (4, 0x04, WordFault::M7, 0),
-        (28, 0x11, WordFault::M4, 3),
+        (29, 0x01, WordFault::UnusedFieldSet, 3),
+        (6, 0x00, WordFault::OutOfRange, 0),
+        (10, 0x01, WordFault::OutOfRange, 0),
+        (4, 0x06, WordFault::TooManyWords, 0),
+        (4, 0x04, WordFault::TrailingBytes, 0),
+        (28, 0x11, WordFault::UnknownCode, 3),
     ];
     for (place, value, code, word) in changes {
         let mut bytes = ERASE;
@@ -124,7 +124,10 @@ fn changed_files(rt: HostRuntime) -> Result<(), Fail> {
     }
     let mut longer = ERASE.to_vec(rt.alloc())?;
     longer.push(0)?;
-    assert_eq!(rt; refusal(rt.alloc(), &longer), fault(WordFault::M7, 0));
+    assert_eq!(rt;
+        refusal(rt.alloc(), &longer),
+        fault(WordFault::TrailingBytes, 0)
+    );
     Ok(())
 }
 
@@ -145,7 +148,11 @@ fn headers(rt: HostRuntime) {
         let bytes = [
             0x4e, 0x4d, 0x50, format, 0, 0, r0, r1, b0, b1, b2, b3, 0xff, 0xff, 0xff, 0xff,
         ];
-        let want = if fits { None } else { fault(WordFault::M6, 0) };
+        let want = if fits {
+            None
+        } else {
+            fault(WordFault::OutOfRange, 0)
+        };
         assert_eq!(rt; refusal(rt.alloc(), &bytes), want, "{bytes:?}");
     }
 }
@@ -158,7 +165,7 @@ fn expect_word(
     two: Option<WordFault>,
 ) {
     for (format, code) in [(0x31, one), (0x32, two)] {
-        let want = code.map(|code| WordRefusal::Fault { code, word: 1 });
+        let want = code.map(|fault| WordRefusal::Fault { fault, word: 1 });
         let found = refusal(rt.alloc(), &second_word(format, word));
         assert_eq!(rt; found, want, "{word:?} in format {format}");
     }
@@ -208,7 +215,12 @@ fn operands_at_their_limits(rt: HostRuntime) {
         [0x10, 0x00, 0x02, 0x00],
     ];
     for word in outside {
-        expect_word(&rt, word, Some(WordFault::M6), Some(WordFault::M6));
+        expect_word(
+            &rt,
+            word,
+            Some(WordFault::OutOfRange),
+            Some(WordFault::OutOfRange),
+        );
     }
 }
 
@@ -218,25 +230,40 @@ fn order_of_the_faults_of_a_word(rt: HostRuntime) {
     expect_word(
         &rt,
         [0x11, 0xff, 0xff, 0xff],
-        Some(WordFault::M4),
-        Some(WordFault::M4),
+        Some(WordFault::UnknownCode),
+        Some(WordFault::UnknownCode),
     );
     expect_word(
         &rt,
         [0x08, 0x01, 0xff, 0xff],
-        Some(WordFault::M5),
-        Some(WordFault::M5),
+        Some(WordFault::UnusedFieldSet),
+        Some(WordFault::UnusedFieldSet),
     );
     expect_word(
         &rt,
         [0x09, 0xff, 0x01, 0x00],
-        Some(WordFault::M5),
-        Some(WordFault::M5),
+        Some(WordFault::UnusedFieldSet),
+        Some(WordFault::UnusedFieldSet),
     );
     // In format 2 the field a is part of the number.
-    expect_word(&rt, [0x03, 0x01, 0x00, 0x00], Some(WordFault::M5), None);
-    expect_word(&rt, [0x04, 0xff, 0xff, 0xff], Some(WordFault::M5), None);
-    expect_word(&rt, [0x05, 0xff, 0xff, 0xff], Some(WordFault::M5), None);
+    expect_word(
+        &rt,
+        [0x03, 0x01, 0x00, 0x00],
+        Some(WordFault::UnusedFieldSet),
+        None,
+    );
+    expect_word(
+        &rt,
+        [0x04, 0xff, 0xff, 0xff],
+        Some(WordFault::UnusedFieldSet),
+        None,
+    );
+    expect_word(
+        &rt,
+        [0x05, 0xff, 0xff, 0xff],
+        Some(WordFault::UnusedFieldSet),
+        None,
+    );
 }
 
 #[test]
@@ -245,19 +272,19 @@ fn texts_that_are_refused(rt: HostRuntime) -> Result<(), Fail> {
     let (refusal, words) = Text::of(0, 0, 0, many).err().ok_or("too many words")?;
     assert_eq!(rt;
         (Some(refusal), words.len()),
-        (fault(WordFault::M3, 0), 1025)
+        (fault(WordFault::TooManyWords, 0), 1025)
     );
     for (rows, buffer) in [(0, 0), (4097, 0), (1, 16_777_216)] {
         let (refusal, _) = Text::of(rows, buffer, 0, Vec::new(rt.alloc()))
             .err()
             .ok_or("a header out of range")?;
-        assert_eq!(rt; Some(refusal), fault(WordFault::M6, 0));
+        assert_eq!(rt; Some(refusal), fault(WordFault::OutOfRange, 0));
     }
     let words = vec![in rt.alloc(); Word::Wait, Word::Jump { target: 2 }]?;
     let (refusal, words) = Text::of(1, 0, 0, words)
         .err()
         .ok_or("a target out of range")?;
-    assert_eq!(rt; Some(refusal), fault(WordFault::M6, 1));
+    assert_eq!(rt; Some(refusal), fault(WordFault::OutOfRange, 1));
     assert_eq!(rt;
         words.as_slice(),
         [Word::Wait, Word::Jump { target: 2 }].as_slice()
@@ -268,7 +295,7 @@ fn texts_that_are_refused(rt: HostRuntime) -> Result<(), Fail> {
 #[test]
 fn messages(rt: HostRuntime) -> Result<(), Fail> {
     let refusal = WordRefusal::Fault {
-        code: WordFault::M5,
+        fault: WordFault::UnusedFieldSet,
         word: 3,
     };
     assert_eq!(rt;
@@ -347,8 +374,14 @@ fn refused_memory(rt: HostRuntime) -> Result<(), Fail> {
             }
         }
         // Every fault comes before want of memory.
-        assert_eq!(rt; read(&heap, &stray).err(), fault(WordFault::M5, 3));
-        assert_eq!(rt; read(&heap, &ERASE[..35]).err(), fault(WordFault::M3, 0));
+        assert_eq!(rt;
+            read(&heap, &stray).err(),
+            fault(WordFault::UnusedFieldSet, 3)
+        );
+        assert_eq!(rt;
+            read(&heap, &ERASE[..35]).err(),
+            fault(WordFault::TooManyWords, 0)
+        );
         match write(&heap, &text) {
             Ok(bytes) => assert_eq!(rt; bytes.len(), 36),
             Err(AllocError) => written_at = size + 1,

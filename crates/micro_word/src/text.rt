@@ -115,10 +115,10 @@ impl<A: Allocator> Text<A> {
 }
 
 // A fault of a word.
-pub(crate) fn fault(code: WordFault, word: usize) -> WordRefusal
-    ensures { result ≡ WordRefusal.Fault code word }
+pub(crate) fn fault(fault: WordFault, word: usize) -> WordRefusal
+    ensures { result ≡ WordRefusal.Fault fault word }
 {
-    WordRefusal::Fault { code, word }
+    WordRefusal::Fault { fault, word }
 }
 
 // The first fault of a text.
@@ -127,13 +127,13 @@ fn first_fault(rows: u16, buffer: u32, words: &[Word]) -> Option<WordRefusal>
     ensures { result ≡ fault_of rows buffer words.now }
 {
     if words.len() > MAX_WORDS {
-        return Some(fault(WordFault::M3, 0));
+        return Some(fault(WordFault::TooManyWords, 0));
     }
     if !Format::Two.is_header_in_range(rows, buffer) {
-        return Some(fault(WordFault::M6, 0));
+        return Some(fault(WordFault::OutOfRange, 0));
     }
     match first_out_of_range(words) {
-        Some(place) => Some(fault(WordFault::M6, place)),
+        Some(place) => Some(fault(WordFault::OutOfRange, place)),
         None => None,
     }
 }

@@ -5,7 +5,7 @@ use Rattle.std.proofs.lemmas.Bool.{le-ltb}
 use Rattle.std.proofs.lemmas.List.{take_at, drop_at}
 use Rattle.nand_geometry.specs.declared.Parts.{Parts}
 use Rattle.nand_geometry.specs.declared.PageFault.{PageFault}
-use Rattle.nand_geometry.specs.declared.PageFault.TheVariants.{P2, P3, P4, P5, P6, P7, P8, P9}
+use Rattle.nand_geometry.specs.declared.PageFault.TheVariants.{NoSignature, WrongChecksum, WideBus, AddressCycles, SizeOutOfRange, LunsOutOfRange, PlanesOutOfRange, LunCommandsMissing}
 use Rattle.nand_geometry.specs.Limits.{has_size_fault, has_lun_fault, has_plane_fault, has_status_fault, fault_of}
 use Rattle.nand_geometry.specs.Reading.{is_field, has_bit, u16_at, u32_at, FieldsDecide, whole_copies, is_signed, is_sound, is_good, declared_by, has_wide_bus, has_address_cycles, has_lun_operations, copy_fault, or_fault, read_of}
 
@@ -16,7 +16,7 @@ or_else (Some fault) last = Some fault
 
 -- the faults of a copy as the code meets them: those of the numbers together
 abbrev by_steps : Bool → Bool → Option PageFault → Bool → Option PageFault
-by_steps wide cycles fault lacking = if wide then Some P4 else (if not cycles then Some P5 else or_else fault (if lacking then Some P9 else None))
+by_steps wide cycles fault lacking = if wide then Some WideBus else (if not cycles then Some AddressCycles else or_else fault (if lacking then Some LunCommandsMissing else None))
 
 steps_agree : (copy : List ℕ) → copy_fault copy ≡ by_steps (has_wide_bus copy) (has_address_cycles copy) (fault_of (declared_by copy)) (nat_lt 1 (declared_by copy).luns && not (has_lun_operations copy))
 unfolding copy_fault
@@ -24,24 +24,24 @@ steps_agree copy =
     at (has_size_fault (declared_by copy)) (has_lun_fault (declared_by copy)) (has_plane_fault (declared_by copy)) (has_status_fault (declared_by copy)) (nat_lt 1 (declared_by copy).luns && not (has_lun_operations copy))
   where
     at : (size lun plane status lacking : Bool) →
-        cond (has_wide_bus copy) (Some P4) (cond (not (has_address_cycles copy)) (Some P5) (cond size (Some P6) (cond lun (Some P7) (cond plane (Some P8) (cond (status || lacking) (Some P9) None)))))
-        ≡ by_steps (has_wide_bus copy) (has_address_cycles copy) (cond size (Some P6) (cond lun (Some P7) (cond plane (Some P8) (cond status (Some P9) None)))) lacking
+        cond (has_wide_bus copy) (Some WideBus) (cond (not (has_address_cycles copy)) (Some AddressCycles) (cond size (Some SizeOutOfRange) (cond lun (Some LunsOutOfRange) (cond plane (Some PlanesOutOfRange) (cond (status || lacking) (Some LunCommandsMissing) None)))))
+        ≡ by_steps (has_wide_bus copy) (has_address_cycles copy) (cond size (Some SizeOutOfRange) (cond lun (Some LunsOutOfRange) (cond plane (Some PlanesOutOfRange) (cond status (Some LunCommandsMissing) None)))) lacking
     at true lun plane status lacking = refl
     at false true plane status lacking = refl
     at false false true status lacking = refl
     at false false false true lacking = refl
     at false false false false lacking = refl
 
-pub wide_fault : (copy : List ℕ) → has_wide_bus copy ≡ true → copy_fault copy ≡ Some P4
+pub wide_fault : (copy : List ℕ) → has_wide_bus copy ≡ true → copy_fault copy ≡ Some WideBus
 wide_fault copy wide = steps_agree copy ∙ rw wide refl
 
-pub cycles_fault : (copy : List ℕ) → has_wide_bus copy ≡ false → has_address_cycles copy ≡ false → copy_fault copy ≡ Some P5
+pub cycles_fault : (copy : List ℕ) → has_wide_bus copy ≡ false → has_address_cycles copy ≡ false → copy_fault copy ≡ Some AddressCycles
 cycles_fault copy wide cycles = steps_agree copy ∙ rw (wide, cycles) refl
 
 pub numbers_fault : (copy : List ℕ) (fault : PageFault) → has_wide_bus copy ≡ false → has_address_cycles copy ≡ true → fault_of (declared_by copy) ≡ Some fault → copy_fault copy ≡ Some fault
 numbers_fault copy fault wide cycles numbers = steps_agree copy ∙ rw (wide, cycles, numbers) refl
 
-pub several_fault : (copy : List ℕ) → has_wide_bus copy ≡ false → has_address_cycles copy ≡ true → fault_of (declared_by copy) ≡ None → 1 < (declared_by copy).luns → has_lun_operations copy ≡ false → copy_fault copy ≡ Some P9
+pub several_fault : (copy : List ℕ) → has_wide_bus copy ≡ false → has_address_cycles copy ≡ true → fault_of (declared_by copy) ≡ None → 1 < (declared_by copy).luns → has_lun_operations copy ≡ false → copy_fault copy ≡ Some LunCommandsMissing
 several_fault copy wide cycles numbers several lacking =
     let luns : nat_lt 1 (declared_by copy).luns ≡ true = lt-ltb 1 (declared_by copy).luns several in
     steps_agree copy ∙ rw (wide, cycles, numbers, luns, lacking) refl
@@ -55,7 +55,7 @@ read_copy copy = or_fault (declared_by copy) (copy_fault copy)
 
 -- the copies looked at in order, where some before them were signed, or none
 abbrev pub scan : Bool → List (List ℕ) → Result Parts PageFault
-scan signed [] = Err (if signed then P3 else P2)
+scan signed [] = Err (if signed then WrongChecksum else NoSignature)
 scan signed (copy ∷ rest) = if is_signed copy then (if is_sound copy then read_copy copy else scan true rest) else scan signed rest
 
 -- the whole copies behind a first one
@@ -66,7 +66,7 @@ copies_of_append copy rest h =
 
 -- the faults of the copies, and then what the good one is read as
 abbrev answer : Bool → Bool → Option (List ℕ) → Result Parts PageFault
-answer signed good found = or_fault (declared_by (unwrap_or found [])) (if not signed then Some P2 else (if not good then Some P3 else copy_fault (unwrap_or found [])))
+answer signed good found = or_fault (declared_by (unwrap_or found [])) (if not signed then Some NoSignature else (if not good then Some WrongChecksum else copy_fault (unwrap_or found [])))
 
 scan_agrees : (signed : Bool) (copies : List (List ℕ)) → scan signed copies ≡ answer (signed || list_any is_signed copies) (list_any is_good copies) (find is_good copies)
 scan_agrees true [] = refl
@@ -118,7 +118,7 @@ at_good {copy = copy} on h k = rw (h, k) at (one_on on)
 
 -- no copy is left
 pub at_end : (signed : Bool) (bytes : List ℕ) (all : Result Parts PageFault) → scan signed (whole_copies bytes) ≡ all → length bytes < 256
-    → all ≡ Err (if signed then P3 else P2)
+    → all ≡ Err (if signed then WrongChecksum else NoSignature)
 at_end signed bytes all same h =
     let count : length bytes / 256 ≡ 0 = omega arith in
     sym same ∙ rw count refl
@@ -167,12 +167,12 @@ same_faults copy other numbers features cycles = λ i. fault_at (numbers i) (fea
   where
     fault_at : Parts → ℕ → ℕ → Option PageFault
     fault_at parts features cycles =
-        if has_bit features 0 then Some P4
-        else (if not (cycles == 0x23) then Some P5
-        else (if has_size_fault parts then Some P6
-        else (if has_lun_fault parts then Some P7
-        else (if has_plane_fault parts then Some P8
-        else (if has_status_fault parts || nat_lt 1 parts.luns && not (has_bit features 1) then Some P9
+        if has_bit features 0 then Some WideBus
+        else (if not (cycles == 0x23) then Some AddressCycles
+        else (if has_size_fault parts then Some SizeOutOfRange
+        else (if has_lun_fault parts then Some LunsOutOfRange
+        else (if has_plane_fault parts then Some PlanesOutOfRange
+        else (if has_status_fault parts || nat_lt 1 parts.luns && not (has_bit features 1) then Some LunCommandsMissing
         else None)))))
 
 pub fields_decide : FieldsDecide

@@ -1,7 +1,7 @@
 -- Rows, faults and parameter pages worked by hand, on two geometries.
 use Rattle.std.proofs.Common.{◌≡◌, true, false, List, ℕ, [], ◌∷◌, ◌++◌, Some, None, Ok, slice_set, refl}
 use Rattle.nand_geometry.specs.declared.Parts.{Parts}
-use Rattle.nand_geometry.specs.declared.PageFault.TheVariants.{P1, P2, P3, P7, P8, P9}
+use Rattle.nand_geometry.specs.declared.PageFault.TheVariants.{TooShort, NoSignature, WrongChecksum, LunsOutOfRange, PlanesOutOfRange, LunCommandsMissing}
 use Rattle.nand_geometry.specs.Limits.{width, page_len, planes, indices, fault_of}
 use Rattle.nand_geometry.specs.Page.{crc_bits, page}
 use Rattle.nand_geometry.specs.Reading.{is_signed, is_sound, declared_by, copy_fault, page_fault, read_of}
@@ -60,11 +60,11 @@ lun_outside : row_parts_of two_luns (row_of 0x40 0x00 0x00) ≡ None
 unfolding width
 lun_outside = refl
 
-too_many_planes : fault_of (record two_luns { plane_bits = 3 }) ≡ Some P8
+too_many_planes : fault_of (record two_luns { plane_bits = 3 }) ≡ Some PlanesOutOfRange
 unfolding width
 too_many_planes = refl
 
-no_status_of_one_lun : fault_of (record two_luns { enhanced = false }) ≡ Some P9
+no_status_of_one_lun : fault_of (record two_luns { enhanced = false }) ≡ Some LunCommandsMissing
 unfolding width
 no_status_of_one_lun = refl
 
@@ -73,19 +73,19 @@ row_of_24_bits : fault_of (record two_luns { luns = 4; blocks = 65536; pages = 6
 unfolding width
 row_of_24_bits = refl
 
-row_too_wide : fault_of (record two_luns { luns = 4; blocks = 65536; pages = 4096 }) ≡ Some P7
+row_too_wide : fault_of (record two_luns { luns = 4; blocks = 65536; pages = 4096 }) ≡ Some LunsOutOfRange
 unfolding width
 row_too_wide = refl
 
 -- no bytes are too few
-nothing_to_read : page_fault [] ≡ Some P1
+nothing_to_read : page_fault [] ≡ Some TooShort
 nothing_to_read = refl
 
 -- the page of the first geometry, with another byte 80
 abbrev damaged : List ℕ
 damaged = slice_set (page one_lun) 80 1
 
-damaged_page : page_fault damaged ≡ Some P3
+damaged_page : page_fault damaged ≡ Some WrongChecksum
 unfolding crc_bits is_signed is_sound
 damaged_page = refl
 
@@ -95,6 +95,6 @@ unfolding crc_bits is_signed is_sound declared_by copy_fault width
 good_copy_behind = refl
 
 -- a first copy without the signature isn't used
-unsigned_page : page_fault (slice_set (page two_luns) 0 0) ≡ Some P2
+unsigned_page : page_fault (slice_set (page two_luns) 0 0) ≡ Some NoSignature
 unfolding crc_bits is_signed is_sound
 unsigned_page = refl

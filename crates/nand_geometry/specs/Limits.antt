@@ -2,7 +2,7 @@
 use Rattle.std.specs.Prelude.{◌≡◌, ℕ, zero, suc, ◌+◌, ◌*◌, ◌/◌, ◌^◌, ◌≤◌, ◌↔◌, Bool, ◌||◌, ◌&&◌, not, if◌then◌else◌, nat_lt, nat_le, true, Option, Some, None}
 use Rattle.nand_geometry.specs.declared.Parts.{Parts}
 use Rattle.nand_geometry.specs.declared.PageFault.{PageFault}
-use Rattle.nand_geometry.specs.declared.PageFault.TheVariants.{P6, P7, P8, P9}
+use Rattle.nand_geometry.specs.declared.PageFault.TheVariants.{SizeOutOfRange, LunsOutOfRange, PlanesOutOfRange, LunCommandsMissing}
 
 -- how often n is halved, rounding up, until at most 1 is left; the first number bounds the steps
 abbrev pub halvings : ℕ → ℕ → ℕ
@@ -69,10 +69,10 @@ has_status_fault g = nat_lt 1 g.luns && not g.enhanced
 -- the first fault of the numbers
 abbrev pub fault_of : Parts → Option PageFault
 fault_of g =
-    if has_size_fault g then Some P6
-    else (if has_lun_fault g then Some P7
-    else (if has_plane_fault g then Some P8
-    else (if has_status_fault g then Some P9
+    if has_size_fault g then Some SizeOutOfRange
+    else (if has_lun_fault g then Some LunsOutOfRange
+    else (if has_plane_fault g then Some PlanesOutOfRange
+    else (if has_status_fault g then Some LunCommandsMissing
     else None)))
 
 -- numbers inside the limits, said limit by limit

@@ -3,7 +3,7 @@ use Rattle.std.specs.Prelude.{◌≡◌, ℕ, zero, suc, ◌+◌, ◌*◌, ◌/�
 use Rattle.std.specs.List.{concat, list_any, starts_with}
 use Rattle.nand_geometry.specs.declared.Parts.{Parts}
 use Rattle.nand_geometry.specs.declared.PageFault.{PageFault}
-use Rattle.nand_geometry.specs.declared.PageFault.TheVariants.{P1, P2, P3, P4, P5, P6, P7, P8, P9}
+use Rattle.nand_geometry.specs.declared.PageFault.TheVariants.{TooShort, NoSignature, WrongChecksum, WideBus, AddressCycles, SizeOutOfRange, LunsOutOfRange, PlanesOutOfRange, LunCommandsMissing}
 use Rattle.nand_geometry.specs.Limits.{is_within, has_size_fault, has_lun_fault, has_plane_fault, has_status_fault, InLimits}
 use Rattle.nand_geometry.specs.Page.{crc, page, parameter_bytes}
 
@@ -77,20 +77,20 @@ has_several_fault copy = has_status_fault (declared_by copy) || nat_lt 1 (declar
 -- the first fault of what a copy declares
 unfoldable pub copy_fault : List ℕ → Option PageFault
 copy_fault copy =
-    if has_wide_bus copy then Some P4
-    else (if not (has_address_cycles copy) then Some P5
-    else (if has_size_fault (declared_by copy) then Some P6
-    else (if has_lun_fault (declared_by copy) then Some P7
-    else (if has_plane_fault (declared_by copy) then Some P8
-    else (if has_several_fault copy then Some P9
+    if has_wide_bus copy then Some WideBus
+    else (if not (has_address_cycles copy) then Some AddressCycles
+    else (if has_size_fault (declared_by copy) then Some SizeOutOfRange
+    else (if has_lun_fault (declared_by copy) then Some LunsOutOfRange
+    else (if has_plane_fault (declared_by copy) then Some PlanesOutOfRange
+    else (if has_several_fault copy then Some LunCommandsMissing
     else None)))))
 
 -- the first fault of a parameter page
 abbrev pub page_fault : List ℕ → Option PageFault
 page_fault bytes =
-    if nat_lt (length bytes) 256 then Some P1
-    else (if not (list_any is_signed (whole_copies bytes)) then Some P2
-    else (if not (list_any is_good (whole_copies bytes)) then Some P3
+    if nat_lt (length bytes) 256 then Some TooShort
+    else (if not (list_any is_signed (whole_copies bytes)) then Some NoSignature
+    else (if not (list_any is_good (whole_copies bytes)) then Some WrongChecksum
     else copy_fault (used bytes)))
 
 -- the numbers, unless there is a fault

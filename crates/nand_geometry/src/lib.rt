@@ -3,6 +3,7 @@
 #![tactic(auto)]
 
 ghost use Rattle.std.specs.Prelude.{◌≡◌, ◌+◌, ◌*◌, ◌^◌, ◌<◌, Some, None, Ok, Err, MatchResult, length, slice_index};
+ghost use Rattle.nand_geometry.specs.Codes.{page_fault_code};
 
 use byteorder::{ByteOrder, LittleEndian};
 use checksum::checksum;
@@ -65,31 +66,50 @@ pub struct RowParts {
 pub enum PageFault {
     /// There are fewer than 256 bytes, so no whole copy of a parameter page.
     #[error("fewer than the 256 bytes of a parameter page")]
-    P1,
+    TooShort,
     /// No whole copy begins with the signature `ONFI`.
     #[error("no copy of the parameter page has the signature")]
-    P2,
+    NoSignature,
     /// Some copy has the signature, and none of those has the right checksum.
     #[error("no copy of the parameter page with the signature has the right checksum")]
-    P3,
+    WrongChecksum,
     /// A bus of 16 bits is declared; the channel has 8.
     #[error("a 16-bit bus is declared")]
-    P4,
+    WideBus,
     /// Address cycles other than two of the column and three of the row are declared.
     #[error("address cycles other than two for the column and three for the row are declared")]
-    P5,
+    AddressCycles,
     /// A size is out of range: data bytes, spare bytes, pages or blocks.
     #[error("a size is out of range: data bytes, spare bytes, pages or blocks")]
-    P6,
+    SizeOutOfRange,
     /// There are no LUNs or more than four, or a row needs more than 24 bits.
     #[error("the LUNs aren't 1 to 4, or a row needs more than 24 bits")]
-    P7,
+    LunsOutOfRange,
     /// There are more than two plane bits, or fewer blocks than planes.
     #[error("more than two plane bits, or fewer blocks than planes")]
-    P8,
+    PlanesOutOfRange,
     /// There are several LUNs, but no Read Status Enhanced or no multiple LUN operations are declared.
     #[error("several LUNs, but the commands that several LUNs need aren't declared")]
-    P9,
+    LunCommandsMissing,
+}
+
+impl PageFault {
+    /// Its code, `P1` to `P9`.
+    pub fn code(self) -> &'static str
+        ensures { result.now ≡ page_fault_code self }
+    {
+        match self {
+            PageFault::TooShort => "P1",
+            PageFault::NoSignature => "P2",
+            PageFault::WrongChecksum => "P3",
+            PageFault::WideBus => "P4",
+            PageFault::AddressCycles => "P5",
+            PageFault::SizeOutOfRange => "P6",
+            PageFault::LunsOutOfRange => "P7",
+            PageFault::PlanesOutOfRange => "P8",
+            PageFault::LunCommandsMissing => "P9",
+        }
+    }
 }
 
 /// A geometry: numbers inside the limits, with the widths of their row fields.
@@ -139,21 +159,21 @@ impl Geometry {
             || parts.blocks < 1
             || parts.blocks > 65536
         {
-            return Err(PageFault::P6);
+            return Err(PageFault::SizeOutOfRange);
         }
         if parts.luns < 1 || parts.luns > 4 {
-            return Err(PageFault::P7);
+            return Err(PageFault::LunsOutOfRange);
         }
         let block_width = width(parts.blocks);
         let page_width = width(parts.pages);
         if width(u32::from(parts.luns)) + block_width + page_width > 24 {
-            return Err(PageFault::P7);
+            return Err(PageFault::LunsOutOfRange);
         }
         if parts.plane_bits > 2 || parts.blocks < 1 << parts.plane_bits {
-            return Err(PageFault::P8);
+            return Err(PageFault::PlanesOutOfRange);
         }
         if parts.luns > 1 && !parts.enhanced {
-            return Err(PageFault::P9);
+            return Err(PageFault::LunCommandsMissing);
         }
         Ok(Geometry {
             parts,
@@ -178,7 +198,7 @@ impl Geometry {
         ensures { MatchResult result (λ g. read_of bytes.now ≡ Ok g) (λ e. read_of bytes.now ≡ Err e) }
     {
         if bytes.len() < COPY_LEN {
-            return Err(PageFault::P1);
+            return Err(PageFault::TooShort);
         }
         let mut signed = false;
         for copy in bytes.chunks_exact(COPY_LEN) {
@@ -189,7 +209,11 @@ impl Geometry {
                 signed = true;
             }
         }
-        Err(if signed { PageFault::P3 } else { PageFault::P2 })
+        Err(if signed {
+            PageFault::WrongChecksum
+        } else {
+            PageFault::NoSignature
+        })
     }
 
     /// The geometry that a copy of the parameter page declares, whose signature and checksum are right.
@@ -199,14 +223,14 @@ impl Geometry {
         ensures { MatchResult result (λ g. (copy_fault copy.now ≡ None) × (g ≡ declared_by copy.now)) (λ e. copy_fault copy.now ≡ Some e) }
     {
         if has_wide_bus(copy) {
-            return Err(PageFault::P4);
+            return Err(PageFault::WideBus);
         }
         if !has_address_cycles(copy) {
-            return Err(PageFault::P5);
+            return Err(PageFault::AddressCycles);
         }
         match Geometry::of(declared_by(copy)) {
             Ok(geometry) if geometry.parts().luns > 1 && !has_lun_operations(copy) => {
-                Err(PageFault::P9)
+                Err(PageFault::LunCommandsMissing)
             }
             Ok(geometry) => Ok(geometry),
             Err(fault) => Err(fault),

@@ -111,13 +111,13 @@ fn read_cut(copies: [u8; 768], from: usize, to: usize) -> Result<Parts, PageFaul
 fn damaged_parameter_pages(rt: HostRuntime) -> Result<(), Fail> {
     let good = Geometry::of(ONE_LUN)?.page();
     let bad = with_byte(good, 80, 1);
-    assert_eq!(rt; read_parts(&[]), Err(PageFault::P1));
-    assert_eq!(rt; read_parts(&bad), Err(PageFault::P3));
+    assert_eq!(rt; read_parts(&[]), Err(PageFault::TooShort));
+    assert_eq!(rt; read_parts(&bad), Err(PageFault::WrongChecksum));
     let copies = joined(bad, good, bad);
-    assert_eq!(rt; read_cut(copies, 256, 511), Err(PageFault::P1));
+    assert_eq!(rt; read_cut(copies, 256, 511), Err(PageFault::TooShort));
     assert_eq!(rt; read_cut(copies, 0, 512), Ok(ONE_LUN));
-    assert_eq!(rt; read_cut(copies, 0, 511), Err(PageFault::P3));
-    assert_eq!(rt; read_cut(copies, 1, 768), Err(PageFault::P2));
+    assert_eq!(rt; read_cut(copies, 0, 511), Err(PageFault::WrongChecksum));
+    assert_eq!(rt; read_cut(copies, 1, 768), Err(PageFault::NoSignature));
     Ok(())
 }
 
@@ -133,7 +133,7 @@ fn the_first_good_copy_is_used(rt: HostRuntime) -> Result<(), Fail> {
     let faulty = sealed(with_byte(good, 101, 0));
     assert_eq!(rt;
         read_parts(&joined(unsigned, faulty, good)),
-        Err(PageFault::P5)
+        Err(PageFault::AddressCycles)
     );
     Ok(())
 }
@@ -143,19 +143,19 @@ fn each_fault_alone(rt: HostRuntime) {
     let good = two_luns_by_hand();
     assert_eq!(rt; read_parts(&good), Ok(TWO_LUNS));
     for (place, byte, fault) in [
-        (0, 0x4e, PageFault::P2),
-        (6, 0x0b, PageFault::P4),
-        (101, 0x32, PageFault::P5),
-        (81, 0x01, PageFault::P6),
-        (85, 0x11, PageFault::P6),
-        (93, 0x10, PageFault::P6),
-        (98, 0x01, PageFault::P6),
-        (100, 0x00, PageFault::P7),
-        (100, 0x05, PageFault::P7),
-        (113, 0x03, PageFault::P8),
-        (96, 0x01, PageFault::P8),
-        (8, 0x00, PageFault::P9),
-        (6, 0x08, PageFault::P9),
+        (0, 0x4e, PageFault::NoSignature),
+        (6, 0x0b, PageFault::WideBus),
+        (101, 0x32, PageFault::AddressCycles),
+        (81, 0x01, PageFault::SizeOutOfRange),
+        (85, 0x11, PageFault::SizeOutOfRange),
+        (93, 0x10, PageFault::SizeOutOfRange),
+        (98, 0x01, PageFault::SizeOutOfRange),
+        (100, 0x00, PageFault::LunsOutOfRange),
+        (100, 0x05, PageFault::LunsOutOfRange),
+        (113, 0x03, PageFault::PlanesOutOfRange),
+        (96, 0x01, PageFault::PlanesOutOfRange),
+        (8, 0x00, PageFault::LunCommandsMissing),
+        (6, 0x08, PageFault::LunCommandsMissing),
     ] {
         let broken = sealed(with_byte(good, place, byte));
         assert_eq!(rt; read_parts(&broken), Err(fault), "byte {place} is {byte}");
@@ -182,7 +182,11 @@ fn other_bytes_and_bits_are_free(rt: HostRuntime) {
         (253, 0xff),
     ] {
         let other = with_byte(good, place, byte);
-        assert_eq!(rt; read_parts(&other), Err(PageFault::P3), "byte {place}");
+        assert_eq!(rt;
+            read_parts(&other),
+            Err(PageFault::WrongChecksum),
+            "byte {place}"
+        );
         assert_eq!(rt;
             read_parts(&sealed(other)),
             Ok(TWO_LUNS),
@@ -196,9 +200,9 @@ fn each_changed_byte_is_seen(rt: HostRuntime) {
     let good = two_luns_by_hand();
     for place in 0..=255 {
         let fault = if place < 4 {
-            PageFault::P2
+            PageFault::NoSignature
         } else {
-            PageFault::P3
+            PageFault::WrongChecksum
         };
         for change in [0x01, 0x80, 0xff] {
             let changed = with_byte(good, place, good[usize::from(place)] ^ change);
@@ -237,26 +241,26 @@ fn slow_fault(copy: &[u8; 256]) -> Option<PageFault> {
     let luns = slow_number(copy, 100, 1);
     let plane_bits = slow_number(copy, 113, 1) & 0x0f;
     if slow_number(copy, 6, 2) & 1 != 0 {
-        return Some(PageFault::P4);
+        return Some(PageFault::WideBus);
     }
     if copy[101] != 0x23 {
-        return Some(PageFault::P5);
+        return Some(PageFault::AddressCycles);
     }
     let page_bytes = slow_number(copy, 80, 4);
     let fits_page = (512..=16384).contains(&page_bytes) && slow_number(copy, 84, 2) <= 4096;
     if !fits_page || !(1..=4096).contains(&pages) || !(1..=65536).contains(&blocks) {
-        return Some(PageFault::P6);
+        return Some(PageFault::SizeOutOfRange);
     }
     let row_bits = slow_width(luns) + slow_width(blocks) + slow_width(pages);
     if !(1..=4).contains(&luns) || row_bits > 24 {
-        return Some(PageFault::P7);
+        return Some(PageFault::LunsOutOfRange);
     }
     if plane_bits > 2 || blocks < 1 << plane_bits {
-        return Some(PageFault::P8);
+        return Some(PageFault::PlanesOutOfRange);
     }
     let declares_both = slow_number(copy, 8, 2) & 8 != 0 && slow_number(copy, 6, 2) & 2 != 0;
     if luns > 1 && !declares_both {
-        return Some(PageFault::P9);
+        return Some(PageFault::LunCommandsMissing);
     }
     None
 }
@@ -264,9 +268,9 @@ fn slow_fault(copy: &[u8; 256]) -> Option<PageFault> {
 /// The copy that is used, by the rules one after another.
 fn slow_read(bytes: &[u8]) -> Result<[u8; 256], PageFault> {
     if bytes.len() < 256 {
-        return Err(PageFault::P1);
+        return Err(PageFault::TooShort);
     }
-    let mut fault = PageFault::P2;
+    let mut fault = PageFault::NoSignature;
     for index in 0..bytes.len() / 256 {
         let mut copy = [0; 256];
         copy.copy_from_slice(&bytes[256 * index..256 * index + 256]);
@@ -277,7 +281,7 @@ fn slow_read(bytes: &[u8]) -> Result<[u8; 256], PageFault> {
                     None => Ok(copy),
                 };
             }
-            fault = PageFault::P3;
+            fault = PageFault::WrongChecksum;
         }
     }
     Err(fault)
@@ -393,15 +397,15 @@ fn code(fault: Option<PageFault>) -> usize
 {
     match fault {
         None => 0,
-        Some(PageFault::P1) => 1,
-        Some(PageFault::P2) => 2,
-        Some(PageFault::P3) => 3,
-        Some(PageFault::P4) => 4,
-        Some(PageFault::P5) => 5,
-        Some(PageFault::P6) => 6,
-        Some(PageFault::P7) => 7,
-        Some(PageFault::P8) => 8,
-        Some(PageFault::P9) => 9,
+        Some(PageFault::TooShort) => 1,
+        Some(PageFault::NoSignature) => 2,
+        Some(PageFault::WrongChecksum) => 3,
+        Some(PageFault::WideBus) => 4,
+        Some(PageFault::AddressCycles) => 5,
+        Some(PageFault::SizeOutOfRange) => 6,
+        Some(PageFault::LunsOutOfRange) => 7,
+        Some(PageFault::PlanesOutOfRange) => 8,
+        Some(PageFault::LunCommandsMissing) => 9,
     }
 }
 

@@ -125,11 +125,11 @@ fn blocks_that_no_index_reaches(rt: HostRuntime) -> Result<(), Fail> {
 #[test]
 fn sizes_out_of_range(rt: HostRuntime) {
     for (page_bytes, fault) in [
-        (511, Some(PageFault::P6)),
+        (511, Some(PageFault::SizeOutOfRange)),
         (512, None),
         (16384, None),
-        (16385, Some(PageFault::P6)),
-        (u32::MAX, Some(PageFault::P6)),
+        (16385, Some(PageFault::SizeOutOfRange)),
+        (u32::MAX, Some(PageFault::SizeOutOfRange)),
     ] {
         assert_eq!(rt;
             Geometry::of(Parts {
@@ -144,8 +144,8 @@ fn sizes_out_of_range(rt: HostRuntime) {
     for (spare_bytes, fault) in [
         (0, None),
         (4096, None),
-        (4097, Some(PageFault::P6)),
-        (u32::MAX, Some(PageFault::P6)),
+        (4097, Some(PageFault::SizeOutOfRange)),
+        (u32::MAX, Some(PageFault::SizeOutOfRange)),
     ] {
         assert_eq!(rt;
             Geometry::of(Parts {
@@ -158,11 +158,11 @@ fn sizes_out_of_range(rt: HostRuntime) {
         );
     }
     for (pages, fault) in [
-        (0, Some(PageFault::P6)),
+        (0, Some(PageFault::SizeOutOfRange)),
         (1, None),
         (4096, None),
-        (4097, Some(PageFault::P6)),
-        (u32::MAX, Some(PageFault::P6)),
+        (4097, Some(PageFault::SizeOutOfRange)),
+        (u32::MAX, Some(PageFault::SizeOutOfRange)),
     ] {
         assert_eq!(rt;
             Geometry::of(Parts { pages, ..ONE_LUN }).err(),
@@ -171,11 +171,11 @@ fn sizes_out_of_range(rt: HostRuntime) {
         );
     }
     for (blocks, fault) in [
-        (0, Some(PageFault::P6)),
+        (0, Some(PageFault::SizeOutOfRange)),
         (1, None),
         (65536, None),
-        (65537, Some(PageFault::P6)),
-        (u32::MAX, Some(PageFault::P6)),
+        (65537, Some(PageFault::SizeOutOfRange)),
+        (u32::MAX, Some(PageFault::SizeOutOfRange)),
     ] {
         assert_eq!(rt;
             Geometry::of(Parts { blocks, ..ONE_LUN }).err(),
@@ -188,15 +188,15 @@ fn sizes_out_of_range(rt: HostRuntime) {
 #[test]
 fn luns_and_rows_out_of_range(rt: HostRuntime) {
     for (luns, pages, fault) in [
-        (0, 64, Some(PageFault::P7)),
+        (0, 64, Some(PageFault::LunsOutOfRange)),
         (1, 64, None),
         (4, 64, None),
-        (5, 64, Some(PageFault::P7)),
-        (u8::MAX, 64, Some(PageFault::P7)),
-        (4, 65, Some(PageFault::P7)),
-        (4, 4096, Some(PageFault::P7)),
+        (5, 64, Some(PageFault::LunsOutOfRange)),
+        (u8::MAX, 64, Some(PageFault::LunsOutOfRange)),
+        (4, 65, Some(PageFault::LunsOutOfRange)),
+        (4, 4096, Some(PageFault::LunsOutOfRange)),
         (1, 256, None),
-        (1, 257, Some(PageFault::P7)),
+        (1, 257, Some(PageFault::LunsOutOfRange)),
     ] {
         let parts = Parts {
             luns,
@@ -214,13 +214,13 @@ fn luns_and_rows_out_of_range(rt: HostRuntime) {
 #[test]
 fn planes_out_of_range(rt: HostRuntime) {
     for (plane_bits, blocks, fault) in [
-        (1, 1, Some(PageFault::P8)),
+        (1, 1, Some(PageFault::PlanesOutOfRange)),
         (1, 2, None),
-        (2, 3, Some(PageFault::P8)),
+        (2, 3, Some(PageFault::PlanesOutOfRange)),
         (2, 4, None),
-        (3, 8, Some(PageFault::P8)),
-        (32, 65536, Some(PageFault::P8)),
-        (u8::MAX, 65536, Some(PageFault::P8)),
+        (3, 8, Some(PageFault::PlanesOutOfRange)),
+        (32, 65536, Some(PageFault::PlanesOutOfRange)),
+        (u8::MAX, 65536, Some(PageFault::PlanesOutOfRange)),
     ] {
         let parts = Parts {
             plane_bits,
@@ -241,14 +241,20 @@ fn the_first_fault_is_told(rt: HostRuntime) {
         enhanced: false,
         ..TWO_LUNS
     };
-    assert_eq!(rt; Geometry::of(several).err(), Some(PageFault::P9));
+    assert_eq!(rt;
+        Geometry::of(several).err(),
+        Some(PageFault::LunCommandsMissing)
+    );
     let planes = Parts {
         plane_bits: u8::MAX,
         ..several
     };
-    assert_eq!(rt; Geometry::of(planes).err(), Some(PageFault::P8));
+    assert_eq!(rt;
+        Geometry::of(planes).err(),
+        Some(PageFault::PlanesOutOfRange)
+    );
     let luns = Parts { luns: 5, ..planes };
-    assert_eq!(rt; Geometry::of(luns).err(), Some(PageFault::P7));
+    assert_eq!(rt; Geometry::of(luns).err(), Some(PageFault::LunsOutOfRange));
     let sizes = Parts {
         page_bytes: u32::MAX,
         spare_bytes: u32::MAX,
@@ -257,22 +263,22 @@ fn the_first_fault_is_told(rt: HostRuntime) {
         luns: u8::MAX,
         ..luns
     };
-    assert_eq!(rt; Geometry::of(sizes).err(), Some(PageFault::P6));
+    assert_eq!(rt; Geometry::of(sizes).err(), Some(PageFault::SizeOutOfRange));
 }
 
 #[test]
 fn faults_have_messages(rt: HostRuntime) -> Result<(), Fail> {
     for (fault, message) in [
         (
-            PageFault::P1,
+            PageFault::TooShort,
             "fewer than the 256 bytes of a parameter page",
         ),
         (
-            PageFault::P6,
+            PageFault::SizeOutOfRange,
             "a size is out of range: data bytes, spare bytes, pages or blocks",
         ),
         (
-            PageFault::P8,
+            PageFault::PlanesOutOfRange,
             "more than two plane bits, or fewer blocks than planes",
         ),
     ] {

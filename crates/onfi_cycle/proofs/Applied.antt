@@ -2,19 +2,19 @@
 use Rattle.std.proofs.Common.{◌≡◌, ℕ, zero, suc, ◌+◌, ◌<◌, ◌==◌, ◌≢◌, ◌≤◌, length, Bool, true, false, ◌||◌, cond, Option, Some, None, List, [], ◌∷◌, refl, sym, ap, ◌∙◌, arith, set, get_or}
 use Rattle.std.proofs.lemmas.Bool.Decides.{nat_tests}
 use Rattle.nand_geometry.specs.declared.Parts.{Parts}
-use Rattle.onfi_cycle.specs.declared.Command.{Command}
-use Rattle.onfi_cycle.specs.declared.Opening.{Opening}
-use Rattle.onfi_cycle.specs.declared.Command.TheVariants.{Read, ReadConfirm, ChangeReadColumn, ChangeReadColumnConfirm, BlockErase, BlockEraseConfirm, BlockErasePlane, ReadStatus, ReadStatusEnhanced, PageProgram, ChangeWriteColumn, ProgramConfirm, ProgramPlane, ReadId, ReadParameterPage, Reset, ReadCacheSequential, ReadCacheEnd, Unknown}
-use Rattle.onfi_cycle.specs.declared.Cycle.{Cycle}
-use Rattle.onfi_cycle.specs.declared.Effect.{Effect}
-use Rattle.onfi_cycle.specs.declared.Effect.TheVariants.{Unaffected, BecameReady, ArrayBecameReady}
-use Rattle.onfi_cycle.specs.declared.Item.{Item}
-use Rattle.onfi_cycle.specs.declared.Item.TheVariants.{Cyc, Rdy, Ard}
-use Rattle.onfi_cycle.specs.declared.Latch.{Latch}
-use Rattle.onfi_cycle.specs.declared.Latch.TheVariants.{Off}
-use Rattle.onfi_cycle.specs.declared.TailFacts.{TailFacts}
-use Rattle.onfi_cycle.specs.declared.TargetCycle.{TargetCycle}
-use Rattle.onfi_cycle.specs.declared.TargetCycle.TheVariants.{CommandCycle, AddressCycle, InputCycle, OutputCycle}
+use Rattle.onfi_cycle.specs.declared.command.Command.{Command}
+use Rattle.onfi_cycle.specs.declared.tail_facts.Opening.{Opening}
+use Rattle.onfi_cycle.specs.declared.command.Command.TheVariants.{Read, ReadConfirm, ChangeReadColumn, ChangeReadColumnConfirm, BlockErase, BlockEraseConfirm, BlockErasePlane, ReadStatus, ReadStatusEnhanced, PageProgram, ChangeWriteColumn, ProgramConfirm, ProgramPlane, ReadId, ReadParameterPage, Reset, ReadCacheSequential, ReadCacheEnd, Unknown}
+use Rattle.onfi_cycle.specs.declared.item.Cycle.{Cycle}
+use Rattle.onfi_cycle.specs.declared.effect.Effect.{Effect}
+use Rattle.onfi_cycle.specs.declared.effect.Effect.TheVariants.{Unaffected, BecameReady, ArrayBecameReady}
+use Rattle.onfi_cycle.specs.declared.item.Item.{Item}
+use Rattle.onfi_cycle.specs.declared.item.Item.TheVariants.{Cyc, Rdy, Ard}
+use Rattle.onfi_cycle.specs.declared.lun_facts.Latch.{Latch}
+use Rattle.onfi_cycle.specs.declared.lun_facts.Latch.TheVariants.{Off}
+use Rattle.onfi_cycle.specs.declared.tail_facts.TailFacts.{TailFacts}
+use Rattle.onfi_cycle.specs.declared.target_cycle.TargetCycle.{TargetCycle}
+use Rattle.onfi_cycle.specs.declared.target_cycle.TargetCycle.TheVariants.{CommandCycle, AddressCycle, InputCycle, OutputCycle}
 use Rattle.onfi_cycle.specs.LunView.{LunView}
 use Rattle.onfi_cycle.specs.Applied.{luns_after_cycle, one_after, needs_no_row, acts_by_address, may_act}
 use Rattle.onfi_cycle.specs.Effect.{cycle_effect, command_effect, address_effect, opening_address_effect, is_data}

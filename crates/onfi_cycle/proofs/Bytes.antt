@@ -4,25 +4,25 @@ use Rattle.std.proofs.lemmas.List.{length-replicate}
 use Rattle.std.proofs.lemmas.Option.{slice_get-get_or}
 use Rattle.nand_geometry.specs.declared.Parts.{Parts}
 use Rattle.nand_geometry.specs.Limits.{page_len}
-use Rattle.onfi_cycle.specs.declared.Lun.{Lun}
-use Rattle.onfi_cycle.specs.declared.Cycle.{Cycle}
-use Rattle.onfi_cycle.specs.declared.Item.{Item}
-use Rattle.onfi_cycle.specs.declared.Kind.TheVariants.{Dout}
-use Rattle.onfi_cycle.specs.declared.Latch.{Latch}
-use Rattle.onfi_cycle.specs.declared.Latch.TheVariants.{Off, Status, Data}
-use Rattle.onfi_cycle.specs.declared.TargetCycle.{TargetCycle}
-use Rattle.onfi_cycle.specs.declared.TargetCycle.TheVariants.{CommandCycle, AddressCycle, InputCycle, OutputCycle}
-use Rattle.onfi_cycle.specs.declared.PageAddress.{PageAddress}
-use Rattle.onfi_cycle.specs.declared.Register.{Register}
-use Rattle.onfi_cycle.specs.declared.Register.TheVariants.{Empty, Page, ParameterPage, Identifier}
-use Rattle.onfi_cycle.specs.declared.Effect.{Effect}
-use Rattle.onfi_cycle.specs.declared.Effect.TheVariants.{ReadStarted, EraseStarted, ProgramStarted, ResetStarted, BecameReady, ParameterPageReadStarted, CacheReadContinued, CacheReadEnded}
+use Rattle.onfi_cycle.specs.declared.item.Lun.{Lun}
+use Rattle.onfi_cycle.specs.declared.item.Cycle.{Cycle}
+use Rattle.onfi_cycle.specs.declared.item.Item.{Item}
+use Rattle.onfi_cycle.specs.declared.item.Kind.TheVariants.{Dout}
+use Rattle.onfi_cycle.specs.declared.lun_facts.Latch.{Latch}
+use Rattle.onfi_cycle.specs.declared.lun_facts.Latch.TheVariants.{Off, Status, Data}
+use Rattle.onfi_cycle.specs.declared.target_cycle.TargetCycle.{TargetCycle}
+use Rattle.onfi_cycle.specs.declared.target_cycle.TargetCycle.TheVariants.{CommandCycle, AddressCycle, InputCycle, OutputCycle}
+use Rattle.onfi_cycle.specs.declared.effect.PageAddress.{PageAddress}
+use Rattle.onfi_cycle.specs.declared.lun_facts.Register.{Register}
+use Rattle.onfi_cycle.specs.declared.lun_facts.Register.TheVariants.{Empty, Page, ParameterPage, Identifier}
+use Rattle.onfi_cycle.specs.declared.effect.Effect.{Effect}
+use Rattle.onfi_cycle.specs.declared.effect.Effect.TheVariants.{ReadStarted, EraseStarted, ProgramStarted, ResetStarted, BecameReady, ParameterPageReadStarted, CacheReadContinued, CacheReadEnded}
 use Rattle.onfi_cycle.specs.Sequence.{tail, facts_of, filled, input_column, is_open, with_cycle}
 use Rattle.onfi_cycle.specs.LunView.{LunView}
 use Rattle.onfi_cycle.specs.Effect.{is_off, is_data}
 use Rattle.onfi_cycle.specs.Lun.{latch, effect_on, drivers, is_only, is_busy, register, read_column, output_column, lun_view}
 use Rattle.onfi_cycle.specs.Content.{ArrayWork, ErasesBlock, ProgramsPage, and_bytes, left_by, left_by_all, same_page, queued_work, queued_work_after, pending_work, pending_work_after, content, content_after, status, register_bytes, byte_at, shown, shown_by}
-use Rattle.onfi_cycle.specs.Rules.{breaks_F13, breaks_F14, is_some_and, has_no_byte, is_past_register, is_past, lacks, is_empty, register_len}
+use Rattle.onfi_cycle.specs.Rules.{breaks_data_not_ready, breaks_column_outside, is_some_and, has_no_byte, is_past_register, is_past, lacks, is_empty, register_len}
 use Rattle.onfi_cycle.specs.Permitted.{broken}
 use Rattle.onfi_cycle.specs.Channel.{Channel, IsChannel, cycle, bus_byte, byte_of_driver, is_open_on}
 use Rattle.onfi_cycle.proofs.Drivers.{driver_of_target}
@@ -133,7 +133,7 @@ no_byte_place true false false k h = h
 
 -- a permitted output, whose one driver is this LUN, has a byte
 pub output_shows : (s : Channel) → IsChannel s → (past : List Item) (l : Lun) (byte : ℕ) → broken s.geometry s.targets past (cycle l.ce Dout byte) ≡ None → is_only (drivers s.geometry past l.ce) l.lun ≡ true → (b : ℕ) × (bus_byte s past l.ce ≡ Some b)
-unfolding breaks_F13 breaks_F14
+unfolding breaks_data_not_ready breaks_column_outside
 output_shows s is past l byte h one =
     let g = s.geometry in
     let c : Cycle = record { ce = l.ce; kind = Dout; byte = byte } in

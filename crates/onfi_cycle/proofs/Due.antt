@@ -4,27 +4,27 @@ use Rattle.std.proofs.lemmas.Bool.Decides.{nat_tests}
 use Rattle.std.proofs.lemmas.Option.{slice_get_within, get_or_from_slice_get}
 use Rattle.std.specs.List.{slice_get, All}
 use Rattle.nand_geometry.specs.declared.Parts.{Parts}
-use Rattle.onfi_cycle.specs.declared.Command.{Command}
-use Rattle.onfi_cycle.specs.declared.Command.TheVariants.{Read, ChangeReadColumnConfirm, ReadStatus, ReadStatusEnhanced, ReadConfirm, BlockEraseConfirm, BlockErasePlane, ProgramConfirm, ProgramPlane, ReadId, ReadParameterPage, Reset, ReadCacheSequential, ReadCacheEnd}
-use Rattle.onfi_cycle.specs.declared.Cycle.{Cycle}
-use Rattle.onfi_cycle.specs.declared.Effect.{Effect}
-use Rattle.onfi_cycle.specs.declared.Effect.TheVariants.{Unaffected, SelectedForStatus, Deselected, IdRead, ParameterPageReadStarted, ReadColumnChanged, DataOutput, BecameReady, ArrayBecameReady}
-use Rattle.onfi_cycle.specs.declared.Forbidden.TheVariants.{F1}
-use Rattle.onfi_cycle.specs.declared.Item.{Item}
-use Rattle.onfi_cycle.specs.declared.Item.TheVariants.{Cyc, Rdy, Ard}
-use Rattle.onfi_cycle.specs.declared.Latch.{Latch}
-use Rattle.onfi_cycle.specs.declared.Latch.TheVariants.{Off}
-use Rattle.onfi_cycle.specs.declared.Opening.{Opening}
-use Rattle.onfi_cycle.specs.declared.TailFacts.{TailFacts}
-use Rattle.onfi_cycle.specs.declared.TargetCycle.{TargetCycle}
-use Rattle.onfi_cycle.specs.declared.TargetCycle.TheVariants.{CommandCycle, AddressCycle, InputCycle, OutputCycle}
+use Rattle.onfi_cycle.specs.declared.command.Command.{Command}
+use Rattle.onfi_cycle.specs.declared.command.Command.TheVariants.{Read, ChangeReadColumnConfirm, ReadStatus, ReadStatusEnhanced, ReadConfirm, BlockEraseConfirm, BlockErasePlane, ProgramConfirm, ProgramPlane, ReadId, ReadParameterPage, Reset, ReadCacheSequential, ReadCacheEnd}
+use Rattle.onfi_cycle.specs.declared.item.Cycle.{Cycle}
+use Rattle.onfi_cycle.specs.declared.effect.Effect.{Effect}
+use Rattle.onfi_cycle.specs.declared.effect.Effect.TheVariants.{Unaffected, SelectedForStatus, Deselected, IdRead, ParameterPageReadStarted, ReadColumnChanged, DataOutput, BecameReady, ArrayBecameReady}
+use Rattle.onfi_cycle.specs.declared.forbidden.Forbidden.TheVariants.{NotThere}
+use Rattle.onfi_cycle.specs.declared.item.Item.{Item}
+use Rattle.onfi_cycle.specs.declared.item.Item.TheVariants.{Cyc, Rdy, Ard}
+use Rattle.onfi_cycle.specs.declared.lun_facts.Latch.{Latch}
+use Rattle.onfi_cycle.specs.declared.lun_facts.Latch.TheVariants.{Off}
+use Rattle.onfi_cycle.specs.declared.tail_facts.Opening.{Opening}
+use Rattle.onfi_cycle.specs.declared.tail_facts.TailFacts.{TailFacts}
+use Rattle.onfi_cycle.specs.declared.target_cycle.TargetCycle.{TargetCycle}
+use Rattle.onfi_cycle.specs.declared.target_cycle.TargetCycle.TheVariants.{CommandCycle, AddressCycle, InputCycle, OutputCycle}
 use Rattle.onfi_cycle.specs.LunView.{LunView}
 use Rattle.onfi_cycle.specs.Command.{is_opener, address_cycles, takes_address, reads_identity}
 use Rattle.onfi_cycle.specs.Sequence.{target_of, target_cycle, begins_sequence, facts_of, facts_after, extended_facts, opened, one_address_more, wants_command, wants_address, wants_column, row, row_with}
 use Rattle.onfi_cycle.specs.Effect.{is_off, is_data, names_lun, confirm_effect, command_effect, address_effect, opening_address_effect, cycle_effect}
 use Rattle.onfi_cycle.specs.Lun.{busy_after, array_busy_after, closer_after, is_cache_read, view_after}
 use Rattle.onfi_cycle.specs.Applied.{one_after}
-use Rattle.onfi_cycle.specs.Rules.{lun_is, is_some_and, breaks_F1}
+use Rattle.onfi_cycle.specs.Rules.{lun_is, is_some_and, breaks_not_there}
 use Rattle.onfi_cycle.specs.Channel.{is_cycle}
 use Rattle.onfi_cycle.specs.Permitted.{judge, judge_item}
 use Rattle.onfi_cycle.specs.State.{TargetView, BusView, judged, judged_on, tail_after, effect_alone, luns_after, has_driver, target_after, changed_at, bus_after}
@@ -234,12 +234,12 @@ neither true b h = cc
 neither false b h = (refl, h)
 
 is_busy_there : (g : Parts) (targets : ℕ) (s : TargetView) (ce lun : ℕ) (fail : Bool) → judge g targets s.tail s.luns (Rdy ce lun fail) ≡ None → lun_is (λ v. v.busy) s.luns lun ≡ true
-unfolding breaks_F1
-is_busy_there g targets s ce lun fail h = not_not _ (neither (leb targets ce) _ (first_passed (breaks_F1 targets s.luns (Rdy ce lun fail)) F1 None h).0).1
+unfolding breaks_not_there
+is_busy_there g targets s ce lun fail h = not_not _ (neither (leb targets ce) _ (first_passed (breaks_not_there targets s.luns (Rdy ce lun fail)) NotThere None h).0).1
 
 is_array_busy_there : (g : Parts) (targets : ℕ) (s : TargetView) (ce lun : ℕ) → judge g targets s.tail s.luns (Ard ce lun) ≡ None → lun_is (λ v. v.array_busy) s.luns lun ≡ true
-unfolding breaks_F1
-is_array_busy_there g targets s ce lun h = not_not _ (neither (leb targets ce) _ (first_passed (breaks_F1 targets s.luns (Ard ce lun)) F1 None h).0).1
+unfolding breaks_not_there
+is_array_busy_there g targets s ce lun h = not_not _ (neither (leb targets ce) _ (first_passed (breaks_not_there targets s.luns (Ard ce lun)) NotThere None h).0).1
 
 -- ---- a channel
 

@@ -6,28 +6,28 @@ use Rattle.std.proofs.lemmas.Bool.Decides.{nat_tests}
 use Rattle.std.specs.List.{slice_get}
 use Rattle.nand_geometry.specs.declared.Parts.{Parts}
 use Rattle.nand_geometry.specs.Limits.{InLimits, page_bits}
-use Rattle.onfi_cycle.specs.declared.Command.{Command}
-use Rattle.onfi_cycle.specs.declared.Command.TheVariants.{Read, ReadConfirm, ChangeReadColumnConfirm, BlockErase, BlockEraseConfirm, BlockErasePlane, ReadStatus, ReadStatusEnhanced, ProgramConfirm, ProgramPlane, ReadId, ReadParameterPage, Reset, ReadCacheSequential, ReadCacheEnd}
-use Rattle.onfi_cycle.specs.declared.Item.{Item}
-use Rattle.onfi_cycle.specs.declared.Item.TheVariants.{Cyc, Rdy, Ard}
-use Rattle.onfi_cycle.specs.declared.Forbidden.TheVariants.{F1}
-use Rattle.onfi_cycle.specs.declared.Latch.{Latch}
-use Rattle.onfi_cycle.specs.declared.Latch.TheVariants.{Off, Status, Data}
-use Rattle.onfi_cycle.specs.declared.Opening.{Opening}
-use Rattle.onfi_cycle.specs.declared.Register.{Register}
-use Rattle.onfi_cycle.specs.declared.Register.TheVariants.{Empty, Page, ParameterPage, Identifier}
-use Rattle.onfi_cycle.specs.declared.ReadColumn.{ReadColumn}
-use Rattle.onfi_cycle.specs.declared.TailFacts.{TailFacts}
-use Rattle.onfi_cycle.specs.declared.TargetCycle.{TargetCycle}
-use Rattle.onfi_cycle.specs.declared.TargetCycle.TheVariants.{CommandCycle, AddressCycle, InputCycle, OutputCycle}
-use Rattle.onfi_cycle.specs.declared.Effect.{Effect}
-use Rattle.onfi_cycle.specs.declared.Effect.TheVariants.{Unaffected, SelectedForStatus, Deselected, IdRead, ParameterPageReadStarted, CacheReadContinued, CacheReadEnded, ReadColumnChanged, DataOutput, BecameReady, ArrayBecameReady}
+use Rattle.onfi_cycle.specs.declared.command.Command.{Command}
+use Rattle.onfi_cycle.specs.declared.command.Command.TheVariants.{Read, ReadConfirm, ChangeReadColumnConfirm, BlockErase, BlockEraseConfirm, BlockErasePlane, ReadStatus, ReadStatusEnhanced, ProgramConfirm, ProgramPlane, ReadId, ReadParameterPage, Reset, ReadCacheSequential, ReadCacheEnd}
+use Rattle.onfi_cycle.specs.declared.item.Item.{Item}
+use Rattle.onfi_cycle.specs.declared.item.Item.TheVariants.{Cyc, Rdy, Ard}
+use Rattle.onfi_cycle.specs.declared.forbidden.Forbidden.TheVariants.{NotThere}
+use Rattle.onfi_cycle.specs.declared.lun_facts.Latch.{Latch}
+use Rattle.onfi_cycle.specs.declared.lun_facts.Latch.TheVariants.{Off, Status, Data}
+use Rattle.onfi_cycle.specs.declared.tail_facts.Opening.{Opening}
+use Rattle.onfi_cycle.specs.declared.lun_facts.Register.{Register}
+use Rattle.onfi_cycle.specs.declared.lun_facts.Register.TheVariants.{Empty, Page, ParameterPage, Identifier}
+use Rattle.onfi_cycle.specs.declared.lun_facts.ReadColumn.{ReadColumn}
+use Rattle.onfi_cycle.specs.declared.tail_facts.TailFacts.{TailFacts}
+use Rattle.onfi_cycle.specs.declared.target_cycle.TargetCycle.{TargetCycle}
+use Rattle.onfi_cycle.specs.declared.target_cycle.TargetCycle.TheVariants.{CommandCycle, AddressCycle, InputCycle, OutputCycle}
+use Rattle.onfi_cycle.specs.declared.effect.Effect.{Effect}
+use Rattle.onfi_cycle.specs.declared.effect.Effect.TheVariants.{Unaffected, SelectedForStatus, Deselected, IdRead, ParameterPageReadStarted, CacheReadContinued, CacheReadEnded, ReadColumnChanged, DataOutput, BecameReady, ArrayBecameReady}
 use Rattle.onfi_cycle.specs.LunView.{LunView}
 use Rattle.onfi_cycle.specs.Command.{closes, address_cycles, is_opener, takes_address, reads_identity}
 use Rattle.onfi_cycle.specs.Sequence.{target_cycle, opened, takes_inputs, wants_column, wants_command, wants_address, row, row_with}
 use Rattle.onfi_cycle.specs.Effect.{is_off, is_data, names_lun, page_address, confirm_effect, command_effect, address_effect, opening_address_effect, cycle_effect}
 use Rattle.onfi_cycle.specs.Lun.{is_page_read, output_column, option_plus}
-use Rattle.onfi_cycle.specs.Rules.{driving, are_none, only, driver, is_some_and, driver_is, lacks, is_past, is_empty, register_len, has_no_byte, is_past_register, continues_cache, ends_cache, some_queued_clashes, breaks_F1, breaks_F13, breaks_F14, breaks_F15}
+use Rattle.onfi_cycle.specs.Rules.{driving, are_none, only, driver, is_some_and, driver_is, lacks, is_past, is_empty, register_len, has_no_byte, is_past_register, continues_cache, ends_cache, some_queued_clashes, breaks_not_there, breaks_data_not_ready, breaks_column_outside, breaks_cache_read_misplaced}
 use Rattle.onfi_cycle.specs.Permitted.{judge, judge_cycle}
 use Rattle.onfi_cycle.specs.State.{effect_alone, has_driver}
 use Rattle.onfi_cycle.specs.Bounds.{TailFits, RowFits, RowStands, CanStart, EffectFits, is_read, is_block_erase, names_read, names_erase, names_program, names_row, names_identity}
@@ -183,8 +183,8 @@ confirm_fits g limits t n v tf rf rs ProgramPlane h = let parts = both (wants_co
 confirm_fits g limits t n v tf rf rs c h = tt
 
 -- a cache read goes on inside its block
-continued_fits : (g : Parts) → InLimits g → (t : TailFacts) (luns : List LunView) (v : LunView) → breaks_F15 g t luns (CommandCycle ReadCacheSequential) ≡ false → IsDriver luns v → (v.array_page.page + 1 < 2 ^ 32) × (v.busy ≡ false)
-unfolding breaks_F15
+continued_fits : (g : Parts) → InLimits g → (t : TailFacts) (luns : List LunView) (v : LunView) → breaks_cache_read_misplaced g t luns (CommandCycle ReadCacheSequential) ≡ false → IsDriver luns v → (v.array_page.page + 1 < 2 ^ 32) × (v.busy ≡ false)
+unfolding breaks_cache_read_misplaced
 continued_fits g limits t luns v f15 d =
     let passes : continues_cache g v ≡ true = sym (driver_passes (continues_cache g) luns v d) ∙ not_false _ f15 in
     let inside = (both (is_page_read v.closer) _ (both (not v.busy) _ passes).1).1 in
@@ -193,13 +193,13 @@ continued_fits g limits t luns v f15 d =
     (low, not_true v.busy (both (not v.busy) _ passes).0)
 
 -- one that ends
-ended_fits : (g : Parts) (t : TailFacts) (luns : List LunView) (v : LunView) → breaks_F15 g t luns (CommandCycle ReadCacheEnd) ≡ false → IsDriver luns v → v.busy ≡ false
-unfolding breaks_F15
+ended_fits : (g : Parts) (t : TailFacts) (luns : List LunView) (v : LunView) → breaks_cache_read_misplaced g t luns (CommandCycle ReadCacheEnd) ≡ false → IsDriver luns v → v.busy ≡ false
+unfolding breaks_cache_read_misplaced
 ended_fits g t luns v f15 d =
     let passes : ends_cache v ≡ true = sym (driver_passes ends_cache luns v d) ∙ not_false _ f15 in
     not_true v.busy (both (not v.busy) _ passes).0
 
-command_fits : (g : Parts) → InLimits g → (t : TailFacts) (luns : List LunView) (n : ℕ) (v : LunView) → TailFits g t → RowFits g t n v → RowStands g t n v → slice_get luns n ≡ Some v → (c : Command) → breaks_F15 g t luns (CommandCycle c) ≡ false → EffectFits g v (command_effect g t (cond (has_driver luns) v.latch Off) c n)
+command_fits : (g : Parts) → InLimits g → (t : TailFacts) (luns : List LunView) (n : ℕ) (v : LunView) → TailFits g t → RowFits g t n v → RowStands g t n v → slice_get luns n ≡ Some v → (c : Command) → breaks_cache_read_misplaced g t luns (CommandCycle c) ≡ false → EffectFits g v (command_effect g t (cond (has_driver luns) v.latch Off) c n)
 command_fits g limits t luns n v tf rf rs found Read f15 = tt
 command_fits g limits t luns n v tf rf rs found ReadStatus f15 = tt
 command_fits g limits t luns n v tf rf rs found ReadStatusEnhanced f15 = tt
@@ -265,8 +265,8 @@ outputs_are_small k len small found inside = at k.lost found inside
     at true found inside = cc
     at false found inside = given k.given found inside
 
-output_fits : (g : Parts) → InLimits g → (t : TailFacts) (luns : List LunView) (v : LunView) → breaks_F13 luns OutputCycle ≡ false → breaks_F14 g t luns OutputCycle ≡ false → IsDriver luns v → is_data v.latch ≡ true → v.column.outputs < 2 ^ 16
-unfolding breaks_F13 breaks_F14
+output_fits : (g : Parts) → InLimits g → (t : TailFacts) (luns : List LunView) (v : LunView) → breaks_data_not_ready luns OutputCycle ≡ false → breaks_column_outside g t luns OutputCycle ≡ false → IsDriver luns v → is_data v.latch ≡ true → v.column.outputs < 2 ^ 16
+unfolding breaks_data_not_ready breaks_column_outside
 output_fits g limits t luns v f13 f14 d shows =
     let has_byte : has_no_byte v ≡ false = sym (driver_passes has_no_byte luns v d) ∙ f13 in
     let is_inside : is_past_register g v ≡ false = sym (driver_passes (is_past_register g) luns v d) ∙ f14 in
@@ -286,7 +286,7 @@ cycle_fits g limits t luns n v tf rf rs found OutputCycle keeps =
 pub effect_fits : (g : Parts) → InLimits g → (targets : ℕ) (t : TailFacts) (luns : List LunView) (i : Item) (n : ℕ) (v : LunView) → judge g targets t luns i ≡ None → TailFits g t → RowFits g t n v → RowStands g t n v → slice_get luns n ≡ Some v → EffectFits g v (effect_alone g t (has_driver luns) i n v)
 effect_fits g limits targets t luns (Cyc c) n v h tf rf rs found =
     let cycle = target_cycle c.kind c.byte in
-    let keeps = keeps_rules g t luns cycle (first_passed (breaks_F1 targets luns (Cyc c)) F1 (judge_cycle g t luns cycle) h).1 in
+    let keeps = keeps_rules g t luns cycle (first_passed (breaks_not_there targets luns (Cyc c)) NotThere (judge_cycle g t luns cycle) h).1 in
     choice g v (c.ce == c.ce) (cycle_effect g t (cond (has_driver luns) v.latch Off) cycle n) Unaffected (λ e. cycle_fits g limits t luns n v tf rf rs found cycle keeps) (λ e. tt)
 effect_fits g limits targets t luns (Rdy ce lun fail) n v h tf rf rs found = choice g v (ce == ce && lun == n) (BecameReady fail) Unaffected (λ e. tt) (λ e. tt)
 effect_fits g limits targets t luns (Ard ce lun) n v h tf rf rs found = choice g v (ce == ce && lun == n) ArrayBecameReady Unaffected (λ e. tt) (λ e. tt)

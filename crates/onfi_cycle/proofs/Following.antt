@@ -5,18 +5,18 @@ use Rattle.std.specs.List.{slice_get, All, refill}
 use Rattle.std.proofs.lemmas.Grind.{common_steps}
 use Rattle.nand_geometry.specs.declared.Parts.{Parts}
 use Rattle.nand_geometry.specs.Limits.{InLimits}
-use Rattle.onfi_cycle.specs.declared.Effect.{Effect}
-use Rattle.onfi_cycle.specs.declared.Effect.TheVariants.{Unaffected}
-use Rattle.onfi_cycle.specs.declared.Forbidden.TheVariants.{F1}
-use Rattle.onfi_cycle.specs.declared.Item.{Item}
-use Rattle.onfi_cycle.specs.declared.Item.TheVariants.{Cyc, Rdy, Ard}
-use Rattle.onfi_cycle.specs.declared.Latch.{Latch}
-use Rattle.onfi_cycle.specs.declared.Latch.TheVariants.{Off, Status, Data}
-use Rattle.onfi_cycle.specs.declared.Lun.{Lun}
-use Rattle.onfi_cycle.specs.declared.TailFacts.{TailFacts}
+use Rattle.onfi_cycle.specs.declared.effect.Effect.{Effect}
+use Rattle.onfi_cycle.specs.declared.effect.Effect.TheVariants.{Unaffected}
+use Rattle.onfi_cycle.specs.declared.forbidden.Forbidden.TheVariants.{NotThere}
+use Rattle.onfi_cycle.specs.declared.item.Item.{Item}
+use Rattle.onfi_cycle.specs.declared.item.Item.TheVariants.{Cyc, Rdy, Ard}
+use Rattle.onfi_cycle.specs.declared.lun_facts.Latch.{Latch}
+use Rattle.onfi_cycle.specs.declared.lun_facts.Latch.TheVariants.{Off, Status, Data}
+use Rattle.onfi_cycle.specs.declared.item.Lun.{Lun}
+use Rattle.onfi_cycle.specs.declared.tail_facts.TailFacts.{TailFacts}
 use Rattle.onfi_cycle.specs.LunView.{LunView}
-use Rattle.onfi_cycle.specs.declared.Opening.{Opening}
-use Rattle.onfi_cycle.specs.Rules.{breaks_F1}
+use Rattle.onfi_cycle.specs.declared.tail_facts.Opening.{Opening}
+use Rattle.onfi_cycle.specs.Rules.{breaks_not_there}
 use Rattle.std.proofs.lemmas.Option.{slice_get_past, slice_get-get_or}
 use Rattle.std.proofs.lemmas.List.Elements.{All-set}
 use Rattle.std.proofs.Common.{subst, ltb}
@@ -185,11 +185,11 @@ pub count_of : (g : Parts) (n : ℕ) (s : BusView) (past : List Item) → Follow
 count_of g n s past f = ap length f.facts ∙ targets_length g past n 0
 
 -- an item of a target that isn't there
-beyond_F1 : (n : ℕ) (luns : List LunView) (i : Item) → leb n (target_of i) ≡ true → breaks_F1 n luns i ≡ true
-unfolding breaks_F1
-beyond_F1 n luns (Cyc c) h = h
-beyond_F1 n luns (Rdy ce lun fail) h = rw h refl
-beyond_F1 n luns (Ard ce lun) h = rw h refl
+beyond_not_there : (n : ℕ) (luns : List LunView) (i : Item) → leb n (target_of i) ≡ true → breaks_not_there n luns i ≡ true
+unfolding breaks_not_there
+beyond_not_there n luns (Cyc c) h = h
+beyond_not_there n luns (Rdy ce lun fail) h = rw h refl
+beyond_not_there n luns (Ard ce lun) h = rw h refl
 
 -- the state judges as the definition does
 pub judged_is_broken : (g : Parts) (n : ℕ) (s : BusView) (past : List Item) (i : Item) → Follows g n s past → judged s i ≡ broken g n past i
@@ -201,7 +201,7 @@ judged_is_broken g n s past i f = at (leb n (target_of i)) refl
     at : (b : Bool) → leb n (target_of i) ≡ b → judged s i ≡ broken g n past i
     at true e =
         let beyond : length s.targets ≤ target_of i = grind (arith, nat_tests, count_of g n s past f) in
-        let first : breaks_F1 n (luns_of g past (target_of i)) i ≡ true = beyond_F1 n (luns_of g past (target_of i)) i e in
+        let first : breaks_not_there n (luns_of g past (target_of i)) i ≡ true = beyond_not_there n (luns_of g past (target_of i)) i e in
         parts None (slice_get_past s.targets (target_of i) beyond) ∙ rw first refl
     at false e = let below : target_of i < n = grind (arith, nat_tests) in parts (Some (target_view g past (target_of i))) (found_target g n s past (target_of i) f below)
 
@@ -213,7 +213,7 @@ permitted_there s i h = at (ltb (target_of i) (length s.targets)) refl
     at true e = grind (arith, nat_tests)
     at false e =
         let beyond : length s.targets ≤ target_of i = grind (arith, nat_tests) in
-        let clash : judged s i ≡ Some F1 = ap (λ (x : Option TargetView). judged_on s.geometry (length s.targets) x i) (slice_get_past s.targets (target_of i) beyond) in
+        let clash : judged s i ≡ Some NotThere = ap (λ (x : Option TargetView). judged_on s.geometry (length s.targets) x i) (slice_get_past s.targets (target_of i) beyond) in
         cc
 
 pub set_changes : (change : TargetView → TargetView) (targets : List TargetView) (k : ℕ) (d : TargetView) → set targets k (change (get_or targets k d)) ≡ changed_at change k targets

@@ -2,24 +2,24 @@
 use Rattle.std.proofs.Common.{◌≡◌, ℕ, zero, suc, ◌+◌, ◌<◌, ◌≤◌, ◌==◌, Bool, true, false, ◌&&◌, cond, not, List, [], ◌∷◌, Option, Some, None, refl, sym, ap, ◌∙◌, subst, arith, unwrap_or, eqb-true, eq-eqb}
 use Rattle.std.proofs.lemmas.Bool.Decides.{nat_tests}
 use Rattle.nand_geometry.specs.declared.Parts.{Parts}
-use Rattle.onfi_cycle.specs.declared.Command.{Command}
-use Rattle.onfi_cycle.specs.declared.Command.TheVariants.{Read, ReadConfirm, ChangeReadColumnConfirm, BlockEraseConfirm, BlockErasePlane, ReadStatus, ReadStatusEnhanced, ProgramConfirm, ProgramPlane, ReadId, ReadParameterPage, Reset, ReadCacheSequential, ReadCacheEnd}
-use Rattle.onfi_cycle.specs.declared.Lun.{Lun}
-use Rattle.onfi_cycle.specs.declared.Latch.{Latch}
-use Rattle.onfi_cycle.specs.declared.Latch.TheVariants.{Off, Status, Data}
-use Rattle.onfi_cycle.specs.declared.Cycle.{Cycle}
-use Rattle.onfi_cycle.specs.declared.Item.{Item}
-use Rattle.onfi_cycle.specs.declared.Item.TheVariants.{Cyc, Rdy, Ard}
-use Rattle.onfi_cycle.specs.declared.Opening.{Opening}
-use Rattle.onfi_cycle.specs.declared.TargetCycle.{TargetCycle}
-use Rattle.onfi_cycle.specs.declared.TargetCycle.TheVariants.{CommandCycle, AddressCycle, InputCycle, OutputCycle}
-use Rattle.onfi_cycle.specs.declared.Effect.{Effect}
-use Rattle.onfi_cycle.specs.declared.Effect.TheVariants.{Unaffected, DataOutputEnabled, SelectedForStatus, Deselected, IdRead, ParameterPageReadStarted, CacheReadContinued, CacheReadEnded, BecameReady, ArrayBecameReady, ReadColumnChanged, DataOutput}
+use Rattle.onfi_cycle.specs.declared.command.Command.{Command}
+use Rattle.onfi_cycle.specs.declared.command.Command.TheVariants.{Read, ReadConfirm, ChangeReadColumnConfirm, BlockEraseConfirm, BlockErasePlane, ReadStatus, ReadStatusEnhanced, ProgramConfirm, ProgramPlane, ReadId, ReadParameterPage, Reset, ReadCacheSequential, ReadCacheEnd}
+use Rattle.onfi_cycle.specs.declared.item.Lun.{Lun}
+use Rattle.onfi_cycle.specs.declared.lun_facts.Latch.{Latch}
+use Rattle.onfi_cycle.specs.declared.lun_facts.Latch.TheVariants.{Off, Status, Data}
+use Rattle.onfi_cycle.specs.declared.item.Cycle.{Cycle}
+use Rattle.onfi_cycle.specs.declared.item.Item.{Item}
+use Rattle.onfi_cycle.specs.declared.item.Item.TheVariants.{Cyc, Rdy, Ard}
+use Rattle.onfi_cycle.specs.declared.tail_facts.Opening.{Opening}
+use Rattle.onfi_cycle.specs.declared.target_cycle.TargetCycle.{TargetCycle}
+use Rattle.onfi_cycle.specs.declared.target_cycle.TargetCycle.TheVariants.{CommandCycle, AddressCycle, InputCycle, OutputCycle}
+use Rattle.onfi_cycle.specs.declared.effect.Effect.{Effect}
+use Rattle.onfi_cycle.specs.declared.effect.Effect.TheVariants.{Unaffected, DataOutputEnabled, SelectedForStatus, Deselected, IdRead, ParameterPageReadStarted, CacheReadContinued, CacheReadEnded, BecameReady, ArrayBecameReady, ReadColumnChanged, DataOutput}
 use Rattle.onfi_cycle.specs.LunView.{LunView}
 use Rattle.onfi_cycle.specs.Sequence.{target_cycle, row, row_with, wants_command, wants_address}
 use Rattle.onfi_cycle.specs.Effect.{is_off, is_data, names_lun, command_effect, address_effect, opening_address_effect, cycle_effect}
 use Rattle.onfi_cycle.specs.Lun.{latch, latch_after, latch_alone, effect_on, drivers_from, is_only, lun_view, views_from, luns_of}
-use Rattle.onfi_cycle.specs.Rules.{driving, are_none, only, driver, is_some_and, driver_is, breaks_F15, continues_cache, ends_cache}
+use Rattle.onfi_cycle.specs.Rules.{driving, are_none, only, driver, is_some_and, driver_is, breaks_cache_read_misplaced, continues_cache, ends_cache}
 use Rattle.onfi_cycle.specs.Permitted.{broken, is_permitted, is_legal}
 use Rattle.onfi_cycle.specs.Decides.{or_before, last_decided, tail_of, drives_alone, identity_closer, closing_address, closed_latch, read_latch, selected_latch, third_of_status, selecting_latch, latch_cycle, latch_decided}
 use Rattle.onfi_cycle.proofs.Others.{permitted_none, both_true}
@@ -114,10 +114,10 @@ is_cache_cycle _ = false
 
 -- a cache read that is permitted finds one driver
 pub cache_finds_driver : (g : Parts) (n : ℕ) (past : List Item) (c : Cycle) (l : Lun) → broken g n past (Cyc c) ≡ None → c.ce ≡ l.ce → l.lun < g.luns → is_cache_cycle (target_cycle c.kind c.byte) ≡ true → is_off (latch g past l) ≡ not (drives_alone g past l)
-unfolding breaks_F15
-cache_finds_driver g n past c l h here low is = at (target_cycle c.kind c.byte) is (subst (λ ce. breaks_F15 g (tail_of past (record { ce = ce; lun = l.lun })) (luns_of g past ce) (target_cycle c.kind c.byte) ≡ false) here (permitted_keeps g n past c h).f15)
+unfolding breaks_cache_read_misplaced
+cache_finds_driver g n past c l h here low is = at (target_cycle c.kind c.byte) is (subst (λ ce. breaks_cache_read_misplaced g (tail_of past (record { ce = ce; lun = l.lun })) (luns_of g past ce) (target_cycle c.kind c.byte) ≡ false) here (permitted_keeps g n past c h).f15)
   where
-    at : (x : TargetCycle) → is_cache_cycle x ≡ true → breaks_F15 g (tail_of past l) (luns_of g past l.ce) x ≡ false → is_off (latch g past l) ≡ not (drives_alone g past l)
+    at : (x : TargetCycle) → is_cache_cycle x ≡ true → breaks_cache_read_misplaced g (tail_of past l) (luns_of g past l.ce) x ≡ false → is_off (latch g past l) ≡ not (drives_alone g past l)
     at (CommandCycle ReadCacheSequential) is f15 = off_or_driver g past l (driver (luns_of g past l.ce)) (continues_cache g) refl (not_false (driver_is (continues_cache g) (luns_of g past l.ce)) f15) low
     at (CommandCycle ReadCacheEnd) is f15 = off_or_driver g past l (driver (luns_of g past l.ce)) ends_cache refl (not_false (driver_is ends_cache (luns_of g past l.ce)) f15) low
     at _ is f15 = cc

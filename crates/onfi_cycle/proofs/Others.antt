@@ -2,26 +2,26 @@
 use Rattle.std.proofs.Common.{is_none, ◌≡◌, ◌≢◌, ℕ, ◌<◌, ◌==◌, Bool, true, false, ◌&&◌, cond, not, List, [], ◌∷◌, Option, Some, None, refl, ap, arith, ltb}
 use Rattle.std.proofs.lemmas.Bool.Decides.{nat_tests}
 use Rattle.nand_geometry.specs.declared.Parts.{Parts}
-use Rattle.onfi_cycle.specs.declared.Lun.{Lun}
-use Rattle.onfi_cycle.specs.declared.Item.{Item}
-use Rattle.onfi_cycle.specs.declared.Item.TheVariants.{Cyc, Rdy, Ard}
-use Rattle.onfi_cycle.specs.declared.Latch.{Latch}
-use Rattle.onfi_cycle.specs.declared.Latch.TheVariants.{Off}
-use Rattle.onfi_cycle.specs.declared.Command.{Command}
-use Rattle.onfi_cycle.specs.declared.Command.TheVariants.{Read, ProgramConfirm, ProgramPlane, ReadConfirm, ReadCacheSequential, ReadCacheEnd, ReadStatus, ReadStatusEnhanced, ReadId, BlockEraseConfirm, BlockErasePlane, ChangeReadColumnConfirm, ReadParameterPage, Reset}
+use Rattle.onfi_cycle.specs.declared.item.Lun.{Lun}
+use Rattle.onfi_cycle.specs.declared.item.Item.{Item}
+use Rattle.onfi_cycle.specs.declared.item.Item.TheVariants.{Cyc, Rdy, Ard}
+use Rattle.onfi_cycle.specs.declared.lun_facts.Latch.{Latch}
+use Rattle.onfi_cycle.specs.declared.lun_facts.Latch.TheVariants.{Off}
+use Rattle.onfi_cycle.specs.declared.command.Command.{Command}
+use Rattle.onfi_cycle.specs.declared.command.Command.TheVariants.{Read, ProgramConfirm, ProgramPlane, ReadConfirm, ReadCacheSequential, ReadCacheEnd, ReadStatus, ReadStatusEnhanced, ReadId, BlockEraseConfirm, BlockErasePlane, ChangeReadColumnConfirm, ReadParameterPage, Reset}
 use Rattle.onfi_cycle.specs.Command.{at_last_row, reads_identity, wants_one_lun}
-use Rattle.onfi_cycle.specs.declared.TargetCycle.{TargetCycle}
-use Rattle.onfi_cycle.specs.declared.TargetCycle.TheVariants.{CommandCycle, AddressCycle, InputCycle, OutputCycle}
-use Rattle.onfi_cycle.specs.declared.Effect.{Effect}
-use Rattle.onfi_cycle.specs.declared.Effect.TheVariants.{Unaffected, SelectedForStatus, Deselected, BecameReady, ArrayBecameReady}
-use Rattle.onfi_cycle.specs.declared.Opening.{Opening}
-use Rattle.onfi_cycle.specs.declared.TailFacts.{TailFacts}
+use Rattle.onfi_cycle.specs.declared.target_cycle.TargetCycle.{TargetCycle}
+use Rattle.onfi_cycle.specs.declared.target_cycle.TargetCycle.TheVariants.{CommandCycle, AddressCycle, InputCycle, OutputCycle}
+use Rattle.onfi_cycle.specs.declared.effect.Effect.{Effect}
+use Rattle.onfi_cycle.specs.declared.effect.Effect.TheVariants.{Unaffected, SelectedForStatus, Deselected, BecameReady, ArrayBecameReady}
+use Rattle.onfi_cycle.specs.declared.tail_facts.Opening.{Opening}
+use Rattle.onfi_cycle.specs.declared.tail_facts.TailFacts.{TailFacts}
 use Rattle.onfi_cycle.specs.Sequence.{target_of, facts_of, row_with, target_cycle, with_cycle, one_address_more, tail, opening, opened, wants_command, row}
 use Rattle.onfi_cycle.specs.Effect.{names_lun, command_effect, address_effect, opening_address_effect, cycle_effect, effect_given}
 use Rattle.onfi_cycle.specs.Lun.{effect_on, latch_alone, drivers, is_only, latch, latch_after, read_column, read_column_after, luns_of}
-use Rattle.onfi_cycle.specs.declared.Cycle.{Cycle}
-use Rattle.onfi_cycle.specs.declared.Forbidden.{Forbidden}
-use Rattle.onfi_cycle.specs.Rules.{breaks_F1, breaks_F2, breaks_F3, breaks_F4}
+use Rattle.onfi_cycle.specs.declared.item.Cycle.{Cycle}
+use Rattle.onfi_cycle.specs.declared.forbidden.Forbidden.{Forbidden}
+use Rattle.onfi_cycle.specs.Rules.{breaks_not_there, breaks_command_unknown, breaks_sequence_open, breaks_several_luns}
 use Rattle.onfi_cycle.specs.Permitted.{broken, judge_cycle, is_permitted, is_legal}
 use Rattle.onfi_cycle.specs.OtherLun.{keeps_to, is_of, closes_row, needs_driver, OthersKeep, TargetsKeep}
 use Rattle.onfi_cycle.proofs.Quiet.{is_quiet, keeps_quiet}
@@ -81,15 +81,15 @@ permitted_none g n past i h = at (broken g n past i) h
     at (Some f) h = cc
 
 -- a permitted cycle keeps F4
-pub keeps_F4 : (g : Parts) (n : ℕ) (past : List Item) (c : Cycle) → broken g n past (Cyc c) ≡ None → breaks_F4 g (target_cycle c.kind c.byte) ≡ false
-keeps_F4 g n past c h =
+pub keeps_several_luns : (g : Parts) (n : ℕ) (past : List Item) (c : Cycle) → broken g n past (Cyc c) ≡ None → breaks_several_luns g (target_cycle c.kind c.byte) ≡ false
+keeps_several_luns g n past c h =
     let cycle = target_cycle c.kind c.byte in
     let t = facts_of (tail past c.ce) in
     let luns = luns_of g past c.ce in
-    let after_1 = first_passed (breaks_F1 n luns (Cyc c)) Forbidden.F1 (judge_cycle g t luns cycle) h in
-    let after_2 = first_passed (breaks_F2 g cycle) Forbidden.F2 _ after_1.1 in
-    let after_3 = first_passed (breaks_F3 t cycle) Forbidden.F3 _ after_2.1 in
-    (first_passed (breaks_F4 g cycle) Forbidden.F4 _ after_3.1).0
+    let after_1 = first_passed (breaks_not_there n luns (Cyc c)) Forbidden.NotThere (judge_cycle g t luns cycle) h in
+    let after_2 = first_passed (breaks_command_unknown g cycle) Forbidden.CommandUnknown _ after_1.1 in
+    let after_3 = first_passed (breaks_sequence_open t cycle) Forbidden.SequenceOpen _ after_2.1 in
+    (first_passed (breaks_several_luns g cycle) Forbidden.SeveralLuns _ after_3.1).0
 
 -- an opener other than 90 and EC
 abbrev is_other_opening : Option Opening → Bool
@@ -103,8 +103,8 @@ true_and_false : (b : Bool) → b ≡ true → b ≡ false → ⊥
 true_and_false b x y = cc
 
 -- on a target with several LUNs no tail begins with 90 or EC
-other_with_cycle : (g : Parts) (cycle : TargetCycle) (t : List TargetCycle) → ltb 1 g.luns ≡ true → breaks_F4 g cycle ≡ false → is_other_opening (opening t) ≡ true → is_other_opening (opening (with_cycle cycle t)) ≡ true
-unfolding breaks_F4
+other_with_cycle : (g : Parts) (cycle : TargetCycle) (t : List TargetCycle) → ltb 1 g.luns ≡ true → breaks_several_luns g cycle ≡ false → is_other_opening (opening t) ≡ true → is_other_opening (opening (with_cycle cycle t)) ≡ true
+unfolding breaks_several_luns
 other_with_cycle g (CommandCycle c) t several f4 h = at c t f4
   where
     at : (c : Command) (t : List TargetCycle) → (wants_one_lun c && ltb 1 g.luns) ≡ false → is_other_opening (opening (with_cycle (CommandCycle c) t)) ≡ true
@@ -128,10 +128,10 @@ other_openings g n [] ce several h = refl
 other_openings g n (Cyc c ∷ past) ce several h =
     let legal = both_true (is_permitted g n past (Cyc c)) (is_legal g n past) h in
     let before = other_openings g n past ce several legal.1 in
-    let f4 = keeps_F4 g n past c (permitted_none g n past (Cyc c) legal.0) in
+    let f4 = keeps_several_luns g n past c (permitted_none g n past (Cyc c) legal.0) in
     at (c.ce == ce) before f4
   where
-    at : (b : Bool) → is_other_opening (opening (tail past ce)) ≡ true → breaks_F4 g (target_cycle c.kind c.byte) ≡ false → is_other_opening (opening (cond b (with_cycle (target_cycle c.kind c.byte) (tail past ce)) (tail past ce))) ≡ true
+    at : (b : Bool) → is_other_opening (opening (tail past ce)) ≡ true → breaks_several_luns g (target_cycle c.kind c.byte) ≡ false → is_other_opening (opening (cond b (with_cycle (target_cycle c.kind c.byte) (tail past ce)) (tail past ce))) ≡ true
     at true before f4 = other_with_cycle g (target_cycle c.kind c.byte) (tail past ce) several f4 before
     at false before f4 = before
 other_openings g n (Rdy a b f ∷ past) ce several h = other_openings g n past ce several (both_true (is_permitted g n past (Rdy a b f)) (is_legal g n past) h).1
@@ -169,8 +169,8 @@ driver_no_row ReadCacheEnd h = refl
 driver_no_row _ h = cc
 
 -- a cycle of another LUN
-quiet_cycle : (g : Parts) (past : List Item) (ce l m : ℕ) (cycle : TargetCycle) → l ≢ m → ltb 1 g.luns ≡ true → breaks_F4 g cycle ≡ false → is_other_opening (opening (tail past ce)) ≡ true → keeps_to g past (record { ce = ce; lun = m }) cycle ≡ true → is_quiet (cycle_effect g (facts_of (tail past ce)) (latch_alone g past (record { ce = ce; lun = l })) cycle l) ≡ true
-unfolding breaks_F4
+quiet_cycle : (g : Parts) (past : List Item) (ce l m : ℕ) (cycle : TargetCycle) → l ≢ m → ltb 1 g.luns ≡ true → breaks_several_luns g cycle ≡ false → is_other_opening (opening (tail past ce)) ≡ true → keeps_to g past (record { ce = ce; lun = m }) cycle ≡ true → is_quiet (cycle_effect g (facts_of (tail past ce)) (latch_alone g past (record { ce = ce; lun = l })) cycle l) ≡ true
+unfolding breaks_several_luns
 quiet_cycle g past ce l m (CommandCycle c) ne several f4 other keep =
     quiet_command g (facts_of (tail past ce)) (latch_alone g past (record { ce = ce; lun = l })) c l m ne
     (and_false_left (wants_one_lun c) (ltb 1 g.luns) several f4)
@@ -201,7 +201,7 @@ quiet_item : (g : Parts) (n : ℕ) (past : List Item) (i : Item) (ce l m : ℕ) 
 unfolding effect_on
 quiet_item g n past (Cyc c) ce l m legal h of ne several =
     quiet_choice (c.ce == ce) _ Unaffected
-    (quiet_cycle g past ce l m (target_cycle c.kind c.byte) ne several (keeps_F4 g n past c h) (other_openings g n past ce several legal) (both_true (c.ce == ce) _ of).1)
+    (quiet_cycle g past ce l m (target_cycle c.kind c.byte) ne several (keeps_several_luns g n past c h) (other_openings g n past ce several legal) (both_true (c.ce == ce) _ of).1)
     refl
 quiet_item g n past (Rdy a b f) ce l m legal h of ne several = quiet_ready (a == ce) (b == m) (b == l) (BecameReady f) of (not_both b l m ne)
 quiet_item g n past (Ard a b) ce l m legal h of ne several = quiet_ready (a == ce) (b == m) (b == l) ArrayBecameReady of (not_both b l m ne)

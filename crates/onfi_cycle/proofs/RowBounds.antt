@@ -4,29 +4,29 @@ use Rattle.std.proofs.lemmas.Bool.Decides.{nat_tests}
 use Rattle.std.specs.List.{slice_get}
 use Rattle.nand_geometry.specs.declared.Parts.{Parts}
 use Rattle.nand_geometry.specs.Row.{row_of, parts_of}
-use Rattle.onfi_cycle.specs.declared.Command.{Command}
-use Rattle.onfi_cycle.specs.declared.Command.TheVariants.{BlockErase, ReadStatusEnhanced, PageProgram, ChangeWriteColumn, ReadId, ReadParameterPage}
-use Rattle.onfi_cycle.specs.declared.DataPhase.{DataPhase}
-use Rattle.onfi_cycle.specs.declared.DataPhase.TheVariants.{Outside, Inputs, FirstColumn, SecondColumn}
-use Rattle.onfi_cycle.specs.declared.Effect.{Effect}
-use Rattle.onfi_cycle.specs.declared.Effect.TheVariants.{Unaffected, SelectedForStatus, Deselected, IdRead, ParameterPageReadStarted, BecameReady, ArrayBecameReady}
-use Rattle.onfi_cycle.specs.declared.Forbidden.TheVariants.{F1}
-use Rattle.onfi_cycle.specs.declared.Item.{Item}
-use Rattle.onfi_cycle.specs.declared.Item.TheVariants.{Cyc, Rdy, Ard}
-use Rattle.onfi_cycle.specs.declared.Latch.{Latch}
-use Rattle.onfi_cycle.specs.declared.Latch.TheVariants.{Off}
-use Rattle.onfi_cycle.specs.declared.Opening.{Opening}
-use Rattle.onfi_cycle.specs.declared.PageAddress.{PageAddress}
-use Rattle.onfi_cycle.specs.declared.Queued.{Queued}
-use Rattle.onfi_cycle.specs.declared.TailFacts.{TailFacts}
-use Rattle.onfi_cycle.specs.declared.TargetCycle.{TargetCycle}
-use Rattle.onfi_cycle.specs.declared.TargetCycle.TheVariants.{CommandCycle, AddressCycle, InputCycle, OutputCycle}
+use Rattle.onfi_cycle.specs.declared.command.Command.{Command}
+use Rattle.onfi_cycle.specs.declared.command.Command.TheVariants.{BlockErase, ReadStatusEnhanced, PageProgram, ChangeWriteColumn, ReadId, ReadParameterPage}
+use Rattle.onfi_cycle.specs.declared.tail_facts.DataPhase.{DataPhase}
+use Rattle.onfi_cycle.specs.declared.tail_facts.DataPhase.TheVariants.{Outside, Inputs, FirstColumn, SecondColumn}
+use Rattle.onfi_cycle.specs.declared.effect.Effect.{Effect}
+use Rattle.onfi_cycle.specs.declared.effect.Effect.TheVariants.{Unaffected, SelectedForStatus, Deselected, IdRead, ParameterPageReadStarted, BecameReady, ArrayBecameReady}
+use Rattle.onfi_cycle.specs.declared.forbidden.Forbidden.TheVariants.{NotThere}
+use Rattle.onfi_cycle.specs.declared.item.Item.{Item}
+use Rattle.onfi_cycle.specs.declared.item.Item.TheVariants.{Cyc, Rdy, Ard}
+use Rattle.onfi_cycle.specs.declared.lun_facts.Latch.{Latch}
+use Rattle.onfi_cycle.specs.declared.lun_facts.Latch.TheVariants.{Off}
+use Rattle.onfi_cycle.specs.declared.tail_facts.Opening.{Opening}
+use Rattle.onfi_cycle.specs.declared.effect.PageAddress.{PageAddress}
+use Rattle.onfi_cycle.specs.declared.lun_facts.Queued.{Queued}
+use Rattle.onfi_cycle.specs.declared.tail_facts.TailFacts.{TailFacts}
+use Rattle.onfi_cycle.specs.declared.target_cycle.TargetCycle.{TargetCycle}
+use Rattle.onfi_cycle.specs.declared.target_cycle.TargetCycle.TheVariants.{CommandCycle, AddressCycle, InputCycle, OutputCycle}
 use Rattle.onfi_cycle.specs.LunView.{LunView}
 use Rattle.onfi_cycle.specs.Command.{is_page_program, at_last_row}
 use Rattle.onfi_cycle.specs.Sequence.{target_cycle, begins_sequence, facts_of, facts_after, extended_facts, opened, one_address_more, row_after_address, takes_inputs, wants_column, wants_command, wants_address, phase_after_command, phase_after_address, phase_after_input, row, row_with}
 use Rattle.onfi_cycle.specs.Effect.{names_lun, page_address, cycle_effect, address_effect, opening_address_effect}
 use Rattle.onfi_cycle.specs.Lun.{queue_after, view_after}
-use Rattle.onfi_cycle.specs.Rules.{some_queued_clashes, is_some_and, named_lun_is, refused_by, is_refused_by, breaks_F1, breaks_F10}
+use Rattle.onfi_cycle.specs.Rules.{some_queued_clashes, is_some_and, named_lun_is, refused_by, is_refused_by, breaks_not_there, breaks_queue_clash}
 use Rattle.onfi_cycle.specs.Permitted.{judge, judge_cycle}
 use Rattle.onfi_cycle.specs.State.{tail_after, effect_alone, has_driver}
 use Rattle.onfi_cycle.specs.Bounds.{TailFits, RowFits, is_block_erase, names_erase, names_program}
@@ -162,8 +162,8 @@ last_address o Inputs alone h = cc
 abbrev opened_by_erase : Option Opening → Bool
 opened_by_erase o = opened (λ c n. is_block_erase c && n == 3) o
 
-address_row : (g : Parts) (t : TailFacts) (la : Latch) (luns : List LunView) (n : ℕ) (v : LunView) (byte : ℕ) → breaks_F10 g t luns (AddressCycle byte) ≡ false → slice_get luns n ≡ Some v → TailFits g t → RowFits g t n v → RowFits g (extended_facts (AddressCycle byte) t) n (view_after (cycle_effect g t la (AddressCycle byte) n) v)
-unfolding breaks_F10
+address_row : (g : Parts) (t : TailFacts) (la : Latch) (luns : List LunView) (n : ℕ) (v : LunView) (byte : ℕ) → breaks_queue_clash g t luns (AddressCycle byte) ≡ false → slice_get luns n ≡ Some v → TailFits g t → RowFits g t n v → RowFits g (extended_facts (AddressCycle byte) t) n (view_after (cycle_effect g t la (AddressCycle byte) n) v)
+unfolding breaks_queue_clash
 address_row g t la luns n v byte f10 found tf f = at t.opening refl f10
   where
     kept : queue_after (opening_address_effect g t byte t.opening n) v.queue ≡ v.queue
@@ -240,7 +240,7 @@ cycle_row g t la luns n v cycle keeps found tf f = at (begins_sequence cycle) re
 pub row_fits : (g : Parts) (targets : ℕ) (t : TailFacts) (luns : List LunView) (i : Item) (n : ℕ) (v : LunView) → judge g targets t luns i ≡ None → slice_get luns n ≡ Some v → TailFits g t → RowFits g t n v → RowFits g (tail_after i t) n (view_after (effect_alone g t (has_driver luns) i n v) v)
 row_fits g targets t luns (Cyc c) n v h found tf f =
     let cycle = target_cycle c.kind c.byte in
-    let keeps = keeps_rules g t luns cycle (first_passed (breaks_F1 targets luns (Cyc c)) F1 (judge_cycle g t luns cycle) h).1 in
+    let keeps = keeps_rules g t luns cycle (first_passed (breaks_not_there targets luns (Cyc c)) NotThere (judge_cycle g t luns cycle) h).1 in
     at (c.ce == c.ce) refl (cycle_row g t (cond (has_driver luns) v.latch Off) luns n v cycle keeps found tf f)
   where
     at : (b : Bool) → (c.ce == c.ce) ≡ b → RowFits g (facts_after (target_cycle c.kind c.byte) t) n (view_after (cycle_effect g t (cond (has_driver luns) v.latch Off) (target_cycle c.kind c.byte) n) v) → RowFits g (facts_after (target_cycle c.kind c.byte) t) n (view_after (cond b (cycle_effect g t (cond (has_driver luns) v.latch Off) (target_cycle c.kind c.byte) n) Unaffected) v)

@@ -4,27 +4,27 @@ use Rattle.std.proofs.lemmas.Bool.Decides.{nat_tests}
 use Rattle.std.specs.List.{slice_get}
 use Rattle.nand_geometry.specs.declared.Parts.{Parts}
 use Rattle.nand_geometry.specs.Row.{row_of, parts_of, is_inside}
-use Rattle.onfi_cycle.specs.declared.Command.{Command}
-use Rattle.onfi_cycle.specs.declared.Command.TheVariants.{Read, BlockErase, PageProgram, ChangeWriteColumn, ReadId, ReadParameterPage}
-use Rattle.onfi_cycle.specs.declared.DataPhase.{DataPhase}
-use Rattle.onfi_cycle.specs.declared.DataPhase.TheVariants.{Outside, Inputs, FirstColumn, SecondColumn}
-use Rattle.onfi_cycle.specs.declared.Effect.{Effect}
-use Rattle.onfi_cycle.specs.declared.Effect.TheVariants.{Unaffected, BecameReady, ArrayBecameReady}
-use Rattle.onfi_cycle.specs.declared.Forbidden.TheVariants.{F1}
-use Rattle.onfi_cycle.specs.declared.Item.{Item}
-use Rattle.onfi_cycle.specs.declared.Item.TheVariants.{Cyc, Rdy, Ard}
-use Rattle.onfi_cycle.specs.declared.Latch.{Latch}
-use Rattle.onfi_cycle.specs.declared.Latch.TheVariants.{Off}
-use Rattle.onfi_cycle.specs.declared.Opening.{Opening}
-use Rattle.onfi_cycle.specs.declared.TailFacts.{TailFacts}
-use Rattle.onfi_cycle.specs.declared.TargetCycle.{TargetCycle}
-use Rattle.onfi_cycle.specs.declared.TargetCycle.TheVariants.{CommandCycle, AddressCycle, InputCycle, OutputCycle}
+use Rattle.onfi_cycle.specs.declared.command.Command.{Command}
+use Rattle.onfi_cycle.specs.declared.command.Command.TheVariants.{Read, BlockErase, PageProgram, ChangeWriteColumn, ReadId, ReadParameterPage}
+use Rattle.onfi_cycle.specs.declared.tail_facts.DataPhase.{DataPhase}
+use Rattle.onfi_cycle.specs.declared.tail_facts.DataPhase.TheVariants.{Outside, Inputs, FirstColumn, SecondColumn}
+use Rattle.onfi_cycle.specs.declared.effect.Effect.{Effect}
+use Rattle.onfi_cycle.specs.declared.effect.Effect.TheVariants.{Unaffected, BecameReady, ArrayBecameReady}
+use Rattle.onfi_cycle.specs.declared.forbidden.Forbidden.TheVariants.{NotThere}
+use Rattle.onfi_cycle.specs.declared.item.Item.{Item}
+use Rattle.onfi_cycle.specs.declared.item.Item.TheVariants.{Cyc, Rdy, Ard}
+use Rattle.onfi_cycle.specs.declared.lun_facts.Latch.{Latch}
+use Rattle.onfi_cycle.specs.declared.lun_facts.Latch.TheVariants.{Off}
+use Rattle.onfi_cycle.specs.declared.tail_facts.Opening.{Opening}
+use Rattle.onfi_cycle.specs.declared.tail_facts.TailFacts.{TailFacts}
+use Rattle.onfi_cycle.specs.declared.target_cycle.TargetCycle.{TargetCycle}
+use Rattle.onfi_cycle.specs.declared.target_cycle.TargetCycle.TheVariants.{CommandCycle, AddressCycle, InputCycle, OutputCycle}
 use Rattle.onfi_cycle.specs.LunView.{LunView}
 use Rattle.onfi_cycle.specs.Command.{is_page_program, at_last_row, addresses_the_array, reads_identity}
 use Rattle.onfi_cycle.specs.Sequence.{target_cycle, begins_sequence, facts_of, facts_after, extended_facts, opened, one_address_more, row_after_address, takes_inputs, wants_column, wants_command, phase_after_command, phase_after_address, phase_after_input, row, row_with}
 use Rattle.onfi_cycle.specs.Effect.{names_lun, page_address, cycle_effect, address_effect, opening_address_effect}
 use Rattle.onfi_cycle.specs.Lun.{busy_after, view_after}
-use Rattle.onfi_cycle.specs.Rules.{some_lun_is, named_lun_is, ends_row, breaks_F1, breaks_F4, breaks_F8, breaks_F9}
+use Rattle.onfi_cycle.specs.Rules.{some_lun_is, named_lun_is, ends_row, breaks_not_there, breaks_several_luns, breaks_row_outside, breaks_lun_busy}
 use Rattle.onfi_cycle.specs.Permitted.{judge, judge_cycle}
 use Rattle.onfi_cycle.specs.State.{tail_after, effect_alone, has_driver}
 use Rattle.onfi_cycle.specs.Bounds.{TailFits, RowStands, is_read, is_block_erase, names_read, names_erase, names_program, names_row, names_identity, is_row}
@@ -82,7 +82,7 @@ record Identity (v : LunView) (n : ℕ) : Type 0 where
   alone : n ≡ 0
 
 identity_stands : (g : Parts) (t : TailFacts) (luns : List LunView) (n : ℕ) (v : LunView) (c : Command) → KeepsRules g t luns (CommandCycle c) → length luns ≡ g.luns → slice_get luns n ≡ Some v → reads_identity c ≡ true → Identity v n
-unfolding breaks_F4 breaks_F9
+unfolding breaks_several_luns breaks_lun_busy
 identity_stands g t luns n v c keeps count found h = of c h keeps.f4 keeps.f9
   where
     few : ltb 1 g.luns ≡ false → length luns ≤ 1
@@ -91,7 +91,7 @@ identity_stands g t luns n v c keeps count found h = of c h keeps.f4 keeps.f9
     when : ltb 1 g.luns ≡ false → not (some_lun_is (λ v. not v.busy) luns) ≡ false → Identity v n
     when one f9 = record { ready = not_true v.busy (some_of_one (λ v. not v.busy) luns n v (few one) found (not_false _ f9)); alone = number_of_one luns n v (few one) found }
 
-    of : (c : Command) → reads_identity c ≡ true → breaks_F4 g (CommandCycle c) ≡ false → breaks_F9 g t luns (CommandCycle c) ≡ false → Identity v n
+    of : (c : Command) → reads_identity c ≡ true → breaks_several_luns g (CommandCycle c) ≡ false → breaks_lun_busy g t luns (CommandCycle c) ≡ false → Identity v n
     of ReadId h f4 f9 = when f4 f9
     of ReadParameterPage h f4 f9 = when f4 f9
     of _ h f4 f9 = cc
@@ -201,7 +201,7 @@ not_zero : (m : ℕ) → (m + 1 == 0) ≡ true → false ≡ true
 not_zero m h = grind (arith, nat_tests)
 
 address_stands : (g : Parts) (t : TailFacts) (la : Latch) (luns : List LunView) (n : ℕ) (v : LunView) (byte : ℕ) → KeepsRules g t luns (AddressCycle byte) → slice_get luns n ≡ Some v → TailFits g t → RowStands g t n v → RowStands g (extended_facts (AddressCycle byte) t) n (view_after (cycle_effect g t la (AddressCycle byte) n) v)
-unfolding breaks_F8 breaks_F9
+unfolding breaks_row_outside breaks_lun_busy
 address_stands g t la luns n v byte keeps found tf f = at t.opening refl
   where
     next : Option Opening → TailFacts
@@ -288,7 +288,7 @@ cycle_stands g t la luns n v cycle keeps count found tf f = at (begins_sequence 
 pub row_stands : (g : Parts) (targets : ℕ) (t : TailFacts) (luns : List LunView) (i : Item) (n : ℕ) (v : LunView) → judge g targets t luns i ≡ None → length luns ≡ g.luns → slice_get luns n ≡ Some v → TailFits g t → RowStands g t n v → RowStands g (tail_after i t) n (view_after (effect_alone g t (has_driver luns) i n v) v)
 row_stands g targets t luns (Cyc c) n v h count found tf f =
     let cycle = target_cycle c.kind c.byte in
-    let keeps = keeps_rules g t luns cycle (first_passed (breaks_F1 targets luns (Cyc c)) F1 (judge_cycle g t luns cycle) h).1 in
+    let keeps = keeps_rules g t luns cycle (first_passed (breaks_not_there targets luns (Cyc c)) NotThere (judge_cycle g t luns cycle) h).1 in
     at (c.ce == c.ce) refl (cycle_stands g t (cond (has_driver luns) v.latch Off) luns n v cycle keeps count found tf f)
   where
     at : (b : Bool) → (c.ce == c.ce) ≡ b → RowStands g (facts_after (target_cycle c.kind c.byte) t) n (view_after (cycle_effect g t (cond (has_driver luns) v.latch Off) (target_cycle c.kind c.byte) n) v) → RowStands g (facts_after (target_cycle c.kind c.byte) t) n (view_after (cond b (cycle_effect g t (cond (has_driver luns) v.latch Off) (target_cycle c.kind c.byte) n) Unaffected) v)

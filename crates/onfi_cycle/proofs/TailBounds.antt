@@ -2,23 +2,23 @@
 use Rattle.std.proofs.Common.{◌≡◌, ℕ, ◌+◌, ◌^◌, ◌<◌, ◌≤◌, ◌==◌, Bool, true, false, ◌&&◌, ◌||◌, cond, not, ltb, List, [], Option, Some, None, refl, arith, IfSome}
 use Rattle.std.proofs.lemmas.Bool.Decides.{nat_tests}
 use Rattle.nand_geometry.specs.declared.Parts.{Parts}
-use Rattle.onfi_cycle.specs.declared.Command.{Command}
-use Rattle.onfi_cycle.specs.declared.Command.TheVariants.{Read, ChangeReadColumn, BlockErase, ReadStatusEnhanced, PageProgram, ChangeWriteColumn, ReadId, ReadParameterPage}
-use Rattle.onfi_cycle.specs.declared.DataPhase.{DataPhase}
-use Rattle.onfi_cycle.specs.declared.DataPhase.TheVariants.{Outside, Inputs, FirstColumn, SecondColumn}
-use Rattle.onfi_cycle.specs.declared.Opening.{Opening}
-use Rattle.onfi_cycle.specs.declared.TailFacts.{TailFacts}
-use Rattle.onfi_cycle.specs.declared.TargetCycle.{TargetCycle}
-use Rattle.onfi_cycle.specs.declared.TargetCycle.TheVariants.{CommandCycle, AddressCycle, InputCycle, OutputCycle}
+use Rattle.onfi_cycle.specs.declared.command.Command.{Command}
+use Rattle.onfi_cycle.specs.declared.command.Command.TheVariants.{Read, ChangeReadColumn, BlockErase, ReadStatusEnhanced, PageProgram, ChangeWriteColumn, ReadId, ReadParameterPage}
+use Rattle.onfi_cycle.specs.declared.tail_facts.DataPhase.{DataPhase}
+use Rattle.onfi_cycle.specs.declared.tail_facts.DataPhase.TheVariants.{Outside, Inputs, FirstColumn, SecondColumn}
+use Rattle.onfi_cycle.specs.declared.tail_facts.Opening.{Opening}
+use Rattle.onfi_cycle.specs.declared.tail_facts.TailFacts.{TailFacts}
+use Rattle.onfi_cycle.specs.declared.target_cycle.TargetCycle.{TargetCycle}
+use Rattle.onfi_cycle.specs.declared.target_cycle.TargetCycle.TheVariants.{CommandCycle, AddressCycle, InputCycle, OutputCycle}
 use Rattle.onfi_cycle.specs.LunView.{LunView}
 use Rattle.onfi_cycle.specs.Command.{address_cycles, is_opener, takes_address, is_page_program}
 use Rattle.onfi_cycle.specs.Sequence.{target_cycle, begins_sequence, facts_of, facts_after, extended_facts, opened, one_address_more, wants_column, phase_after_command, phase_after_address, phase_after_last_address, phase_after_input}
-use Rattle.onfi_cycle.specs.Rules.{breaks_F1, breaks_F7, breaks_F14}
+use Rattle.onfi_cycle.specs.Rules.{breaks_not_there, breaks_address_misplaced, breaks_column_outside}
 use Rattle.onfi_cycle.specs.Permitted.{judge, judge_cycle}
 use Rattle.onfi_cycle.specs.State.{tail_after}
-use Rattle.onfi_cycle.specs.declared.Item.{Item}
-use Rattle.onfi_cycle.specs.declared.Item.TheVariants.{Cyc, Rdy, Ard}
-use Rattle.onfi_cycle.specs.declared.Forbidden.TheVariants.{F1}
+use Rattle.onfi_cycle.specs.declared.item.Item.{Item}
+use Rattle.onfi_cycle.specs.declared.item.Item.TheVariants.{Cyc, Rdy, Ard}
+use Rattle.onfi_cycle.specs.declared.forbidden.Forbidden.TheVariants.{NotThere}
 use Rattle.onfi_cycle.proofs.Others.{first_passed}
 use Rattle.onfi_cycle.proofs.Passed.{keeps_rules}
 use Rattle.onfi_cycle.specs.Bounds.{TailFits}
@@ -107,8 +107,8 @@ opener_fits g c =
     }
 
 -- an address
-address_fits : (g : Parts) (byte : ℕ) (t : TailFacts) → breaks_F7 t (AddressCycle byte) ≡ false → (extended_facts (AddressCycle byte) t).column < 2 ^ 16 → TailFits g t → TailFits g (extended_facts (AddressCycle byte) t)
-unfolding breaks_F7
+address_fits : (g : Parts) (byte : ℕ) (t : TailFacts) → breaks_address_misplaced t (AddressCycle byte) ≡ false → (extended_facts (AddressCycle byte) t).column < 2 ^ 16 → TailFits g t → TailFits g (extended_facts (AddressCycle byte) t)
+unfolding breaks_address_misplaced
 address_fits g byte t f7 small f =
     record {
       column = small;
@@ -123,8 +123,8 @@ address_fits g byte t f7 small f =
     none e = rw e refl
 
 -- an input, which has its place in the page
-input_fits : (g : Parts) (luns : List LunView) (byte : ℕ) (t : TailFacts) → breaks_F14 g t luns (InputCycle byte) ≡ false → TailFits g t → TailFits g (extended_facts (InputCycle byte) t)
-unfolding breaks_F14
+input_fits : (g : Parts) (luns : List LunView) (byte : ℕ) (t : TailFacts) → breaks_column_outside g t luns (InputCycle byte) ≡ false → TailFits g t → TailFits g (extended_facts (InputCycle byte) t)
+unfolding breaks_column_outside
 input_fits g luns byte t f14 f =
     record {
       column = f.column;
@@ -140,7 +140,7 @@ output_fits g t f =
     record { column = f.column; inputs = omega arith; addresses = tt; in_column = λ h. refl; nothing = λ h. cc; outside = λ h. cc }
 
 -- a cycle that goes on with a tail
-extended_fits : (g : Parts) (luns : List LunView) (cycle : TargetCycle) (t : TailFacts) → t.is_empty ≡ false → breaks_F7 t cycle ≡ false → breaks_F14 g t luns cycle ≡ false → (extended_facts cycle t).column < 2 ^ 16 → TailFits g t → TailFits g (extended_facts cycle t)
+extended_fits : (g : Parts) (luns : List LunView) (cycle : TargetCycle) (t : TailFacts) → t.is_empty ≡ false → breaks_address_misplaced t cycle ≡ false → breaks_column_outside g t luns cycle ≡ false → (extended_facts cycle t).column < 2 ^ 16 → TailFits g t → TailFits g (extended_facts cycle t)
 extended_fits g luns (CommandCycle c) t some f7 f14 small f = command_fits g c t some f
 extended_fits g luns (AddressCycle byte) t some f7 f14 small f = address_fits g byte t f7 small f
 extended_fits g luns (InputCycle byte) t some f7 f14 small f = input_fits g luns byte t f14 f
@@ -153,7 +153,7 @@ begun_fits g (InputCycle byte) h = cc
 begun_fits g OutputCycle h = cc
 
 -- a permitted cycle
-cycle_fits : (g : Parts) (luns : List LunView) (cycle : TargetCycle) (t : TailFacts) → breaks_F7 t cycle ≡ false → breaks_F14 g t luns cycle ≡ false → (facts_after cycle t).column < 2 ^ 16 → TailFits g t → TailFits g (facts_after cycle t)
+cycle_fits : (g : Parts) (luns : List LunView) (cycle : TargetCycle) (t : TailFacts) → breaks_address_misplaced t cycle ≡ false → breaks_column_outside g t luns cycle ≡ false → (facts_after cycle t).column < 2 ^ 16 → TailFits g t → TailFits g (facts_after cycle t)
 cycle_fits g luns cycle t f7 f14 small f = at (begins_sequence cycle) refl small
   where
     on : (e : Bool) → t.is_empty ≡ e → (cond e t (extended_facts cycle t)).column < 2 ^ 16 → TailFits g (cond e t (extended_facts cycle t))
@@ -168,7 +168,7 @@ cycle_fits g luns cycle t f7 f14 small f = at (begins_sequence cycle) refl small
 pub tail_fits : (g : Parts) (n : ℕ) (luns : List LunView) (i : Item) (t : TailFacts) → judge g n t luns i ≡ None → (tail_after i t).column < 2 ^ 16 → TailFits g t → TailFits g (tail_after i t)
 tail_fits g n luns (Cyc c) t h small f =
     let cycle = target_cycle c.kind c.byte in
-    let keeps = keeps_rules g t luns cycle (first_passed (breaks_F1 n luns (Cyc c)) F1 (judge_cycle g t luns cycle) h).1 in
+    let keeps = keeps_rules g t luns cycle (first_passed (breaks_not_there n luns (Cyc c)) NotThere (judge_cycle g t luns cycle) h).1 in
     cycle_fits g luns cycle t keeps.f7 keeps.f14 small f
 tail_fits g n luns (Rdy _ _ _) t h small f = f
 tail_fits g n luns (Ard _ _) t h small f = f

@@ -6,29 +6,29 @@ use Rattle.std.proofs.lemmas.Option.{slice_get_within, get_or_from_slice_get}
 use Rattle.nand_geometry.specs.declared.Parts.{Parts}
 use Rattle.nand_geometry.specs.Limits.{InLimits}
 use Rattle.nand_geometry.specs.Row.{parts_of}
-use Rattle.onfi_cycle.specs.declared.Command.{Command}
-use Rattle.onfi_cycle.specs.declared.Command.TheVariants.{Read, ChangeReadColumnConfirm, ReadStatus, ReadStatusEnhanced, PageProgram, ReadId, ReadParameterPage, Reset, ReadCacheSequential, ReadCacheEnd}
-use Rattle.onfi_cycle.specs.declared.Cycle.{Cycle}
-use Rattle.onfi_cycle.specs.declared.Effect.{Effect}
-use Rattle.onfi_cycle.specs.declared.Effect.TheVariants.{Unaffected, SelectedForStatus, Deselected, IdRead, ParameterPageReadStarted, CacheReadContinued, CacheReadEnded, ReadColumnChanged, DataOutput, BecameReady, ArrayBecameReady}
-use Rattle.onfi_cycle.specs.declared.Filling.{Filling}
-use Rattle.onfi_cycle.specs.declared.Filling.TheVariants.{Leaves, Clears, Fills}
-use Rattle.onfi_cycle.specs.declared.Item.{Item}
-use Rattle.onfi_cycle.specs.declared.Item.TheVariants.{Cyc, Rdy, Ard}
-use Rattle.onfi_cycle.specs.declared.Latch.{Latch}
-use Rattle.onfi_cycle.specs.declared.Latch.TheVariants.{Off}
-use Rattle.onfi_cycle.specs.declared.Lun.{Lun}
-use Rattle.onfi_cycle.specs.declared.Opening.{Opening}
-use Rattle.onfi_cycle.specs.declared.TailFacts.{TailFacts}
-use Rattle.onfi_cycle.specs.declared.TargetCycle.{TargetCycle}
-use Rattle.onfi_cycle.specs.declared.TargetCycle.TheVariants.{CommandCycle, AddressCycle, InputCycle, OutputCycle}
+use Rattle.onfi_cycle.specs.declared.command.Command.{Command}
+use Rattle.onfi_cycle.specs.declared.command.Command.TheVariants.{Read, ChangeReadColumnConfirm, ReadStatus, ReadStatusEnhanced, PageProgram, ReadId, ReadParameterPage, Reset, ReadCacheSequential, ReadCacheEnd}
+use Rattle.onfi_cycle.specs.declared.item.Cycle.{Cycle}
+use Rattle.onfi_cycle.specs.declared.effect.Effect.{Effect}
+use Rattle.onfi_cycle.specs.declared.effect.Effect.TheVariants.{Unaffected, SelectedForStatus, Deselected, IdRead, ParameterPageReadStarted, CacheReadContinued, CacheReadEnded, ReadColumnChanged, DataOutput, BecameReady, ArrayBecameReady}
+use Rattle.onfi_cycle.specs.declared.fillings.Filling.{Filling}
+use Rattle.onfi_cycle.specs.declared.fillings.Filling.TheVariants.{Leaves, Clears, Fills}
+use Rattle.onfi_cycle.specs.declared.item.Item.{Item}
+use Rattle.onfi_cycle.specs.declared.item.Item.TheVariants.{Cyc, Rdy, Ard}
+use Rattle.onfi_cycle.specs.declared.lun_facts.Latch.{Latch}
+use Rattle.onfi_cycle.specs.declared.lun_facts.Latch.TheVariants.{Off}
+use Rattle.onfi_cycle.specs.declared.item.Lun.{Lun}
+use Rattle.onfi_cycle.specs.declared.tail_facts.Opening.{Opening}
+use Rattle.onfi_cycle.specs.declared.tail_facts.TailFacts.{TailFacts}
+use Rattle.onfi_cycle.specs.declared.target_cycle.TargetCycle.{TargetCycle}
+use Rattle.onfi_cycle.specs.declared.target_cycle.TargetCycle.TheVariants.{CommandCycle, AddressCycle, InputCycle, OutputCycle}
 use Rattle.onfi_cycle.specs.LunView.{LunView}
 use Rattle.onfi_cycle.specs.Command.{is_page_program, at_last_row, is_opener, address_cycles, takes_address, reads_identity}
 use Rattle.onfi_cycle.specs.Sequence.{target_of, target_cycle, tail, facts_of, opened, takes_inputs, wants_command, wants_address, wants_column, row, row_with, input_column}
 use Rattle.onfi_cycle.specs.Effect.{is_off, is_data, names_lun, page_address, confirm_effect, command_effect, address_effect, opening_address_effect, cycle_effect}
 use Rattle.onfi_cycle.specs.Filling.{cycle_filling, filling}
 use Rattle.onfi_cycle.specs.Lun.{latch, latch_alone, drivers, is_only, effect_on, lun_view, luns_of}
-use Rattle.onfi_cycle.specs.Rules.{ends_row, breaks_F4}
+use Rattle.onfi_cycle.specs.Rules.{ends_row, breaks_several_luns}
 use Rattle.onfi_cycle.specs.Permitted.{broken, judge}
 use Rattle.onfi_cycle.specs.State.{BusView, TargetView, Follows, target_view}
 use Rattle.onfi_cycle.specs.Bounds.{LunFits, RowFits, RowStands, EffectFits, LunsFit, TargetFits, BusFits, TailFits, names_identity}
@@ -49,7 +49,7 @@ same_number g r n m a b = sym (eqb-true (parts_of g r).lun n a) ∙ eqb-true (pa
 -- of two LUNs of a target, what each kind of cycle asks
 record MayShare (g : Parts) (t : TailFacts) (la lb : Latch) (cycle : TargetCycle) (n m : ℕ) : Type 0 where
   identity : names_identity t ≡ true → n ≡ m
-  reset : breaks_F4 g cycle ≡ false → cycle ≡ CommandCycle Reset → n ≡ m
+  reset : breaks_several_luns g cycle ≡ false → cycle ≡ CommandCycle Reset → n ≡ m
   driver : is_off la ≡ false → is_off lb ≡ false → n ≡ m
   outside : wants_column t.phase ≡ true → t.opening ≡ None
 
@@ -62,7 +62,7 @@ unless : (b : Bool) (x : Effect) → begins (cond b Unaffected x) ≡ true → b
 unless true x h = cc
 unless false x h = refl
 
-one_of_command : (g : Parts) (t : TailFacts) (la lb : Latch) (c : Command) (n m : ℕ) → breaks_F4 g (CommandCycle c) ≡ false → MayShare g t la lb (CommandCycle c) n m → begins (command_effect g t la c n) ≡ true → begins (command_effect g t lb c m) ≡ true → n ≡ m
+one_of_command : (g : Parts) (t : TailFacts) (la lb : Latch) (c : Command) (n m : ℕ) → breaks_several_luns g (CommandCycle c) ≡ false → MayShare g t la lb (CommandCycle c) n m → begins (command_effect g t la c n) ≡ true → begins (command_effect g t lb c m) ≡ true → n ≡ m
 one_of_command g t la lb Read n m f4 s a b = cc
 one_of_command g t la lb ReadStatus n m f4 s a b = cc
 one_of_command g t la lb ReadStatusEnhanced n m f4 s a b = cc
@@ -150,7 +150,7 @@ no_output la h = of (is_data la) h
 abbrev works_by : Parts → TailFacts → Latch → TargetCycle → ℕ → Bool
 works_by g t la cycle n = fills (cycle_filling g t cycle n) || begins (cycle_effect g t la cycle n)
 
-one_of_cycle : (g : Parts) (t : TailFacts) (la lb : Latch) (cycle : TargetCycle) (n m : ℕ) → breaks_F4 g cycle ≡ false → MayShare g t la lb cycle n m → works_by g t la cycle n ≡ true → works_by g t lb cycle m ≡ true → n ≡ m
+one_of_cycle : (g : Parts) (t : TailFacts) (la lb : Latch) (cycle : TargetCycle) (n m : ℕ) → breaks_several_luns g cycle ≡ false → MayShare g t la lb cycle n m → works_by g t la cycle n ≡ true → works_by g t lb cycle m ≡ true → n ≡ m
 one_of_cycle g t la lb (CommandCycle c) n m f4 s a b = one_of_command g t la lb c n m f4 s a b
 one_of_cycle g t la lb (AddressCycle byte) n m f4 s a b = one_of_address g t la lb byte n m s a b
 one_of_cycle g t la lb (InputCycle byte) n m f4 s a b = one_of_input g t byte n m (or_false _ a) (or_false _ b)
@@ -192,8 +192,8 @@ ready_rests g past (Ard ce lun) l h = let no = of (ce == l.ce && lun == l.lun) h
     of true h = h
     of false h = h
 
-few_luns : (g : Parts) (cycle : TargetCycle) → breaks_F4 g cycle ≡ false → cycle ≡ CommandCycle Reset → g.luns ≤ 1
-unfolding breaks_F4
+few_luns : (g : Parts) (cycle : TargetCycle) → breaks_several_luns g cycle ≡ false → cycle ≡ CommandCycle Reset → g.luns ≤ 1
+unfolding breaks_several_luns
 few_luns g (CommandCycle Reset) f4 e = let low : ltb 1 g.luns ≡ false = f4 in grind (arith, nat_tests)
 few_luns g cycle f4 e = cc
 
@@ -293,6 +293,12 @@ facts_fit g n s past fits f =
           (sym (ap (λ (x : Item). works_on g past x l) c.1) ∙ a)
           (sym (ap (λ (x : Item). works_on g past x m) c.1) ∙ b);
     }
+
+-- the facts of the tail, by the state and by the past
+pub tail_there : (g : Parts) (n : ℕ) (s : BusView) (past : List Item) (ce : ℕ) (v : TargetView) → Follows g n s past → ce < n → slice_get s.targets ce ≡ Some v → v.tail ≡ facts_of (tail past ce)
+tail_there g n s past ce v f here found =
+    let same : v ≡ target_view g past ce = let two = found_target g n s past ce f here in cc in
+    ap (λ (x : TargetView). x.tail) same
 
 -- what an item does to the page registers, by the state and by the past
 pub filling_there : (g : Parts) (n : ℕ) (s : BusView) (past : List Item) (i : Item) (l : Lun) (v : TargetView) → Follows g n s past → l.ce < n → slice_get s.targets l.ce ≡ Some v → filling s.geometry v.tail i l ≡ filling g (facts_of (tail past l.ce)) i l

@@ -2,11 +2,11 @@
 use Rattle.std.specs.Prelude.{◌≡◌, ℕ, ◌==◌, ◌&&◌, Bool, true, false, nat_lt, List, [], ◌∷◌, Option, None, length}
 use Rattle.nand_geometry.specs.declared.Parts.{Parts}
 use Rattle.nand_geometry.specs.Limits.{InLimits, page_len}
-use Rattle.onfi_cycle.specs.declared.Lun.{Lun}
-use Rattle.onfi_cycle.specs.declared.PageAddress.{PageAddress}
-use Rattle.onfi_cycle.specs.declared.Kind.{Kind}
-use Rattle.onfi_cycle.specs.declared.Item.{Item}
-use Rattle.onfi_cycle.specs.declared.Item.TheVariants.{Cyc, Rdy, Ard}
+use Rattle.onfi_cycle.specs.declared.item.Lun.{Lun}
+use Rattle.onfi_cycle.specs.declared.effect.PageAddress.{PageAddress}
+use Rattle.onfi_cycle.specs.declared.item.Kind.{Kind}
+use Rattle.onfi_cycle.specs.declared.item.Item.{Item}
+use Rattle.onfi_cycle.specs.declared.item.Item.TheVariants.{Cyc, Rdy, Ard}
 use Rattle.onfi_cycle.specs.Sequence.{tail, facts_of, is_open}
 use Rattle.onfi_cycle.specs.Lun.{drivers, is_busy, is_caching, queue}
 use Rattle.onfi_cycle.specs.Content.{shown}

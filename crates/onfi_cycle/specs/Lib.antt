@@ -19,3 +19,4 @@ pub mod Working
 pub mod Readies
 pub mod Look
 pub mod Applied
+pub mod Codes

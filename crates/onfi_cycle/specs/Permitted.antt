@@ -1,38 +1,38 @@
 -- Which item is permitted after which past, and which pasts are legal.
 use Rattle.std.specs.Prelude.{◌≡◌, ℕ, Bool, true, ◌&&◌, if◌then◌else◌, List, [], ◌∷◌, Option, Some, None, is_none, reverse, take, slice_get}
 use Rattle.nand_geometry.specs.declared.Parts.{Parts}
-use Rattle.onfi_cycle.specs.declared.Item.{Item}
-use Rattle.onfi_cycle.specs.declared.Item.TheVariants.{Cyc, Rdy, Ard}
-use Rattle.onfi_cycle.specs.declared.TargetCycle.{TargetCycle}
-use Rattle.onfi_cycle.specs.declared.TailFacts.{TailFacts}
-use Rattle.onfi_cycle.specs.declared.Forbidden.{Forbidden}
-use Rattle.onfi_cycle.specs.declared.Forbidden.TheVariants.{F1, F2, F3, F4, F5, F6, F7, F8, F9, F10, F11, F12, F13, F14, F15}
+use Rattle.onfi_cycle.specs.declared.item.Item.{Item}
+use Rattle.onfi_cycle.specs.declared.item.Item.TheVariants.{Cyc, Rdy, Ard}
+use Rattle.onfi_cycle.specs.declared.target_cycle.TargetCycle.{TargetCycle}
+use Rattle.onfi_cycle.specs.declared.tail_facts.TailFacts.{TailFacts}
+use Rattle.onfi_cycle.specs.declared.forbidden.Forbidden.{Forbidden}
+use Rattle.onfi_cycle.specs.declared.forbidden.Forbidden.TheVariants.{NotThere, CommandUnknown, SequenceOpen, SeveralLuns, NoColumnToChange, CommandMisplaced, AddressMisplaced, RowOutside, LunBusy, QueueClash, InputMisplaced, NoSoleDriver, DataNotReady, ColumnOutside, CacheReadMisplaced}
 use Rattle.onfi_cycle.specs.LunView.{LunView}
 use Rattle.onfi_cycle.specs.Sequence.{target_of, target_cycle, tail, facts_of}
 use Rattle.onfi_cycle.specs.Lun.{luns_of}
-use Rattle.onfi_cycle.specs.Rules.{breaks_F1, breaks_F2, breaks_F3, breaks_F4, breaks_F5, breaks_F6, breaks_F7, breaks_F8, breaks_F9, breaks_F10, breaks_F11, breaks_F12, breaks_F13, breaks_F14, breaks_F15}
+use Rattle.onfi_cycle.specs.Rules.{breaks_not_there, breaks_command_unknown, breaks_sequence_open, breaks_several_luns, breaks_no_column_to_change, breaks_command_misplaced, breaks_address_misplaced, breaks_row_outside, breaks_lun_busy, breaks_queue_clash, breaks_input_misplaced, breaks_no_sole_driver, breaks_data_not_ready, breaks_column_outside, breaks_cache_read_misplaced}
 
 -- the first of F3 to F15 that a cycle breaks
 abbrev pub judge_known_cycle : Parts → TailFacts → List LunView → TargetCycle → Option Forbidden
 judge_known_cycle g t luns cycle =
-    if breaks_F3 t cycle then Some F3
-    else (if breaks_F4 g cycle then Some F4
-    else (if breaks_F5 luns cycle then Some F5
-    else (if breaks_F6 t cycle then Some F6
-    else (if breaks_F7 t cycle then Some F7
-    else (if breaks_F8 g t cycle then Some F8
-    else (if breaks_F9 g t luns cycle then Some F9
-    else (if breaks_F10 g t luns cycle then Some F10
-    else (if breaks_F11 t cycle then Some F11
-    else (if breaks_F12 t luns cycle then Some F12
-    else (if breaks_F13 luns cycle then Some F13
-    else (if breaks_F14 g t luns cycle then Some F14
-    else (if breaks_F15 g t luns cycle then Some F15
+    if breaks_sequence_open t cycle then Some SequenceOpen
+    else (if breaks_several_luns g cycle then Some SeveralLuns
+    else (if breaks_no_column_to_change luns cycle then Some NoColumnToChange
+    else (if breaks_command_misplaced t cycle then Some CommandMisplaced
+    else (if breaks_address_misplaced t cycle then Some AddressMisplaced
+    else (if breaks_row_outside g t cycle then Some RowOutside
+    else (if breaks_lun_busy g t luns cycle then Some LunBusy
+    else (if breaks_queue_clash g t luns cycle then Some QueueClash
+    else (if breaks_input_misplaced t cycle then Some InputMisplaced
+    else (if breaks_no_sole_driver t luns cycle then Some NoSoleDriver
+    else (if breaks_data_not_ready luns cycle then Some DataNotReady
+    else (if breaks_column_outside g t luns cycle then Some ColumnOutside
+    else (if breaks_cache_read_misplaced g t luns cycle then Some CacheReadMisplaced
     else None))))))))))))
 
 -- the first of F2 to F15 that a cycle breaks
 abbrev pub judge_cycle : Parts → TailFacts → List LunView → TargetCycle → Option Forbidden
-judge_cycle g t luns cycle = if breaks_F2 g cycle then Some F2 else judge_known_cycle g t luns cycle
+judge_cycle g t luns cycle = if breaks_command_unknown g cycle then Some CommandUnknown else judge_known_cycle g t luns cycle
 
 abbrev pub judge_item : Parts → TailFacts → List LunView → Item → Option Forbidden
 judge_item g t luns (Cyc c) = judge_cycle g t luns (target_cycle c.kind c.byte)
@@ -41,7 +41,7 @@ judge_item g t luns (Ard _ _) = None
 
 -- the first rule that an item breaks, by the facts of its target
 abbrev pub judge : Parts → ℕ → TailFacts → List LunView → Item → Option Forbidden
-judge g targets t luns i = if breaks_F1 targets luns i then Some F1 else judge_item g t luns i
+judge g targets t luns i = if breaks_not_there targets luns i then Some NotThere else judge_item g t luns i
 
 -- the first rule that the item breaks after the past
 abbrev pub broken : Parts → ℕ → List Item → Item → Option Forbidden

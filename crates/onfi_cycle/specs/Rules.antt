@@ -3,20 +3,20 @@ use Rattle.std.specs.Prelude.{ℕ, ◌+◌, ◌/◌, ◌%◌, ◌==◌, Bool, tr
 use Rattle.nand_geometry.specs.declared.Parts.{Parts}
 use Rattle.nand_geometry.specs.Limits.{page_len, planes}
 use Rattle.nand_geometry.specs.Row.{parts_of, is_inside}
-use Rattle.onfi_cycle.specs.declared.Command.{Command}
-use Rattle.onfi_cycle.specs.declared.Command.TheVariants.{Read, ChangeReadColumn, BlockErase, BlockErasePlane, ReadStatusEnhanced, PageProgram, ProgramPlane, ReadCacheSequential, ReadCacheEnd}
-use Rattle.onfi_cycle.specs.declared.Item.{Item}
-use Rattle.onfi_cycle.specs.declared.Item.TheVariants.{Cyc, Rdy, Ard}
+use Rattle.onfi_cycle.specs.declared.command.Command.{Command}
+use Rattle.onfi_cycle.specs.declared.command.Command.TheVariants.{Read, ChangeReadColumn, BlockErase, BlockErasePlane, ReadStatusEnhanced, PageProgram, ProgramPlane, ReadCacheSequential, ReadCacheEnd}
+use Rattle.onfi_cycle.specs.declared.item.Item.{Item}
+use Rattle.onfi_cycle.specs.declared.item.Item.TheVariants.{Cyc, Rdy, Ard}
 use Rattle.onfi_cycle.specs.Command.{is_known, is_opener, at_last_row, is_change_read_column, addresses_the_array, addresses_a_page, reads_identity, wants_ready, wants_one_lun}
-use Rattle.onfi_cycle.specs.declared.TargetCycle.{TargetCycle}
-use Rattle.onfi_cycle.specs.declared.TargetCycle.TheVariants.{CommandCycle, AddressCycle, InputCycle, OutputCycle}
-use Rattle.onfi_cycle.specs.declared.PageAddress.{PageAddress}
-use Rattle.onfi_cycle.specs.declared.Queued.{Queued}
-use Rattle.onfi_cycle.specs.declared.Queued.TheVariants.{Erase, Program}
-use Rattle.onfi_cycle.specs.declared.Register.{Register}
-use Rattle.onfi_cycle.specs.declared.Register.TheVariants.{Empty, Page, ParameterPage, Identifier}
-use Rattle.onfi_cycle.specs.declared.Opening.{Opening}
-use Rattle.onfi_cycle.specs.declared.TailFacts.{TailFacts}
+use Rattle.onfi_cycle.specs.declared.target_cycle.TargetCycle.{TargetCycle}
+use Rattle.onfi_cycle.specs.declared.target_cycle.TargetCycle.TheVariants.{CommandCycle, AddressCycle, InputCycle, OutputCycle}
+use Rattle.onfi_cycle.specs.declared.effect.PageAddress.{PageAddress}
+use Rattle.onfi_cycle.specs.declared.lun_facts.Queued.{Queued}
+use Rattle.onfi_cycle.specs.declared.lun_facts.Queued.TheVariants.{Erase, Program}
+use Rattle.onfi_cycle.specs.declared.lun_facts.Register.{Register}
+use Rattle.onfi_cycle.specs.declared.lun_facts.Register.TheVariants.{Empty, Page, ParameterPage, Identifier}
+use Rattle.onfi_cycle.specs.declared.tail_facts.Opening.{Opening}
+use Rattle.onfi_cycle.specs.declared.tail_facts.TailFacts.{TailFacts}
 use Rattle.onfi_cycle.specs.Sequence.{opened, takes_inputs, wants_second_column, wants_command, wants_address, is_open, row_with, column_with, input_column}
 use Rattle.onfi_cycle.specs.Effect.{is_off, is_data, page_address}
 use Rattle.onfi_cycle.specs.LunView.{LunView}
@@ -117,55 +117,55 @@ has_some [] = false
 has_some (c ∷ cs) = true
 
 -- F1: the chip enable or LUN isn't there; a ready of a LUN that isn't busy, an array ready of one whose array isn't
-unfoldable pub breaks_F1 : ℕ → List LunView → Item → Bool
-breaks_F1 targets luns (Cyc c) = nat_le targets c.ce
-breaks_F1 targets luns (Rdy ce lun fail) = nat_le targets ce || not (lun_is (λ v. v.busy) luns lun)
-breaks_F1 targets luns (Ard ce lun) = nat_le targets ce || not (lun_is (λ v. v.array_busy) luns lun)
+unfoldable pub breaks_not_there : ℕ → List LunView → Item → Bool
+breaks_not_there targets luns (Cyc c) = nat_le targets c.ce
+breaks_not_there targets luns (Rdy ce lun fail) = nat_le targets ce || not (lun_is (λ v. v.busy) luns lun)
+breaks_not_there targets luns (Ard ce lun) = nat_le targets ce || not (lun_is (λ v. v.array_busy) luns lun)
 
 -- F2: a byte that is no command, or one that needs what isn't declared
-unfoldable pub breaks_F2 : Parts → TargetCycle → Bool
-breaks_F2 g (CommandCycle c) = not (is_known c) || is_undeclared g c
-breaks_F2 g _ = false
+unfoldable pub breaks_command_unknown : Parts → TargetCycle → Bool
+breaks_command_unknown g (CommandCycle c) = not (is_known c) || is_undeclared g c
+breaks_command_unknown g _ = false
 
 -- F3: an opener while a sequence is open
-unfoldable pub breaks_F3 : TailFacts → TargetCycle → Bool
-breaks_F3 t (CommandCycle c) = is_opener c && is_open t
-breaks_F3 t _ = false
+unfoldable pub breaks_sequence_open : TailFacts → TargetCycle → Bool
+breaks_sequence_open t (CommandCycle c) = is_opener c && is_open t
+breaks_sequence_open t _ = false
 
 -- F4: 70, 90, EC or FF on a target with several LUNs
-unfoldable pub breaks_F4 : Parts → TargetCycle → Bool
-breaks_F4 g (CommandCycle c) = wants_one_lun c && nat_lt 1 g.luns
-breaks_F4 g _ = false
+unfoldable pub breaks_several_luns : Parts → TargetCycle → Bool
+breaks_several_luns g (CommandCycle c) = wants_one_lun c && nat_lt 1 g.luns
+breaks_several_luns g _ = false
 
 -- the LUN shows data, isn't busy and has a page or the parameter page
 abbrev pub may_change_column : LunView → Bool
 may_change_column v = is_data v.latch && (not v.busy && is_page_or_parameters v.register)
 
 -- F5: 05 without one driver that shows data, isn't busy and has a page or the parameter page
-unfoldable pub breaks_F5 : List LunView → TargetCycle → Bool
-breaks_F5 luns (CommandCycle ChangeReadColumn) = not (driver_is may_change_column luns)
-breaks_F5 luns _ = false
+unfoldable pub breaks_no_column_to_change : List LunView → TargetCycle → Bool
+breaks_no_column_to_change luns (CommandCycle ChangeReadColumn) = not (driver_is may_change_column luns)
+breaks_no_column_to_change luns _ = false
 
 -- F6: a command that is no opener and that the tail doesn't want
-unfoldable pub breaks_F6 : TailFacts → TargetCycle → Bool
-breaks_F6 t (CommandCycle c) = not (is_opener c) && not (wants_command t c)
-breaks_F6 t _ = false
+unfoldable pub breaks_command_misplaced : TailFacts → TargetCycle → Bool
+breaks_command_misplaced t (CommandCycle c) = not (is_opener c) && not (wants_command t c)
+breaks_command_misplaced t _ = false
 
 -- F7: an address that the tail doesn't want
-unfoldable pub breaks_F7 : TailFacts → TargetCycle → Bool
-breaks_F7 t (AddressCycle byte) = not (wants_address t byte)
-breaks_F7 t _ = false
+unfoldable pub breaks_address_misplaced : TailFacts → TargetCycle → Bool
+breaks_address_misplaced t (AddressCycle byte) = not (wants_address t byte)
+breaks_address_misplaced t _ = false
 
 -- F8: the last row cycle of a row outside the geometry
-unfoldable pub breaks_F8 : Parts → TailFacts → TargetCycle → Bool
-breaks_F8 g t (AddressCycle byte) = ends_row (λ c. true) t && not (is_inside g (parts_of g (row_with t byte)))
-breaks_F8 g t _ = false
+unfoldable pub breaks_row_outside : Parts → TailFacts → TargetCycle → Bool
+breaks_row_outside g t (AddressCycle byte) = ends_row (λ c. true) t && not (is_inside g (parts_of g (row_with t byte)))
+breaks_row_outside g t _ = false
 
 -- F9: an opener that wants a ready LUN where there is none; the last row cycle of 00, 60 or 80 names a busy LUN
-unfoldable pub breaks_F9 : Parts → TailFacts → List LunView → TargetCycle → Bool
-breaks_F9 g t luns (CommandCycle c) = wants_ready c && not (some_lun_is (λ v. not v.busy) luns)
-breaks_F9 g t luns (AddressCycle byte) = ends_row addresses_the_array t && named_lun_is g (row_with t byte) (λ v. v.busy) luns
-breaks_F9 g t luns _ = false
+unfoldable pub breaks_lun_busy : Parts → TailFacts → List LunView → TargetCycle → Bool
+breaks_lun_busy g t luns (CommandCycle c) = wants_ready c && not (some_lun_is (λ v. not v.busy) luns)
+breaks_lun_busy g t luns (AddressCycle byte) = ends_row addresses_the_array t && named_lun_is g (row_with t byte) (λ v. v.busy) luns
+breaks_lun_busy g t luns _ = false
 
 -- a queue refuses the last row cycle of this opener, with this page
 abbrev pub refused_by : Parts → Command → PageAddress → List Queued → Bool
@@ -178,30 +178,30 @@ abbrev pub is_refused_by : Parts → Option Opening → PageAddress → List Que
 is_refused_by g o p q = opened (λ c n. at_last_row c n && refused_by g c p q) o
 
 -- F10: 90, EC or the last row cycle of 00 on a LUN with a queue; the last row cycle of 60 or 80 that doesn't go together with it
-unfoldable pub breaks_F10 : Parts → TailFacts → List LunView → TargetCycle → Bool
-breaks_F10 g t luns (CommandCycle c) = reads_identity c && some_lun_is (λ v. has_some v.queue) luns
-breaks_F10 g t luns (AddressCycle byte) =
+unfoldable pub breaks_queue_clash : Parts → TailFacts → List LunView → TargetCycle → Bool
+breaks_queue_clash g t luns (CommandCycle c) = reads_identity c && some_lun_is (λ v. has_some v.queue) luns
+breaks_queue_clash g t luns (AddressCycle byte) =
     named_lun_is g (row_with t byte) (λ v. is_refused_by g t.opening (page_address g (row_with t byte)) v.queue) luns
-breaks_F10 g t luns _ = false
+breaks_queue_clash g t luns _ = false
 
 -- F11: an input elsewhere than in a program with its last address whole
-unfoldable pub breaks_F11 : TailFacts → TargetCycle → Bool
-breaks_F11 t (InputCycle byte) = not (takes_inputs t.phase)
-breaks_F11 t _ = false
+unfoldable pub breaks_input_misplaced : TailFacts → TargetCycle → Bool
+breaks_input_misplaced t (InputCycle byte) = not (takes_inputs t.phase)
+breaks_input_misplaced t _ = false
 
 -- F12: an output while a sequence is open, or with other than one driver
-unfoldable pub breaks_F12 : TailFacts → List LunView → TargetCycle → Bool
-breaks_F12 t luns OutputCycle = is_open t || not (driver_is (λ v. true) luns)
-breaks_F12 t luns _ = false
+unfoldable pub breaks_no_sole_driver : TailFacts → List LunView → TargetCycle → Bool
+breaks_no_sole_driver t luns OutputCycle = is_open t || not (driver_is (λ v. true) luns)
+breaks_no_sole_driver t luns _ = false
 
 -- the LUN shows data, and is busy, has no register or has lost its column
 abbrev pub has_no_byte : LunView → Bool
 has_no_byte v = is_data v.latch && (v.busy || is_empty v.register || lacks (output_column v.column))
 
 -- F13: an output of a LUN that shows data and is busy, has no register or has lost its column
-unfoldable pub breaks_F13 : List LunView → TargetCycle → Bool
-breaks_F13 luns OutputCycle = driver_is has_no_byte luns
-breaks_F13 luns _ = false
+unfoldable pub breaks_data_not_ready : List LunView → TargetCycle → Bool
+breaks_data_not_ready luns OutputCycle = driver_is has_no_byte luns
+breaks_data_not_ready luns _ = false
 
 -- the LUN shows data, and its column is past its register
 abbrev pub is_past_register : Parts → LunView → Bool
@@ -216,12 +216,12 @@ abbrev pub second_of_page : TailFacts → Bool
 second_of_page t = second_column addresses_a_page t || wants_second_column t.phase
 
 -- F14: a second column cycle of a column outside the page, or the register for 05; an input past the page; a data output past the register
-unfoldable pub breaks_F14 : Parts → TailFacts → List LunView → TargetCycle → Bool
-breaks_F14 g t luns (AddressCycle byte) =
+unfoldable pub breaks_column_outside : Parts → TailFacts → List LunView → TargetCycle → Bool
+breaks_column_outside g t luns (AddressCycle byte) =
     (second_of_page t && nat_le (page_len g) (column_with t byte)) || (second_column is_change_read_column t && driver_is (λ v. nat_le (register_len g v.register) (column_with t byte)) luns)
-breaks_F14 g t luns (InputCycle byte) = nat_le (page_len g) (input_column t)
-breaks_F14 g t luns OutputCycle = driver_is (is_past_register g) luns
-breaks_F14 g t luns (CommandCycle c) = false
+breaks_column_outside g t luns (InputCycle byte) = nat_le (page_len g) (input_column t)
+breaks_column_outside g t luns OutputCycle = driver_is (is_past_register g) luns
+breaks_column_outside g t luns (CommandCycle c) = false
 
 -- a cache read goes on
 abbrev pub caching : LunView → Bool
@@ -235,9 +235,9 @@ ends_cache v = not v.busy && caching v
 
 -- F15: 31 or 3F without one driver that isn't busy; 31 after another closer than 30 or 31, or with no page left in the block;
 -- 3F without a cache read; the last row cycle of 00, 60 or 80, or 90 or EC, while one goes on
-unfoldable pub breaks_F15 : Parts → TailFacts → List LunView → TargetCycle → Bool
-breaks_F15 g t luns (CommandCycle ReadCacheSequential) = not (driver_is (continues_cache g) luns)
-breaks_F15 g t luns (CommandCycle ReadCacheEnd) = not (driver_is ends_cache luns)
-breaks_F15 g t luns (CommandCycle c) = reads_identity c && some_lun_is caching luns
-breaks_F15 g t luns (AddressCycle byte) = ends_row addresses_the_array t && named_lun_is g (row_with t byte) caching luns
-breaks_F15 g t luns _ = false
+unfoldable pub breaks_cache_read_misplaced : Parts → TailFacts → List LunView → TargetCycle → Bool
+breaks_cache_read_misplaced g t luns (CommandCycle ReadCacheSequential) = not (driver_is (continues_cache g) luns)
+breaks_cache_read_misplaced g t luns (CommandCycle ReadCacheEnd) = not (driver_is ends_cache luns)
+breaks_cache_read_misplaced g t luns (CommandCycle c) = reads_identity c && some_lun_is caching luns
+breaks_cache_read_misplaced g t luns (AddressCycle byte) = ends_row addresses_the_array t && named_lun_is g (row_with t byte) caching luns
+breaks_cache_read_misplaced g t luns _ = false

@@ -2,19 +2,19 @@
 -- A past is a list of items, the newest first; so is a tail.
 use Rattle.std.specs.Prelude.{ℕ, ◌%◌, ◌+◌, ◌*◌, ◌==◌, Bool, true, false, ◌||◌, ◌&&◌, nat_lt, nat_le, if◌then◌else◌, List, [], ◌∷◌, Option, Some, None, replicate, slice_set, IfSome, ◌≤◌, ◌<◌, ◌^◌}
 use Rattle.nand_geometry.specs.Row.{row_of}
-use Rattle.onfi_cycle.specs.declared.TargetCycle.{TargetCycle}
-use Rattle.onfi_cycle.specs.declared.TargetCycle.TheVariants.{CommandCycle, AddressCycle, InputCycle, OutputCycle}
-use Rattle.onfi_cycle.specs.declared.RowBytes.{RowBytes}
-use Rattle.onfi_cycle.specs.declared.Opening.{Opening}
-use Rattle.onfi_cycle.specs.declared.DataPhase.{DataPhase}
-use Rattle.onfi_cycle.specs.declared.DataPhase.TheVariants.{Outside, Inputs, FirstColumn, SecondColumn}
-use Rattle.onfi_cycle.specs.declared.TailFacts.{TailFacts}
-use Rattle.onfi_cycle.specs.declared.Command.{Command}
-use Rattle.onfi_cycle.specs.declared.Command.TheVariants.{Read, ChangeWriteColumn, ProgramConfirm, ProgramPlane}
-use Rattle.onfi_cycle.specs.declared.Kind.{Kind}
-use Rattle.onfi_cycle.specs.declared.Kind.TheVariants.{Cmd, Adr, Din, Dout}
-use Rattle.onfi_cycle.specs.declared.Item.{Item}
-use Rattle.onfi_cycle.specs.declared.Item.TheVariants.{Cyc, Rdy, Ard}
+use Rattle.onfi_cycle.specs.declared.target_cycle.TargetCycle.{TargetCycle}
+use Rattle.onfi_cycle.specs.declared.target_cycle.TargetCycle.TheVariants.{CommandCycle, AddressCycle, InputCycle, OutputCycle}
+use Rattle.onfi_cycle.specs.declared.tail_facts.RowBytes.{RowBytes}
+use Rattle.onfi_cycle.specs.declared.tail_facts.Opening.{Opening}
+use Rattle.onfi_cycle.specs.declared.tail_facts.DataPhase.{DataPhase}
+use Rattle.onfi_cycle.specs.declared.tail_facts.DataPhase.TheVariants.{Outside, Inputs, FirstColumn, SecondColumn}
+use Rattle.onfi_cycle.specs.declared.tail_facts.TailFacts.{TailFacts}
+use Rattle.onfi_cycle.specs.declared.command.Command.{Command}
+use Rattle.onfi_cycle.specs.declared.command.Command.TheVariants.{Read, ChangeWriteColumn, ProgramConfirm, ProgramPlane}
+use Rattle.onfi_cycle.specs.declared.item.Kind.{Kind}
+use Rattle.onfi_cycle.specs.declared.item.Kind.TheVariants.{Cmd, Adr, Din, Dout}
+use Rattle.onfi_cycle.specs.declared.item.Item.{Item}
+use Rattle.onfi_cycle.specs.declared.item.Item.TheVariants.{Cyc, Rdy, Ard}
 use Rattle.onfi_cycle.specs.Command.{command, is_opener, address_cycles, wants_closer, closes, takes_address, is_page_program}
 
 -- where an item happens

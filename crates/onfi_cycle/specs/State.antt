@@ -1,13 +1,13 @@
 -- What a running channel keeps of its past: the facts that the rules see, and nothing else.
 use Rattle.std.specs.Prelude.{◌≡◌, ℕ, zero, suc, ◌+◌, Bool, true, List, [], ◌∷◌, Option, Some, None, length, slice_get, if◌then◌else◌}
 use Rattle.nand_geometry.specs.declared.Parts.{Parts}
-use Rattle.onfi_cycle.specs.declared.Item.{Item}
-use Rattle.onfi_cycle.specs.declared.Item.TheVariants.{Cyc, Rdy, Ard}
-use Rattle.onfi_cycle.specs.declared.Latch.TheVariants.{Off}
-use Rattle.onfi_cycle.specs.declared.Effect.{Effect}
-use Rattle.onfi_cycle.specs.declared.TailFacts.{TailFacts}
-use Rattle.onfi_cycle.specs.declared.Forbidden.{Forbidden}
-use Rattle.onfi_cycle.specs.declared.Forbidden.TheVariants.{F1}
+use Rattle.onfi_cycle.specs.declared.item.Item.{Item}
+use Rattle.onfi_cycle.specs.declared.item.Item.TheVariants.{Cyc, Rdy, Ard}
+use Rattle.onfi_cycle.specs.declared.lun_facts.Latch.TheVariants.{Off}
+use Rattle.onfi_cycle.specs.declared.effect.Effect.{Effect}
+use Rattle.onfi_cycle.specs.declared.tail_facts.TailFacts.{TailFacts}
+use Rattle.onfi_cycle.specs.declared.forbidden.Forbidden.{Forbidden}
+use Rattle.onfi_cycle.specs.declared.forbidden.Forbidden.TheVariants.{NotThere}
 use Rattle.onfi_cycle.specs.LunView.{LunView}
 use Rattle.onfi_cycle.specs.Sequence.{target_of, target_cycle, tail, facts_of, facts_after}
 use Rattle.onfi_cycle.specs.Effect.{item_effect}
@@ -42,7 +42,7 @@ pub record Follows (g : Parts) (targets : ℕ) (state : BusView) (past : List It
 
 -- the rule that an item breaks, by the state; F1 where its target isn't there
 abbrev pub judged_on : Parts → ℕ → Option TargetView → Item → Option Forbidden
-judged_on g targets None i = Some F1
+judged_on g targets None i = Some NotThere
 judged_on g targets (Some s) i = judge g targets s.tail s.luns i
 
 abbrev pub judged : BusView → Item → Option Forbidden

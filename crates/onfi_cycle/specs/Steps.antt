@@ -1,11 +1,11 @@
 -- What one item more changes: laws for the crates above.
 use Rattle.std.specs.Prelude.{◌≡◌, ℕ, ◌<◌, Bool, true, false, ◌||◌, ◌&&◌, List, ◌∷◌, Some, None, length, slice_get}
 use Rattle.nand_geometry.specs.declared.Parts.{Parts}
-use Rattle.onfi_cycle.specs.declared.Cycle.{Cycle}
-use Rattle.onfi_cycle.specs.declared.Kind.TheVariants.{Dout}
-use Rattle.onfi_cycle.specs.declared.Lun.{Lun}
-use Rattle.onfi_cycle.specs.declared.Item.{Item}
-use Rattle.onfi_cycle.specs.declared.Item.TheVariants.{Cyc, Rdy, Ard}
+use Rattle.onfi_cycle.specs.declared.item.Cycle.{Cycle}
+use Rattle.onfi_cycle.specs.declared.item.Kind.TheVariants.{Dout}
+use Rattle.onfi_cycle.specs.declared.item.Lun.{Lun}
+use Rattle.onfi_cycle.specs.declared.item.Item.{Item}
+use Rattle.onfi_cycle.specs.declared.item.Item.TheVariants.{Cyc, Rdy, Ard}
 use Rattle.onfi_cycle.specs.Sequence.{target_cycle, tail, facts_of, facts_after}
 use Rattle.onfi_cycle.specs.Lun.{effect_on, drivers, is_only, is_cache_read, lun_view, luns_of, view_after}
 use Rattle.onfi_cycle.specs.Rules.{driver}

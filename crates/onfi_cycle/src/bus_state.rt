@@ -2,9 +2,9 @@
 ghost use Rattle.std.specs.Prelude.{◌≡◌, ℕ, ◌+◌, ◌^◌, ◌<◌, ◌≤◌, ◌∷◌, List, [], Some, None, IfSome, length, slice_get, if◌then◌else◌};
 ghost use Rattle.std.specs.Option.{option_copied};
 ghost use Rattle.nand_geometry.specs.declared.Parts.{Parts};
-ghost use Rattle.onfi_cycle.specs.declared.Item.{Item};
-ghost use Rattle.onfi_cycle.specs.declared.Lun.{Lun};
-ghost use Rattle.onfi_cycle.specs.declared.Latch.TheVariants.{Off};
+ghost use Rattle.onfi_cycle.specs.declared.item.Item.{Item};
+ghost use Rattle.onfi_cycle.specs.declared.item.Lun.{Lun};
+ghost use Rattle.onfi_cycle.specs.declared.lun_facts.Latch.TheVariants.{Off};
 ghost use Rattle.onfi_cycle.specs.LunView.{LunView};
 ghost use Rattle.onfi_cycle.specs.Effect.{cycle_effect, is_data};
 ghost use Rattle.onfi_cycle.specs.Rules.{some_lun_is};
@@ -20,17 +20,12 @@ ghost use Rattle.onfi_cycle.specs.State.{TargetView, BusView, Follows, target_vi
 ghost use Rattle.onfi_cycle.specs.Look.{look_at, look_at_some, looked, look_after};
 ghost use Rattle.onfi_cycle.specs.Bounds.{LunFits, LunsFit, TargetFits, BusFits};
 
-use crate::effects::{
-    array_busy_after, array_page_after, busy_after, closer_after, cycle_effect, is_cache_read,
-    is_data, item_effect, latch_after, output_column, read_column_after, register_after,
-};
-use crate::fillings::filling;
 use crate::readies::due_of;
-use crate::rules::{driver, judge};
-use crate::sequences::{extend, no_tail, target_cycle, target_of, wants_command};
 use crate::{
     Command, Effect, Filling, Forbidden, Item, Latch, Lun, LunFacts, PageAddress, Queued,
-    ReadColumn, Register, TailFacts, TargetCycle, WorkQueue,
+    ReadColumn, Register, TailFacts, TargetCycle, WorkQueue, array_busy_after, array_page_after,
+    busy_after, closer_after, cycle_effect, driver, filling_of, is_cache_read, item_effect, judge,
+    latch_after, output_column, read_column_after, register_after,
 };
 use arrayvec::ArrayVec;
 use nand_geometry::Geometry;
@@ -94,7 +89,7 @@ impl Model for TargetState {
 impl Default for TargetState {
     fn default() -> TargetState {
         TargetState {
-            tail: no_tail(),
+            tail: TailFacts::none(),
             luns: ArrayVec::new(),
         }
     }
@@ -197,7 +192,7 @@ fn some_shows_data(luns: &[LunFacts<ArrayVec<Queued, 16>>]) -> bool
 {
     match luns {
         [] => false,
-        [first, rest @ ..] => is_data(first.latch) || some_shows_data(rest),
+        [first, rest @ ..] => first.latch.is_data() || some_shows_data(rest),
     }
 }
 
@@ -233,7 +228,7 @@ fn may_act(tail: &TailFacts, luns: &[LunFacts<ArrayVec<Queued, 16>>], cycle: Tar
 {
     match cycle {
         TargetCycle::CommandCycle(command) => {
-            needs_no_row(command) || wants_command(*tail, command)
+            needs_no_row(command) || tail.wants_command(command)
         }
         TargetCycle::AddressCycle(_) => match tail.opening {
             None => false,
@@ -345,7 +340,7 @@ impl TargetState {
             luns.push(fresh_lun());
         }
         TargetState {
-            tail: no_tail(),
+            tail: TailFacts::none(),
             luns,
         }
     }
@@ -359,7 +354,7 @@ impl TargetState {
         ensures column { self.new.tail.column < 2 ^ 16 }
     {
         apply_to_luns(self.luns.as_mut_slice(), geometry, &self.tail, cycle);
-        extend(&mut self.tail, cycle);
+        self.tail.extend(cycle);
     }
 
     // What an item leaves of its target.
@@ -371,7 +366,7 @@ impl TargetState {
         ensures column { self.new.tail.column < 2 ^ 16 }
     {
         match item {
-            Item::Cyc(cycle) => self.apply_cycle(geometry, target_cycle(cycle.kind, cycle.byte)),
+            Item::Cyc(cycle) => self.apply_cycle(geometry, TargetCycle::of(cycle.kind, cycle.byte)),
             Item::Rdy { lun, fail, .. } => end_work(self.luns.as_mut_slice(), lun, fail),
             Item::Ard { lun, .. } => end_array_work(self.luns.as_mut_slice(), lun),
         }
@@ -420,14 +415,21 @@ fn target_at(targets: &[TargetState], ce: u8) -> Option<&TargetState>
     targets.get(usize::from(ce))
 }
 
+// The facts of its tail.
+fn tail_of(target: &TargetState) -> TailFacts
+    ensures { result ≡ target.now.tail }
+{
+    target.tail
+}
+
 // The first rule that an item breaks on these targets.
 #[inline(always)]
 fn judge_on(geometry: &Geometry, targets: &[TargetState], item: Item) -> Option<Forbidden>
     requires { BusFits (bus geometry.now targets.now) }
     ensures { result ≡ judged (bus geometry.now targets.now) item }
 {
-    match target_at(targets, target_of(item)) {
-        None => Some(Forbidden::F1),
+    match target_at(targets, item.target()) {
+        None => Some(Forbidden::NotThere),
         Some(target) => judge(
             geometry,
             targets.len() as u8,
@@ -448,7 +450,7 @@ fn effect_at(geometry: &Geometry, target: &TargetState, item: Item, n: u8) -> Ef
         _ => Latch::Off,
     };
     let at = Lun {
-        ce: target_of(item),
+        ce: item.target(),
         lun: n,
     };
     item_effect(geometry, target.tail, latch_alone, item, at)
@@ -460,7 +462,7 @@ fn filling_at(geometry: &Geometry, target: &TargetState, item: Item, l: Lun) -> 
     requires fits { TargetFits geometry.now target.now }
     ensures { result ≡ filling geometry.now target.now.tail item l }
 {
-    filling(geometry, target.tail, item, l)
+    filling_of(geometry, target.tail, item, l)
 }
 
 // How many readies are still to come on a target.
@@ -481,7 +483,7 @@ fn apply_on(geometry: &Geometry, targets: &mut [TargetState], item: Item)
     ensures value { bus geometry.now targets.new ≡ bus_after item (bus geometry.now targets.old) }
     ensures fits { BusFits (bus geometry.now targets.new) }
 {
-    let target = &mut targets[usize::from(target_of(item))];
+    let target = &mut targets[usize::from(item.target())];
     target.apply(geometry, item);
 }
 
@@ -561,7 +563,7 @@ impl BusState {
     pub fn effect(&self, item: Item, l: Lun) -> Effect
         ensures past { (g : Parts) (n : ℕ) (past : List Item) → Follows g n self.now past → l.ce < n → l.lun < g.luns → result ≡ effect_on g past item l }
     {
-        if target_of(item) != l.ce {
+        if item.target() != l.ce {
             return Effect::Unaffected;
         }
         match target_at(self.targets.as_slice(), l.ce) {
@@ -578,6 +580,17 @@ impl BusState {
         match target_at(self.targets.as_slice(), l.ce) {
             None => Filling::Leaves,
             Some(target) => filling_at(&self.geometry, target, item, l),
+        }
+    }
+
+    /// The facts of the tail of a target, None where it isn't there.
+    pub fn tail(&self, ce: u8) -> Option<TailFacts>
+        ensures past { (g : Parts) (n : ℕ) (past : List Item) → Follows g n self.now past → ce < n → result ≡ Some (facts_of (tail past ce)) }
+    {
+        let _ = &self.geometry;
+        match target_at(self.targets.as_slice(), ce) {
+            None => None,
+            Some(target) => Some(tail_of(target)),
         }
     }
 

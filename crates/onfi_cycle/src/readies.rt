@@ -2,9 +2,7 @@
 ghost use Rattle.std.specs.Prelude.{◌≡◌, ◌≤◌, ◌*◌, length};
 ghost use Rattle.onfi_cycle.specs.Readies.{starts, starts_work, awaits_parameters, due_at, due_of, ReadiesAreDue};
 
-use crate::effects::is_cache_read;
-use crate::sequences::target_cycle;
-use crate::{Command, Item, LunFacts, Opening, Queued, TailFacts, TargetCycle};
+use crate::{Command, Item, LunFacts, Opening, Queued, TailFacts, TargetCycle, is_cache_read};
 use arrayvec::ArrayVec;
 
 // The command starts work, or its address does.
@@ -31,7 +29,7 @@ pub fn starts_work(item: Item) -> bool
     ensures { result ≡ starts_work item }
 {
     match item {
-        Item::Cyc(cycle) => match target_cycle(cycle.kind, cycle.byte) {
+        Item::Cyc(cycle) => match TargetCycle::of(cycle.kind, cycle.byte) {
             TargetCycle::CommandCycle(command) => starts(command),
             _ => false,
         },

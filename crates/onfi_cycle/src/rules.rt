@@ -2,23 +2,14 @@
 ghost use Rattle.std.specs.Prelude.{◌≡◌, ◌+◌, ◌^◌, ◌<◌, ◌≤◌, length, true, false, not, slice_get};
 ghost use Rattle.std.specs.Option.{option_copied};
 ghost use Rattle.nand_geometry.specs.Row.{parts_of};
-ghost use Rattle.onfi_cycle.specs.declared.TargetCycle.{TargetCycle};
+ghost use Rattle.onfi_cycle.specs.declared.target_cycle.TargetCycle.{TargetCycle};
 ghost use Rattle.onfi_cycle.specs.Command.{addresses_the_array, is_change_read_column};
-ghost use Rattle.onfi_cycle.specs.Rules.{breaks_F1, breaks_F2, breaks_F3, breaks_F4, breaks_F5, breaks_F6, breaks_F7, breaks_F8, breaks_F9, breaks_F10, breaks_F11, breaks_F12, breaks_F13, breaks_F14, breaks_F15, driving, are_none, driver, some_lun_is, ends_row, is_undeclared, register_len, planes_clash, some_queued_clashes, refused_by, is_refused_by, may_change_column, has_no_byte, is_past_register, second_column, second_of_page, caching, continues_cache, ends_cache, has_some};
+ghost use Rattle.onfi_cycle.specs.Rules.{breaks_not_there, breaks_command_unknown, breaks_sequence_open, breaks_several_luns, breaks_no_column_to_change, breaks_command_misplaced, breaks_address_misplaced, breaks_row_outside, breaks_lun_busy, breaks_queue_clash, breaks_input_misplaced, breaks_no_sole_driver, breaks_data_not_ready, breaks_column_outside, breaks_cache_read_misplaced, driving, are_none, driver, some_lun_is, ends_row, is_undeclared, register_len, planes_clash, some_queued_clashes, refused_by, is_refused_by, may_change_column, has_no_byte, is_past_register, second_column, second_of_page, caching, continues_cache, ends_cache, has_some};
 ghost use Rattle.onfi_cycle.specs.Permitted.{judge, judge_cycle, judge_known_cycle};
 
-use crate::commands::{
-    addresses_the_array, at_last_row, is_known, is_opener, reads_identity, wants_one_lun,
-    wants_ready,
-};
-use crate::effects::{is_cache_read, is_data, is_off, is_page_read, output_column, page_address};
-use crate::sequences::{
-    column_with, input_column, is_open, row_with, takes_inputs, target_cycle, wants_address,
-    wants_command,
-};
 use crate::{
     Command, DataPhase, Forbidden, Item, LunFacts, PageAddress, Queued, Register, TailFacts,
-    TargetCycle, WorkQueue,
+    TargetCycle, WorkQueue, is_cache_read, is_page_read, output_column, page_address,
 };
 use nand_geometry::Geometry;
 
@@ -28,7 +19,7 @@ fn drives_none<Q: WorkQueue>(luns: &[LunFacts<Q>]) -> bool
 {
     match luns {
         [] => true,
-        [first, rest @ ..] => is_off(first.latch) && drives_none(rest),
+        [first, rest @ ..] => first.latch.is_off() && drives_none(rest),
     }
 }
 
@@ -39,7 +30,7 @@ pub fn driver<Q: WorkQueue>(luns: &[LunFacts<Q>]) -> Option<&LunFacts<Q>>
     match luns {
         [] => None,
         [first, rest @ ..] => {
-            if is_off(first.latch) {
+            if first.latch.is_off() {
                 driver(rest)
             } else if drives_none(rest) {
                 Some(first)
@@ -61,9 +52,9 @@ fn named<'a, Q: WorkQueue>(
     luns.get(geometry.parts_of(row).lun as usize)
 }
 
-#[tactic(auto, unfolding(crate::specs::Rules::breaks_F1))]
-fn breaks_f1<Q: WorkQueue>(targets: u8, luns: &[LunFacts<Q>], item: Item) -> bool
-    ensures { result ≡ breaks_F1 targets luns.now item }
+#[tactic(auto, unfolding(crate::specs::Rules::breaks_not_there))]
+fn breaks_not_there<Q: WorkQueue>(targets: u8, luns: &[LunFacts<Q>], item: Item) -> bool
+    ensures { result ≡ breaks_not_there targets luns.now item }
 {
     match item {
         Item::Cyc(c) => targets <= c.ce,
@@ -97,32 +88,32 @@ pub fn is_undeclared(geometry: &Geometry, command: Command) -> bool
     }
 }
 
-#[tactic(auto, unfolding(crate::specs::Rules::breaks_F2))]
-fn breaks_f2(geometry: &Geometry, cycle: TargetCycle) -> bool
-    ensures { result ≡ breaks_F2 geometry.now cycle }
+#[tactic(auto, unfolding(crate::specs::Rules::breaks_command_unknown))]
+fn breaks_command_unknown(geometry: &Geometry, cycle: TargetCycle) -> bool
+    ensures { result ≡ breaks_command_unknown geometry.now cycle }
 {
     match cycle {
-        TargetCycle::CommandCycle(c) => !is_known(c) || is_undeclared(geometry, c),
+        TargetCycle::CommandCycle(c) => !c.is_known() || is_undeclared(geometry, c),
         _ => false,
     }
 }
 
-#[tactic(auto, unfolding(crate::specs::Rules::breaks_F3))]
-fn breaks_f3(t: TailFacts, cycle: TargetCycle) -> bool
-    ensures { result ≡ breaks_F3 t cycle }
+#[tactic(auto, unfolding(crate::specs::Rules::breaks_sequence_open))]
+fn breaks_sequence_open(t: TailFacts, cycle: TargetCycle) -> bool
+    ensures { result ≡ breaks_sequence_open t cycle }
 {
     match cycle {
-        TargetCycle::CommandCycle(c) => is_opener(c) && is_open(t),
+        TargetCycle::CommandCycle(c) => c.is_opener() && t.is_open(),
         _ => false,
     }
 }
 
-#[tactic(auto, unfolding(crate::specs::Rules::breaks_F4))]
-fn breaks_f4(geometry: &Geometry, cycle: TargetCycle) -> bool
-    ensures { result ≡ breaks_F4 geometry.now cycle }
+#[tactic(auto, unfolding(crate::specs::Rules::breaks_several_luns))]
+fn breaks_several_luns(geometry: &Geometry, cycle: TargetCycle) -> bool
+    ensures { result ≡ breaks_several_luns geometry.now cycle }
 {
     match cycle {
-        TargetCycle::CommandCycle(c) => wants_one_lun(c) && 1 < geometry.parts().luns,
+        TargetCycle::CommandCycle(c) => c.wants_one_lun() && 1 < geometry.parts().luns,
         _ => false,
     }
 }
@@ -130,12 +121,14 @@ fn breaks_f4(geometry: &Geometry, cycle: TargetCycle) -> bool
 fn may_change_column<Q: WorkQueue>(v: &LunFacts<Q>) -> bool
     ensures { result ≡ may_change_column v.now }
 {
-    is_data(v.latch) && !v.busy && matches!(v.register, Register::Page(_) | Register::ParameterPage)
+    v.latch.is_data()
+        && !v.busy
+        && matches!(v.register, Register::Page(_) | Register::ParameterPage)
 }
 
-#[tactic(auto, unfolding(crate::specs::Rules::breaks_F5))]
-fn breaks_f5<Q: WorkQueue>(luns: &[LunFacts<Q>], cycle: TargetCycle) -> bool
-    ensures { result ≡ breaks_F5 luns.now cycle }
+#[tactic(auto, unfolding(crate::specs::Rules::breaks_no_column_to_change))]
+fn breaks_no_column_to_change<Q: WorkQueue>(luns: &[LunFacts<Q>], cycle: TargetCycle) -> bool
+    ensures { result ≡ breaks_no_column_to_change luns.now cycle }
 {
     match cycle {
         TargetCycle::CommandCycle(Command::ChangeReadColumn) => match driver(luns) {
@@ -146,22 +139,22 @@ fn breaks_f5<Q: WorkQueue>(luns: &[LunFacts<Q>], cycle: TargetCycle) -> bool
     }
 }
 
-#[tactic(auto, unfolding(crate::specs::Rules::breaks_F6))]
-fn breaks_f6(t: TailFacts, cycle: TargetCycle) -> bool
-    ensures { result ≡ breaks_F6 t cycle }
+#[tactic(auto, unfolding(crate::specs::Rules::breaks_command_misplaced))]
+fn breaks_command_misplaced(t: TailFacts, cycle: TargetCycle) -> bool
+    ensures { result ≡ breaks_command_misplaced t cycle }
 {
     match cycle {
-        TargetCycle::CommandCycle(c) => !is_opener(c) && !wants_command(t, c),
+        TargetCycle::CommandCycle(c) => !c.is_opener() && !t.wants_command(c),
         _ => false,
     }
 }
 
-#[tactic(auto, unfolding(crate::specs::Rules::breaks_F7))]
-fn breaks_f7(t: TailFacts, cycle: TargetCycle) -> bool
-    ensures { result ≡ breaks_F7 t cycle }
+#[tactic(auto, unfolding(crate::specs::Rules::breaks_address_misplaced))]
+fn breaks_address_misplaced(t: TailFacts, cycle: TargetCycle) -> bool
+    ensures { result ≡ breaks_address_misplaced t cycle }
 {
     match cycle {
-        TargetCycle::AddressCycle(byte) => !wants_address(t, byte),
+        TargetCycle::AddressCycle(byte) => !t.wants_address(byte),
         _ => false,
     }
 }
@@ -172,7 +165,7 @@ fn ends_row(t: TailFacts) -> bool
 {
     match t.opening {
         None => false,
-        Some(o) => at_last_row(o.opener, o.addresses),
+        Some(o) => o.opener.at_last_row(o.addresses),
     }
 }
 
@@ -182,17 +175,17 @@ fn ends_array_row(t: TailFacts) -> bool
 {
     match t.opening {
         None => false,
-        Some(o) => addresses_the_array(o.opener) && at_last_row(o.opener, o.addresses),
+        Some(o) => o.opener.addresses_the_array() && o.opener.at_last_row(o.addresses),
     }
 }
 
-#[tactic(auto, unfolding(crate::specs::Rules::breaks_F8))]
-fn breaks_f8(geometry: &Geometry, t: TailFacts, cycle: TargetCycle) -> bool
-    ensures { result ≡ breaks_F8 geometry.now t cycle }
+#[tactic(auto, unfolding(crate::specs::Rules::breaks_row_outside))]
+fn breaks_row_outside(geometry: &Geometry, t: TailFacts, cycle: TargetCycle) -> bool
+    ensures { result ≡ breaks_row_outside geometry.now t cycle }
 {
     match cycle {
         TargetCycle::AddressCycle(byte) => {
-            ends_row(t) && !geometry.is_inside(geometry.parts_of(row_with(t, byte)))
+            ends_row(t) && !geometry.is_inside(geometry.parts_of(t.row_with(byte)))
         }
         _ => false,
     }
@@ -207,20 +200,20 @@ fn some_ready<Q: WorkQueue>(luns: &[LunFacts<Q>]) -> bool
     }
 }
 
-#[tactic(auto, unfolding(crate::specs::Rules::breaks_F9))]
-fn breaks_f9<Q: WorkQueue>(
+#[tactic(auto, unfolding(crate::specs::Rules::breaks_lun_busy))]
+fn breaks_lun_busy<Q: WorkQueue>(
     geometry: &Geometry,
     t: TailFacts,
     luns: &[LunFacts<Q>],
     cycle: TargetCycle,
 ) -> bool
-    ensures { result ≡ breaks_F9 geometry.now t luns.now cycle }
+    ensures { result ≡ breaks_lun_busy geometry.now t luns.now cycle }
 {
     match cycle {
-        TargetCycle::CommandCycle(c) => wants_ready(c) && !some_ready(luns),
+        TargetCycle::CommandCycle(c) => c.wants_ready() && !some_ready(luns),
         TargetCycle::AddressCycle(byte) => {
             ends_array_row(t)
-                && match named(geometry, row_with(t, byte), luns) {
+                && match named(geometry, t.row_with(byte), luns) {
                     None => false,
                     Some(v) => v.busy,
                 }
@@ -268,7 +261,7 @@ fn is_refused_by(geometry: &Geometry, t: TailFacts, p: PageAddress, queue: &[Que
 {
     match t.opening {
         None => false,
-        Some(o) => at_last_row(o.opener, o.addresses) && refused_by(geometry, o.opener, p, queue),
+        Some(o) => o.opener.at_last_row(o.addresses) && refused_by(geometry, o.opener, p, queue),
     }
 }
 
@@ -281,21 +274,21 @@ fn some_queue<Q: WorkQueue>(luns: &[LunFacts<Q>]) -> bool
     }
 }
 
-#[tactic(auto, unfolding(crate::specs::Rules::breaks_F10))]
-fn breaks_f10<Q: WorkQueue>(
+#[tactic(auto, unfolding(crate::specs::Rules::breaks_queue_clash))]
+fn breaks_queue_clash<Q: WorkQueue>(
     geometry: &Geometry,
     t: TailFacts,
     luns: &[LunFacts<Q>],
     cycle: TargetCycle,
 ) -> bool
-    ensures { result ≡ breaks_F10 geometry.now t luns.now cycle }
+    ensures { result ≡ breaks_queue_clash geometry.now t luns.now cycle }
 {
     match cycle {
-        TargetCycle::CommandCycle(c) => reads_identity(c) && some_queue(luns),
-        TargetCycle::AddressCycle(byte) => match named(geometry, row_with(t, byte), luns) {
+        TargetCycle::CommandCycle(c) => c.reads_identity() && some_queue(luns),
+        TargetCycle::AddressCycle(byte) => match named(geometry, t.row_with(byte), luns) {
             None => false,
             Some(v) => {
-                let page = page_address(geometry, row_with(t, byte));
+                let page = page_address(geometry, t.row_with(byte));
                 is_refused_by(geometry, t, page, v.queue.works())
             }
         },
@@ -303,22 +296,26 @@ fn breaks_f10<Q: WorkQueue>(
     }
 }
 
-#[tactic(auto, unfolding(crate::specs::Rules::breaks_F11))]
-fn breaks_f11(t: TailFacts, cycle: TargetCycle) -> bool
-    ensures { result ≡ breaks_F11 t cycle }
+#[tactic(auto, unfolding(crate::specs::Rules::breaks_input_misplaced))]
+fn breaks_input_misplaced(t: TailFacts, cycle: TargetCycle) -> bool
+    ensures { result ≡ breaks_input_misplaced t cycle }
 {
     match cycle {
-        TargetCycle::InputCycle(_) => !takes_inputs(t.phase),
+        TargetCycle::InputCycle(_) => !t.phase.takes_inputs(),
         _ => false,
     }
 }
 
-#[tactic(auto, unfolding(crate::specs::Rules::breaks_F12))]
-fn breaks_f12<Q: WorkQueue>(t: TailFacts, luns: &[LunFacts<Q>], cycle: TargetCycle) -> bool
-    ensures { result ≡ breaks_F12 t luns.now cycle }
+#[tactic(auto, unfolding(crate::specs::Rules::breaks_no_sole_driver))]
+fn breaks_no_sole_driver<Q: WorkQueue>(
+    t: TailFacts,
+    luns: &[LunFacts<Q>],
+    cycle: TargetCycle,
+) -> bool
+    ensures { result ≡ breaks_no_sole_driver t luns.now cycle }
 {
     match cycle {
-        TargetCycle::OutputCycle => is_open(t) || driver(luns).is_none(),
+        TargetCycle::OutputCycle => t.is_open() || driver(luns).is_none(),
         _ => false,
     }
 }
@@ -327,13 +324,13 @@ fn breaks_f12<Q: WorkQueue>(t: TailFacts, luns: &[LunFacts<Q>], cycle: TargetCyc
 fn has_no_byte<Q: WorkQueue>(v: &LunFacts<Q>) -> bool
     ensures { result ≡ has_no_byte v.now }
 {
-    is_data(v.latch)
+    v.latch.is_data()
         && (v.busy || matches!(v.register, Register::Empty) || output_column(v.column).is_none())
 }
 
-#[tactic(auto, unfolding(crate::specs::Rules::breaks_F13))]
-fn breaks_f13<Q: WorkQueue>(luns: &[LunFacts<Q>], cycle: TargetCycle) -> bool
-    ensures { result ≡ breaks_F13 luns.now cycle }
+#[tactic(auto, unfolding(crate::specs::Rules::breaks_data_not_ready))]
+fn breaks_data_not_ready<Q: WorkQueue>(luns: &[LunFacts<Q>], cycle: TargetCycle) -> bool
+    ensures { result ≡ breaks_data_not_ready luns.now cycle }
 {
     match cycle {
         TargetCycle::OutputCycle => match driver(luns) {
@@ -364,7 +361,7 @@ fn is_past_register<Q: WorkQueue>(geometry: &Geometry, v: &LunFacts<Q>) -> bool
         None => false,
         Some(column) => register_len(geometry, v.register) as u64 <= column,
     };
-    is_data(v.latch) && outside
+    v.latch.is_data() && outside
 }
 
 /// The next address is the second column cycle of a Read, a Page Program or a Change Write Column.
@@ -388,20 +385,20 @@ fn is_second_of_register(t: TailFacts) -> bool
     }
 }
 
-#[tactic(auto, unfolding(crate::specs::Rules::breaks_F14))]
-fn breaks_f14<Q: WorkQueue>(
+#[tactic(auto, unfolding(crate::specs::Rules::breaks_column_outside))]
+fn breaks_column_outside<Q: WorkQueue>(
     geometry: &Geometry,
     t: TailFacts,
     luns: &[LunFacts<Q>],
     cycle: TargetCycle,
 ) -> bool
     requires { (t.column < 2 ^ 16) × (t.inputs < 2 ^ 63) }
-    ensures { result ≡ breaks_F14 geometry.now t luns.now cycle }
+    ensures { result ≡ breaks_column_outside geometry.now t luns.now cycle }
 {
     match cycle {
         TargetCycle::CommandCycle(_) => false,
         TargetCycle::AddressCycle(byte) => {
-            let column = column_with(t, byte);
+            let column = t.column_with(byte);
             let past_page = is_second_of_page(t) && geometry.page_len() <= column;
             let past_register = is_second_of_register(t)
                 && match driver(luns) {
@@ -410,7 +407,7 @@ fn breaks_f14<Q: WorkQueue>(
                 };
             past_page || past_register
         }
-        TargetCycle::InputCycle(_) => geometry.page_len() as u64 <= input_column(t),
+        TargetCycle::InputCycle(_) => geometry.page_len() as u64 <= t.input_column(),
         TargetCycle::OutputCycle => match driver(luns) {
             None => false,
             Some(v) => is_past_register(geometry, v),
@@ -446,14 +443,14 @@ fn ends_cache<Q: WorkQueue>(v: &LunFacts<Q>) -> bool
     !v.busy && is_caching(v)
 }
 
-#[tactic(auto, unfolding(crate::specs::Rules::breaks_F15))]
-fn breaks_f15<Q: WorkQueue>(
+#[tactic(auto, unfolding(crate::specs::Rules::breaks_cache_read_misplaced))]
+fn breaks_cache_read_misplaced<Q: WorkQueue>(
     geometry: &Geometry,
     t: TailFacts,
     luns: &[LunFacts<Q>],
     cycle: TargetCycle,
 ) -> bool
-    ensures { result ≡ breaks_F15 geometry.now t luns.now cycle }
+    ensures { result ≡ breaks_cache_read_misplaced geometry.now t luns.now cycle }
 {
     match cycle {
         TargetCycle::CommandCycle(Command::ReadCacheSequential) => match driver(luns) {
@@ -464,10 +461,10 @@ fn breaks_f15<Q: WorkQueue>(
             None => true,
             Some(v) => !ends_cache(v),
         },
-        TargetCycle::CommandCycle(c) => reads_identity(c) && some_caching(luns),
+        TargetCycle::CommandCycle(c) => c.reads_identity() && some_caching(luns),
         TargetCycle::AddressCycle(byte) => {
             ends_array_row(t)
-                && match named(geometry, row_with(t, byte), luns) {
+                && match named(geometry, t.row_with(byte), luns) {
                     None => false,
                     Some(v) => is_caching(v),
                 }
@@ -477,7 +474,7 @@ fn breaks_f15<Q: WorkQueue>(
 }
 
 /// The first of F3 to F15 that a command breaks. A closer can break F6 alone.
-#[tactic(auto, unfolding(crate::specs::Rules::breaks_F3, crate::specs::Rules::breaks_F4, crate::specs::Rules::breaks_F5, crate::specs::Rules::breaks_F6, crate::specs::Rules::breaks_F7, crate::specs::Rules::breaks_F8, crate::specs::Rules::breaks_F9, crate::specs::Rules::breaks_F10, crate::specs::Rules::breaks_F11, crate::specs::Rules::breaks_F12, crate::specs::Rules::breaks_F13, crate::specs::Rules::breaks_F14, crate::specs::Rules::breaks_F15))]
+#[tactic(auto, unfolding(crate::specs::Rules::breaks_sequence_open, crate::specs::Rules::breaks_several_luns, crate::specs::Rules::breaks_no_column_to_change, crate::specs::Rules::breaks_command_misplaced, crate::specs::Rules::breaks_address_misplaced, crate::specs::Rules::breaks_row_outside, crate::specs::Rules::breaks_lun_busy, crate::specs::Rules::breaks_queue_clash, crate::specs::Rules::breaks_input_misplaced, crate::specs::Rules::breaks_no_sole_driver, crate::specs::Rules::breaks_data_not_ready, crate::specs::Rules::breaks_column_outside, crate::specs::Rules::breaks_cache_read_misplaced))]
 fn judge_command<Q: WorkQueue>(
     geometry: &Geometry,
     t: TailFacts,
@@ -487,31 +484,31 @@ fn judge_command<Q: WorkQueue>(
     ensures { result ≡ judge_known_cycle geometry.now t luns.now (TargetCycle.CommandCycle command) }
 {
     let cycle = TargetCycle::CommandCycle(command);
-    if !is_opener(command) {
-        if breaks_f6(t, cycle) {
-            Some(Forbidden::F6)
+    if !command.is_opener() {
+        if breaks_command_misplaced(t, cycle) {
+            Some(Forbidden::CommandMisplaced)
         } else {
             None
         }
-    } else if breaks_f3(t, cycle) {
-        Some(Forbidden::F3)
-    } else if breaks_f4(geometry, cycle) {
-        Some(Forbidden::F4)
-    } else if breaks_f5(luns, cycle) {
-        Some(Forbidden::F5)
-    } else if breaks_f9(geometry, t, luns, cycle) {
-        Some(Forbidden::F9)
-    } else if breaks_f10(geometry, t, luns, cycle) {
-        Some(Forbidden::F10)
-    } else if breaks_f15(geometry, t, luns, cycle) {
-        Some(Forbidden::F15)
+    } else if breaks_sequence_open(t, cycle) {
+        Some(Forbidden::SequenceOpen)
+    } else if breaks_several_luns(geometry, cycle) {
+        Some(Forbidden::SeveralLuns)
+    } else if breaks_no_column_to_change(luns, cycle) {
+        Some(Forbidden::NoColumnToChange)
+    } else if breaks_lun_busy(geometry, t, luns, cycle) {
+        Some(Forbidden::LunBusy)
+    } else if breaks_queue_clash(geometry, t, luns, cycle) {
+        Some(Forbidden::QueueClash)
+    } else if breaks_cache_read_misplaced(geometry, t, luns, cycle) {
+        Some(Forbidden::CacheReadMisplaced)
     } else {
         None
     }
 }
 
 /// The first of F8 to F15 that the last address of a row breaks.
-#[tactic(auto, unfolding(crate::specs::Rules::breaks_F3, crate::specs::Rules::breaks_F4, crate::specs::Rules::breaks_F5, crate::specs::Rules::breaks_F6, crate::specs::Rules::breaks_F11, crate::specs::Rules::breaks_F12, crate::specs::Rules::breaks_F13))]
+#[tactic(auto, unfolding(crate::specs::Rules::breaks_sequence_open, crate::specs::Rules::breaks_several_luns, crate::specs::Rules::breaks_no_column_to_change, crate::specs::Rules::breaks_command_misplaced, crate::specs::Rules::breaks_input_misplaced, crate::specs::Rules::breaks_no_sole_driver, crate::specs::Rules::breaks_data_not_ready))]
 fn judge_end_of_row<Q: WorkQueue>(
     geometry: &Geometry,
     t: TailFacts,
@@ -519,27 +516,27 @@ fn judge_end_of_row<Q: WorkQueue>(
     byte: u8,
 ) -> Option<Forbidden>
     requires small { (t.column < 2 ^ 16) × (t.inputs < 2 ^ 63) }
-    requires wanted { breaks_F7 t (TargetCycle.AddressCycle byte) ≡ false }
+    requires wanted { breaks_address_misplaced t (TargetCycle.AddressCycle byte) ≡ false }
     ensures { result ≡ judge_known_cycle geometry.now t luns.now (TargetCycle.AddressCycle byte) }
 {
     let cycle = TargetCycle::AddressCycle(byte);
-    if breaks_f8(geometry, t, cycle) {
-        Some(Forbidden::F8)
-    } else if breaks_f9(geometry, t, luns, cycle) {
-        Some(Forbidden::F9)
-    } else if breaks_f10(geometry, t, luns, cycle) {
-        Some(Forbidden::F10)
-    } else if breaks_f14(geometry, t, luns, cycle) {
-        Some(Forbidden::F14)
-    } else if breaks_f15(geometry, t, luns, cycle) {
-        Some(Forbidden::F15)
+    if breaks_row_outside(geometry, t, cycle) {
+        Some(Forbidden::RowOutside)
+    } else if breaks_lun_busy(geometry, t, luns, cycle) {
+        Some(Forbidden::LunBusy)
+    } else if breaks_queue_clash(geometry, t, luns, cycle) {
+        Some(Forbidden::QueueClash)
+    } else if breaks_column_outside(geometry, t, luns, cycle) {
+        Some(Forbidden::ColumnOutside)
+    } else if breaks_cache_read_misplaced(geometry, t, luns, cycle) {
+        Some(Forbidden::CacheReadMisplaced)
     } else {
         None
     }
 }
 
 /// The first of F3 to F15 that an address breaks. One that isn't the last of a row can break F7 and F14 alone.
-#[tactic(auto, unfolding(crate::specs::Rules::breaks_F3, crate::specs::Rules::breaks_F4, crate::specs::Rules::breaks_F5, crate::specs::Rules::breaks_F6, crate::specs::Rules::breaks_F8, crate::specs::Rules::breaks_F9, crate::specs::Rules::breaks_F10, crate::specs::Rules::breaks_F11, crate::specs::Rules::breaks_F12, crate::specs::Rules::breaks_F13, crate::specs::Rules::breaks_F15))]
+#[tactic(auto, unfolding(crate::specs::Rules::breaks_sequence_open, crate::specs::Rules::breaks_several_luns, crate::specs::Rules::breaks_no_column_to_change, crate::specs::Rules::breaks_command_misplaced, crate::specs::Rules::breaks_row_outside, crate::specs::Rules::breaks_lun_busy, crate::specs::Rules::breaks_queue_clash, crate::specs::Rules::breaks_input_misplaced, crate::specs::Rules::breaks_no_sole_driver, crate::specs::Rules::breaks_data_not_ready, crate::specs::Rules::breaks_cache_read_misplaced))]
 fn judge_address<Q: WorkQueue>(
     geometry: &Geometry,
     t: TailFacts,
@@ -550,19 +547,19 @@ fn judge_address<Q: WorkQueue>(
     ensures { result ≡ judge_known_cycle geometry.now t luns.now (TargetCycle.AddressCycle byte) }
 {
     let cycle = TargetCycle::AddressCycle(byte);
-    if breaks_f7(t, cycle) {
-        Some(Forbidden::F7)
+    if breaks_address_misplaced(t, cycle) {
+        Some(Forbidden::AddressMisplaced)
     } else if ends_row(t) {
         judge_end_of_row(geometry, t, luns, byte)
-    } else if breaks_f14(geometry, t, luns, cycle) {
-        Some(Forbidden::F14)
+    } else if breaks_column_outside(geometry, t, luns, cycle) {
+        Some(Forbidden::ColumnOutside)
     } else {
         None
     }
 }
 
 /// The first of F3 to F15 that an input breaks.
-#[tactic(auto, unfolding(crate::specs::Rules::breaks_F3, crate::specs::Rules::breaks_F4, crate::specs::Rules::breaks_F5, crate::specs::Rules::breaks_F6, crate::specs::Rules::breaks_F7, crate::specs::Rules::breaks_F8, crate::specs::Rules::breaks_F9, crate::specs::Rules::breaks_F10, crate::specs::Rules::breaks_F12, crate::specs::Rules::breaks_F13, crate::specs::Rules::breaks_F15))]
+#[tactic(auto, unfolding(crate::specs::Rules::breaks_sequence_open, crate::specs::Rules::breaks_several_luns, crate::specs::Rules::breaks_no_column_to_change, crate::specs::Rules::breaks_command_misplaced, crate::specs::Rules::breaks_address_misplaced, crate::specs::Rules::breaks_row_outside, crate::specs::Rules::breaks_lun_busy, crate::specs::Rules::breaks_queue_clash, crate::specs::Rules::breaks_no_sole_driver, crate::specs::Rules::breaks_data_not_ready, crate::specs::Rules::breaks_cache_read_misplaced))]
 fn judge_input<Q: WorkQueue>(
     geometry: &Geometry,
     t: TailFacts,
@@ -573,17 +570,17 @@ fn judge_input<Q: WorkQueue>(
     ensures { result ≡ judge_known_cycle geometry.now t luns.now (TargetCycle.InputCycle byte) }
 {
     let cycle = TargetCycle::InputCycle(byte);
-    if breaks_f11(t, cycle) {
-        Some(Forbidden::F11)
-    } else if breaks_f14(geometry, t, luns, cycle) {
-        Some(Forbidden::F14)
+    if breaks_input_misplaced(t, cycle) {
+        Some(Forbidden::InputMisplaced)
+    } else if breaks_column_outside(geometry, t, luns, cycle) {
+        Some(Forbidden::ColumnOutside)
     } else {
         None
     }
 }
 
 /// The first of F3 to F15 that an output breaks.
-#[tactic(auto, unfolding(crate::specs::Rules::breaks_F3, crate::specs::Rules::breaks_F4, crate::specs::Rules::breaks_F5, crate::specs::Rules::breaks_F6, crate::specs::Rules::breaks_F7, crate::specs::Rules::breaks_F8, crate::specs::Rules::breaks_F9, crate::specs::Rules::breaks_F10, crate::specs::Rules::breaks_F11, crate::specs::Rules::breaks_F15))]
+#[tactic(auto, unfolding(crate::specs::Rules::breaks_sequence_open, crate::specs::Rules::breaks_several_luns, crate::specs::Rules::breaks_no_column_to_change, crate::specs::Rules::breaks_command_misplaced, crate::specs::Rules::breaks_address_misplaced, crate::specs::Rules::breaks_row_outside, crate::specs::Rules::breaks_lun_busy, crate::specs::Rules::breaks_queue_clash, crate::specs::Rules::breaks_input_misplaced, crate::specs::Rules::breaks_cache_read_misplaced))]
 fn judge_output<Q: WorkQueue>(
     geometry: &Geometry,
     t: TailFacts,
@@ -593,12 +590,12 @@ fn judge_output<Q: WorkQueue>(
     ensures { result ≡ judge_known_cycle geometry.now t luns.now TargetCycle.OutputCycle }
 {
     let cycle = TargetCycle::OutputCycle;
-    if breaks_f12(t, luns, cycle) {
-        Some(Forbidden::F12)
-    } else if breaks_f13(luns, cycle) {
-        Some(Forbidden::F13)
-    } else if breaks_f14(geometry, t, luns, cycle) {
-        Some(Forbidden::F14)
+    if breaks_no_sole_driver(t, luns, cycle) {
+        Some(Forbidden::NoSoleDriver)
+    } else if breaks_data_not_ready(luns, cycle) {
+        Some(Forbidden::DataNotReady)
+    } else if breaks_column_outside(geometry, t, luns, cycle) {
+        Some(Forbidden::ColumnOutside)
     } else {
         None
     }
@@ -634,8 +631,8 @@ pub fn judge_cycle<Q: WorkQueue>(
     requires { (t.column < 2 ^ 16) × (t.inputs < 2 ^ 63) }
     ensures { result ≡ judge_cycle geometry.now t luns.now cycle }
 {
-    if breaks_f2(geometry, cycle) {
-        Some(Forbidden::F2)
+    if breaks_command_unknown(geometry, cycle) {
+        Some(Forbidden::CommandUnknown)
     } else {
         judge_known_cycle(geometry, t, luns, cycle)
     }
@@ -654,11 +651,11 @@ pub fn judge<Q: WorkQueue>(
     requires { (t.column < 2 ^ 16) × (t.inputs < 2 ^ 63) }
     ensures { result ≡ judge geometry.now targets t luns.now item }
 {
-    if breaks_f1(targets, luns, item) {
-        return Some(Forbidden::F1);
+    if breaks_not_there(targets, luns, item) {
+        return Some(Forbidden::NotThere);
     }
     match item {
-        Item::Cyc(c) => judge_cycle(geometry, t, luns, target_cycle(c.kind, c.byte)),
+        Item::Cyc(c) => judge_cycle(geometry, t, luns, TargetCycle::of(c.kind, c.byte)),
         Item::Rdy { .. } => None,
         Item::Ard { .. } => None,
     }

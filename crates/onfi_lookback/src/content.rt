@@ -15,10 +15,9 @@ use crate::past::{
 };
 use crate::{ArrayWork, WorkKind, WrittenPage};
 use nand_geometry::Geometry;
-use onfi_cycle::commands::is_opener;
-use onfi_cycle::effects::output_column;
-use onfi_cycle::sequences::{input_column, target_cycle};
-use onfi_cycle::{Effect, Item, Latch, Lun, PageAddress, Register, Status, TailFacts, TargetCycle};
+use onfi_cycle::{
+    Effect, Item, Latch, Lun, PageAddress, Register, Status, TailFacts, TargetCycle, output_column,
+};
 use std::alloc::{AllocError, Global};
 
 /// The status of a busy LUN: WP_N alone.
@@ -49,10 +48,10 @@ fn filled_after(
     ensures { IfOk result (λ v. v.items ≡ filled_after (page_len geometry.now) cycle t before.items) }
 {
     match cycle {
-        TargetCycle::CommandCycle(command) if is_opener(command) => erased_page(alloc, geometry),
+        TargetCycle::CommandCycle(command) if command.is_opener() => erased_page(alloc, geometry),
         TargetCycle::InputCycle(byte) if !t.is_empty => {
             let mut bytes = before;
-            let column = input_column(t);
+            let column = t.input_column();
             if column < bytes.len() as u64 {
                 bytes[column as usize] = byte;
             }
@@ -79,7 +78,7 @@ pub fn filled(
                 Item::Cyc(c) => {
                     if c.ce == ce {
                         let t = tail_facts(rest, ce);
-                        filled_after(alloc, geometry, target_cycle(c.kind, c.byte), t, before)
+                        filled_after(alloc, geometry, TargetCycle::of(c.kind, c.byte), t, before)
                     } else {
                         Ok(before)
                     }

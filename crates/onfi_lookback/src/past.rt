@@ -1,19 +1,15 @@
 //! The facts of a target and of its LUNs, by looking back over a past, the newest item first.
 ghost use Rattle.std.specs.Prelude.{[], ◌≡◌, ◌+◌, ◌^◌, ◌<◌, ◌≤◌, ◌∷◌, IfOk, length};
-ghost use Rattle.onfi_cycle.specs.declared.Lun.{Lun};
+ghost use Rattle.onfi_cycle.specs.declared.item.Lun.{Lun};
 ghost use Rattle.onfi_cycle.specs.Effect.{IsSmallEffect};
 ghost use Rattle.onfi_cycle.specs.Sequence.{AreSmall, tail, facts_of};
 ghost use Rattle.onfi_cycle.specs.Lun.{latch, drivers, drivers_from, is_only, latch_alone, effect_on, is_busy, closer, is_caching, is_array_busy, array_page, register, read_column, queue, queue_after, lun_view, views_from, luns_of};
 
 use nand_geometry::Geometry;
-use onfi_cycle::effects::{
-    array_busy_after, array_page_after, busy_after, closer_after, is_cache_read, is_off,
-    item_effect, latch_after, read_column_after, register_after,
-};
-use onfi_cycle::sequences::{facts_after, no_tail, target_cycle};
 use onfi_cycle::{
     Command, Effect, Item, Latch, Lun, LunFacts, PageAddress, Queued, ReadColumn, Register,
-    TailFacts,
+    TailFacts, TargetCycle, array_busy_after, array_page_after, busy_after, closer_after,
+    is_cache_read, item_effect, latch_after, read_column_after, register_after,
 };
 use std::alloc::{AllocError, Global};
 
@@ -23,13 +19,13 @@ pub fn tail_facts(past: &[Item], ce: u8) -> TailFacts
     ensures small { AreSmall (length past.now) result }
 {
     match past {
-        [] => no_tail(),
+        [] => TailFacts::none(),
         [first, rest @ ..] => {
             let t = tail_facts(rest, ce);
             match first {
                 Item::Cyc(c) => {
                     if c.ce == ce {
-                        facts_after(target_cycle(c.kind, c.byte), t)
+                        t.after(TargetCycle::of(c.kind, c.byte))
                     } else {
                         t
                     }
@@ -71,7 +67,7 @@ fn drivers_from(
         return Ok(Vec::new(alloc));
     }
     let rest = drivers_from(alloc, geometry, past, ce, count - 1, n + 1)?;
-    if is_off(latch(alloc, geometry, past, Lun { ce, lun: n })?) {
+    if (latch(alloc, geometry, past, Lun { ce, lun: n })?).is_off() {
         return Ok(rest);
     }
     let mut numbers = vec![in alloc; n]?;

@@ -4,7 +4,6 @@ ghost use Rattle.onfi_cycle.specs.Permitted.{broken, is_legal, IsFirstBroken};
 
 use crate::past::{luns_of, tail_facts};
 use nand_geometry::Geometry;
-use onfi_cycle::sequences::target_of;
 use onfi_cycle::{Forbidden, Item, judge};
 use std::alloc::{AllocError, Global};
 
@@ -18,7 +17,7 @@ fn broken_after(
 ) -> Result<Option<Forbidden>, AllocError>
     ensures { IfOk result (λ f. f ≡ broken geometry.now targets past.now item) }
 {
-    let ce = target_of(item);
+    let ce = item.target();
     let t = tail_facts(past, ce);
     let luns = luns_of(alloc, geometry, past, ce)?;
     Ok(judge(geometry, targets, t, &luns, item))

@@ -3,8 +3,7 @@ ghost use Rattle.std.specs.Prelude.{◌<◌, IfOk};
 
 use crate::past::{luns_of, tail_facts};
 use nand_geometry::{Geometry, Parts};
-use onfi_cycle::sequences::{target_cycle, target_of};
-use onfi_cycle::{Cycle, Forbidden, Item, Kind, judge, judge_known_cycle};
+use onfi_cycle::{Cycle, Forbidden, Item, Kind, TargetCycle, judge, judge_known_cycle};
 use std::alloc::{AllocError, Global};
 use std::process::Abort;
 use std::test::Fail;
@@ -133,11 +132,11 @@ fn known_broken(
     past: &[Item],
     item: Item,
 ) -> Result<Option<Forbidden>, AllocError> {
-    let ce = target_of(item);
+    let ce = item.target();
     let t = tail_facts(past, ce);
     let luns = luns_of(alloc, geometry, past, ce)?;
     Ok(match item {
-        Item::Cyc(c) => judge_known_cycle(geometry, t, &luns, target_cycle(c.kind, c.byte)),
+        Item::Cyc(c) => judge_known_cycle(geometry, t, &luns, TargetCycle::of(c.kind, c.byte)),
         _ => judge(geometry, 1, t, &luns, item),
     })
 }

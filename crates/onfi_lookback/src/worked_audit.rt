@@ -31,13 +31,13 @@ fn rules_by_hand(rt: HostRuntime) -> Result<(), Fail> {
         (
             ONE_LUN,
             "C00 A00x5 C30 R0 C00 Off A00",
-            Some((10, Forbidden::F7)),
+            Some((10, Forbidden::AddressMisplaced)),
         ),
         // the status of the other LUN loses the column of this one
         (
             TWO_LUNS,
             "C00 A00x5 C30 R0 Off C78 A20 A00x2 Oe0 C78 A00x3 C00 Off",
-            Some((19, Forbidden::F13)),
+            Some((19, Forbidden::DataNotReady)),
         ),
         // without a data output before it, it doesn't
         (
@@ -49,19 +49,19 @@ fn rules_by_hand(rt: HostRuntime) -> Result<(), Fail> {
         (
             CACHED,
             "C00 A00x5 C30 R0 C31 R0 C31 Y0",
-            Some((11, Forbidden::F1)),
+            Some((11, Forbidden::NotThere)),
         ),
         // busy, and the same plane is queued: the lower rule is told
         (
             TWO_LUNS,
             "C60 A00x3 Cd1 C60 A00x3",
-            Some((8, Forbidden::F9)),
+            Some((8, Forbidden::LunBusy)),
         ),
         // the other LUN may be erased during a cache read, this one may not
         (
             TWO_CACHED,
             "C00 A00x5 C30 R0 C31 R0 C60 A20 A00x2 Cd0 R1 C60 A00x3",
-            Some((19, Forbidden::F15)),
+            Some((19, Forbidden::CacheReadMisplaced)),
         ),
         // a cache read goes on from a LUN that shows status, and finds the lost column again
         (CACHED, "C00 A00x5 C30 R0 Off C70 C31 R0 Off", None),

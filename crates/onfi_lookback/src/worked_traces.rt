@@ -34,7 +34,7 @@ fn a_ready_wants_a_busy_lun(rt: HostRuntime) -> Result<(), Fail> {
     expect_broken(
         &rt,
         rt.alloc(),
-        Forbidden::F1,
+        Forbidden::NotThere,
         &[
             (ONE_LUN, "R0", 0),
             (ONE_LUN, "F0", 0),
@@ -59,7 +59,7 @@ fn no_opener_in_an_open_sequence(rt: HostRuntime) -> Result<(), Fail> {
     expect_broken(
         &rt,
         rt.alloc(),
-        Forbidden::F3,
+        Forbidden::SequenceOpen,
         &[
             (ONE_LUN, "C60 C60", 1),
             (ONE_LUN, "C60 A00 C70", 2),
@@ -83,7 +83,7 @@ fn one_lun_alone(rt: HostRuntime) -> Result<(), Fail> {
     expect_broken(
         &rt,
         rt.alloc(),
-        Forbidden::F4,
+        Forbidden::SeveralLuns,
         &[
             (TWO_LUNS, "C70", 0),
             (TWO_LUNS, "C90", 0),
@@ -100,7 +100,7 @@ fn a_change_of_column_wants_a_page(rt: HostRuntime) -> Result<(), Fail> {
     expect_broken(
         &rt,
         rt.alloc(),
-        Forbidden::F5,
+        Forbidden::NoColumnToChange,
         &[
             (ONE_LUN, "C05", 0),
             (ONE_LUN, "C00 A00x5 C30 R0 C70 C05", 9),
@@ -119,7 +119,7 @@ fn a_closer_wants_its_opener(rt: HostRuntime) -> Result<(), Fail> {
     expect_broken(
         &rt,
         rt.alloc(),
-        Forbidden::F6,
+        Forbidden::CommandMisplaced,
         &[
             (ONE_LUN, "Cd0", 0),
             (ONE_LUN, "C60 A00x2 Cd0", 3),
@@ -143,7 +143,7 @@ fn an_address_wants_its_opener(rt: HostRuntime) -> Result<(), Fail> {
     expect_broken(
         &rt,
         rt.alloc(),
-        Forbidden::F7,
+        Forbidden::AddressMisplaced,
         &[
             (ONE_LUN, "A00", 0),
             (ONE_LUN, "C60 A00x4", 4),
@@ -170,7 +170,7 @@ fn rows_stay_inside(rt: HostRuntime) -> Result<(), Fail> {
     expect_broken(
         &rt,
         rt.alloc(),
-        Forbidden::F8,
+        Forbidden::RowOutside,
         &[
             (ONE_LUN, "C60 A20 A00x2", 3),
             (ONE_LUN, "C60 A00x2 A01", 3),
@@ -195,7 +195,7 @@ fn a_busy_lun_takes_no_work(rt: HostRuntime) -> Result<(), Fail> {
     expect_broken(
         &rt,
         rt.alloc(),
-        Forbidden::F9,
+        Forbidden::LunBusy,
         &[
             (ONE_LUN, "C60 A00x3 Cd0 C60", 5),
             (ONE_LUN, "C60 A00x3 Cd0 C00", 5),
@@ -219,7 +219,7 @@ fn queued_planes_go_together(rt: HostRuntime) -> Result<(), Fail> {
     expect_broken(
         &rt,
         rt.alloc(),
-        Forbidden::F10,
+        Forbidden::QueueClash,
         &[
             (TWO_LUNS, "C60 A00x3 Cd1 R0 C00 A00x5", 11),
             (TWO_PLANES, "C60 A00x3 Cd1 R0 C90", 6),
@@ -244,7 +244,7 @@ fn inputs_want_a_program(rt: HostRuntime) -> Result<(), Fail> {
     expect_broken(
         &rt,
         rt.alloc(),
-        Forbidden::F11,
+        Forbidden::InputMisplaced,
         &[
             (ONE_LUN, "Ia5", 0),
             (ONE_LUN, "C60 A00x3 Ia5", 4),
@@ -262,7 +262,7 @@ fn outputs_want_one_driver(rt: HostRuntime) -> Result<(), Fail> {
     expect_broken(
         &rt,
         rt.alloc(),
-        Forbidden::F12,
+        Forbidden::NoSoleDriver,
         &[
             (ONE_LUN, "Off", 0),
             (ONE_LUN, "C70 C60 Oe0", 2),
@@ -282,7 +282,7 @@ fn data_wants_a_column(rt: HostRuntime) -> Result<(), Fail> {
     expect_broken(
         &rt,
         rt.alloc(),
-        Forbidden::F13,
+        Forbidden::DataNotReady,
         &[
             (ONE_LUN, "C00 A00x5 C30 Off", 7),
             (ONE_LUN, "C70 C00 Off", 2),
@@ -299,7 +299,7 @@ fn columns_stay_inside(rt: HostRuntime) -> Result<(), Fail> {
     expect_broken(
         &rt,
         rt.alloc(),
-        Forbidden::F14,
+        Forbidden::ColumnOutside,
         &[
             (ONE_LUN, "C00 A10 A02", 2),
             (ONE_LUN, "C80 A10 A02", 2),
@@ -321,7 +321,7 @@ fn a_cache_read_goes_on(rt: HostRuntime) -> Result<(), Fail> {
     expect_broken(
         &rt,
         rt.alloc(),
-        Forbidden::F15,
+        Forbidden::CacheReadMisplaced,
         &[
             (CACHED, "C31", 0),
             (CACHED, "C3f", 0),
@@ -382,7 +382,7 @@ fn column_lost_by_a_status(rt: HostRuntime) -> Result<(), Fail> {
     expect_broken(
         &rt,
         rt.alloc(),
-        Forbidden::F13,
+        Forbidden::DataNotReady,
         &[(
             ONE_LUN,
             "C00 A00x5 C30 C70 O80 R0 C70 Oe0 C00 Offx4 C70 Oe0 C00 Off",
@@ -426,7 +426,7 @@ fn erase_two_planes(rt: HostRuntime) -> Result<(), Fail> {
     expect_broken(
         &rt,
         rt.alloc(),
-        Forbidden::F10,
+        Forbidden::QueueClash,
         &[(
             TWO_LUNS,
             "C60 A00x3 Cd1 C78 A00x3 O80 R0 C78 A00x3 Oe0 C60 A00x3",
@@ -453,20 +453,28 @@ fn traces_of_erases(rt: HostRuntime) -> Result<(), Fail> {
         ),
         (TWO_LUNS, two_by_turns, None),
         (TWO_LUNS, two_of_one_worker, None),
-        (ONE_LUN, "C60 A00x3 Cd0 C60", Some((5, Forbidden::F9))),
+        (ONE_LUN, "C60 A00x3 Cd0 C60", Some((5, Forbidden::LunBusy))),
         (TWO_LUNS, "C60 A00x3 Cd0 C60", None),
         (
             TWO_LUNS,
             "C60 A00x3 Cd0 C60 A00x3",
-            Some((8, Forbidden::F9)),
+            Some((8, Forbidden::LunBusy)),
         ),
-        (TWO_LUNS, "C60 A00x3 Cd0 C70 C15", Some((5, Forbidden::F4))),
-        (ONE_LUN, "C15", Some((0, Forbidden::F2))),
-        (ONE_LUN, "C60 A00x3 C15", Some((4, Forbidden::F2))),
-        (ONE_LUN, "C70 Oe0 C78", Some((2, Forbidden::F2))),
-        (ONE_LUN, "C31", Some((0, Forbidden::F2))),
-        (ONE_LUN, "C70 C60 C60", Some((2, Forbidden::F3))),
-        (ONE_LUN, "C70 R0 C60", Some((1, Forbidden::F1))),
+        (
+            TWO_LUNS,
+            "C60 A00x3 Cd0 C70 C15",
+            Some((5, Forbidden::SeveralLuns)),
+        ),
+        (ONE_LUN, "C15", Some((0, Forbidden::CommandUnknown))),
+        (
+            ONE_LUN,
+            "C60 A00x3 C15",
+            Some((4, Forbidden::CommandUnknown)),
+        ),
+        (ONE_LUN, "C70 Oe0 C78", Some((2, Forbidden::CommandUnknown))),
+        (ONE_LUN, "C31", Some((0, Forbidden::CommandUnknown))),
+        (ONE_LUN, "C70 C60 C60", Some((2, Forbidden::SequenceOpen))),
+        (ONE_LUN, "C70 R0 C60", Some((1, Forbidden::NotThere))),
     ];
     for (parts, text, expected) in cases {
         let geometry = Geometry::of(parts)?;
@@ -503,11 +511,11 @@ fn targets_stand_apart(rt: HostRuntime) -> Result<(), Fail> {
     let array_becomes_ready = Item::Ard { ce: 1, lun: 0 };
     for (targets, item, expected) in [
         (2, there, None),
-        (2, here, Some(Forbidden::F3)),
-        (1, there, Some(Forbidden::F1)),
-        (1, becomes_ready, Some(Forbidden::F1)),
-        (1, array_becomes_ready, Some(Forbidden::F1)),
-        (2, becomes_ready, Some(Forbidden::F1)),
+        (2, here, Some(Forbidden::SequenceOpen)),
+        (1, there, Some(Forbidden::NotThere)),
+        (1, becomes_ready, Some(Forbidden::NotThere)),
+        (1, array_becomes_ready, Some(Forbidden::NotThere)),
+        (2, becomes_ready, Some(Forbidden::NotThere)),
     ] {
         assert_eq!(rt;
             broken(rt.alloc(), &one, targets, &items, item)?,

@@ -1,7 +1,7 @@
-//! The program `onfiseq`: its words and its streams are handed to [`seq_cli::answer`], which does the rest.
+//! The program `onfiseq`: its words, its files and its streams are handed to [`seq_cli::answer`], which does the rest.
 #![tactic(auto)]
 
-use seq_cli::answer;
+use seq_cli::{RealFiles, answer};
 use std::env;
 use std::io::{self, Input};
 use std::process::ExitCode;
@@ -13,8 +13,10 @@ fn words_given(rt: &HostRuntime) -> io::Result<Vec<String>> {
 
 fn main(rt: HostRuntime) -> ExitCode {
     ExitCode::from(answer(
+        &rt,
         rt.alloc(),
         words_given(&rt),
+        &mut RealFiles::new(&rt, rt.alloc()),
         &mut rt.reader(),
         &mut rt.stdout(),
         &mut rt.stderr(),

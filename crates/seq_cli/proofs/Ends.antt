@@ -5,19 +5,19 @@ use Rattle.nand_geometry.specs.declared.Parts.{Parts}
 use Rattle.nand_geometry.specs.Limits.{InLimits, width, page_len}
 use Rattle.nand_geometry.proofs.LimitLemmas.{faultless}
 use Rattle.nand_geometry.proofs.PageLemmas.{parameters_have_their_length}
-use Rattle.onfi_cycle.specs.declared.Lun.{Lun}
-use Rattle.onfi_cycle.specs.declared.PageAddress.{PageAddress}
+use Rattle.onfi_cycle.specs.declared.item.Lun.{Lun}
+use Rattle.onfi_cycle.specs.declared.effect.PageAddress.{PageAddress}
 use Rattle.onfi_cycle.specs.Channel.{Channel, IsChannel, is_there, same_lun}
 use Rattle.die_model.specs.Pages.{page_in}
 use Rattle.target_bus.specs.Bus.{Entries, number_of}
 use Rattle.micro_word.specs.declared.word.Word.{Word}
 use Rattle.micro_word.specs.Text.{Microprogram}
-use Rattle.micro_verify.specs.Lines.{unrolled}
-use Rattle.micro_verify.specs.Places.{IsShaped}
-use Rattle.micro_verify.proofs.Lengths.{lines_are_few}
-use Rattle.micro_verify.specs.Program.{Job}
+use Rattle.micro_program.specs.Lines.{unrolled}
+use Rattle.micro_program.specs.Places.{IsShaped}
+use Rattle.micro_program.proofs.Lengths.{lines_are_few}
+use Rattle.micro_program.specs.Program.{Job}
 use Rattle.seq_core.specs.declared.answers.LoadFault.{LoadFault}
-use Rattle.seq_core.specs.declared.answers.LoadFault.TheVariants.{S1, S2, S5}
+use Rattle.seq_core.specs.declared.answers.LoadFault.TheVariants.{SlotTaken, OtherLun, OtherGeometry}
 use Rattle.seq_core.specs.declared.answers.UnloadFault.{UnloadFault}
 use Rattle.seq_core.specs.World.{Slot, World, slot_of, fresh, fresh_slot}
 use Rattle.seq_core.specs.Event.{Load, Unload}
@@ -57,8 +57,8 @@ is_the_channel =
 -- the first fault of a load of a job of this LUN and geometry
 abbrev fault_for : Lun → Parts → Option LoadFault
 fault_for m g =
-    cond (is_some (slot_of the_channel (fresh the_channel) the_lun)) (Some S1)
-    (cond (not (is_there the_channel the_lun && same_lun the_lun m)) (Some S2) (cond (not (same_parts one_lun g)) (Some S5) None))
+    cond (is_some (slot_of the_channel (fresh the_channel) the_lun)) (Some SlotTaken)
+    (cond (not (is_there the_channel the_lun && same_lun the_lun m)) (Some OtherLun) (cond (not (same_parts one_lun g)) (Some OtherGeometry) None))
 
 no_fault : (j : Job) → IsForTheLun j → load_fault the_channel (fresh the_channel) the_lun j ≡ None
 no_fault j h = ap (λ (m : Lun). fault_for m j.geometry) h.lun ∙ ap (fault_for the_lun) h.geometry

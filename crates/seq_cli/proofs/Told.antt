@@ -1,8 +1,8 @@
 -- The trace of a job that ran can be printed.
 use Rattle.std.proofs.Common.{◌≡◌, ℕ, List, reverse, sym, ap, ◌∙◌, subst}
 use Rattle.std.specs.List.{All}
-use Rattle.onfi_cycle.specs.declared.Item.{Item}
-use Rattle.micro_verify.specs.Program.{Job}
+use Rattle.onfi_cycle.specs.declared.item.Item.{Item}
+use Rattle.micro_program.specs.Program.{Job}
 use Rattle.trace_text.specs.Line.{IsPrintable}
 use Rattle.seq_cli.specs.Runs.{RanAlone}
 use Rattle.seq_cli.proofs.Printing.{legal_is_printable}

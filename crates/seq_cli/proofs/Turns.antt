@@ -1,7 +1,7 @@
 -- Turn after turn a program that runs alone comes to its end.
 use Rattle.std.proofs.Common.{◌≡◌, ℕ, suc, ◌+◌, ◌-◌, ◌<◌, ◌≤◌, Bool, true, false, Option, Some, None, refl, sym, ap, ◌∙◌, subst, arith}
 use Rattle.onfi_cycle.specs.Channel.{Channel}
-use Rattle.micro_verify.specs.Moves.{and_then}
+use Rattle.micro_program.specs.Moves.{and_then}
 use Rattle.seq_core.specs.declared.answers.Stepped.{Stepped}
 use Rattle.seq_core.specs.declared.answers.Stepped.TheVariants.{Ended, NotReady}
 use Rattle.seq_core.specs.World.{World}

@@ -1,18 +1,19 @@
 -- What running a word file once comes to: the line of its refusal, or the text of its run.
 use Rattle.std.specs.Prelude.{◌≡◌, ℕ, true, false, List, [], ◌∷◌, ◌++◌, ◌⊎◌, ⊤, Option, Some, None, Result, Ok, Err, replicate, reverse}
 use Rattle.nand_geometry.specs.declared.Parts.{Parts}
-use Rattle.onfi_cycle.specs.declared.Lun.{Lun}
+use Rattle.onfi_cycle.specs.declared.item.Lun.{Lun}
 use Rattle.onfi_cycle.specs.Permitted.{is_legal}
 use Rattle.onfi_cycle.specs.Channel.{Channel}
 use Rattle.micro_word.specs.declared.refusal.WordRefusal.{WordRefusal}
 use Rattle.micro_word.specs.declared.refusal.WordRefusal.TheVariants.{Fault, OutOfMemory}
 use Rattle.micro_word.specs.Text.{Microprogram, IsFileOf}
 use Rattle.micro_word.specs.Reading.{reading}
-use Rattle.micro_verify.specs.declared.refusal.Fault.{Fault as TextFault}
-use Rattle.micro_verify.specs.Faults.{fault_of}
-use Rattle.micro_verify.specs.Program.{Job}
-use Rattle.micro_verify.specs.Verified.{VerifiedText, IsOfLoops}
-use Rattle.seq_core.specs.declared.answers.LoadFault.{LoadFault}
+use Rattle.micro_claims.specs.declared.refusal.Fault.{Fault as TextFault}
+use Rattle.micro_walk.specs.Faults.{fault_of}
+use Rattle.micro_program.specs.Program.{Job}
+use Rattle.micro_program.specs.Verified.{VerifiedText}
+use Rattle.micro_walk.specs.Verdicts.{IsOfLoops}
+use Rattle.seq_core.specs.declared.answers.JobFault.{JobFault}
 use Rattle.seq_core.specs.World.{Slot, World, slot_of, fresh}
 use Rattle.seq_core.specs.Event.{Load}
 use Rattle.seq_core.specs.Reply.{ToLoad, Loaded}
@@ -21,12 +22,15 @@ use Rattle.seq_core.specs.Job.{job_of, job_fault}
 use Rattle.target_bus.specs.Bus.{channel_on}
 use Rattle.seq_core.specs.Alone.{alone_on}
 use Rattle.trace_text.specs.Line.{text}
-use Rattle.seq_cli.specs.declared.refusal.Refusal.{Refusal}
-use Rattle.seq_cli.specs.declared.refusal.Refusal.TheVariants.{Text}
-use Rattle.seq_cli.specs.declared.refusal.NotRun.{NotRun}
-use Rattle.seq_cli.specs.declared.refusal.NotRun.TheVariants.{Refused, OutOfMemory as NoMemory}
-use Rattle.seq_cli.specs.Refusals.{line_of}
-use Rattle.seq_cli.specs.Lines.{word_fault_name, reason_name, load_fault_name, refusal_line, end_line}
+use Rattle.seq_commands.specs.declared.refusal.Refusal.{Refusal}
+use Rattle.seq_commands.specs.declared.refusal.Refusal.TheVariants.{Text}
+use Rattle.seq_cli.specs.declared.not_run.NotRun.{NotRun}
+use Rattle.seq_cli.specs.declared.not_run.NotRun.TheVariants.{Refused, OutOfMemory as NoMemory}
+use Rattle.seq_commands.specs.Refusals.{line_of}
+use Rattle.micro_word.specs.Codes.{word_fault_code}
+use Rattle.micro_claims.specs.Codes.{reason_code}
+use Rattle.seq_core.specs.Codes.{job_fault_code}
+use Rattle.seq_commands.specs.Lines.{refusal_line, end_line}
 
 -- one LUN of 8 blocks of 4 pages of 512 + 16 bytes
 abbrev pub one_lun : Parts
@@ -44,19 +48,19 @@ abbrev pub for_one_lun : Microprogram → VerifiedText
 for_one_lun x = record { text = x; geometry = one_lun }
 
 -- the refusal of a job
-abbrev pub refused_load : Option LoadFault → Option (List ℕ)
+abbrev pub refused_load : Option JobFault → Option (List ℕ)
 refused_load None = None
-refused_load (Some fault) = Some (refusal_line (load_fault_name fault) 0)
+refused_load (Some fault) = Some (refusal_line (job_fault_code fault) 0)
 
 -- that of a text, or of its job
 abbrev pub refused_text : ℕ → Microprogram → Option TextFault → Option (List ℕ)
 refused_text base x None = refused_load (job_fault one_lun 1 the_lun base (for_one_lun x) x.buffer)
-refused_text base x (Some fault) = Some (refusal_line (reason_name fault.reason) fault.word)
+refused_text base x (Some fault) = Some (refusal_line (reason_code fault.reason) fault.word)
 
 -- that of a file, of its text, or of its job
 abbrev pub refused_file : ℕ → Result Microprogram WordRefusal → Option (List ℕ)
 refused_file base (Ok x) = refused_text base x (fault_of one_lun x)
-refused_file base (Err (Fault code word)) = Some (refusal_line (word_fault_name code) word)
+refused_file base (Err (Fault code word)) = Some (refusal_line (word_fault_code code) word)
 refused_file base (Err OutOfMemory) = None
 
 -- the line of the refusal of a file at a base, if it is refused. Of a text with loops, the fault of its shape or of its job

@@ -1,8 +1,8 @@
 -- What running a program to its end does to a sequencer.
 use Rattle.std.specs.Prelude.{◌≡◌, ℕ, suc, Bool, if◌then◌else◌, List, ◌++◌, Some, reverse}
-use Rattle.onfi_cycle.specs.declared.Item.{Item}
+use Rattle.onfi_cycle.specs.declared.item.Item.{Item}
 use Rattle.onfi_cycle.specs.Channel.{Channel}
-use Rattle.micro_verify.specs.Program.{Job}
+use Rattle.micro_program.specs.Program.{Job}
 use Rattle.seq_core.specs.World.{Slot, World, slot_of, fresh}
 use Rattle.seq_core.specs.Event.{Load}
 use Rattle.seq_core.specs.Reply.{ToLoad, Loaded}
@@ -11,7 +11,7 @@ use Rattle.seq_core.specs.Lawful.{LawfulWorld}
 use Rattle.seq_core.specs.Shows.{CoreView, IsAt, channel_in}
 use Rattle.seq_core.specs.Alone.{alone_on}
 use Rattle.trace_text.specs.Line.{text}
-use Rattle.seq_cli.specs.Lines.{end_line}
+use Rattle.seq_commands.specs.Lines.{end_line}
 use Rattle.seq_cli.specs.Once.{one_lun, the_lun, the_channel}
 
 -- a turn was taken: from whatever lawful world was kept, a lawful world is kept from which the program goes on, or in which it has ended

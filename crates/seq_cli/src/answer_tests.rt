@@ -3,13 +3,16 @@ ghost use Rattle.std.specs.Prelude.{◌<◌};
 use crate::tests::{ERASE, RUN, reader, writer};
 use crate::{Refusal, answer, run_file};
 use linked_list_allocator::LocalHeap;
-use micro_verify::Reason;
+use micro_claims::Reason;
 use micro_word::WordFault;
-use seq_core::LoadFault;
+use seq_core::JobFault;
+use seq_files::MapFiles;
 use std::alloc::{AllocError, Global};
 use std::io;
 use std::process::Abort;
+use std::sync::Wait;
 use std::test::Fail;
+use std::thread::Threads;
 
 // What the program answers: its status, and what it writes on standard output and on standard error.
 #[derive(Drop)]
@@ -19,11 +22,25 @@ struct Answer {
     errors: Vec<u8>,
 }
 
-fn answer_to(alloc: Global, words: io::Result<Vec<String>>, file: &[u8]) -> Answer {
+fn answer_to<R: Threads + Wait + Sync + AllocGlobal>(
+    rt: &R,
+    words: io::Result<Vec<String>>,
+    file: &[u8],
+) -> Answer {
+    let alloc = rt.alloc();
     let mut input = file;
     let mut output = Vec::new(alloc);
     let mut errors = Vec::new(alloc);
-    let status = answer(alloc, words, &mut input, &mut output, &mut errors);
+    let mut files = MapFiles::new(alloc);
+    let status = answer(
+        rt,
+        alloc,
+        words,
+        &mut files,
+        &mut input,
+        &mut output,
+        &mut errors,
+    );
     Answer {
         status,
         output,
@@ -46,21 +63,21 @@ fn expect(rt: &impl Abort, answer: Answer, status: u8, output: &str, errors: &st
 }
 
 // Runs a file at base 4, where it must be refused so, with these words.
-fn expect_refusal(
-    rt: &(impl Abort + AllocGlobal),
+fn expect_refusal<R: Abort + Threads + Wait + Sync + AllocGlobal>(
+    rt: &R,
     file: &[u8],
     line: &str,
     words: &str,
 ) -> Result<(), AllocError> {
     let asked = owned(rt.alloc(), &["onfiseq", "once", "--base", "4"])?;
-    expect(rt, answer_to(rt.alloc(), Ok(asked), file), 1, line, words);
+    expect(rt, answer_to(rt, Ok(asked), file), 1, line, words);
     Ok(())
 }
 
 #[test]
 fn a_run(rt: HostRuntime) -> Result<(), Fail> {
     let words = owned(rt.alloc(), &["onfiseq", "once", "--base", "4"])?;
-    expect(&rt, answer_to(rt.alloc(), Ok(words), &ERASE), 0, RUN, "");
+    expect(&rt, answer_to(&rt, Ok(words), &ERASE), 0, RUN, "");
     Ok(())
 }
 
@@ -76,7 +93,7 @@ const RUN_TWO: &str =
 #[test]
 fn a_run_with_a_loop(rt: HostRuntime) -> Result<(), Fail> {
     let words = owned(rt.alloc(), &["onfiseq", "once", "--base", "4"])?;
-    let answer = answer_to(rt.alloc(), Ok(words), &ERASE_TWO);
+    let answer = answer_to(&rt, Ok(words), &ERASE_TWO);
     expect(&rt, answer, 0, RUN_TWO, "");
     let mut few_rows = ERASE_TWO;
     few_rows[6] = 4;
@@ -136,7 +153,7 @@ fn files_that_are_refused(rt: HostRuntime) -> Result<(), Fail> {
         (
             &changed(6, 0),
             "refused M6 at 0\n",
-            "word 0 or the header: a number is out of its range\n",
+            "the header or word 0: a number is out of its range\n",
         ),
         (
             longer.as_slice(),
@@ -251,7 +268,7 @@ fn a_base_outside_the_die(rt: HostRuntime) -> Result<(), Fail> {
     let words = owned(rt.alloc(), &["onfiseq", "once", "--base", "32"])?;
     expect(
         &rt,
-        answer_to(rt.alloc(), Ok(words), &ERASE),
+        answer_to(&rt, Ok(words), &ERASE),
         1,
         "refused S3 at 0\n",
         "the rows are outside the die: --base and the rows in the header come to more than 32\n",
@@ -266,45 +283,44 @@ fn the_other_refusals(rt: HostRuntime) -> Result<(), Fail> {
     let job = |fault| Refusal::Job { fault };
     let refusals = [
         (
-            text(Reason::V2),
+            text(Reason::LoopUnpaired),
             "word 7: a `loop` or a `next` has no partner",
         ),
         (
-            text(Reason::V3),
+            text(Reason::LoopsTooDeep),
             "word 7: loops are nested deeper than four",
         ),
         (
-            text(Reason::V4),
+            text(Reason::BranchMisplaced),
             "word 7: the branch leads back, or into or out of a loop",
         ),
         (
-            text(Reason::V10),
+            text(Reason::BufferPassed),
             "word 7: the program may go past the end of its buffer",
         ),
         (
-            text(Reason::V11),
+            text(Reason::RowOrPlaneOutside),
             "word 7: a row or a plane may be outside the die",
         ),
         (
-            text(Reason::V12),
+            text(Reason::ColumnTooLarge),
             "word 7: a column may be past the end of the page or of the register",
         ),
         (
-            text(Reason::V13),
+            text(Reason::NoStatus),
             "word 7: no status may have been read before this branch",
         ),
-        (job(LoadFault::S1), "the LUN has a program already"),
-        (job(LoadFault::S2), "there is no such LUN"),
+        (job(JobFault::NoSuchLun), "there is no such LUN"),
         (
-            job(LoadFault::S4),
+            job(JobFault::BufferLength),
             "the buffer isn't as long as the header says",
         ),
         (
-            job(LoadFault::S5),
+            job(JobFault::OtherGeometry),
             "the program was checked for another die",
         ),
         (
-            job(LoadFault::S6),
+            job(JobFault::NotAtBlock),
             "the program continues a cache read, and --base isn't the first row of a block",
         ),
     ];
@@ -314,7 +330,7 @@ fn the_other_refusals(rt: HostRuntime) -> Result<(), Fail> {
     }
     // A fault of a file that isn't a word's tells no word.
     let file = Refusal::File {
-        fault: WordFault::M3,
+        fault: WordFault::TooManyWords,
         word: 0,
     };
     assert!(rt; !format!(in rt.alloc(); "{file}")?.starts_with("word"));
@@ -331,18 +347,18 @@ fn command_lines_that_cannot_be_read(rt: HostRuntime) -> Result<(), Fail> {
         &["onfiseq", "once", "--base", "-1"],
     ];
     for words in lines {
-        let got = answer_to(alloc, Ok(owned(alloc, words)?), &ERASE);
+        let got = answer_to(&rt, Ok(owned(alloc, words)?), &ERASE);
         assert_eq!(rt; got.status, 3);
         assert!(rt; got.output.is_empty() && !got.errors.is_empty());
     }
     let other = answer_to(
-        alloc,
+        &rt,
         Err(io::Error::from(io::ErrorKind::InvalidData)),
         &ERASE,
     );
     expect(&rt, other, 3, "", "error: the command line isn't UTF-8\n");
     let memory = answer_to(
-        alloc,
+        &rt,
         Err(io::Error::from(io::ErrorKind::OutOfMemory)),
         &ERASE,
     );
@@ -353,7 +369,7 @@ fn command_lines_that_cannot_be_read(rt: HostRuntime) -> Result<(), Fail> {
 #[test]
 fn help_names_the_die(rt: HostRuntime) -> Result<(), Fail> {
     let words = owned(rt.alloc(), &["onfiseq", "help", "once"])?;
-    let help = answer_to(rt.alloc(), Ok(words), &[]);
+    let help = answer_to(&rt, Ok(words), &[]);
     assert_eq!(rt; help.status, 0);
     assert!(rt; help.errors.is_empty());
     let text = str::from_utf8(help.output.as_slice())?;

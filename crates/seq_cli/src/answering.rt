@@ -1,19 +1,23 @@
 //! What the program does with its words, what it says on standard error, and its status.
 ghost use Rattle.std.specs.Prelude.{◌≡◌, List, ℕ, IfSome};
 ghost use Rattle.std.specs.Io.KnownBytes.{Appends};
-ghost use Rattle.seq_cli.specs.declared.refusal.Refusal.{Refusal};
-ghost use Rattle.seq_cli.specs.Refusals.{line_of};
-ghost use Rattle.seq_cli.specs.Exits.{status};
+ghost use Rattle.seq_commands.specs.declared.refusal.Refusal.{Refusal};
+ghost use Rattle.seq_commands.specs.Refusals.{line_of};
+ghost use Rattle.seq_commands.specs.Exits.{status};
+ghost use Rattle.seq_commands.specs.Commands.{IsDone, MayRefuse, MayLeave};
 ghost use Rattle.seq_cli.specs.Once.{MayBeRefused, IsRun};
 
-use crate::command_line::{self, Command};
-use crate::exit::Exit;
-use crate::fault::StreamFault;
+use crate::command_line::{self, Asked};
 use crate::once::once_on;
 use clap::Error;
 use clap::error::ErrorKind;
+use seq_commands::{Command, Exit, command_told};
+use seq_files::{FileError, Files};
+use seq_run::run_on;
 use std::alloc::{Allocator, Global};
 use std::io::{self, Read, Write};
+use std::sync::Wait;
+use std::thread::Threads;
 
 // Says in words how a run ended, where standard output doesn't say it all.
 fn tell<E: Write>(errors: &mut E, exit: Exit) -> io::Result<()> {
@@ -52,6 +56,45 @@ pub fn run_file<A: Allocator, R: Read, W: Write, E: Write>(
     end(errors, exit)
 }
 
+// Says of a file that it couldn't be read or written, or how else a command ended, where that isn't said yet.
+fn tell_command<E: Write>(errors: &mut E, exit: Exit, command: Command<'_>) -> io::Result<()> {
+    if let Exit::FileFault(medium) = exit {
+        let path = command.path(medium);
+        writeln!(errors, "file fault {path}")?;
+    }
+    if exit == Exit::OutOfMemory {
+        writeln!(errors, "out of memory")?;
+    }
+    errors.flush()
+}
+
+// Says how a command ended, and gives its status.
+fn end_command<E: Write>(errors: &mut E, exit: Exit, command: Command<'_>) -> u8
+    ensures { result ≡ status exit }
+{
+    let _ = tell_command(errors, exit, command);
+    exit.status()
+}
+
+/// Does a command on files, as [`command_told`] does, and gives the status. What is wrong with a file is said in words on `errors`, and so
+/// is a fault of a file or a stream, with its path, or that there is no memory.
+pub fn run_command<A: Allocator + Clone, F: Files, W: Write, E: Write>(
+    alloc: A,
+    files: &mut F,
+    output: &mut W,
+    errors: &mut E,
+    command: Command<'_>,
+) -> u8
+    ensures done { result ≡ 0 → (printed : List ℕ) × IsDone command.entry (F.store files.old) (F.store files.new) printed
+        × Appends (W.contents output.old) (W.contents output.new) printed }
+    ensures refused { result ≡ 1 → (refusal : Refusal) × MayRefuse command.entry (F.store files.old) (F.store files.new) refusal
+        × Appends (W.contents output.old) (W.contents output.new) (line_of refusal) }
+    ensures files { MayLeave command.entry (F.store files.old) (F.store files.new) }
+{
+    let exit = command_told(alloc, files, output, errors, command);
+    end_command(errors, exit, command)
+}
+
 // Shows the text for words that aren't a command: help on `output`, or a mistake on `errors`.
 fn show<W: Write, E: Write>(output: &mut W, errors: &mut E, error: Error) -> Exit {
     if error.kind() == ErrorKind::OutOfMemory {
@@ -63,7 +106,7 @@ fn show<W: Write, E: Write>(output: &mut W, errors: &mut E, error: Error) -> Exi
     }
     match write!(output, "{error}") {
         Ok(()) => Exit::Done,
-        Err(fault) => Exit::from(StreamFault::of(&fault)),
+        Err(fault) => Exit::from(FileError::of(&fault)),
     }
 }
 
@@ -76,10 +119,13 @@ fn without_words<E: Write>(errors: &mut E, error: &io::Error) -> Exit {
     Exit::Usage
 }
 
-/// Does what the words ask for, the first of which is the name of the program, and gives the status to end with.
-pub fn answer<R: Read, W: Write, E: Write>(
+/// Does what the words ask for, the first of which is the name of the program, and gives the status to end with. A run starts threads by
+/// the handle.
+pub fn answer<T: Threads + Wait + Sync, F: Files, R: Read, W: Write, E: Write>(
+    rt: &T,
     alloc: Global,
     words: io::Result<Vec<String>>,
+    files: &mut F,
     input: &mut R,
     output: &mut W,
     errors: &mut E,
@@ -92,7 +138,9 @@ pub fn answer<R: Read, W: Write, E: Write>(
         }
     };
     match command_line::parse(alloc, words.as_slice()) {
-        Ok(Command::Once { base }) => run_file(&alloc, base, input, output, errors),
+        Ok(Asked::Once { base }) => run_file(&alloc, base, input, output, errors),
+        Ok(Asked::Files(command)) => run_command(alloc, files, output, errors, command),
+        Ok(Asked::Run(request)) => run_on(rt, alloc, files, output, errors, request).status(),
         Err(error) => {
             let exit = show(output, errors, error);
             end(errors, exit)

@@ -1,25 +1,20 @@
-//! What the program `onfiseq` does: it runs microprograms of NAND flash on a modelled channel.
+//! What the program `onfiseq` does: it verifies microprograms of NAND flash, and runs them on a modelled channel.
 //!
-//! [`answer`] is the whole program, given its words and its three streams. Statuses: 0 done; 1 refused, as standard
-//! output says, and standard error in words; 2 a stream couldn't be read or written; 3 the command line couldn't be
+//! [`answer`] is the whole program, given its words, its files and its three streams. Statuses: 0 done; 1 refused, as standard
+//! output says, and standard error in words; 2 a file or a stream couldn't be read or written; 3 the command line couldn't be
 //! read; 4 out of memory.
 #![tactic(auto)]
 
 mod answering;
 mod command_line;
-mod exit;
-mod explaining;
-mod fault;
-mod input;
-mod lines;
+mod not_run;
 mod once;
-mod output;
-mod refusal;
+mod real_files;
 
-pub use answering::{answer, run_file};
-pub use exit::Exit;
+pub use answering::{answer, run_command, run_file};
 pub use once::once_on;
-pub use refusal::Refusal;
+pub use real_files::RealFiles;
+pub use seq_commands::{Exit, Refusal};
 
 #[cfg(test)]
 mod answer_tests;

@@ -4,10 +4,10 @@ ghost use Rattle.std.specs.Io.KnownBytes.{Appends};
 ghost use Rattle.std.specs.List.{All};
 ghost use Rattle.std.specs.String.{string_bytes};
 ghost use Rattle.micro_word.specs.Reading.{reading};
-ghost use Rattle.micro_verify.specs.Lines.{unrolled};
-ghost use Rattle.micro_verify.specs.Faults.{fault_of};
-ghost use Rattle.seq_cli.specs.declared.refusal.Refusal.{Refusal};
-ghost use Rattle.seq_cli.specs.Refusals.{line_of};
+ghost use Rattle.micro_program.specs.Lines.{unrolled};
+ghost use Rattle.micro_walk.specs.Faults.{fault_of};
+ghost use Rattle.seq_commands.specs.declared.refusal.Refusal.{Refusal};
+ghost use Rattle.seq_commands.specs.Refusals.{line_of};
 ghost use Rattle.micro_word.specs.Text.{IsFileOf};
 ghost use Rattle.seq_core.specs.World.{fresh};
 ghost use Rattle.seq_core.specs.Calls.{IsEvent};
@@ -15,22 +15,20 @@ ghost use Rattle.seq_core.specs.Event.{Ready};
 ghost use Rattle.seq_core.specs.Reply.{ToReady};
 ghost use Rattle.seq_core.specs.Shows.{IsAt, channel_in};
 ghost use Rattle.seq_cli.specs.Once.{one_lun, the_lun, refused, MayBeRefused, Tells, the_channel, IsJobOf, IsRun};
-ghost use Rattle.seq_cli.specs.Lines.{end_line};
+ghost use Rattle.seq_commands.specs.Lines.{end_line};
 ghost use Rattle.seq_cli.specs.Runs.{EndsWithin, HasRun, IsForTheLun, IsLoaded, RanAlone, TellsRun, TookTurn};
 ghost use Rattle.trace_text.specs.Line.{text, IsPrintable};
 
-use crate::exit::Exit;
-use crate::fault::StreamFault;
-use crate::input::read_all;
-use crate::lines::push_end_line;
-use crate::output::write_text;
-use crate::refusal::{NotRun, Refusal};
+use crate::not_run::NotRun;
 use die_model::LunDie;
-use micro_verify::{Verified, VerifyRefusal, verify};
+use micro_program::Verified;
+use micro_verify::{VerifyRefusal, verify};
 use micro_word::{WordRefusal, read};
 use nand_geometry::{Geometry, Parts};
 use onfi_cycle::{Item, Lun};
+use seq_commands::{Exit, Refusal, push_end_line, refuse};
 use seq_core::{Core, Done, Job, Stepped};
+use seq_files::{FileError, read_all, write_text};
 use std::alloc::{AllocError, Allocator};
 use std::io::{Read, Write};
 use target_bus::{Bus, BusFault};
@@ -66,7 +64,7 @@ fn geometry() -> Geometry
 }
 
 // The text of a file, verified.
-fn verified<A: Allocator>(alloc: A, bytes: &[u8]) -> Result<Verified<A>, NotRun>
+fn read_text<A: Allocator + Copy>(alloc: A, bytes: &[u8]) -> Result<Verified<A>, NotRun>
     ensures text { IfOk result (λ v. reading bytes.now ≡ Ok v.text) }
     ensures file { IfOk result (λ v. IsFileOf bytes.now v.text) }
     ensures faultless { IfOk result (λ v. fault_of one_lun v.text ≡ None) }
@@ -75,14 +73,14 @@ fn verified<A: Allocator>(alloc: A, bytes: &[u8]) -> Result<Verified<A>, NotRun>
 {
     let text = match read(alloc, bytes) {
         Ok(text) => text,
-        Err(WordRefusal::Fault { code, word }) => {
-            return Err(NotRun::Refused(Refusal::File { fault: code, word }));
+        Err(WordRefusal::Fault { fault, word }) => {
+            return Err(NotRun::Refused(Refusal::File { fault, word }));
         }
         Err(WordRefusal::OutOfMemory) => return Err(NotRun::OutOfMemory),
     };
     match verify(text, geometry()) {
         Ok(verified) => Ok(verified),
-        Err((VerifyRefusal::Refusal { word, reason }, _)) => {
+        Err((VerifyRefusal::Refusal { word, reason, .. }, _)) => {
             Err(NotRun::Refused(Refusal::Text { reason, word }))
         }
         Err((VerifyRefusal::OutOfMemory, _)) => Err(NotRun::OutOfMemory),
@@ -90,17 +88,19 @@ fn verified<A: Allocator>(alloc: A, bytes: &[u8]) -> Result<Verified<A>, NotRun>
 }
 
 // The job of a file: its text at this base, its buffer all 00.
-fn made_job<A: Allocator + Clone>(alloc: A, bytes: &[u8], base: u32) -> Result<Job<A>, NotRun>
+fn make_job<A: Allocator + Copy>(alloc: A, bytes: &[u8], base: u32) -> Result<Job<A>, NotRun>
     ensures job { IfOk result (λ j. IsJobOf base bytes.now j) }
     ensures alone { IfOk result (λ j. IsForTheLun j) }
     ensures accepted { IfOk result (λ j. refused base bytes.now ≡ None) }
     ensures refused { IfErr result (λ e. Tells e base bytes.now) }
 {
-    let verified = verified(alloc.clone()?, bytes)?;
+    let verified = read_text(alloc, bytes)?;
     let buffer = vec![in alloc; 0; verified.text().buffer() as usize]?;
     match Job::new(geometry(), 1, THE_LUN, base, verified, buffer) {
         Ok(job) => Ok(job),
-        Err((fault, _, _)) => Err(NotRun::Refused(Refusal::Job { fault })),
+        Err(refused) => Err(NotRun::Refused(Refusal::Job {
+            fault: refused.fault,
+        })),
     }
 }
 
@@ -114,8 +114,8 @@ fn new_core<A: Allocator + Copy>(alloc: A) -> Result<Core<A>, AllocError>
     match Bus::new(alloc, geometry(), dies) {
         Ok(bus) => Ok(Core::new(bus)),
         Err((BusFault::OutOfMemory, _)) => Err(AllocError),
-        Err((BusFault::B1, _)) => unreachable!(),
-        Err((BusFault::B2, _)) => unreachable!(),
+        Err((BusFault::DiesMissing, _)) => unreachable!(),
+        Err((BusFault::DieUnfit, _)) => unreachable!(),
     }
 }
 
@@ -162,7 +162,7 @@ fn run_to_end<A: Allocator + Copy>(core: &mut Core<A>, turns: usize) -> Result<(
 }
 
 // A sequencer on which a job is loaded, and nothing else has happened.
-fn loaded<A: Allocator + Copy>(alloc: A, job: Job<A>) -> Result<Core<A>, AllocError>
+fn load<A: Allocator + Copy>(alloc: A, job: Job<A>) -> Result<Core<A>, AllocError>
     requires { IsForTheLun job }
     ensures { IfOk result (λ core. IsLoaded job core) }
 {
@@ -181,23 +181,23 @@ fn turns_of<A: Allocator>(job: &Job<A>) -> usize
 }
 
 // A sequencer on which a job is loaded, and how many turns it takes at most to its end.
-fn started<A: Allocator + Copy>(alloc: A, job: Job<A>) -> Result<(Core<A>, usize), AllocError>
+fn start<A: Allocator + Copy>(alloc: A, job: Job<A>) -> Result<(Core<A>, usize), AllocError>
     requires { IsForTheLun job }
     ensures loaded { IfOk result (λ r. IsLoaded job r.0) }
     ensures turns { IfOk result (λ r. 2 * length (unrolled job.text.words) + 1 ≤ r.1) }
     ensures ends { IfOk result (λ r. EndsWithin r.0 r.1) }
 {
     let turns = turns_of(&job);
-    let core = loaded(alloc, job)?;
+    let core = load(alloc, job)?;
     Ok((core, turns))
 }
 
 // Runs a job to its end: the sequencer, and the code with which the program has ended.
-fn ran<A: Allocator + Copy>(alloc: A, job: Job<A>) -> Result<(Core<A>, u8), AllocError>
+fn run_job<A: Allocator + Copy>(alloc: A, job: Job<A>) -> Result<(Core<A>, u8), AllocError>
     requires { IsForTheLun job }
     ensures { IfOk result (λ r. RanAlone job r.0.past r.1) }
 {
-    let (mut core, turns) = started(alloc, job)?;
+    let (mut core, turns) = start(alloc, job)?;
     run_to_end(&mut core, turns)?;
     match core.unload(THE_LUN) {
         Ok(done) => Ok((core, code_of(&done))),
@@ -216,24 +216,12 @@ fn lines_of<A: Allocator>(alloc: A, items: &[Item], code: u8) -> Result<String<A
 }
 
 // What is written of a job that runs to its end.
-fn told<'a, A: Allocator>(alloc: &'a A, job: Job<&'a A>) -> Result<String<&'a A>, AllocError>
+fn tell_run<'a, A: Allocator>(alloc: &'a A, job: Job<&'a A>) -> Result<String<&'a A>, AllocError>
     requires { IsForTheLun job }
     ensures { IfOk result (λ lines. TellsRun job.entry (string_bytes lines)) }
 {
-    let (core, code) = ran(alloc, job)?;
+    let (core, code) = run_job(alloc, job)?;
     lines_of(alloc, core.trace(), code)
-}
-
-// Writes the line of a refusal.
-fn refuse<A: Allocator, W: Write>(
-    alloc: A,
-    output: &mut W,
-    refusal: Refusal,
-) -> Result<(), StreamFault>
-    ensures { OnOk result (Appends (W.contents output.old) (W.contents output.new) (line_of refusal)) }
-{
-    let line = refusal.line(alloc)?;
-    write_text(output, line.as_str())
 }
 
 // Reads a file, runs it and writes what becomes of it.
@@ -242,16 +230,16 @@ fn run<A: Allocator, R: Read, W: Write>(
     input: &mut R,
     output: &mut W,
     base: u32,
-) -> Result<Exit, StreamFault>
+) -> Result<Exit, FileError>
     ensures done { result ≡ Ok Exit.Done → IfSome (R.remaining input.old) (λ bytes. (written : List ℕ) × IsRun base bytes written
         × Appends (W.contents output.old) (W.contents output.new) written) }
     ensures refused { (refusal : Refusal) → result ≡ Ok (Exit.Refused refusal) → IfSome (R.remaining input.old) (λ bytes.
         MayBeRefused base bytes refusal × Appends (W.contents output.old) (W.contents output.new) (line_of refusal)) }
 {
     let bytes = read_all(alloc, input)?;
-    match made_job(alloc, bytes.as_slice(), base) {
+    match make_job(alloc, bytes.as_slice(), base) {
         Ok(job) => {
-            let lines = told(alloc, job)?;
+            let lines = tell_run(alloc, job)?;
             write_text(output, lines.as_str())?;
             Ok(Exit::Done)
         }
@@ -259,7 +247,7 @@ fn run<A: Allocator, R: Read, W: Write>(
             refuse(alloc, output, refusal)?;
             Ok(Exit::Refused(refusal))
         }
-        Err(NotRun::OutOfMemory) => Err(StreamFault::OutOfMemory),
+        Err(NotRun::OutOfMemory) => Err(FileError::OutOfMemory),
     }
 }
 

@@ -1,15 +1,10 @@
-use crate::command_line::{Command, parse};
-use crate::exit::Exit;
-use crate::fault::StreamFault;
-use crate::input::read_all;
-use crate::lines::{push_end_line, refusal_line};
+use crate::command_line::{Asked, parse};
 use crate::once::once_on;
-use crate::output::write_text;
-use crate::refusal::Refusal;
 use clap::error::ErrorKind as UsageKind;
 use linked_list_allocator::LocalHeap;
-use micro_verify::Reason;
-use seq_core::LoadFault;
+use micro_claims::Reason;
+use seq_commands::{Command, Exit, Medium, Refusal, Targets};
+use seq_core::JobFault;
 use std::alloc::{AllocError, Global};
 use std::io;
 use std::io::{Read, Write, repeat};
@@ -112,96 +107,14 @@ pub(crate) fn writer(alloc: Global, bad: usize, kind: io::ErrorKind) -> SlowWrit
     }
 }
 
-#[test]
-fn inputs_are_read_whole(rt: HostRuntime) -> Result<(), Fail> {
-    let long = vec![in rt.alloc(); 7u8; 10_000]?;
-    let mut input = long.as_slice();
-    let read = read_all(rt.alloc(), &mut input);
-    assert_eq!(rt; read.map(|bytes| bytes.len()), Ok(10_000));
-    let mut slow = reader(&ERASE, 5, io::ErrorKind::Interrupted);
-    let read = read_all(rt.alloc(), &mut slow);
-    assert!(rt; read.is_ok_and(|bytes| bytes.as_slice() == ERASE.as_slice()));
-    // 36 bytes, the call that was interrupted, and the end.
-    assert_eq!(rt; slow.calls, 38);
-    Ok(())
-}
-
-#[test]
-fn failed_reads(rt: HostRuntime) {
-    for bad in 0..37 {
-        for (kind, want) in [
-            (io::ErrorKind::Other, StreamFault::Fault),
-            (io::ErrorKind::OutOfMemory, StreamFault::OutOfMemory),
-        ] {
-            let mut slow = reader(&ERASE, bad, kind);
-            let read = read_all(rt.alloc(), &mut slow);
-            assert_eq!(rt; read.err(), Some(want), "call {bad}");
-        }
-    }
-}
-
-// Never at its end: it gives no bytes at all, and each read is interrupted.
-#[derive(Drop)]
-struct Endless {
-    calls: u32,
-}
-
-impl Read for Endless {
-    fn read(&mut self, _buf: &mut [u8]) -> io::Result<usize> {
-        self.calls = self.calls.saturating_add(1);
-        Err(io::Error::from(io::ErrorKind::Interrupted))
-    }
-}
-
-#[test]
-fn an_input_without_an_end(rt: HostRuntime) {
-    let mut endless = Endless { calls: 0 };
-    let read = read_all(rt.alloc(), &mut endless);
-    assert_eq!(rt; read.err(), Some(StreamFault::Fault));
-    assert_eq!(rt; endless.calls, 1_048_576);
-}
-
-#[test]
-fn failed_writes(rt: HostRuntime) {
-    // Four writes and the flush.
-    for bad in 0..5 {
-        let mut slow = writer(rt.alloc(), bad, io::ErrorKind::BrokenPipe);
-        assert_eq!(rt;
-            write_text(&mut slow, "ten bytes."),
-            Err(StreamFault::Fault),
-            "call {bad}"
-        );
-        let mut full = writer(rt.alloc(), bad, io::ErrorKind::OutOfMemory);
-        assert_eq!(rt;
-            write_text(&mut full, "ten bytes."),
-            Err(StreamFault::OutOfMemory),
-            "call {bad}"
-        );
-    }
-    let mut slow = writer(rt.alloc(), 2, io::ErrorKind::Interrupted);
-    assert_eq!(rt; write_text(&mut slow, "ten bytes."), Ok(()));
-    assert_eq!(rt; slow.bytes.as_slice(), b"ten bytes.".as_slice());
-}
-
-#[test]
-fn lines(rt: HostRuntime) -> Result<(), Fail> {
-    let refused = refusal_line(rt.alloc(), "V15", 2)?;
-    assert_eq!(rt; refused.as_str(), "refused V15 at 2\n");
-    let mut text = String::new(rt.alloc());
-    push_end_line(&mut text, 0)?;
-    push_end_line(&mut text, 255)?;
-    assert_eq!(rt; text.as_str(), "end 0\nend 255\n");
-    Ok(())
-}
-
 // No `wait` before the `end`, and a row that isn't there.
 const ENDS_BUSY: Refusal = Refusal::Text {
-    reason: Reason::V14,
+    reason: Reason::EndsTooSoon,
     word: 3,
 };
 
 const ROW_OUTSIDE: Refusal = Refusal::Job {
-    fault: LoadFault::S3,
+    fault: JobFault::RowsOutside,
 };
 
 #[test]
@@ -209,7 +122,8 @@ fn exits(rt: HostRuntime) {
     let exits = [
         (Exit::Done, 0, None),
         (Exit::Refused(ENDS_BUSY), 1, None),
-        (Exit::FileFault, 2, Some("file fault -")),
+        (Exit::FileFault(Medium::Stream), 2, Some("file fault -")),
+        (Exit::FileFault(Medium::Output), 2, None),
         (Exit::Usage, 3, None),
         (Exit::OutOfMemory, 4, Some("out of memory")),
     ];
@@ -267,7 +181,7 @@ fn streams_that_fail(rt: HostRuntime) {
         let mut slow = reader(&ERASE, bad, io::ErrorKind::Other);
         assert_eq!(rt;
             once_on(&rt.alloc(), &mut slow, &mut output, 4),
-            Exit::FileFault,
+            Exit::FileFault(Medium::Stream),
             "read {bad}"
         );
         assert!(rt; output.is_empty());
@@ -278,7 +192,7 @@ fn streams_that_fail(rt: HostRuntime) {
         let mut slow = writer(rt.alloc(), bad, io::ErrorKind::BrokenPipe);
         assert_eq!(rt;
             once_on(&rt.alloc(), &mut input, &mut slow, 4),
-            Exit::FileFault,
+            Exit::FileFault(Medium::Stream),
             "write {bad}"
         );
     }
@@ -288,7 +202,7 @@ fn streams_that_fail(rt: HostRuntime) {
         let mut slow = writer(rt.alloc(), bad, io::ErrorKind::BrokenPipe);
         assert_eq!(rt;
             once_on(&rt.alloc(), &mut input, &mut slow, 4),
-            Exit::FileFault,
+            Exit::FileFault(Medium::Stream),
             "write {bad}"
         );
         assert!(rt; RUN.as_bytes().starts_with(slow.bytes.as_slice()));
@@ -332,34 +246,120 @@ fn refused_memory(rt: HostRuntime) -> Result<(), Fail> {
 }
 
 // What words ask for, or the kind of their error.
-fn asked(alloc: Global, words: &[&str]) -> Result<Result<Command, UsageKind>, AllocError> {
-    let mut owned = Vec::new(alloc);
+fn expect_asked(
+    rt: &(impl Abort + AllocGlobal),
+    words: &[&str],
+    want: Result<Asked<'_>, UsageKind>,
+) -> Result<(), AllocError> {
+    let mut owned = Vec::new(rt.alloc());
     for word in words {
-        owned.push(String::from_str(alloc, word)?)?;
+        owned.push(String::from_str(rt.alloc(), word)?)?;
     }
-    Ok(parse(alloc, owned.as_slice()).map_err(|error| error.kind()))
+    let got = parse(rt.alloc(), owned.as_slice()).map_err(|error| error.kind());
+    assert_eq!(rt; got, want);
+    Ok(())
 }
 
 #[test]
 fn command_lines(rt: HostRuntime) -> Result<(), Fail> {
-    let alloc = rt.alloc();
-    let once = |base| Ok(Command::Once { base });
-    assert_eq!(rt; asked(alloc, &["onfiseq", "once"])?, once(0));
-    assert_eq!(rt; asked(alloc, &["onfiseq", "once", "--base", "4"])?, once(4));
-    assert_eq!(rt;
-        asked(alloc, &["onfiseq", "once", "--base=4294967295"])?,
-        once(4_294_967_295)
-    );
-    assert_eq!(rt;
-        asked(alloc, &["onfiseq", "once", "--base", "4294967296"])?,
-        Err(UsageKind::ValueValidation)
-    );
-    assert_eq!(rt;
-        asked(alloc, &["onfiseq", "--help"])?,
-        Err(UsageKind::DisplayHelp)
-    );
-    assert!(rt; asked(alloc, &["onfiseq"])?.is_err());
-    assert!(rt; asked(alloc, &["onfiseq", "twice"])?.is_err());
-    assert!(rt; asked(alloc, &["onfiseq", "once", "file"])?.is_err());
+    let once = |base| Ok(Asked::Once { base });
+    expect_asked(&rt, &["onfiseq", "once"], once(0))?;
+    expect_asked(&rt, &["onfiseq", "once", "--base", "4"], once(4))?;
+    expect_asked(
+        &rt,
+        &["onfiseq", "once", "--base=4294967295"],
+        once(4_294_967_295),
+    )?;
+    let too_large = Err(UsageKind::ValueValidation);
+    expect_asked(&rt, &["onfiseq", "once", "--base", "4294967296"], too_large)?;
+    expect_asked(&rt, &["onfiseq", "--help"], Err(UsageKind::DisplayHelp))?;
+    expect_asked(
+        &rt,
+        &["onfiseq", "--version"],
+        Err(UsageKind::DisplayVersion),
+    )?;
+    expect_asked(
+        &rt,
+        &["onfiseq", "twice"],
+        Err(UsageKind::InvalidSubcommand),
+    )?;
+    expect_asked(
+        &rt,
+        &["onfiseq", "once", "file"],
+        Err(UsageKind::UnknownArgument),
+    )?;
+    Ok(())
+}
+
+#[test]
+fn command_lines_of_files(rt: HostRuntime) -> Result<(), Fail> {
+    let pairs = [
+        (
+            ["onfiseq", "asm", "a", "b"],
+            Command::Assemble {
+                input: "a",
+                target: "b",
+            },
+        ),
+        (
+            ["onfiseq", "upgrade", "a", "b"],
+            Command::Upgrade {
+                input: "a",
+                target: "b",
+            },
+        ),
+        (
+            ["onfiseq", "verify", "a", "b"],
+            Command::Verify {
+                page: "a",
+                input: "b",
+                counter: None,
+            },
+        ),
+    ];
+    for (words, command) in pairs {
+        expect_asked(&rt, &words, Ok(Asked::Files(command)))?;
+    }
+    expect_asked(
+        &rt,
+        &["onfiseq", "verify", "a", "b", "--counter", "c"],
+        Ok(Asked::Files(Command::Verify {
+            page: "a",
+            input: "b",
+            counter: Some("c"),
+        })),
+    )?;
+    expect_asked(
+        &rt,
+        &["onfiseq", "dis", "a"],
+        Ok(Asked::Files(Command::Disassemble { input: "a" })),
+    )?;
+    for (word, targets) in [
+        ("1", Targets::One),
+        ("2", Targets::Two),
+        ("3", Targets::Three),
+        ("4", Targets::Four),
+    ] {
+        let command = Command::Check {
+            page: "a",
+            targets,
+            input: "b",
+        };
+        expect_asked(
+            &rt,
+            &["onfiseq", "check", "a", word, "b"],
+            Ok(Asked::Files(command)),
+        )?;
+    }
+    expect_asked(
+        &rt,
+        &["onfiseq", "check", "a", "5", "b"],
+        Err(UsageKind::InvalidValue),
+    )?;
+    expect_asked(
+        &rt,
+        &["onfiseq", "asm", "a"],
+        Err(UsageKind::MissingRequiredArgument),
+    )?;
     Ok(())
 }

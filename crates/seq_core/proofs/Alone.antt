@@ -3,21 +3,21 @@ use Rattle.std.proofs.Common.{◌≡◌, ℕ, zero, suc, ◌+◌, ◌*◌, ◌�
 use Rattle.std.proofs.lemmas.Bool.Decides.{nat_tests}
 use Rattle.nand_geometry.specs.declared.Parts.{Parts}
 use Rattle.onfi_cycle.specs.LunView.{LunView}
-use Rattle.onfi_cycle.specs.declared.Lun.{Lun}
-use Rattle.onfi_cycle.specs.declared.Item.{Item}
-use Rattle.onfi_cycle.specs.declared.Item.TheVariants.{Rdy}
+use Rattle.onfi_cycle.specs.declared.item.Lun.{Lun}
+use Rattle.onfi_cycle.specs.declared.item.Item.{Item}
+use Rattle.onfi_cycle.specs.declared.item.Item.TheVariants.{Rdy}
 use Rattle.onfi_cycle.specs.Lun.{is_busy}
-use Rattle.onfi_cycle.specs.Rules.{breaks_F1}
+use Rattle.onfi_cycle.specs.Rules.{breaks_not_there}
 use Rattle.onfi_cycle.specs.Permitted.{is_permitted}
 use Rattle.onfi_cycle.specs.Channel.{Channel, IsChannel, is_there}
 use Rattle.micro_word.specs.declared.word.Word.{Word}
 use Rattle.micro_word.specs.declared.word.Word.TheVariants.{End, Wait, Yield, BranchOnStatus, Jump}
-use Rattle.micro_verify.specs.Lines.{Line, from_place}
-use Rattle.micro_verify.specs.Program.{Done, is_ready_status, status_now, meets}
-use Rattle.micro_verify.specs.Moves.{and_then}
-use Rattle.micro_verify.specs.Played.{Played}
-use Rattle.micro_verify.specs.Step.{Stride, Outcome, Ended as HasEnded, HandedOver as HasHandedOver, NotReady as WasNotReady, Went as HasGone, stride, waited, first_byte, keeps_bus, next_step}
-use Rattle.micro_verify.specs.Safe.{WordIsFine, LineIsFine}
+use Rattle.micro_program.specs.Lines.{Line, from_place}
+use Rattle.micro_program.specs.Program.{Done, is_ready_status, status_now, meets}
+use Rattle.micro_program.specs.Moves.{and_then}
+use Rattle.micro_program.specs.Played.{Played}
+use Rattle.micro_program.specs.Step.{Stride, Outcome, Ended as HasEnded, HandedOver as HasHandedOver, NotReady as WasNotReady, Went as HasGone, stride, waited, first_byte, keeps_bus, next_step}
+use Rattle.micro_program.specs.Safe.{WordIsFine, LineIsFine}
 use Rattle.seq_core.specs.World.{Slot, World, slot_of}
 use Rattle.seq_core.specs.Event.{Step, Ready}
 use Rattle.seq_core.specs.Reply.{ToStep, ToReady, answer_of}
@@ -70,7 +70,7 @@ stride_leaves line rest done p _ = (refl, omega arith)
 -- 2. a busy LUN becomes ready
 
 busy_is_permitted : (s : Channel) (past : List Item) (l : Lun) → is_there s l ≡ true → is_busy s.geometry past l ≡ true → is_permitted s.geometry s.targets past (Rdy l.ce l.lun false) ≡ true
-unfolding breaks_F1
+unfolding breaks_not_there
 busy_is_permitted s past l there busy =
     let target : leb s.targets l.ce ≡ false = let b = there_ce s l there in grind (arith, nat_tests) in
     rw (target, view_at s.geometry past l (there_lun s l there), busy) refl

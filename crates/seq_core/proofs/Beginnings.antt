@@ -1,16 +1,16 @@
 -- A list of events with more behind it, and what an unload gives.
 use Rattle.std.proofs.Common.{◌≡◌, ℕ, List, [], ◌∷◌, ◌++◌, Option, Some, None, refl, sym, ap, ◌∙◌, subst}
-use Rattle.onfi_cycle.specs.declared.Lun.{Lun}
+use Rattle.onfi_cycle.specs.declared.item.Lun.{Lun}
 use Rattle.onfi_cycle.specs.Channel.{Channel}
-use Rattle.micro_verify.specs.Program.{Job, buffer_now}
-use Rattle.micro_verify.specs.Moves.{and_then}
+use Rattle.micro_program.specs.Program.{Job, buffer_now}
+use Rattle.micro_program.specs.Moves.{and_then}
 use Rattle.seq_core.specs.World.{Slot, World, slot_of, fresh}
 use Rattle.seq_core.specs.Event.{Event, AllLoadVerified}
 use Rattle.seq_core.specs.Reply.{ToUnload, Unloaded}
 use Rattle.seq_core.specs.After.{After, Ran, after, after_slot_unload, after_unload, run}
 use Rattle.seq_core.specs.Buffer.{KeepsOthers}
 use Rattle.seq_core.specs.Lawful.{LawfulSlot, DoesItsText, has_bus}
-use Rattle.seq_core.specs.Headline.{BeginningsGoWell, UnloadsGiveBack, GivesBack}
+use Rattle.seq_core.specs.Headline.{AddsItsOwn, EventsAreOwn, BeginningsGoWell, RunsGoOn, UnloadsGiveBack, GivesBack}
 use Rattle.seq_core.proofs.Main.{headline, run_goes_well, lawful_slot}
 use Rattle.seq_core.proofs.Runnings.{same_after, same_ran, with_first}
 
@@ -52,7 +52,33 @@ beginnings_go_well s events more is v =
     let rest = run_goes_well s is more first.ran.world first.lawful (rest_verified events more v) in
     record { first = first; rest = rest.ran; is_rest = rest.is_ran; whole = run_on s events more rest.ran (fresh s) first.ran first.is_ran rest.is_ran }
 
--- 2. an unload
+-- 2. one event more
+
+-- a run goes on with any event that is defined where it ends
+abbrev GoesOnWith : Channel → List Event → World → Event → Ran → Type 0
+GoesOnWith s events w e ran =
+    (a : After) → after s ran.world e ≡ Some a → AddsItsOwn s e ran.world.past a.world.past →
+    (run s (events ++ (e ∷ [])) w ≡ Some (record { world = a.world; replies = ran.replies ++ (a.reply ∷ []) })) × EventsAreOwn s (events ++ (e ∷ [])) w
+
+goes_on_with : (s : Channel) (events : List Event) (w : World) (e : Event) (ran : Ran) → run s events w ≡ Some ran → EventsAreOwn s events w → GoesOnWith s events w e ran
+goes_on_with s [] w e ran is own =
+    subst (GoesOnWith s [] w e) (same_ran (record { world = w; replies = [] }) ran is) (λ a is_a own_a. (rw is_a refl, (a, is_a, own_a, tt)))
+goes_on_with s (d ∷ events) w e ran is own =
+    let b = own.0 in
+    let is_b : after s w d ≡ Some b = own.1 in
+    let whole : with_first b (run s events b.world) ≡ Some ran = sym (ap (λ (o : Option After). and_then o (λ x. with_first x (run s events x.world))) is_b) ∙ is in
+    at b is_b own.2 (λ r h. goes_on_with s events b.world e r h own.3) (run s events b.world) refl whole
+  where
+    at : (b : After) → after s w d ≡ Some b → AddsItsOwn s d w.past b.world.past → ((r : Ran) → run s events b.world ≡ Some r → GoesOnWith s events b.world e r) → (o : Option Ran) → run s events b.world ≡ o → with_first b o ≡ Some ran → GoesOnWith s (d ∷ events) w e ran
+    at b is_b own_b more None h whole = cc
+    at b is_b own_b more (Some r) h whole =
+        subst (GoesOnWith s (d ∷ events) w e) (same_ran (record { world = r.world; replies = b.reply ∷ r.replies }) ran whole)
+        (λ a is_a own_a. let m = more r h a is_a own_a in (rw is_b (rw m.0 refl), (b, is_b, own_b, m.1)))
+
+pub runs_go_on : RunsGoOn
+runs_go_on s events w e ran a is own is_a own_a = goes_on_with s events w e ran is own a is_a own_a
+
+-- 3. an unload
 
 record SameGiven (j k : Job) (code other : ℕ) : Type 0 where
   job : j ≡ k

@@ -3,18 +3,18 @@ use Rattle.onfi_cycle.specs.Steps.{FactsGoOn, ReadiesChange}
 use Rattle.onfi_cycle.proofs.Keeping.{facts_go_on, readies_change}
 pub use Rattle.onfi_cycle.proofs.Keeping.{view_at}
 pub use Rattle.onfi_cycle.proofs.Following.{refilled}
-use Rattle.micro_verify.specs.Laws.{FineStepsGoWell, OwnCyclesPassOthers, UnreadyIsBusy}
-use Rattle.micro_verify.proofs.Waiting.{unready_is_busy}
-use Rattle.micro_verify.proofs.Strides.{fine_step}
-use Rattle.micro_verify.proofs.Passing.{own_cycles_pass_others}
-use Rattle.micro_verify.specs.Actions.{WalkGivesActs}
-use Rattle.micro_verify.proofs.Acts.{walk_gives_acts}
-use Rattle.micro_verify.specs.Erase.{EraseIsSafe}
-use Rattle.micro_verify.proofs.Erase.{erase_is_safe}
-use Rattle.micro_verify.specs.Moves.{BufferKeepsLength, CostsCountMoves}
-use Rattle.micro_verify.proofs.Costs.{buffer_len, cost_is}
-pub use Rattle.micro_verify.proofs.Tracking.{StepParts, step_parts}
-pub use Rattle.micro_verify.proofs.Basics.{and_parts, and_true, eqb_self, there_lun}
+use Rattle.micro_program.specs.Laws.{FineStepsGoWell, OwnCyclesPassOthers, UnreadyIsBusy}
+use Rattle.micro_program.proofs.Waiting.{unready_is_busy}
+use Rattle.micro_program.proofs.Strides.{fine_step}
+use Rattle.micro_program.proofs.Passing.{own_cycles_pass_others}
+use Rattle.micro_program.specs.Actions.{WalkGivesActs}
+use Rattle.micro_program.proofs.Acts.{walk_gives_acts}
+use Rattle.micro_walk.specs.Erase.{EraseIsSafe}
+use Rattle.micro_walk.proofs.Erase.{erase_is_safe}
+use Rattle.micro_program.specs.Moves.{BufferKeepsLength, CostsCountMoves}
+use Rattle.micro_program.proofs.Costs.{buffer_len, cost_is}
+pub use Rattle.micro_program.proofs.Tracking.{StepParts, step_parts}
+pub use Rattle.micro_program.proofs.Basics.{and_parts, and_true, eqb_self, there_lun}
 
 pub facts : FactsGoOn
 facts = facts_go_on

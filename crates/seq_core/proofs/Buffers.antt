@@ -4,17 +4,17 @@ use Rattle.std.proofs.lemmas.Bool.Decides.{nat_tests}
 use Rattle.std.specs.List.{slice_set}
 use Rattle.nand_geometry.specs.declared.Parts.{Parts}
 use Rattle.nand_geometry.specs.Row.{row_bytes_of}
-use Rattle.onfi_cycle.specs.declared.Kind.{Kind}
-use Rattle.onfi_cycle.specs.declared.Kind.TheVariants.{Cmd, Adr, Din, Dout}
-use Rattle.onfi_cycle.specs.declared.Item.{Item}
+use Rattle.onfi_cycle.specs.declared.item.Kind.{Kind}
+use Rattle.onfi_cycle.specs.declared.item.Kind.TheVariants.{Cmd, Adr, Din, Dout}
+use Rattle.onfi_cycle.specs.declared.item.Item.{Item}
 use Rattle.onfi_cycle.specs.Channel.{Channel, cycle}
 use Rattle.micro_word.specs.declared.word.Word.{Word}
 use Rattle.micro_word.specs.declared.word.Word.TheVariants.{End, Command, Address, Get, Put, Wait, Yield, ReadStatus, BranchOnStatus, Jump}
-use Rattle.micro_verify.specs.Lines.{Line}
-use Rattle.micro_verify.specs.Program.{Job, Done, Answer, Nothing, Polled, Got, written, buffer_after, buffer_now, place_now, is_ready_status}
-use Rattle.micro_verify.specs.Moves.{Move, Give, Take, and_then, moves, gives, poll, address, put_bytes}
-use Rattle.micro_verify.specs.Played.{Played, played}
-use Rattle.micro_verify.specs.Step.{Stride, Went, NotReady, did, Outcome, first_byte, stride, next_step}
+use Rattle.micro_program.specs.Lines.{Line}
+use Rattle.micro_program.specs.Program.{Job, Done, Answer, Nothing, Polled, Got, written, buffer_after, buffer_now, place_now, is_ready_status}
+use Rattle.micro_program.specs.Moves.{Move, Give, Take, and_then, moves, gives, poll, address, put_bytes}
+use Rattle.micro_program.specs.Played.{Played, played}
+use Rattle.micro_program.specs.Step.{Stride, Went, NotReady, did, Outcome, first_byte, stride, next_step}
 use Rattle.seq_core.specs.Buffer.{fills, is_filled, KeepsOthers}
 use Rattle.seq_core.specs.Made.{cycles_of, takes, bytes_told}
 use Rattle.seq_core.proofs.Below.{keeps_length, step_parts}

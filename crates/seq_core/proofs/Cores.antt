@@ -2,30 +2,33 @@
 use Rattle.std.proofs.Common.{◌≡◌, ℕ, zero, suc, ◌+◌, ◌*◌, ◌^◌, ◌<◌, ◌≤◌, ◌↔◌, Bool, true, false, not, cond, List, [], ◌∷◌, ◌++◌, Option, Some, None, is_some, refl, sym, ap, ◌∙◌, subst, arith, length, get_or, set, replicate, IfSome, IsTrue}
 use Rattle.std.proofs.lemmas.Nat.{mul-le}
 use Rattle.nand_geometry.specs.declared.Parts.{Parts}
-use Rattle.onfi_cycle.specs.declared.Lun.{Lun}
-use Rattle.onfi_cycle.specs.declared.Item.{Item}
-use Rattle.onfi_cycle.specs.declared.Item.TheVariants.{Rdy, Ard}
+use Rattle.onfi_cycle.specs.declared.item.Lun.{Lun}
+use Rattle.onfi_cycle.specs.declared.item.Item.{Item}
+use Rattle.onfi_cycle.specs.declared.item.Item.TheVariants.{Rdy, Ard}
 use Rattle.onfi_cycle.specs.Permitted.{is_permitted}
 use Rattle.onfi_cycle.specs.Channel.{Channel, IsChannel, is_there}
-use Rattle.micro_verify.specs.Places.{IsShaped}
-use Rattle.micro_verify.specs.Program.{Job}
+use Rattle.micro_program.specs.Places.{IsShaped}
+use Rattle.micro_program.specs.Program.{Job}
 use Rattle.target_bus.specs.Bus.{Traced, channel_of, IsNext}
 use Rattle.seq_core.specs.declared.answers.LoadFault.{LoadFault}
-use Rattle.seq_core.specs.declared.answers.LoadFault.TheVariants.{S1, S2}
+use Rattle.seq_core.specs.declared.answers.LoadFault.TheVariants.{SlotTaken, OtherLun}
 use Rattle.seq_core.specs.declared.answers.Stepped.{Stepped}
-use Rattle.seq_core.specs.declared.answers.Stepped.TheVariants.{Empty, Held, Ended}
-use Rattle.seq_core.specs.declared.answers.UnloadFault.TheVariants.{U1, U2}
+use Rattle.seq_core.specs.declared.answers.Stepped.TheVariants.{Empty, Held, Ended, HandedOver, NotReady, Went}
+use Rattle.seq_core.specs.declared.answers.UnloadFault.TheVariants.{NoJob, StillRunning}
 use Rattle.seq_core.specs.World.{number, fresh}
 use Rattle.seq_core.specs.Event.{Event, Load, Step, Ready, ArrayReady, Unload, IsVerified}
 use Rattle.seq_core.specs.Reply.{Reply, ToLoad, ToStep, ToReady, ToArrayReady, ToUnload, Loaded, NotLoaded, Unloaded, NotUnloaded}
 use Rattle.seq_core.specs.After.{is_held}
+use Rattle.seq_core.specs.Lawful.{HasSeat, has_bus}
 use Rattle.seq_core.specs.Progress.{Progress, fresh_progress}
 use Rattle.seq_core.specs.Shows.{CoreView, channel_in, KeepsAll, IsAt}
-use Rattle.seq_core.specs.Calls.{IsCore, IsEvent, CanStep, Steps, slot_at, slot_code, all_are_empty, load_fault_at, holder_after, fault_by, stepped_view, with_item}
+use Rattle.seq_core.specs.declared.slot_state.SlotState.{SlotState}
+use Rattle.seq_core.specs.declared.slot_state.SlotState.TheVariants as state
+use Rattle.seq_core.specs.Calls.{IsCore, IsEvent, CanStep, Steps, slot_at, state_of, has_job, slot_state, all_are_empty, load_fault_at, holder_after, TellsBus, fault_by, stepped_view, with_item}
 use Rattle.seq_core.specs.Playing.{IsSame, IsUntouched}
-use Rattle.seq_core.proofs.Main.{fresh_is_lawful}
-use Rattle.seq_core.proofs.Slots.{number_below}
-use Rattle.seq_core.proofs.Calls.{keeps_count, some_same, empty_step, ended_step, held_step, going_step}
+use Rattle.seq_core.proofs.Main.{fresh_is_lawful, lawful_slot}
+use Rattle.seq_core.proofs.Slots.{number_below, same_lun_self}
+use Rattle.seq_core.proofs.Calls.{keeps_count, has_slot, some_same, empty_step, ended_step, held_step, going_step}
 use Rattle.seq_core.proofs.Replies.{refused_load, done_load, ready_event, array_ready_event, empty_unload, early_unload, done_unload, can_step, is_core_after}
 
 -- what is kept by a bus, slots and a holder
@@ -76,35 +79,46 @@ slot_of_place c l k h = at (is_there (channel_in c) l) h
     at true h = let same : k ≡ number (channel_in c) l = cc in (ap (λ (n : ℕ). get_or c.slots n None) (sym same), same)
     at false h = cc
 
-pub code_without : (c : CoreView) (l : Lun) → None ≡ place_of c l → None ≡ slot_code (slot_at c l)
-code_without c l h = ap slot_code (sym (no_place_no_slot c l h))
+pub code_without : (c : CoreView) (l : Lun) → None ≡ place_of c l → state.Empty ≡ slot_state (slot_at c l)
+code_without c l h = ap slot_state (sym (no_place_no_slot c l h))
 
-abbrev no_code : Option (Option ℕ)
-no_code = None
-
-pub never_there : (c : CoreView) (l : Lun) → None ≡ place_of c l → Some None ≡ slot_code (slot_at c l) → ⊥
+pub never_there : (c : CoreView) (l : Lun) → None ≡ place_of c l → state.Running ≡ slot_state (slot_at c l) → ⊥
 never_there c l h running = let none = code_without c l h in clash (none ∙ sym running)
   where
-    clash : no_code ≡ Some None → ⊥
+    clash : state.Empty ≡ state.Running → ⊥
     clash e = cc
 
-pub code_of_place : (c : CoreView) (l : Lun) (k : ℕ) (slots : List (Option Progress)) (code : Option (Option ℕ)) → Some k ≡ place_of c l → slots ≡ c.slots → code ≡ slot_code (get_or slots k None) → code ≡ slot_code (slot_at c l)
-code_of_place c l k slots code h same is =
-    is ∙ (ap (λ (ss : List (Option Progress)). slot_code (get_or ss k None)) same ∙ ap slot_code (sym (slot_of_place c l k h).0))
+pub state_of_place : (c : CoreView) (l : Lun) (k : ℕ) (slots : List (Option Progress)) (is_now : SlotState) → Some k ≡ place_of c l → slots ≡ c.slots → is_now ≡ slot_state (get_or slots k None) → is_now ≡ slot_state (slot_at c l)
+state_of_place c l k slots is_now h same is =
+    is ∙ (ap (λ (ss : List (Option Progress)). slot_state (get_or ss k None)) same ∙ ap slot_state (sym (slot_of_place c l k h).0))
 
 -- what a code tells of a slot
-pub no_slot : (o : Option Progress) → None ≡ slot_code o → o ≡ None
+pub no_slot : (o : Option Progress) → state.Empty ≡ slot_state o → o ≡ None
 no_slot None h = refl
-no_slot (Some v) h = cc
+no_slot (Some v) h = at v.code h
+  where
+    at : (code : Option ℕ) → state.Empty ≡ state_of code → Some v ≡ None
+    at None e = cc
+    at (Some n) e = cc
 
 pub record HasCode (o : Option Progress) (code : Option ℕ) : Type 0 where
   pub v : Progress
   pub is : o ≡ Some v
   pub code_is : v.code ≡ code
 
-pub has_code : (o : Option Progress) (code : Option ℕ) → Some code ≡ slot_code o → HasCode o code
-has_code None code h = cc
-has_code (Some v) code h = record { v = v; is = refl; code_is = cc }
+same_code : (a b : Option ℕ) → state_of a ≡ state_of b → b ≡ a
+same_code None None h = refl
+same_code None (Some n) h = cc
+same_code (Some n) None h = cc
+same_code (Some n) (Some m) h = cc
+
+never_bare : (o : Option Progress) (code : Option ℕ) → state_of code ≡ state.Empty → HasCode o code
+never_bare o None h = cc
+never_bare o (Some n) h = cc
+
+pub has_code : (o : Option Progress) (code : Option ℕ) → state_of code ≡ slot_state o → HasCode o code
+has_code None code h = never_bare None code h
+has_code (Some v) code h = record { v = v; is = refl; code_is = same_code code v.code h }
 
 -- 2. a new sequencer
 
@@ -150,17 +164,17 @@ few_slots a b targets luns e f t n =
 
 -- 3. steps
 
-pub empty_now : (c : CoreView) (l : Lun) → IsCore c → None ≡ slot_code (slot_at c l) → IsEvent c (Step l) (ToStep Empty) c
+pub empty_now : (c : CoreView) (l : Lun) → IsCore c → state.Empty ≡ slot_state (slot_at c l) → IsEvent c (Step l) (ToStep Empty) c
 empty_now c l k h = empty_step c l k.is_channel (no_slot (slot_at c l) h)
 
-pub ended_now : (c : CoreView) (l : Lun) (code : ℕ) → IsCore c → Some (Some code) ≡ slot_code (slot_at c l) → IsEvent c (Step l) (ToStep Ended) c
+pub ended_now : (c : CoreView) (l : Lun) (code : ℕ) → IsCore c → state.Ended code ≡ slot_state (slot_at c l) → IsEvent c (Step l) (ToStep Ended) c
 ended_now c l code k h = let s = has_code (slot_at c l) (Some code) h in ended_step c l s.v code k.is_channel s.is s.code_is
 
-pub held_now : (c : CoreView) (l : Lun) → IsCore c → Some None ≡ slot_code (slot_at c l) → is_held c.holder l ≡ true → IsEvent c (Step l) (ToStep Held) c
+pub held_now : (c : CoreView) (l : Lun) → IsCore c → state.Running ≡ slot_state (slot_at c l) → is_held c.holder l ≡ true → IsEvent c (Step l) (ToStep Held) c
 held_now c l k h held = let s = has_code (slot_at c l) None h in held_step c l s.v k.is_channel s.is s.code_is held
 
 -- the slot of a LUN that may step
-pub can_now : (c : CoreView) (l : Lun) (k : ℕ) → IsCore c → Some k ≡ place_of c l → Some None ≡ slot_code (slot_at c l) → is_held c.holder l ≡ false → (v : Progress) × (get_or c.slots k None ≡ Some v) × CanStep (channel_in c) c.past v
+pub can_now : (c : CoreView) (l : Lun) (k : ℕ) → IsCore c → Some k ≡ place_of c l → state.Running ≡ slot_state (slot_at c l) → is_held c.holder l ≡ false → (v : Progress) × (get_or c.slots k None ≡ Some v) × CanStep (channel_in c) c.past v
 can_now c l k core place h free =
     let s = has_code (slot_at c l) None h in
     (s.v, sym (slot_of_place c l k place).0 ∙ s.is, (can_step c l s.v core s.is s.code_is free).0)
@@ -184,7 +198,7 @@ left_alike c e reply later other event channel past slots holder w at law =
 pub went_on : (c : CoreView) (l : Lun) (answer : Stepped) (later : CoreView) → IsCore c → IsEvent c (Step l) (ToStep answer) later → IsCore later
 went_on c l answer later k event = is_core_after c later (Step l) (ToStep answer) k event
 
-pub went_now : (b d : Traced) (slots later : List (Option Progress)) (holder : Option Lun) (l : Lun) (k : ℕ) (answer : Stepped) (v u : Progress) → IsCore (view_of b slots holder) → Some k ≡ place_of (view_of b slots holder) l → Some None ≡ slot_code (slot_at (view_of b slots holder) l) → is_held holder l ≡ false → IsSame b d → get_or slots k None ≡ Some v → Steps (channel_of b) b.past v answer d.past u → later ≡ set slots k (Some u) → IsEvent (view_of b slots holder) (Step l) (ToStep answer) (view_of d later (holder_after answer l))
+pub went_now : (b d : Traced) (slots later : List (Option Progress)) (holder : Option Lun) (l : Lun) (k : ℕ) (answer : Stepped) (v u : Progress) → IsCore (view_of b slots holder) → Some k ≡ place_of (view_of b slots holder) l → state.Running ≡ slot_state (slot_at (view_of b slots holder) l) → is_held holder l ≡ false → IsSame b d → get_or slots k None ≡ Some v → Steps (channel_of b) b.past v answer d.past u → later ≡ set slots k (Some u) → IsEvent (view_of b slots holder) (Step l) (ToStep answer) (view_of d later (holder_after answer l))
 went_now b d slots later holder l k answer v u core place h free same found st is =
     let c : CoreView = view_of b slots holder in
     let s = has_code (slot_at c l) None h in
@@ -194,6 +208,27 @@ went_now b d slots later holder l k answer v u core place h free same found st i
     let event = going_step c l v u d.past answer core.is_channel (s.is ∙ ap (λ (x : Progress). Some x) v_is) (sym (ap (λ (x : Progress). x.code) v_is) ∙ s.code_is) free (sym (ap (λ (x : Progress). x.job.lun) v_is) ∙ mine) st in
     let later_is : later ≡ set slots (number (channel_in c) l) (Some u) = is ∙ ap (λ (n : ℕ). set slots n (Some u)) at.1 in
     left_alike c (Step l) (ToStep answer) (stepped_view c l answer d.past u) (view_of d later (holder_after answer l)) event same refl later_is refl
+
+-- what the bus is after a step that was played
+pub bus_after : (answer : Stepped) (l : Lun) (holder : Option Lun) → holder ≡ holder_after answer l → TellsBus answer holder l
+bus_after answer l holder is = subst (λ (o : Option Lun). TellsBus answer o l) (sym is) (at answer)
+  where
+    at : (a : Stepped) → TellsBus a (holder_after a l) l
+    at Empty = tt
+    at Ended = refl
+    at Held = tt
+    at HandedOver = refl
+    at NotReady = refl
+    at Went = same_lun_self l
+
+-- a LUN whose job has ended hasn't the bus
+pub ended_lets_go : (c : CoreView) (l : Lun) (code : ℕ) → IsCore c → state.Ended code ≡ slot_state (slot_at c l) → has_bus c.holder l ≡ false
+ended_lets_go c l code k h =
+    let s = has_code (slot_at c l) (Some code) h in
+    let x = has_slot c k.world l s.v k.is_at s.is in
+    let slot = lawful_slot (channel_in c) k.world k.lawful l x.x x.is in
+    let seat = subst (λ (o : Option ℕ). HasSeat (channel_in c) k.world.past (has_bus k.world.holder l) x.x o) (sym x.kept.code ∙ s.code_is) slot.seat in
+    ap (λ (o : Option Lun). has_bus o l) k.is_at.holder ∙ seat.1
 
 -- 4. loads
 
@@ -208,7 +243,7 @@ admitted_there c l j h none = at (is_there (channel_in c) l) refl none h
     at true e f h = cc
     at false e f h = refused (is_some (slot_at c l)) (sym (rw e refl) ∙ h)
       where
-        refused : (b : Bool) → cond b (Some S1) (Some S2) ≡ None → ⊥
+        refused : (b : Bool) → cond b (Some SlotTaken) (Some OtherLun) ≡ None → ⊥
         refused true x = cc
         refused false x = cc
 
@@ -239,15 +274,19 @@ pub array_ready_now : (b d : Traced) (slots : List (Option Progress)) (holder : 
 array_ready_now b d slots holder l came core h does stays =
     came_event b d slots holder (Ard l.ce l.lun) (ArrayReady l) (ToArrayReady came) came does stays (array_ready_event (view_of b slots holder) l came core.is_channel h)
 
+-- where the bus is as it was, all is
+pub none_came : (b d : Traced) (slots : List (Option Progress)) (holder : Option Lun) (v : CoreView) (came : Bool) → (came ≡ false → d ≡ b) → view_of b slots holder ≡ v → came ≡ false → view_of d slots holder ≡ v
+none_came b d slots holder v came stays is no_item = ap (λ (x : Traced). view_of x slots holder) (stays no_item) ∙ is
+
 -- 6. unloads
 
-pub none_unloaded : (c : CoreView) (l : Lun) → IsCore c → None ≡ slot_code (slot_at c l) → IsEvent c (Unload l) (ToUnload (NotUnloaded U1)) c
+pub none_unloaded : (c : CoreView) (l : Lun) → IsCore c → state.Empty ≡ slot_state (slot_at c l) → IsEvent c (Unload l) (ToUnload (NotUnloaded NoJob)) c
 none_unloaded c l k h = empty_unload c l k.is_channel (no_slot (slot_at c l) h)
 
-pub early_now : (c : CoreView) (l : Lun) → IsCore c → Some None ≡ slot_code (slot_at c l) → IsEvent c (Unload l) (ToUnload (NotUnloaded U2)) c
+pub early_now : (c : CoreView) (l : Lun) → IsCore c → state.Running ≡ slot_state (slot_at c l) → IsEvent c (Unload l) (ToUnload (NotUnloaded StillRunning)) c
 early_now c l k h = let s = has_code (slot_at c l) None h in early_unload c l s.v k.is_channel s.is s.code_is
 
-pub unloaded_now : (b : Traced) (slots later : List (Option Progress)) (holder : Option Lun) (l : Lun) (k code : ℕ) (v : Progress) → IsCore (view_of b slots holder) → Some k ≡ place_of (view_of b slots holder) l → Some (Some code) ≡ slot_code (slot_at (view_of b slots holder) l) → get_or slots k None ≡ Some v → later ≡ set slots k None → IsEvent (view_of b slots holder) (Unload l) (ToUnload (Unloaded v.job code)) (view_of b later holder)
+pub unloaded_now : (b : Traced) (slots later : List (Option Progress)) (holder : Option Lun) (l : Lun) (k code : ℕ) (v : Progress) → IsCore (view_of b slots holder) → Some k ≡ place_of (view_of b slots holder) l → state.Ended code ≡ slot_state (slot_at (view_of b slots holder) l) → get_or slots k None ≡ Some v → later ≡ set slots k None → IsEvent (view_of b slots holder) (Unload l) (ToUnload (Unloaded v.job code)) (view_of b later holder)
 unloaded_now b slots later holder l k code v core place h found is =
     let c : CoreView = view_of b slots holder in
     let s = has_code (slot_at c l) (Some code) h in
@@ -257,14 +296,14 @@ unloaded_now b slots later holder l k code v core place h found is =
     let later_is : later ≡ set slots (number (channel_in c) l) None = is ∙ ap (λ (n : ℕ). set slots n None) at.1 in
     subst (λ (ss : List (Option Progress)). IsEvent c (Unload l) (ToUnload (Unloaded v.job code)) (view_of b ss holder)) (sym later_is) event
 
-pub never_coded : (c : CoreView) (l : Lun) (code : ℕ) → None ≡ place_of c l → Some (Some code) ≡ slot_code (slot_at c l) → ⊥
+pub never_coded : (c : CoreView) (l : Lun) (code : ℕ) → None ≡ place_of c l → state.Ended code ≡ slot_state (slot_at c l) → ⊥
 never_coded c l code h some = let none = code_without c l h in clash (none ∙ sym some)
   where
-    clash : no_code ≡ Some (Some code) → ⊥
+    clash : state.Empty ≡ state.Ended code → ⊥
     clash e = cc
 
 -- a slot that has a code is there
-pub never_empty : (c : CoreView) (l : Lun) (k code : ℕ) → Some k ≡ place_of c l → Some (Some code) ≡ slot_code (slot_at c l) → get_or c.slots k None ≡ None → ⊥
+pub never_empty : (c : CoreView) (l : Lun) (k code : ℕ) → Some k ≡ place_of c l → state.Ended code ≡ slot_state (slot_at c l) → get_or c.slots k None ≡ None → ⊥
 never_empty c l k code place h none =
     let s = has_code (slot_at c l) (Some code) h in
     clash (sym none ∙ (sym (slot_of_place c l k place).0 ∙ s.is))
@@ -274,9 +313,13 @@ never_empty c l k code place h none =
 
 -- 7. what a load would answer
 
-same_some : (o : Option Progress) → is_some (slot_code o) ≡ is_some o
+same_some : (o : Option Progress) → has_job (slot_state o) ≡ is_some o
 same_some None = refl
-same_some (Some v) = refl
+same_some (Some v) = at v.code
+  where
+    at : (code : Option ℕ) → has_job (state_of code) ≡ true
+    at None = refl
+    at (Some n) = refl
 
 there_by_place : (c : CoreView) (l : Lun) (place : Option ℕ) → place ≡ place_of c l → is_some place ≡ is_there (channel_in c) l
 there_by_place c l place h = ap is_some h ∙ at (is_there (channel_in c) l)
@@ -285,9 +328,9 @@ there_by_place c l place h = ap is_some h ∙ at (is_there (channel_in c) l)
     at true = refl
     at false = refl
 
-pub fault_is : (c : CoreView) (l : Lun) (j : Job) (code : Option (Option ℕ)) (place : Option ℕ) (has_job there : Bool) (at : Lun) (g h : Parts) (fault : Option LoadFault) → code ≡ slot_code (slot_at c l) → place ≡ place_of c l → has_job ≡ is_some code → there ≡ is_some place → at ≡ j.lun → g ≡ c.geometry → h ≡ j.geometry → fault ≡ fault_by has_job there l at g h → load_fault_at c l j ≡ fault
-fault_is c l j code place has_job there at g h fault code_is place_is has there_is lun here of is =
-    let a : has_job ≡ is_some (slot_at c l) = has ∙ (ap is_some code_is ∙ same_some (slot_at c l)) in
+pub fault_is : (c : CoreView) (l : Lun) (j : Job) (is_now : SlotState) (place : Option ℕ) (has there : Bool) (at : Lun) (g h : Parts) (fault : Option LoadFault) → is_now ≡ slot_state (slot_at c l) → place ≡ place_of c l → has ≡ has_job is_now → there ≡ is_some place → at ≡ j.lun → g ≡ c.geometry → h ≡ j.geometry → fault ≡ fault_by has there l at g h → load_fault_at c l j ≡ fault
+fault_is c l j is_now place has there at g h fault state_is place_is has_is there_is lun here of is =
+    let a : has ≡ is_some (slot_at c l) = has_is ∙ (ap has_job state_is ∙ same_some (slot_at c l)) in
     let b : there ≡ is_there (channel_in c) l = there_is ∙ there_by_place c l place place_is in
     sym (is ∙ (ap (λ (x : Bool). fault_by x there l at g h) a ∙ (ap (λ (x : Bool). fault_by (is_some (slot_at c l)) x l at g h) b ∙
     (ap (λ (x : Lun). fault_by (is_some (slot_at c l)) (is_there (channel_in c) l) l x g h) lun ∙ (ap (λ (x : Parts). fault_by (is_some (slot_at c l)) (is_there (channel_in c) l) l j.lun x h) here ∙

@@ -1,10 +1,10 @@
 -- Lists of events: the run of those done, one event more at its end.
 use Rattle.std.proofs.Common.{◌≡◌, ℕ, ◌-◌, take, List, [], ◌∷◌, ◌++◌, Option, Some, None, Result, Ok, Err, IfOk, IfErr, map, reverse, refl, sym, ap, ◌∙◌, subst}
 use Rattle.std.proofs.lemmas.List.{map-append, append-nil, append_assoc, reverse-append, reverse-reverse}
-use Rattle.onfi_cycle.specs.declared.Lun.{Lun}
+use Rattle.onfi_cycle.specs.declared.item.Lun.{Lun}
 use Rattle.onfi_cycle.specs.Channel.{Channel}
-use Rattle.micro_verify.specs.Program.{Job}
-use Rattle.micro_verify.specs.Moves.{and_then}
+use Rattle.micro_program.specs.Program.{Job}
+use Rattle.micro_program.specs.Moves.{and_then}
 use Rattle.seq_core.specs.declared.answers.LoadFault.{LoadFault}
 use Rattle.seq_core.specs.declared.answers.UnloadFault.{UnloadFault}
 use Rattle.seq_core.specs.declared.sequencer.Done.{Done}

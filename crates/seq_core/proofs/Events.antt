@@ -1,18 +1,18 @@
 -- A step keeps the world lawful, and so does a ready.
 use Rattle.std.proofs.Common.{◌≡◌, ◌≢◌, ℕ, ◌==◌, Bool, true, false, ◌||◌, cond, not, List, [], ◌∷◌, Option, Some, None, is_none, refl, sym, ap, ◌∙◌, subst, eqb-true, eq-eqb, length-set}
-use Rattle.onfi_cycle.specs.declared.Lun.{Lun}
-use Rattle.onfi_cycle.specs.declared.Item.{Item}
-use Rattle.onfi_cycle.specs.declared.TargetCycle.{TargetCycle}
-use Rattle.onfi_cycle.specs.declared.Forbidden.{Forbidden}
+use Rattle.onfi_cycle.specs.declared.item.Lun.{Lun}
+use Rattle.onfi_cycle.specs.declared.item.Item.{Item}
+use Rattle.onfi_cycle.specs.declared.target_cycle.TargetCycle.{TargetCycle}
+use Rattle.onfi_cycle.specs.declared.forbidden.Forbidden.{Forbidden}
 use Rattle.onfi_cycle.specs.Sequence.{facts_of, is_open}
 use Rattle.onfi_cycle.specs.Permitted.{broken, is_permitted}
 use Rattle.onfi_cycle.specs.Channel.{Channel, IsChannel, is_there, is_open_on, same_lun, is_cycle}
-use Rattle.micro_verify.specs.Lines.{Line}
-use Rattle.micro_verify.specs.Program.{Job, Done}
-use Rattle.micro_verify.specs.Moves.{and_then}
-use Rattle.micro_verify.specs.Step.{Stride, keeps_bus, next_step}
-use Rattle.micro_verify.specs.Safe.{Seat, Reaches, steps, readies, StaysFine, IsMade, LineIsFine, AddsOwn}
-use Rattle.micro_verify.specs.Laws.{StepGoesWell, PassesOthers}
+use Rattle.micro_program.specs.Lines.{Line}
+use Rattle.micro_program.specs.Program.{Job, Done}
+use Rattle.micro_program.specs.Moves.{and_then}
+use Rattle.micro_program.specs.Step.{Stride, keeps_bus, next_step}
+use Rattle.micro_program.specs.Safe.{Seat, Reaches, steps, readies, StaysFine, IsMade, LineIsFine, AddsOwn}
+use Rattle.micro_program.specs.Laws.{StepGoesWell, PassesOthers}
 use Rattle.seq_core.specs.declared.answers.Stepped.{Stepped}
 use Rattle.seq_core.specs.declared.answers.Stepped.TheVariants.{Empty, Held, Ended}
 use Rattle.seq_core.specs.World.{Slot, World, slot_of}

@@ -1,12 +1,12 @@
 -- A load and an unload keep the world lawful.
 use Rattle.std.proofs.Common.{◌≡◌, ℕ, ◌==◌, Bool, true, false, ◌&&◌, cond, not, Option, Some, None, is_some, refl, sym, ◌∙◌, subst, arith, eqb-true, length-set}
 use Rattle.nand_geometry.specs.declared.Parts.{Parts}
-use Rattle.onfi_cycle.specs.declared.Lun.{Lun}
+use Rattle.onfi_cycle.specs.declared.item.Lun.{Lun}
 use Rattle.onfi_cycle.specs.Channel.{Channel, IsChannel, IsIdle, is_there, same_lun}
-use Rattle.micro_verify.specs.Program.{Job}
-use Rattle.micro_verify.specs.Safe.{starts}
+use Rattle.micro_program.specs.Program.{Job}
+use Rattle.micro_program.specs.Safe.{starts}
 use Rattle.seq_core.specs.declared.answers.LoadFault.{LoadFault}
-use Rattle.seq_core.specs.declared.answers.LoadFault.TheVariants.{S1, S2, S5}
+use Rattle.seq_core.specs.declared.answers.LoadFault.TheVariants.{SlotTaken, OtherLun, OtherGeometry}
 use Rattle.seq_core.specs.World.{Slot, World, slot_of, with_slot, fresh_slot}
 use Rattle.seq_core.specs.Event.{IsVerified}
 use Rattle.seq_core.specs.After.{same_bool, same_parts, load_fault, after_load, after_unload, after_slot_unload}
@@ -76,7 +76,7 @@ empty_slot (Some x) h = cc
 pub loadable : (s : Channel) (w : World) (l : Lun) (j : Job) → load_fault s w l j ≡ None → Loadable s w l j
 loadable s w l j h = at (is_some (slot_of s w l)) (is_there s l && same_lun l j.lun) (same_parts s.geometry j.geometry) refl refl refl h
   where
-    at : (a b c : Bool) → is_some (slot_of s w l) ≡ a → (is_there s l && same_lun l j.lun) ≡ b → same_parts s.geometry j.geometry ≡ c → cond a (Some S1) (cond (not b) (Some S2) (cond (not c) (Some S5) None)) ≡ None → Loadable s w l j
+    at : (a b c : Bool) → is_some (slot_of s w l) ≡ a → (is_there s l && same_lun l j.lun) ≡ b → same_parts s.geometry j.geometry ≡ c → cond a (Some SlotTaken) (cond (not b) (Some OtherLun) (cond (not c) (Some OtherGeometry) None)) ≡ None → Loadable s w l j
     at false true true e f g h =
         let p = and_parts (is_there s l) (same_lun l j.lun) f in
         record { empty = empty_slot (slot_of s w l) e; there = p.0; lun = same_lun_is l j.lun p.1; geometry = same_parts_is s.geometry j.geometry g }

@@ -3,8 +3,8 @@ use Rattle.std.proofs.Common.{◌≡◌, ℕ, zero, suc, ◌≤◌, List, [], �
 use Rattle.std.specs.List.{slice_get}
 use Rattle.micro_word.specs.declared.word.Word.{Word}
 use Rattle.micro_word.specs.declared.word.Word.TheVariants.{End, ReadStatus, BranchOnStatus, Loop, Next, Jump}
-use Rattle.micro_verify.specs.Lines.{Line, unrolling, unrolled}
-use Rattle.micro_verify.specs.Places.{from_word, FitsAt, IsShaped}
+use Rattle.micro_program.specs.Lines.{Line, unrolling, unrolled}
+use Rattle.micro_program.specs.Places.{from_word, FitsAt, IsShaped}
 use Rattle.seq_core.specs.declared.loops.OpenLoop.{OpenLoop}
 use Rattle.seq_core.specs.Loops.{place_behind, loops_behind}
 

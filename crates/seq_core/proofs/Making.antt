@@ -4,20 +4,20 @@ use Rattle.std.proofs.Math.Seq.{take-append_seam}
 use Rattle.std.proofs.lemmas.List.{length-replicate}
 use Rattle.nand_geometry.specs.declared.Parts.{Parts}
 use Rattle.nand_geometry.specs.Row.{row_bytes_of}
-use Rattle.onfi_cycle.specs.declared.Lun.{Lun}
-use Rattle.onfi_cycle.specs.declared.Kind.{Kind}
-use Rattle.onfi_cycle.specs.declared.Kind.TheVariants.{Cmd, Adr, Din, Dout}
-use Rattle.onfi_cycle.specs.declared.Item.{Item}
-use Rattle.onfi_cycle.specs.declared.Item.TheVariants.{Rdy, Ard}
+use Rattle.onfi_cycle.specs.declared.item.Lun.{Lun}
+use Rattle.onfi_cycle.specs.declared.item.Kind.{Kind}
+use Rattle.onfi_cycle.specs.declared.item.Kind.TheVariants.{Cmd, Adr, Din, Dout}
+use Rattle.onfi_cycle.specs.declared.item.Item.{Item}
+use Rattle.onfi_cycle.specs.declared.item.Item.TheVariants.{Rdy, Ard}
 use Rattle.onfi_cycle.specs.Permitted.{is_permitted}
 use Rattle.onfi_cycle.specs.Channel.{Channel, cycle, is_there, same_lun}
 use Rattle.micro_word.specs.declared.format.Format.TheVariants.{Two}
 use Rattle.micro_word.specs.declared.word.Word.{Word}
 use Rattle.micro_word.specs.declared.word.Word.TheVariants.{Command, Address, Get, Put, Wait, ReadStatus}
-use Rattle.micro_verify.specs.Lines.{Line}
-use Rattle.micro_verify.specs.Program.{Job, Done, cost, cost_now, buffer_now, column_now, index_now, plane_now, place_now}
-use Rattle.micro_verify.specs.Moves.{Move, Give, Take, and_then, moves, gives, part, column_bytes, put_bytes, is_wait}
-use Rattle.micro_verify.specs.Step.{Stride, keeps_bus, next_step}
+use Rattle.micro_program.specs.Lines.{Line}
+use Rattle.micro_program.specs.Program.{Job, Done, cost, cost_now, buffer_now, column_now, index_now, plane_now, place_now}
+use Rattle.micro_program.specs.Moves.{Move, Give, Take, and_then, moves, gives, part, column_bytes, put_bytes, is_wait}
+use Rattle.micro_program.specs.Step.{Stride, keeps_bus, next_step}
 use Rattle.seq_core.specs.declared.answers.LoadFault.{LoadFault}
 use Rattle.seq_core.specs.declared.answers.Stepped.{Stepped}
 use Rattle.seq_core.specs.declared.answers.Stepped.TheVariants.{Empty, Held, Ended}

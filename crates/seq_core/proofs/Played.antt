@@ -3,16 +3,16 @@ use Rattle.std.proofs.Common.{◌≡◌, ◌≢◌, ℕ, zero, suc, ◌+◌, ◌
 use Rattle.std.proofs.lemmas.Bool.Decides.{nat_tests}
 use Rattle.std.specs.List.{slice_set}
 use Rattle.std.proofs.lemmas.List.{drop_more}
-use Rattle.onfi_cycle.specs.declared.Lun.{Lun}
-use Rattle.onfi_cycle.specs.declared.Kind.{Kind}
-use Rattle.onfi_cycle.specs.declared.Kind.TheVariants.{Cmd, Adr, Din}
-use Rattle.onfi_cycle.specs.declared.Item.{Item}
+use Rattle.onfi_cycle.specs.declared.item.Lun.{Lun}
+use Rattle.onfi_cycle.specs.declared.item.Kind.{Kind}
+use Rattle.onfi_cycle.specs.declared.item.Kind.TheVariants.{Cmd, Adr, Din}
+use Rattle.onfi_cycle.specs.declared.item.Item.{Item}
 use Rattle.onfi_cycle.specs.Command.{command}
-use Rattle.onfi_cycle.specs.declared.Forbidden.{Forbidden as Rule}
+use Rattle.onfi_cycle.specs.declared.forbidden.Forbidden.{Forbidden as Rule}
 use Rattle.onfi_cycle.specs.Channel.{Channel, IsOwn, cycle}
-use Rattle.micro_verify.specs.Moves.{Move, Give, Take, gives}
-use Rattle.micro_verify.specs.Program.{written}
-use Rattle.micro_verify.specs.Safe.{MovesAreOwn}
+use Rattle.micro_program.specs.Moves.{Move, Give, Take, gives}
+use Rattle.micro_program.specs.Program.{written}
+use Rattle.micro_program.specs.Safe.{MovesAreOwn}
 use Rattle.target_bus.specs.declared.refusal.BusRefusal.{BusRefusal}
 use Rattle.target_bus.specs.declared.refusal.BusRefusal.TheVariants.{Forbidden, OutOfMemory}
 use Rattle.target_bus.specs.Bus.{Traced, channel_of, Refuses}

@@ -1,13 +1,13 @@
 -- Moves that are played one after another.
 use Rattle.std.proofs.Common.{◌≡◌, ℕ, zero, suc, ◌+◌, ◌<◌, List, [], ◌∷◌, ◌++◌, Option, Some, None, refl, sym, ap, ◌∙◌, subst, arith, length, take, get_or, replicate}
-use Rattle.onfi_cycle.specs.declared.Item.{Item}
-use Rattle.onfi_cycle.specs.declared.Kind.{Kind}
-use Rattle.onfi_cycle.specs.declared.Kind.TheVariants.{Dout}
-use Rattle.onfi_cycle.specs.declared.Lun.{Lun}
+use Rattle.onfi_cycle.specs.declared.item.Item.{Item}
+use Rattle.onfi_cycle.specs.declared.item.Kind.{Kind}
+use Rattle.onfi_cycle.specs.declared.item.Kind.TheVariants.{Dout}
+use Rattle.onfi_cycle.specs.declared.item.Lun.{Lun}
 use Rattle.onfi_cycle.specs.Channel.{Channel, cycle, bus_byte}
-use Rattle.micro_verify.specs.Moves.{Move, Give, Take, and_then, gives}
-use Rattle.micro_verify.specs.Played.{Played, played, with_byte}
-use Rattle.micro_verify.specs.Safe.{MovesAreOwn}
+use Rattle.micro_program.specs.Moves.{Move, Give, Take, and_then, gives}
+use Rattle.micro_program.specs.Played.{Played, played, with_byte}
+use Rattle.micro_program.specs.Safe.{MovesAreOwn}
 use Rattle.seq_core.specs.Calls.{Plays}
 
 -- the trace and the bytes of what was played

@@ -7,14 +7,14 @@ use Rattle.std.proofs.Math.Nat.{div-le_self}
 use Rattle.nand_geometry.specs.declared.Parts.{Parts}
 use Rattle.nand_geometry.specs.Limits.{InLimits, indices, planes}
 use Rattle.nand_geometry.specs.Row.{row_bytes_of}
-use Rattle.onfi_cycle.specs.declared.Kind.TheVariants.{Adr, Din}
+use Rattle.onfi_cycle.specs.declared.item.Kind.TheVariants.{Adr, Din}
 use Rattle.micro_word.specs.declared.word.Word.{Word}
 use Rattle.micro_word.specs.declared.word.Word.TheVariants.{End, Command, Address, Get, Put, Seek, Column, RowAdd, Row, Plane, Wait, Yield, ReadStatus, BranchOnStatus, Loop, Next, Jump}
-use Rattle.micro_verify.specs.Lines.{Line}
-use Rattle.micro_verify.specs.Program.{Job, Done, written, buffer_now, column_now, plane_now, index_now, place_now, status_now, is_ready_status}
-use Rattle.micro_verify.specs.Moves.{Move, and_then, part, column_bytes, address, gives, put_bytes, moves}
-use Rattle.micro_verify.specs.Played.{Played}
-use Rattle.micro_verify.specs.Step.{Stride, stride, first_byte}
+use Rattle.micro_program.specs.Lines.{Line}
+use Rattle.micro_program.specs.Program.{Job, Done, written, buffer_now, column_now, plane_now, index_now, place_now, status_now, is_ready_status}
+use Rattle.micro_program.specs.Moves.{Move, and_then, part, column_bytes, address, gives, put_bytes, moves}
+use Rattle.micro_program.specs.Played.{Played}
+use Rattle.micro_program.specs.Step.{Stride, stride, first_byte}
 use Rattle.seq_core.specs.declared.registers.Registers.{Registers}
 use Rattle.seq_core.specs.Reply.{answer_of}
 use Rattle.seq_core.specs.World.{Slot}

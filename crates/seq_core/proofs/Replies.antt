@@ -1,18 +1,18 @@
 -- Loads, readies and unloads are events of the world that is kept; and where a slot goes on, its next word can be played.
 use Rattle.std.proofs.Common.{◌≡◌, ℕ, ◌^◌, ◌<◌, Bool, true, false, ◌||◌, not, List, [], ◌∷◌, Option, Some, None, is_some, refl, sym, ap, ◌∙◌, subst, arith, length}
 use Rattle.std.specs.List.{slice_get}
-use Rattle.onfi_cycle.specs.declared.Lun.{Lun}
-use Rattle.onfi_cycle.specs.declared.Item.{Item}
-use Rattle.onfi_cycle.specs.declared.Item.TheVariants.{Rdy, Ard}
+use Rattle.onfi_cycle.specs.declared.item.Lun.{Lun}
+use Rattle.onfi_cycle.specs.declared.item.Item.{Item}
+use Rattle.onfi_cycle.specs.declared.item.Item.TheVariants.{Rdy, Ard}
 use Rattle.onfi_cycle.specs.Permitted.{is_permitted}
 use Rattle.onfi_cycle.specs.Channel.{Channel, IsChannel, is_open_on}
 use Rattle.micro_word.specs.declared.word.Word.{Word}
-use Rattle.micro_verify.specs.Lines.{Line}
-use Rattle.micro_verify.specs.Places.{IsShaped}
-use Rattle.micro_verify.specs.Program.{Job, fits}
-use Rattle.micro_verify.specs.Safe.{Seat, Reaches, MovesAreOwn, may_step, WordIsFine, LineIsFine}
+use Rattle.micro_program.specs.Lines.{Line}
+use Rattle.micro_program.specs.Places.{IsShaped}
+use Rattle.micro_program.specs.Program.{Job, fits}
+use Rattle.micro_program.specs.Safe.{Seat, Reaches, MovesAreOwn, may_step, WordIsFine, LineIsFine}
 use Rattle.seq_core.specs.declared.answers.LoadFault.{LoadFault}
-use Rattle.seq_core.specs.declared.answers.UnloadFault.TheVariants.{U1, U2}
+use Rattle.seq_core.specs.declared.answers.UnloadFault.TheVariants.{NoJob, StillRunning}
 use Rattle.seq_core.specs.World.{Slot, World, number, slot_of, fresh_slot}
 use Rattle.seq_core.specs.Event.{Event, Load, Ready, ArrayReady, Unload, IsVerified}
 use Rattle.seq_core.specs.Reply.{Reply, ToLoad, ToReady, ToArrayReady, ToUnload, Loaded, NotLoaded, Unloaded, NotUnloaded}
@@ -90,12 +90,12 @@ array_ready_event c l b is h w at law =
 
 -- 3. unloads
 
-pub empty_unload : (c : CoreView) (l : Lun) → IsChannel (channel_in c) → slot_at c l ≡ None → IsEvent c (Unload l) (ToUnload (NotUnloaded U1)) c
+pub empty_unload : (c : CoreView) (l : Lun) → IsChannel (channel_in c) → slot_at c l ≡ None → IsEvent c (Unload l) (ToUnload (NotUnloaded NoJob)) c
 empty_unload c l is none w at law =
-    came c w (Unload l) (ToUnload (NotUnloaded U1)) c is law tt refl (λ a e. on (slot_of (channel_in c) w l) a (subst (λ (o : Option Progress). Keeps (slot_of (channel_in c) w l) o) none (keeps_lun c w l at)) (some_same (after_unload (channel_in c) w l (slot_of (channel_in c) w l)) a e))
+    came c w (Unload l) (ToUnload (NotUnloaded NoJob)) c is law tt refl (λ a e. on (slot_of (channel_in c) w l) a (subst (λ (o : Option Progress). Keeps (slot_of (channel_in c) w l) o) none (keeps_lun c w l at)) (some_same (after_unload (channel_in c) w l (slot_of (channel_in c) w l)) a e))
   where
-    on : (o : Option Slot) (a : After) → Keeps o None → after_unload (channel_in c) w l o ≡ a → (a.reply ≡ ToUnload (NotUnloaded U1)) × IsAt c a.world
-    on None a k e = subst (λ (b : After). (b.reply ≡ ToUnload (NotUnloaded U1)) × IsAt c b.world) e (refl, at)
+    on : (o : Option Slot) (a : After) → Keeps o None → after_unload (channel_in c) w l o ≡ a → (a.reply ≡ ToUnload (NotUnloaded NoJob)) × IsAt c a.world
+    on None a k e = subst (λ (b : After). (b.reply ≡ ToUnload (NotUnloaded NoJob)) × IsAt c b.world) e (refl, at)
     on (Some x) a k e = absurd k
 
 -- an unload whose slot and code are known
@@ -103,11 +103,11 @@ unload_known : (s : Channel) (w : World) (l : Lun) (x : Slot) (code : Option ℕ
 unload_known s w l x code a is over e =
     sym (ap (λ (o : Option Slot). after_unload s w l o) is ∙ ap (λ (o : Option ℕ). after_slot_unload s w l x o) over) ∙ some_same (after_unload s w l (slot_of s w l)) a e
 
-pub early_unload : (c : CoreView) (l : Lun) (v : Progress) → IsChannel (channel_in c) → slot_at c l ≡ Some v → v.code ≡ None → IsEvent c (Unload l) (ToUnload (NotUnloaded U2)) c
+pub early_unload : (c : CoreView) (l : Lun) (v : Progress) → IsChannel (channel_in c) → slot_at c l ≡ Some v → v.code ≡ None → IsEvent c (Unload l) (ToUnload (NotUnloaded StillRunning)) c
 early_unload c l v is some running w at law =
     let h = has_slot c w l v at some in
-    came c w (Unload l) (ToUnload (NotUnloaded U2)) c is law tt refl (λ a e.
-    subst (λ (b : After). (b.reply ≡ ToUnload (NotUnloaded U2)) × IsAt c b.world) (unload_known (channel_in c) w l h.x None a h.is (sym h.kept.code ∙ running) e) (refl, at))
+    came c w (Unload l) (ToUnload (NotUnloaded StillRunning)) c is law tt refl (λ a e.
+    subst (λ (b : After). (b.reply ≡ ToUnload (NotUnloaded StillRunning)) × IsAt c b.world) (unload_known (channel_in c) w l h.x None a h.is (sym h.kept.code ∙ running) e) (refl, at))
 
 pub done_unload : (c : CoreView) (l : Lun) (v : Progress) (code : ℕ) → IsChannel (channel_in c) → slot_at c l ≡ Some v → v.code ≡ Some code → IsEvent c (Unload l) (ToUnload (Unloaded v.job code)) (with_slot_at c l None)
 done_unload c l v code is some over w at law =

@@ -1,6 +1,6 @@
 -- What is said of runs wherever they are taken apart.
 use Rattle.std.proofs.Common.{◌≡◌, ◌∷◌, Option, Some}
-use Rattle.micro_verify.specs.Moves.{and_then}
+use Rattle.micro_program.specs.Moves.{and_then}
 use Rattle.seq_core.specs.After.{After, Ran}
 
 pub same_ran : (r q : Ran) → Some r ≡ Some q → r ≡ q

@@ -2,22 +2,22 @@
 use Rattle.std.specs.Prelude.{◌≡◌, ℕ, true, false, List, [], ◌∷◌, ◌++◌, reverse, replicate, refl, Option, Some, None}
 use Rattle.nand_geometry.specs.declared.Parts.{Parts}
 use Rattle.nand_geometry.specs.Limits.{width}
-use Rattle.onfi_cycle.specs.declared.Kind.TheVariants.{Cmd, Adr, Dout}
-use Rattle.onfi_cycle.specs.declared.Lun.{Lun}
-use Rattle.onfi_cycle.specs.declared.Item.{Item}
-use Rattle.onfi_cycle.specs.declared.Item.TheVariants.{Cyc, Rdy, Ard}
+use Rattle.onfi_cycle.specs.declared.item.Kind.TheVariants.{Cmd, Adr, Dout}
+use Rattle.onfi_cycle.specs.declared.item.Lun.{Lun}
+use Rattle.onfi_cycle.specs.declared.item.Item.{Item}
+use Rattle.onfi_cycle.specs.declared.item.Item.TheVariants.{Cyc, Rdy, Ard}
 use Rattle.onfi_cycle.specs.Command.{command}
 use Rattle.onfi_cycle.specs.Lun.{effect_on}
-use Rattle.onfi_cycle.specs.Rules.{breaks_F1}
+use Rattle.onfi_cycle.specs.Rules.{breaks_not_there}
 use Rattle.onfi_cycle.specs.Channel.{Channel}
 use Rattle.micro_word.specs.declared.word.Word.TheVariants.{End, Command, Address, Get, Seek, Wait, Yield, ReadStatus}
 use Rattle.micro_word.specs.Text.{Microprogram}
-use Rattle.micro_verify.specs.Lines.{unrolled}
-use Rattle.micro_verify.specs.Program.{Job, Done, Nothing, Got, buffer_now}
-use Rattle.micro_verify.specs.Erase.{erase_words}
-use Rattle.seq_core.specs.declared.answers.LoadFault.TheVariants.{S1, S2, S5}
+use Rattle.micro_program.specs.Lines.{unrolled}
+use Rattle.micro_program.specs.Program.{Job, Done, Nothing, Got, buffer_now}
+use Rattle.micro_walk.specs.Erase.{erase_words}
+use Rattle.seq_core.specs.declared.answers.LoadFault.TheVariants.{SlotTaken, OtherLun, OtherGeometry}
 use Rattle.seq_core.specs.declared.answers.Stepped.TheVariants.{Empty, Held, Ended, HandedOver, NotReady, Went}
-use Rattle.seq_core.specs.declared.answers.UnloadFault.TheVariants.{U1, U2}
+use Rattle.seq_core.specs.declared.answers.UnloadFault.TheVariants.{NoJob, StillRunning}
 use Rattle.seq_core.specs.World.{fresh}
 use Rattle.seq_core.specs.Event.{Event, Load, Step, Ready, ArrayReady, Unload}
 use Rattle.seq_core.specs.Reply.{Reply, ToLoad, ToStep, ToReady, ToArrayReady, ToUnload, Loaded, NotLoaded, Unloaded, NotUnloaded}
@@ -77,11 +77,11 @@ abbrev pub erase_events : List Event
 erase_events = Load (lun 0) (job one_lun 0 4 erase []) ∷ (steps 4 0 ++ (Ready (lun 0) false ∷ (steps 3 0 ++ (Unload (lun 0) ∷ []))))
 
 erase_trace : trace_of (ran one_lun erase_events) ≡ c 0x60 ∷ (a 4 ∷ (a 0 ∷ (a 0 ∷ (c 0xd0 ∷ (c 0x70 ∷ (o 0x80 ∷ (Rdy 0 0 false ∷ (c 0x70 ∷ (o 0xe0 ∷ [])))))))))
-unfolding unrolled command width effect_on breaks_F1
+unfolding unrolled command width effect_on breaks_not_there
 erase_trace = refl
 
 erase_replies : replies_of (ran one_lun erase_events) ≡ ToLoad Loaded ∷ (ToStep Went ∷ (ToStep Went ∷ (ToStep Went ∷ (ToStep NotReady ∷ (ToReady true ∷ (ToStep Went ∷ (ToStep Ended ∷ (ToStep Ended ∷ (ToUnload (Unloaded (job one_lun 0 4 erase []) 0) ∷ [])))))))))
-unfolding unrolled command width effect_on breaks_F1
+unfolding unrolled command width effect_on breaks_not_there
 erase_replies = refl
 
 -- what the erase has put into the trace by its end: its own cycles, both polls of its `wait` among them, and no ready
@@ -92,11 +92,11 @@ abbrev made_on : Parts → ℕ → List Event → Option Running
 made_on g l events = running_on (on g) (lun l) events (fresh (on g)) None
 
 erase_made : made_on one_lun 0 erase_to_end ≡ Some (record { job = job one_lun 0 4 erase []; made = reverse (c 0x60 ∷ (a 4 ∷ (a 0 ∷ (a 0 ∷ (c 0xd0 ∷ (c 0x70 ∷ (o 0x80 ∷ (c 0x70 ∷ (o 0xe0 ∷ []))))))))) })
-unfolding unrolled command width effect_on breaks_F1
+unfolding unrolled command width effect_on breaks_not_there
 erase_made = refl
 
 erase_taken_away : made_on one_lun 0 erase_events ≡ None
-unfolding unrolled command width effect_on breaks_F1
+unfolding unrolled command width effect_on breaks_not_there
 erase_taken_away = refl
 
 -- erases on two LUNs of one target, stepped in turn; both become ready after fourteen steps
@@ -111,19 +111,19 @@ abbrev two_events : List Event
 two_events = Load (lun 0) (job two_luns 0 0 erase []) ∷ (Load (lun 1) (job two_luns 1 0 erase []) ∷ two_turns)
 
 two_luns_trace : trace_of (ran two_luns two_events) ≡ c 0x60 ∷ (a 0 ∷ (a 0 ∷ (a 0 ∷ (c 0xd0 ∷ (c 0x78 ∷ (a 0 ∷ (a 0 ∷ (a 0 ∷ (o 0x80 ∷ (c 0x60 ∷ (a 0x20 ∷ (a 0 ∷ (a 0 ∷ (c 0xd0 ∷ (c 0x78 ∷ (a 0x20 ∷ (a 0 ∷ (a 0 ∷ (o 0x80 ∷ (Rdy 0 0 false ∷ (Rdy 0 1 false ∷ (c 0x78 ∷ (a 0 ∷ (a 0 ∷ (a 0 ∷ (o 0xe0 ∷ (c 0x78 ∷ (a 0x20 ∷ (a 0 ∷ (a 0 ∷ (o 0xe0 ∷ [])))))))))))))))))))))))))))))))
-unfolding unrolled command width effect_on breaks_F1
+unfolding unrolled command width effect_on breaks_not_there
 two_luns_trace = refl
 
 -- each has made its own cycles, and none of the other's
 second_made : made_on two_luns 1 two_events ≡ Some (record { job = job two_luns 1 0 erase []; made = reverse (c 0x60 ∷ (a 0x20 ∷ (a 0 ∷ (a 0 ∷ (c 0xd0 ∷ (c 0x78 ∷ (a 0x20 ∷ (a 0 ∷ (a 0 ∷ (o 0x80 ∷ (c 0x78 ∷ (a 0x20 ∷ (a 0 ∷ (a 0 ∷ (o 0xe0 ∷ []))))))))))))))) })
-unfolding unrolled command width effect_on breaks_F1
+unfolding unrolled command width effect_on breaks_not_there
 second_made = refl
 
 abbrev two_replies : List Reply
 two_replies = ToLoad Loaded ∷ (ToLoad Loaded ∷ (ToStep Went ∷ (ToStep Held ∷ (ToStep Went ∷ (ToStep Held ∷ (ToStep Went ∷ (ToStep Held ∷ (ToStep NotReady ∷ (ToStep Went ∷ (ToStep Held ∷ (ToStep Went ∷ (ToStep Held ∷ (ToStep Went ∷ (ToStep Held ∷ (ToStep NotReady ∷ (ToReady true ∷ (ToReady true ∷ (ToStep Went ∷ (ToStep Held ∷ (ToStep Ended ∷ (ToStep Went ∷ (ToStep Ended ∷ (ToStep Ended ∷ [])))))))))))))))))))))))
 
 two_luns_in_turn : replies_of (ran two_luns two_events) ≡ two_replies
-unfolding unrolled command width effect_on breaks_F1
+unfolding unrolled command width effect_on breaks_not_there
 two_luns_in_turn = refl
 
 -- a read that lets the bus go after its first command
@@ -134,7 +134,7 @@ abbrev read_events : List Event
 read_events = Load (lun 0) (job one_lun 0 0 reads (replicate 4 0)) ∷ (steps 5 0 ++ (Ready (lun 0) false ∷ (steps 4 0 ++ (Unload (lun 0) ∷ []))))
 
 hands_over : replies_of (ran one_lun read_events) ≡ ToLoad Loaded ∷ (ToStep Went ∷ (ToStep HandedOver ∷ (ToStep Went ∷ (ToStep Went ∷ (ToStep NotReady ∷ (ToReady true ∷ (ToStep Went ∷ (ToStep Went ∷ (ToStep Went ∷ (ToStep Ended ∷ (ToUnload (Unloaded (job one_lun 0 0 reads (replicate 4 0xff)) 0) ∷ [])))))))))))
-unfolding unrolled command width effect_on breaks_F1
+unfolding unrolled command width effect_on breaks_not_there
 hands_over = refl
 
 -- a cache read: the array becomes ready behind the LUN
@@ -146,11 +146,11 @@ cache_events =
     Load (lun 0) (job with_cache 0 0 reads_cache []) ∷ (steps 3 0 ++ (Ready (lun 0) false ∷ (steps 2 0 ++ (ArrayReady (lun 0) ∷ (steps 1 0 ++ (Ready (lun 0) false ∷ (steps 1 0 ++ (ArrayReady (lun 0) ∷ (ArrayReady (lun 0) ∷ steps 1 0)))))))))
 
 array_comes_ready : replies_of (ran with_cache cache_events) ≡ ToLoad Loaded ∷ (ToStep Went ∷ (ToStep Went ∷ (ToStep Went ∷ (ToReady true ∷ (ToStep Went ∷ (ToStep Went ∷ (ToArrayReady false ∷ (ToStep NotReady ∷ (ToReady true ∷ (ToStep Went ∷ (ToArrayReady true ∷ (ToArrayReady false ∷ (ToStep Went ∷ [])))))))))))))
-unfolding unrolled command width effect_on breaks_F1
+unfolding unrolled command width effect_on breaks_not_there
 array_comes_ready = refl
 
 cache_trace : trace_of (ran with_cache cache_events) ≡ c 0 ∷ (a 0 ∷ (a 0 ∷ (a 0 ∷ (a 0 ∷ (a 0 ∷ (c 0x30 ∷ (Rdy 0 0 false ∷ (c 0x70 ∷ (o 0xe0 ∷ (c 0x31 ∷ (c 0x70 ∷ (o 0x80 ∷ (Rdy 0 0 false ∷ (c 0x70 ∷ (o 0xc0 ∷ (Ard 0 0 ∷ (c 0x70 ∷ (o 0xe0 ∷ []))))))))))))))))))
-unfolding unrolled command width effect_on breaks_F1
+unfolding unrolled command width effect_on breaks_not_there
 cache_trace = refl
 
 -- refused before any load: a job on another LUN than its own, on a LUN that isn't there, and of another geometry; steps, readies
@@ -165,16 +165,16 @@ abbrev refused_events : List Event
 refused_events =
     Load (lun 1) (at_two 0) ∷ (Load (lun 2) (at_two 2) ∷ (Load (lun 0) other_geometry ∷ (Step (lun 0) ∷ (Step (lun 2) ∷ (Ready (lun 0) true ∷ (Ready (lun 2) false ∷ (ArrayReady (lun 0) ∷ (Unload (lun 0) ∷ (Unload (lun 2) ∷ [])))))))))
 
-refused_change_nothing : ran two_luns refused_events ≡ Some (record { world = fresh (on two_luns); replies = ToLoad (NotLoaded S2 (at_two 0)) ∷ (ToLoad (NotLoaded S2 (at_two 2)) ∷ (ToLoad (NotLoaded S5 other_geometry) ∷ (ToStep Empty ∷ (ToStep Empty ∷ (ToReady false ∷ (ToReady false ∷ (ToArrayReady false ∷ (ToUnload (NotUnloaded U1) ∷ (ToUnload (NotUnloaded U1) ∷ []))))))))) })
-unfolding unrolled command width effect_on breaks_F1
+refused_change_nothing : ran two_luns refused_events ≡ Some (record { world = fresh (on two_luns); replies = ToLoad (NotLoaded OtherLun (at_two 0)) ∷ (ToLoad (NotLoaded OtherLun (at_two 2)) ∷ (ToLoad (NotLoaded OtherGeometry other_geometry) ∷ (ToStep Empty ∷ (ToStep Empty ∷ (ToReady false ∷ (ToReady false ∷ (ToArrayReady false ∷ (ToUnload (NotUnloaded NoJob) ∷ (ToUnload (NotUnloaded NoJob) ∷ []))))))))) })
+unfolding unrolled command width effect_on breaks_not_there
 refused_change_nothing = refl
 
 -- refused with a job in the slot: a second load, first of all, and an unload before the end
 abbrev occupied_events : List Event
 occupied_events = Load (lun 0) (at_two 0) ∷ (Load (lun 0) other_geometry ∷ (Unload (lun 0) ∷ []))
 
-occupied_refuse : replies_of (ran two_luns occupied_events) ≡ ToLoad Loaded ∷ (ToLoad (NotLoaded S1 other_geometry) ∷ (ToUnload (NotUnloaded U2) ∷ []))
-unfolding unrolled command width effect_on breaks_F1
+occupied_refuse : replies_of (ran two_luns occupied_events) ≡ ToLoad Loaded ∷ (ToLoad (NotLoaded SlotTaken other_geometry) ∷ (ToUnload (NotUnloaded StillRunning) ∷ []))
+unfolding unrolled command width effect_on breaks_not_there
 occupied_refuse = refl
 
 -- a `get` of four bytes from place 2 on fills those, and no other

@@ -4,9 +4,9 @@ use Rattle.std.specs.List.{slice_get}
 use Rattle.std.proofs.lemmas.List.{append_assoc, append-nil}
 use Rattle.micro_word.specs.declared.word.Word.{Word}
 use Rattle.micro_word.specs.declared.word.Word.TheVariants.{BranchOnStatus, Loop, Next, Jump}
-use Rattle.micro_verify.specs.Lines.{Line, Unrolling, repeated, looped, word_before, unrolling, unrolled, from_place}
-use Rattle.micro_verify.specs.Places.{from_word, LeadsTo, IsLoop, FitsAt, IsShaped}
-use Rattle.micro_verify.specs.Program.{meets}
+use Rattle.micro_program.specs.Lines.{Line, Unrolling, repeated, looped, word_before, unrolling, unrolled, from_place}
+use Rattle.micro_program.specs.Places.{from_word, LeadsTo, IsLoop, FitsAt, IsShaped}
+use Rattle.micro_program.specs.Program.{meets}
 use Rattle.seq_core.specs.declared.loops.OpenLoop.{OpenLoop}
 use Rattle.seq_core.specs.Loops.{behind_turn, lines_at, AreAround, StandsAt, place_behind, loops_behind, lines_left}
 

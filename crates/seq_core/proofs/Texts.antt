@@ -1,14 +1,14 @@
 -- A program that ends has done all that its text means.
 use Rattle.std.proofs.Common.{◌≡◌, ℕ, Bool, true, false, cond, List, [], ◌∷◌, ◌++◌, Some, None, refl, ap, ◌∙◌, subst}
-use Rattle.onfi_cycle.specs.declared.Item.{Item}
+use Rattle.onfi_cycle.specs.declared.item.Item.{Item}
 use Rattle.onfi_cycle.specs.Channel.{Channel}
 use Rattle.micro_word.specs.declared.word.Word.{Word}
 use Rattle.micro_word.specs.declared.word.Word.TheVariants.{End, Wait}
-use Rattle.micro_verify.specs.Lines.{Line}
-use Rattle.micro_verify.specs.Program.{Job, Done, Polled, is_ready_status}
-use Rattle.micro_verify.specs.Played.{Played}
-use Rattle.micro_verify.specs.Step.{Stride, Went, NotReady, did, first_byte, stride, next_step}
-use Rattle.micro_verify.specs.Actions.{acts, answers_of}
+use Rattle.micro_program.specs.Lines.{Line}
+use Rattle.micro_program.specs.Program.{Job, Done, Polled, is_ready_status}
+use Rattle.micro_program.specs.Played.{Played}
+use Rattle.micro_program.specs.Step.{Stride, Went, NotReady, did, first_byte, stride, next_step}
+use Rattle.micro_program.specs.Actions.{acts, answers_of}
 use Rattle.seq_core.specs.World.{Slot}
 use Rattle.seq_core.specs.Lawful.{HasEnded, DoesItsText}
 use Rattle.seq_core.proofs.Below.{step_parts}

@@ -1,19 +1,19 @@
 -- What an event leaves and is answered, and what a list of events comes to.
 use Rattle.std.specs.Prelude.{ℕ, ◌==◌, Bool, true, false, ◌&&◌, not, if◌then◌else◌, List, [], ◌∷◌, Option, Some, None, is_some}
 use Rattle.nand_geometry.specs.declared.Parts.{Parts}
-use Rattle.onfi_cycle.specs.declared.Lun.{Lun}
-use Rattle.onfi_cycle.specs.declared.Item.{Item}
-use Rattle.onfi_cycle.specs.declared.Item.TheVariants.{Rdy, Ard}
+use Rattle.onfi_cycle.specs.declared.item.Lun.{Lun}
+use Rattle.onfi_cycle.specs.declared.item.Item.{Item}
+use Rattle.onfi_cycle.specs.declared.item.Item.TheVariants.{Rdy, Ard}
 use Rattle.onfi_cycle.specs.Permitted.{is_permitted}
 use Rattle.onfi_cycle.specs.Channel.{Channel, is_there, same_lun}
-use Rattle.micro_verify.specs.Program.{Job, buffer_now}
-use Rattle.micro_verify.specs.Moves.{and_then}
-use Rattle.micro_verify.specs.Step.{Stride, keeps_bus, next_step}
+use Rattle.micro_program.specs.Program.{Job, buffer_now}
+use Rattle.micro_program.specs.Moves.{and_then}
+use Rattle.micro_program.specs.Step.{Stride, keeps_bus, next_step}
 use Rattle.seq_core.specs.declared.answers.LoadFault.{LoadFault}
-use Rattle.seq_core.specs.declared.answers.LoadFault.TheVariants.{S1, S2, S5}
+use Rattle.seq_core.specs.declared.answers.LoadFault.TheVariants.{SlotTaken, OtherLun, OtherGeometry}
 use Rattle.seq_core.specs.declared.answers.Stepped.{Stepped}
 use Rattle.seq_core.specs.declared.answers.Stepped.TheVariants.{Empty, Held, Ended}
-use Rattle.seq_core.specs.declared.answers.UnloadFault.TheVariants.{U1, U2}
+use Rattle.seq_core.specs.declared.answers.UnloadFault.TheVariants.{NoJob, StillRunning}
 use Rattle.seq_core.specs.World.{Slot, World, slot_of, with_slot, fresh_slot}
 use Rattle.seq_core.specs.Event.{Event, Load, Step, Ready, ArrayReady, Unload}
 use Rattle.seq_core.specs.Reply.{Reply, ToLoad, ToStep, ToReady, ToArrayReady, ToUnload, Loaded, NotLoaded, Unloaded, NotUnloaded, answer_of}
@@ -36,9 +36,9 @@ same_parts g h =
 -- the first fault of a load: the slot has a job, the LUN isn't there or isn't the job's, or the job is of another geometry
 abbrev pub load_fault : Channel → World → Lun → Job → Option LoadFault
 load_fault s w l j =
-    if is_some (slot_of s w l) then Some S1
-    else (if not (is_there s l && same_lun l j.lun) then Some S2
-    else (if not (same_parts s.geometry j.geometry) then Some S5
+    if is_some (slot_of s w l) then Some SlotTaken
+    else (if not (is_there s l && same_lun l j.lun) then Some OtherLun
+    else (if not (same_parts s.geometry j.geometry) then Some OtherGeometry
     else None))
 
 -- a job without a fault is in its slot, one with a fault is handed back
@@ -86,7 +86,7 @@ after_item w i reply false = record { world = w; reply = reply false }
 
 -- an unload of a slot with a job: one that has ended is given, with its buffer as it is now
 abbrev pub after_slot_unload : Channel → World → Lun → Slot → Option ℕ → After
-after_slot_unload s w l x None = record { world = w; reply = ToUnload (NotUnloaded U2) }
+after_slot_unload s w l x None = record { world = w; reply = ToUnload (NotUnloaded StillRunning) }
 after_slot_unload s w l x (Some code) =
     record {
       world = record w { slots = with_slot s w.slots l None };
@@ -95,7 +95,7 @@ after_slot_unload s w l x (Some code) =
 
 -- an unload of a slot
 abbrev pub after_unload : Channel → World → Lun → Option Slot → After
-after_unload s w l None = record { world = w; reply = ToUnload (NotUnloaded U1) }
+after_unload s w l None = record { world = w; reply = ToUnload (NotUnloaded NoJob) }
 after_unload s w l (Some x) = after_slot_unload s w l x x.code
 
 -- what an event leaves, defined but where a program has no next word, or a cycle of its step has no byte

@@ -2,7 +2,7 @@
 use Rattle.std.specs.Prelude.{◌≡◌, ℕ, ◌+◌, Bool, false, ◌&&◌, ◌||◌, nat_le, nat_lt, List, [], ◌∷◌, length, slice_index}
 use Rattle.micro_word.specs.declared.word.Word.{Word}
 use Rattle.micro_word.specs.declared.word.Word.TheVariants.{Get}
-use Rattle.micro_verify.specs.Program.{Done, place_now}
+use Rattle.micro_program.specs.Program.{Done, place_now}
 
 -- a word that starts at this place of the buffer fills byte k
 abbrev pub fills : (place : ℕ) → Word → (k : ℕ) → Bool

@@ -1,24 +1,26 @@
 -- What a call of a sequencer is: an event of the world that it keeps.
 use Rattle.std.specs.Prelude.{◌≡◌, ℕ, ◌≤◌, Bool, true, false, ◌&&◌, not, if◌then◌else◌, List, [], ◌∷◌, Option, Some, None, is_some, length, slice_get, get_or, set}
 use Rattle.nand_geometry.specs.declared.Parts.{Parts}
-use Rattle.onfi_cycle.specs.declared.Lun.{Lun}
-use Rattle.onfi_cycle.specs.declared.Item.{Item}
+use Rattle.onfi_cycle.specs.declared.item.Lun.{Lun}
+use Rattle.onfi_cycle.specs.declared.item.Item.{Item}
 use Rattle.onfi_cycle.specs.Channel.{Channel, IsChannel, is_there, same_lun}
 use Rattle.micro_word.specs.declared.word.Word.{Word}
-use Rattle.micro_verify.specs.Program.{Job, fits}
-use Rattle.micro_verify.specs.Moves.{Move}
-use Rattle.micro_verify.specs.Played.{played}
-use Rattle.micro_verify.specs.Safe.{MovesAreOwn}
+use Rattle.micro_program.specs.Program.{Job, fits}
+use Rattle.micro_program.specs.Moves.{Move}
+use Rattle.micro_program.specs.Played.{played}
+use Rattle.micro_program.specs.Safe.{MovesAreOwn}
 use Rattle.seq_core.specs.declared.answers.LoadFault.{LoadFault}
-use Rattle.seq_core.specs.declared.answers.LoadFault.TheVariants.{S1, S2, S5}
+use Rattle.seq_core.specs.declared.answers.LoadFault.TheVariants.{SlotTaken, OtherLun, OtherGeometry}
 use Rattle.seq_core.specs.declared.answers.Stepped.{Stepped}
-use Rattle.seq_core.specs.declared.answers.Stepped.TheVariants.{Went}
+use Rattle.seq_core.specs.declared.answers.Stepped.TheVariants.{Ended, HandedOver, NotReady, Went}
 use Rattle.seq_core.specs.declared.registers.Registers.{Registers}
+use Rattle.seq_core.specs.declared.slot_state.SlotState.{SlotState}
+use Rattle.seq_core.specs.declared.slot_state.SlotState.TheVariants as state
 use Rattle.seq_core.specs.World.{World, number}
 use Rattle.seq_core.specs.Event.{Event}
 use Rattle.seq_core.specs.Reply.{Reply}
 use Rattle.seq_core.specs.After.{After, after, is_held, same_parts}
-use Rattle.seq_core.specs.Lawful.{LawfulWorld}
+use Rattle.seq_core.specs.Lawful.{LawfulWorld, has_bus}
 use Rattle.seq_core.specs.Headline.{AddsItsOwn}
 use Rattle.seq_core.specs.Loops.{loops_behind}
 use Rattle.seq_core.specs.Progress.{Progress, moves_at, buffer_behind, status_of, outcome_of, progress_after}
@@ -93,6 +95,14 @@ abbrev pub holder_after : Stepped → Lun → Option Lun
 holder_after Went l = Some l
 holder_after _ l = None
 
+-- what the answer of a step tells of the bus: a LUN that went has it, and one that handed over, wasn't ready or has ended hasn't
+abbrev pub TellsBus : Stepped → Option Lun → Lun → Type 0
+TellsBus Went holder l = has_bus holder l ≡ true
+TellsBus HandedOver holder l = has_bus holder l ≡ false
+TellsBus NotReady holder l = has_bus holder l ≡ false
+TellsBus Ended holder l = has_bus holder l ≡ false
+TellsBus _ holder l = Unit {0}
+
 -- what is kept after such a step of this LUN
 abbrev pub stepped_view : CoreView → Lun → Stepped → List Item → Progress → CoreView
 stepped_view c l answer past u =
@@ -101,7 +111,7 @@ stepped_view c l answer past u =
 -- the first fault of a load onto a LUN that has a job or not, and is there or not
 abbrev pub fault_by : (has_job there : Bool) → Lun → Lun → Parts → Parts → Option LoadFault
 fault_by has_job there l at g h =
-    if has_job then Some S1 else (if not (there && same_lun l at) then Some S2 else (if not (same_parts g h) then Some S5 else None))
+    if has_job then Some SlotTaken else (if not (there && same_lun l at) then Some OtherLun else (if not (same_parts g h) then Some OtherGeometry else None))
 
 -- the first fault of a load, by what is kept
 abbrev pub load_fault_at : CoreView → Lun → Job → Option LoadFault
@@ -115,10 +125,21 @@ with_slot_at c l slot = record { geometry = c.geometry; targets = c.targets; ope
 abbrev pub with_item : CoreView → Item → Bool → CoreView
 with_item c i came = record { geometry = c.geometry; targets = c.targets; opened = c.opened; past = if came then i ∷ c.past else c.past; slots = c.slots; holder = c.holder }
 
--- the code of a slot, if it has a job
-abbrev pub slot_code : Option Progress → Option (Option ℕ)
-slot_code None = None
-slot_code (Some v) = Some v.code
+-- what a job is, by the code that it has ended with, if it has
+abbrev pub state_of : Option ℕ → SlotState
+state_of None = state.Running
+state_of (Some code) = state.Ended code
+
+-- what a slot holds
+abbrev pub slot_state : Option Progress → SlotState
+slot_state None = state.Empty
+slot_state (Some v) = state_of v.code
+
+-- the slot has a job
+abbrev pub has_job : SlotState → Bool
+has_job state.Empty = false
+has_job state.Running = true
+has_job (state.Ended code) = true
 
 -- no slot has a job
 abbrev pub all_are_empty : List (Option Progress) → Bool
@@ -128,5 +149,5 @@ all_are_empty (Some v ∷ slots) = false
 
 -- a LUN has a program that goes on, and no other LUN has the bus: its next word can be stepped
 pub record CanGoOn (c : CoreView) (l : Lun) : Type 0 where
-  pub running : Some None ≡ slot_code (slot_at c l)
+  pub running : state.Running ≡ slot_state (slot_at c l)
   pub free : is_held c.holder l ≡ false

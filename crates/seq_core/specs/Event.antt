@@ -1,8 +1,8 @@
 -- What happens on a channel that runs programs.
 use Rattle.std.specs.Prelude.{Bool, List, [], ◌∷◌}
-use Rattle.onfi_cycle.specs.declared.Lun.{Lun}
-use Rattle.micro_verify.specs.Program.{Job}
-use Rattle.micro_verify.specs.Safe.{IsMade, IsSafe}
+use Rattle.onfi_cycle.specs.declared.item.Lun.{Lun}
+use Rattle.micro_program.specs.Program.{Job}
+use Rattle.micro_program.specs.Safe.{IsMade, IsSafe}
 
 -- a job comes to a LUN, its next word is stepped, the LUN becomes ready, its array does, or its job is taken away
 pub data Event : Type 0 where

@@ -1,6 +1,6 @@
 -- What doing a list of events is: the run of the events that were done.
 use Rattle.std.specs.Prelude.{◌≡◌, List, [], ◌∷◌, ◌++◌, map, Result, Ok, Err, Option, Some, None}
-use Rattle.micro_verify.specs.Program.{Job}
+use Rattle.micro_program.specs.Program.{Job}
 use Rattle.seq_core.specs.declared.answers.LoadFault.{LoadFault}
 use Rattle.seq_core.specs.declared.answers.UnloadFault.{UnloadFault}
 use Rattle.seq_core.specs.declared.sequencer.Done.{Done}

@@ -1,12 +1,12 @@
 -- The laws of events and of runs, the main theorem last.
 use Rattle.std.specs.Prelude.{◌≡◌, ◌⊎◌, ℕ, Bool, true, false, not, List, [], ◌∷◌, ◌++◌, Some, None}
-use Rattle.onfi_cycle.specs.declared.Lun.{Lun}
-use Rattle.onfi_cycle.specs.declared.Item.{Item}
-use Rattle.onfi_cycle.specs.declared.Item.TheVariants.{Rdy, Ard}
+use Rattle.onfi_cycle.specs.declared.item.Lun.{Lun}
+use Rattle.onfi_cycle.specs.declared.item.Item.{Item}
+use Rattle.onfi_cycle.specs.declared.item.Item.TheVariants.{Rdy, Ard}
 use Rattle.onfi_cycle.specs.Permitted.{is_legal}
 use Rattle.onfi_cycle.specs.Channel.{Channel, IsChannel, is_there}
-use Rattle.micro_verify.specs.Program.{Job, buffer_now}
-use Rattle.micro_verify.specs.Safe.{AddsOwn}
+use Rattle.micro_program.specs.Program.{Job, buffer_now}
+use Rattle.micro_program.specs.Safe.{AddsOwn}
 use Rattle.seq_core.specs.declared.answers.Stepped.TheVariants.{Empty, Held}
 use Rattle.seq_core.specs.World.{Slot, World, slot_of, fresh}
 use Rattle.seq_core.specs.Event.{Event, Load, Step, Ready, ArrayReady, Unload, LoadsVerified, AllLoadVerified}
@@ -113,3 +113,10 @@ abbrev pub UnloadsGiveBack : Type 0
 UnloadsGiveBack =
     (s : Channel) (w : World) (l : Lun) (j : Job) (code : ℕ) (a : After) → LawfulWorld s w → after s w (Unload l) ≡ Some a
     → a.reply ≡ ToUnload (Unloaded j code) → GivesBack s w l j code
+
+-- the law: a run goes on with any event that is defined where it ends and adds what is its own
+abbrev pub RunsGoOn : Type 0
+RunsGoOn =
+    (s : Channel) (events : List Event) (w : World) (e : Event) (ran : Ran) (a : After) → run s events w ≡ Some ran → EventsAreOwn s events w
+    → after s ran.world e ≡ Some a → AddsItsOwn s e ran.world.past a.world.past
+    → (run s (events ++ (e ∷ [])) w ≡ Some (record { world = a.world; replies = ran.replies ++ (a.reply ∷ []) })) × EventsAreOwn s (events ++ (e ∷ [])) w

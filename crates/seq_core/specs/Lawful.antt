@@ -1,13 +1,13 @@
 -- The lawful world: what each event keeps.
 use Rattle.std.specs.Prelude.{◌≡◌, ℕ, ◌==◌, ◌*◌, ◌≤◌, Bool, true, false, List, ◌∷◌, ◌++◌, Option, Some, None, length}
-use Rattle.onfi_cycle.specs.declared.Lun.{Lun}
-use Rattle.onfi_cycle.specs.declared.Item.{Item}
+use Rattle.onfi_cycle.specs.declared.item.Lun.{Lun}
+use Rattle.onfi_cycle.specs.declared.item.Item.{Item}
 use Rattle.onfi_cycle.specs.Permitted.{is_legal}
 use Rattle.onfi_cycle.specs.Channel.{Channel, IsIdle, is_there, is_open_on, same_lun}
 use Rattle.micro_word.specs.declared.word.Word.TheVariants.{End}
-use Rattle.micro_verify.specs.Program.{Done, Answer, Nothing, buffer_now, all_fit, cost_now}
-use Rattle.micro_verify.specs.Actions.{acts, acts_from, answers_of, actions_of}
-use Rattle.micro_verify.specs.Safe.{Reaches, IsMade, StaysFine}
+use Rattle.micro_program.specs.Program.{Done, Answer, Nothing, buffer_now, all_fit, cost_now}
+use Rattle.micro_program.specs.Actions.{acts, acts_from, answers_of, actions_of}
+use Rattle.micro_program.specs.Safe.{Reaches, IsMade, StaysFine}
 use Rattle.seq_core.specs.World.{Slot, World, slot_of}
 use Rattle.seq_core.specs.Buffer.{KeepsOthers}
 

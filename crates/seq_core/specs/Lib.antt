@@ -15,3 +15,4 @@ pub mod Calls
 pub mod EventList
 pub mod Alone
 pub mod Playing
+pub mod Codes

@@ -2,9 +2,9 @@
 use Rattle.std.specs.Prelude.{◌≡◌, ℕ, ◌+◌, ◌-◌, ◌==◌, if◌then◌else◌, List, [], ◌∷◌, ◌++◌}
 use Rattle.micro_word.specs.declared.word.Word.{Word}
 use Rattle.micro_word.specs.declared.word.Word.TheVariants.{BranchOnStatus, Loop, Next, Jump}
-use Rattle.micro_verify.specs.Lines.{Line, repeated, from_place}
-use Rattle.micro_verify.specs.Places.{from_word}
-use Rattle.micro_verify.specs.Program.{meets}
+use Rattle.micro_program.specs.Lines.{Line, repeated, from_place}
+use Rattle.micro_program.specs.Places.{from_word}
+use Rattle.micro_program.specs.Program.{meets}
 use Rattle.seq_core.specs.declared.loops.OpenLoop.{OpenLoop}
 
 -- ---- what is still to come

@@ -1,16 +1,16 @@
 -- The cycles that a program has put into the trace: those of its first actions in order, the poll of a `wait` once for each step
 -- that made it.
 use Rattle.std.specs.Prelude.{◌≡◌, ℕ, suc, ◌+◌, ◌-◌, ◌≤◌, Bool, true, false, if◌then◌else◌, List, [], ◌∷◌, ◌++◌, Option, Some, None, length, take}
-use Rattle.onfi_cycle.specs.declared.Lun.{Lun}
-use Rattle.onfi_cycle.specs.declared.Kind.TheVariants.{Dout}
-use Rattle.onfi_cycle.specs.declared.Item.{Item}
+use Rattle.onfi_cycle.specs.declared.item.Lun.{Lun}
+use Rattle.onfi_cycle.specs.declared.item.Kind.TheVariants.{Dout}
+use Rattle.onfi_cycle.specs.declared.item.Item.{Item}
 use Rattle.onfi_cycle.specs.Channel.{Channel, cycle, same_lun}
 use Rattle.micro_word.specs.declared.word.Word.{Word}
 use Rattle.micro_word.specs.declared.word.Word.TheVariants.{Wait}
-use Rattle.micro_verify.specs.Lines.{Line}
-use Rattle.micro_verify.specs.Program.{Job, Done, Answer, Nothing, Polled, Got, is_ready_status}
-use Rattle.micro_verify.specs.Moves.{Move, Give, Take, is_wait}
-use Rattle.micro_verify.specs.Actions.{action}
+use Rattle.micro_program.specs.Lines.{Line}
+use Rattle.micro_program.specs.Program.{Job, Done, Answer, Nothing, Polled, Got, is_ready_status}
+use Rattle.micro_program.specs.Moves.{Move, Give, Take, is_wait}
+use Rattle.micro_program.specs.Actions.{action}
 use Rattle.seq_core.specs.World.{Slot, World}
 use Rattle.seq_core.specs.Event.{Event, Load, Step, Unload}
 use Rattle.seq_core.specs.Reply.{Reply, ToLoad, ToUnload, Loaded, Unloaded}

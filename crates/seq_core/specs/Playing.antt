@@ -1,14 +1,14 @@
 -- What playing moves does to a bus.
 use Rattle.std.specs.Prelude.{◌≡◌, ℕ, ◌+◌, ◌≤◌, false, List, [], ◌∷◌, Some}
-use Rattle.onfi_cycle.specs.declared.Lun.{Lun}
-use Rattle.onfi_cycle.specs.declared.Kind.{Kind}
-use Rattle.onfi_cycle.specs.declared.Kind.TheVariants.{Adr}
+use Rattle.onfi_cycle.specs.declared.item.Lun.{Lun}
+use Rattle.onfi_cycle.specs.declared.item.Kind.{Kind}
+use Rattle.onfi_cycle.specs.declared.item.Kind.TheVariants.{Adr}
 use Rattle.onfi_cycle.specs.Channel.{cycle}
 use Rattle.onfi_cycle.specs.Readies.{starts_work}
 use Rattle.micro_word.specs.declared.word.Word.{Word}
 use Rattle.micro_word.specs.declared.word.Word.TheVariants.{Address}
-use Rattle.micro_verify.specs.Moves.{Move, gives, part}
-use Rattle.micro_verify.specs.Safe.{MovesAreOwn}
+use Rattle.micro_program.specs.Moves.{Move, gives, part}
+use Rattle.micro_program.specs.Safe.{MovesAreOwn}
 use Rattle.target_bus.specs.Bus.{Traced, channel_of, is_output}
 use Rattle.seq_core.specs.declared.registers.Registers.{Registers}
 use Rattle.seq_core.specs.Progress.{five_bytes, poll_at}

@@ -3,12 +3,12 @@
 use Rattle.std.specs.Prelude.{ℕ, ◌+◌, ◌-◌, ◌^◌, min, Bool, true, false, nat_le, nat_lt, if◌then◌else◌, List, [], ◌∷◌, ◌++◌, Option, Some, None, length, replicate}
 use Rattle.nand_geometry.specs.declared.Parts.{Parts}
 use Rattle.nand_geometry.specs.Row.{row_bytes_of}
-use Rattle.onfi_cycle.specs.declared.Kind.TheVariants.{Cmd, Adr, Din}
+use Rattle.onfi_cycle.specs.declared.item.Kind.TheVariants.{Cmd, Adr, Din}
 use Rattle.micro_word.specs.declared.word.Word.{Word}
 use Rattle.micro_word.specs.declared.word.Word.TheVariants.{End, Command, Address, Get, Put, Seek, Column, RowAdd, Row, Plane, Wait, Yield, ReadStatus}
-use Rattle.micro_verify.specs.Program.{Job, written, is_ready_status}
-use Rattle.micro_verify.specs.Moves.{Move, Give, Take, and_then, part, column_bytes, gives}
-use Rattle.micro_verify.specs.Step.{first_byte}
+use Rattle.micro_program.specs.Program.{Job, written, is_ready_status}
+use Rattle.micro_program.specs.Moves.{Move, Give, Take, and_then, part, column_bytes, gives}
+use Rattle.micro_program.specs.Step.{first_byte}
 use Rattle.seq_core.specs.declared.answers.Stepped.{Stepped}
 use Rattle.seq_core.specs.declared.answers.Stepped.TheVariants.{Ended, HandedOver, NotReady, Went}
 use Rattle.seq_core.specs.declared.registers.Registers.{Registers}

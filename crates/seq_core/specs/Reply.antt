@@ -4,8 +4,8 @@ use Rattle.seq_core.specs.declared.answers.LoadFault.{LoadFault}
 use Rattle.seq_core.specs.declared.answers.Stepped.{Stepped}
 use Rattle.seq_core.specs.declared.answers.Stepped.TheVariants.{Ended, HandedOver, NotReady, Went}
 use Rattle.seq_core.specs.declared.answers.UnloadFault.{UnloadFault}
-use Rattle.micro_verify.specs.Program.{Job}
-use Rattle.micro_verify.specs.Step.{Outcome, Ended as HasEnded, HandedOver as HasHandedOver, NotReady as WasNotReady, Went as HasGone}
+use Rattle.micro_program.specs.Program.{Job}
+use Rattle.micro_program.specs.Step.{Outcome, Ended as HasEnded, HandedOver as HasHandedOver, NotReady as WasNotReady, Went as HasGone}
 
 -- the job is in its slot, or is handed back with the reason
 pub data Loading : Type 0 where

@@ -1,12 +1,12 @@
 -- What a sequencer keeps, and of which worlds it is: the model's progress told from places and registers.
 use Rattle.std.specs.Prelude.{◌≡◌, ℕ, List, [], ◌∷◌, Option, Some, None}
 use Rattle.nand_geometry.specs.declared.Parts.{Parts}
-use Rattle.onfi_cycle.specs.declared.Lun.{Lun}
-use Rattle.onfi_cycle.specs.declared.Item.{Item}
+use Rattle.onfi_cycle.specs.declared.item.Lun.{Lun}
+use Rattle.onfi_cycle.specs.declared.item.Item.{Item}
 use Rattle.onfi_cycle.specs.Channel.{Channel}
 use Rattle.target_bus.specs.Bus.{Entries, channel_on}
-use Rattle.micro_verify.specs.Places.{IsShaped}
-use Rattle.micro_verify.specs.Program.{buffer_now, column_now, plane_now, index_now, place_now, status_now}
+use Rattle.micro_program.specs.Places.{IsShaped}
+use Rattle.micro_program.specs.Program.{buffer_now, column_now, plane_now, index_now, place_now, status_now}
 use Rattle.seq_core.specs.World.{Slot, World}
 use Rattle.seq_core.specs.Loops.{StandsAt}
 use Rattle.seq_core.specs.Progress.{Progress, stopped}

@@ -1,10 +1,10 @@
 -- A channel whose LUNs have slots, each for one program in progress.
 use Rattle.std.specs.Prelude.{ℕ, ◌+◌, ◌*◌, if◌then◌else◌, List, [], Option, None, get_or, set, replicate}
-use Rattle.onfi_cycle.specs.declared.Lun.{Lun}
-use Rattle.onfi_cycle.specs.declared.Item.{Item}
+use Rattle.onfi_cycle.specs.declared.item.Lun.{Lun}
+use Rattle.onfi_cycle.specs.declared.item.Item.{Item}
 use Rattle.onfi_cycle.specs.Channel.{Channel, is_there}
-use Rattle.micro_verify.specs.Lines.{Line, unrolled}
-use Rattle.micro_verify.specs.Program.{Job, Done}
+use Rattle.micro_program.specs.Lines.{Line, unrolled}
+use Rattle.micro_program.specs.Program.{Job, Done}
 
 -- a job with its lines to come and its words done, and the code with which it ended, if it has
 pub record Slot : Type 0 where

@@ -1,31 +1,71 @@
 //! What loads, steps and unloads are answered.
 ghost use Rattle.std.specs.Prelude.{◌≡◌};
 ghost use Rattle.seq_core.specs.Names.{step_name};
+ghost use Rattle.seq_core.specs.Codes.{job_fault_code, load_fault_code, unload_fault_code};
 
 use std::fmt;
 use thiserror::Error;
 
-/// Why a job isn't made, or isn't loaded.
+/// Why a job isn't made: the first of these that stands.
+#[derive(Clone, Copy, Debug, PartialEq, Eq, Error)]
+pub enum JobFault {
+    /// The channel has no such LUN.
+    #[error("the LUN isn't there")]
+    NoSuchLun,
+    /// A row of the job is outside the geometry.
+    #[error("a row of the job is outside the geometry")]
+    RowsOutside,
+    /// The buffer hasn't the length that the text names.
+    #[error("the buffer hasn't the length that the text names")]
+    BufferLength,
+    /// The text was verified for another geometry.
+    #[error("the text was verified for another geometry")]
+    OtherGeometry,
+    /// The text continues a cache read, and the job doesn't begin with a block.
+    #[error("the text continues a cache read, and the job doesn't begin with a block")]
+    NotAtBlock,
+}
+
+impl JobFault {
+    /// Its code, `S2` to `S6`.
+    pub fn code(self) -> &'static str
+        ensures { result.now ≡ job_fault_code self }
+    {
+        match self {
+            JobFault::NoSuchLun => "S2",
+            JobFault::RowsOutside => "S3",
+            JobFault::BufferLength => "S4",
+            JobFault::OtherGeometry => "S5",
+            JobFault::NotAtBlock => "S6",
+        }
+    }
+}
+
+/// Why a job isn't loaded: the first of these that stands.
 #[derive(Clone, Copy, Debug, PartialEq, Eq, Error)]
 pub enum LoadFault {
     /// The slot has a job.
     #[error("the LUN has a job already")]
-    S1,
+    SlotTaken,
     /// The LUN isn't there, or isn't the one of the job.
     #[error("the LUN isn't there, or isn't the job's")]
-    S2,
-    /// A row of the job is outside the geometry.
-    #[error("a row of the job is outside the geometry")]
-    S3,
-    /// The buffer hasn't the length that the text names.
-    #[error("the buffer hasn't the length that the text names")]
-    S4,
+    OtherLun,
     /// The text was verified for another geometry.
     #[error("the text was verified for another geometry")]
-    S5,
-    /// The text continues a cache read, and the job doesn't begin with a block.
-    #[error("the text continues a cache read, and the job doesn't begin with a block")]
-    S6,
+    OtherGeometry,
+}
+
+impl LoadFault {
+    /// Its code, `S1`, `S2` or `S5`.
+    pub fn code(self) -> &'static str
+        ensures { result.now ≡ load_fault_code self }
+    {
+        match self {
+            LoadFault::SlotTaken => "S1",
+            LoadFault::OtherLun => "S2",
+            LoadFault::OtherGeometry => "S5",
+        }
+    }
 }
 
 /// How a step went.
@@ -76,8 +116,20 @@ impl fmt::Display for Stepped {
 pub enum UnloadFault {
     /// The slot has no job.
     #[error("the LUN has no job")]
-    U1,
+    NoJob,
     /// The job hasn't ended.
     #[error("the job hasn't ended")]
-    U2,
+    StillRunning,
+}
+
+impl UnloadFault {
+    /// Its code, `U1` to `U2`.
+    pub fn code(self) -> &'static str
+        ensures { result.now ≡ unload_fault_code self }
+    {
+        match self {
+            UnloadFault::NoJob => "U1",
+            UnloadFault::StillRunning => "U2",
+        }
+    }
 }

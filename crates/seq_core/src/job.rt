@@ -1,14 +1,14 @@
 //! A job: a verified text that is to run on a LUN, from a base on, with its buffer.
 ghost use Rattle.std.specs.Prelude.{◌≡◌, ◌↔◌, ◌≤◌, IsOk, IfOk, IfErr, Some, None, length, true};
-ghost use Rattle.micro_verify.specs.Lines.{continues_cache_read, is_command_31};
-ghost use Rattle.micro_verify.specs.Places.{IsShaped};
-ghost use Rattle.micro_verify.specs.Safe.{IsSafe};
-ghost use Rattle.micro_verify.specs.Program.{Job as JobValue};
+ghost use Rattle.micro_program.specs.Lines.{continues_cache_read, is_command_31};
+ghost use Rattle.micro_program.specs.Places.{IsShaped};
+ghost use Rattle.micro_program.specs.Safe.{IsSafe};
+ghost use Rattle.micro_program.specs.Program.{Job as JobValue};
 ghost use Rattle.seq_core.specs.Job.{job_fault, job_of};
 ghost use Rattle.seq_core.specs.Event.{IsVerified};
 
-use crate::answers::LoadFault;
-use micro_verify::Verified;
+use crate::answers::JobFault;
+use micro_program::Verified;
 use micro_word::{Text, Word};
 use nand_geometry::Geometry;
 use onfi_cycle::Lun;
@@ -24,9 +24,17 @@ pub struct Job<A: Allocator = Global> {
     pub(crate) buffer: Vec<u8, A>,
 }
 
+/// A job that isn't made: why, with its text and its buffer handed back.
+#[derive(Drop)]
+pub struct JobRefused<A: Allocator = Global> {
+    pub fault: JobFault,
+    pub verified: Verified<A>,
+    pub buffer: Vec<u8, A>,
+}
+
 impl<A: Allocator> Model for Job<A> {
-    ghost use Rattle.micro_verify.specs.Program.{Job as JobValue};
-    ghost use Rattle.micro_verify.specs.Places.{IsShaped};
+    ghost use Rattle.micro_program.specs.Program.{Job as JobValue};
+    ghost use Rattle.micro_program.specs.Places.{IsShaped};
     ghost use Rattle.seq_core.specs.Event.{IsVerified};
     ghost use Rattle.seq_core.specs.Job.{job_of};
 
@@ -57,22 +65,22 @@ fn job_fault<A: Allocator>(
     base: u32,
     verified: &Verified<A>,
     buffer: usize,
-) -> Option<LoadFault>
+) -> Option<JobFault>
     ensures { result ≡ job_fault geometry.now targets lun base verified.now buffer }
 {
     let text = verified.text();
     let parts = geometry.parts();
     let end = u64::from(base) + u64::from(text.rows());
     if lun.ce >= targets || lun.lun >= parts.luns {
-        Some(LoadFault::S2)
+        Some(JobFault::NoSuchLun)
     } else if end > u64::from(geometry.indices()) {
-        Some(LoadFault::S3)
+        Some(JobFault::RowsOutside)
     } else if buffer != text.buffer() as usize {
-        Some(LoadFault::S4)
+        Some(JobFault::BufferLength)
     } else if parts != verified.geometry().parts() {
-        Some(LoadFault::S5)
+        Some(JobFault::OtherGeometry)
     } else if continues_cache_read(text.words()) && base % parts.pages != 0 {
-        Some(LoadFault::S6)
+        Some(JobFault::NotAtBlock)
     } else {
         None
     }
@@ -92,13 +100,17 @@ impl<A: Allocator> Job<A> {
         base: u32,
         verified: Verified<A>,
         buffer: Vec<u8, A>,
-    ) -> Result<Job<A>, (LoadFault, Verified<A>, Vec<u8, A>)>
+    ) -> Result<Job<A>, JobRefused<A>>
         ensures accepted { IsOk result ↔ (job_fault geometry targets lun base verified (length buffer.items) ≡ None) }
         ensures value { IfOk result (λ j. j ≡ job_of lun base verified buffer.items) }
-        ensures refused { IfErr result (λ e. (job_fault geometry targets lun base verified (length buffer.items) ≡ Some e.0) × (e.1 ≡ verified) × (e.2 ≡ buffer)) }
+        ensures refused { IfErr result (λ e. (job_fault geometry targets lun base verified (length buffer.items) ≡ Some e.fault) × (e.verified ≡ verified) × (e.buffer ≡ buffer)) }
     {
         match job_fault(&geometry, targets, lun, base, &verified, buffer.len()) {
-            Some(fault) => Err((fault, verified, buffer)),
+            Some(fault) => Err(JobRefused {
+                fault,
+                verified,
+                buffer,
+            }),
             None => Ok(Job {
                 lun,
                 base,

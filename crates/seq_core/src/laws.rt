@@ -1,6 +1,6 @@
 //! What always holds of a channel that runs programs: each function here does nothing, and its contract is a law.
 
-ghost use Rattle.seq_core.specs.Headline.{RefusalsChangeNothing, FreshIsLawful, EventsGoWell, HoldersGoOn, Headline, BeginningsGoWell, UnloadsGiveBack};
+ghost use Rattle.seq_core.specs.Headline.{RefusalsChangeNothing, FreshIsLawful, EventsGoWell, HoldersGoOn, Headline, BeginningsGoWell, RunsGoOn, UnloadsGiveBack};
 
 /// A load, a ready, an array ready or an unload that is refused, and a step that finds no job or another slot with the
 /// bus, changes nothing.
@@ -49,6 +49,12 @@ pub fn headline()
 /// every place of the list.
 pub fn beginnings_go_well()
     ensures { BeginningsGoWell }
+{}
+
+/// A run goes on with any event that is defined where it ends and adds what is its own: its world is the one that this event
+/// leaves, and its replies are those of the run and this event's.
+pub fn runs_go_on()
+    ensures { RunsGoOn }
 {}
 
 /// An unload gives the job that was loaded, with the buffer as its program left it: the program has ended with this code and

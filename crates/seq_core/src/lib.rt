@@ -16,10 +16,11 @@ mod playing;
 mod registers;
 mod sequencer;
 mod slot;
+mod slot_state;
 #[cfg(test)]
 mod tests;
 
-pub use answers::{LoadFault, Stepped, UnloadFault};
+pub use answers::{JobFault, LoadFault, Stepped, UnloadFault};
 pub use event_list::{Event, Ran, Reply, Shortage, do_event, run_events};
-pub use job::Job;
+pub use job::{Job, JobRefused};
 pub use sequencer::{Core, Done};

@@ -1,11 +1,11 @@
 //! Playing a word on the bus: its cycles, one by one. Each is permitted where it comes, so none is refused but for want of
 //! memory, and that comes before the first.
 ghost use Rattle.std.specs.Prelude.{◌≡◌, ℕ, ◌+◌, ◌<◌, ◌≤◌, List, [], ◌∷◌, ◌++◌, Some, None, IfOk, OnErr, length, replicate, false};
-ghost use Rattle.onfi_cycle.specs.declared.Kind.TheVariants.{Cmd, Adr, Din, Dout};
+ghost use Rattle.onfi_cycle.specs.declared.item.Kind.TheVariants.{Cmd, Adr, Din, Dout};
 ghost use Rattle.onfi_cycle.specs.Channel.{IsOwn, cycle, bus_byte};
-ghost use Rattle.micro_verify.specs.Moves.{Move, Give, Take, gives, part};
-ghost use Rattle.micro_verify.specs.Program.{written};
-ghost use Rattle.micro_verify.specs.Safe.{MovesAreOwn};
+ghost use Rattle.micro_program.specs.Moves.{Move, Give, Take, gives, part};
+ghost use Rattle.micro_program.specs.Program.{written};
+ghost use Rattle.micro_program.specs.Safe.{MovesAreOwn};
 ghost use Rattle.target_bus.specs.Bus.{Traced, channel_of};
 ghost use Rattle.seq_core.specs.Progress.{poll_at};
 ghost use Rattle.seq_core.specs.Calls.{CanPlay, DidPlay, Plays};

@@ -10,12 +10,14 @@ ghost use Rattle.seq_core.specs.After.{is_held};
 ghost use Rattle.seq_core.specs.Lawful.{LawfulWorld};
 ghost use Rattle.seq_core.specs.Progress.{Progress};
 ghost use Rattle.seq_core.specs.Shows.{CoreView, IsAt, channel_in};
-ghost use Rattle.seq_core.specs.Calls.{IsCore, IsEvent, CanGoOn, CanStep, Steps, slot_at, slot_code, all_are_empty, holder_after, fault_by, load_fault_at};
+ghost use Rattle.seq_core.specs.declared.slot_state.SlotState.{SlotState};
+ghost use Rattle.seq_core.specs.Calls.{IsCore, IsEvent, CanGoOn, CanStep, Steps, slot_at, slot_state, all_are_empty, holder_after, TellsBus, fault_by, load_fault_at};
 ghost use Rattle.seq_core.specs.Playing.{IsSame, IsUntouched};
 
 use crate::answers::{LoadFault, Stepped, UnloadFault};
 use crate::job::Job;
 use crate::slot::Slot;
+use crate::slot_state::SlotState;
 use arrayvec::ArrayVec;
 use nand_geometry::Geometry;
 use onfi_cycle::{Item, Lun};
@@ -81,14 +83,14 @@ fn number_of(targets: u8, luns: u8, l: Lun) -> Option<usize>
     }
 }
 
-// The code of a slot, if it has a job.
-fn code_in<A: Allocator>(slots: &[Option<Slot<A>>], k: usize) -> Option<Option<u8>>
+// What a slot holds.
+fn state_in<A: Allocator>(slots: &[Option<Slot<A>>], k: usize) -> SlotState
     requires { k < length slots.now }
-    ensures { result ≡ slot_code (get_or slots.now k None) }
+    ensures { result ≡ slot_state (get_or slots.now k None) }
 {
     match &slots[k] {
-        None => None,
-        Some(slot) => Some(slot.code()),
+        None => SlotState::Empty,
+        Some(slot) => SlotState::of(slot.code()),
     }
 }
 
@@ -122,11 +124,11 @@ fn load_fault(
     ensures { result ≡ fault_by has_job there l at geometry.now of.now }
 {
     if has_job {
-        Some(LoadFault::S1)
+        Some(LoadFault::SlotTaken)
     } else if !(there && l.ce == at.ce && l.lun == at.lun) {
-        Some(LoadFault::S2)
+        Some(LoadFault::OtherLun)
     } else if geometry.parts() != of.parts() {
-        Some(LoadFault::S5)
+        Some(LoadFault::OtherGeometry)
     } else {
         None
     }
@@ -213,7 +215,8 @@ impl<A: Allocator + Copy> Core<A> {
 
     /// The number of a LUN, counted from LUN 0 of target 0 on, or None where it isn't there.
     pub fn number(&self, l: Lun) -> Option<u32>
-        ensures { result ≡ (if is_there (channel_in self.now) l then Some (number (channel_in self.now) l) else None) }
+        ensures value { result ≡ (if is_there (channel_in self.now) l then Some (number (channel_in self.now) l) else None) }
+        ensures small { IfSome result (λ k. k < 16) }
     {
         match self.place(l) {
             None => None,
@@ -221,14 +224,14 @@ impl<A: Allocator + Copy> Core<A> {
         }
     }
 
-    // The code of a LUN's slot, if it has a job.
-    fn code_at(&self, l: Lun) -> Option<Option<u8>>
-        ensures value { result ≡ slot_code (slot_at self.now l) }
+    // What the slot of a LUN holds.
+    fn state_at(&self, l: Lun) -> SlotState
+        ensures value { result ≡ slot_state (slot_at self.now l) }
         ensures core { IsCore self.now }
     {
         match self.place(l) {
-            None => None,
-            Some(k) => code_in(self.slots.as_slice(), k),
+            None => SlotState::Empty,
+            Some(k) => state_in(self.slots.as_slice(), k),
         }
     }
 
@@ -236,8 +239,16 @@ impl<A: Allocator + Copy> Core<A> {
     pub fn trace(&self) -> &[Item]
         ensures value { result.now ≡ reverse self.now.past }
         ensures legal { is_legal self.now.geometry self.now.targets self.now.past ≡ true }
+        ensures core { IsCore self.now }
     {
         self.bus.trace()
+    }
+
+    /// The geometry of its LUNs.
+    pub fn geometry(&self) -> Geometry
+        ensures { result ≡ self.now.geometry }
+    {
+        self.bus.geometry()
     }
 
     /// The LUN that has the bus, if one has it.
@@ -254,6 +265,7 @@ impl<A: Allocator + Copy> Core<A> {
     /// answer, so the program goes on and no other LUN has the bus.
     pub fn step(&mut self, l: Lun) -> Result<Stepped, AllocError>
         ensures came { IfOk result (λ answer. IsEvent self.old (Step l) (ToStep answer) self.new) }
+        ensures bus { IfOk result (λ answer. TellsBus answer self.new.holder l) }
         ensures err { OnErr result ((self.new ≡ self.old) × CanGoOn self.old l) }
     {
         match self.answer_at_rest(l) {
@@ -265,22 +277,24 @@ impl<A: Allocator + Copy> Core<A> {
     // The answer of a step that changes nothing: the LUN has no program that goes on, or another LUN has the bus.
     fn answer_at_rest(&self, l: Lun) -> Option<Stepped>
         ensures came { IfSome result (λ answer. IsEvent self.now (Step l) (ToStep answer) self.now) }
-        ensures running { IfNone result (Some None ≡ slot_code (slot_at self.now l)) }
+        ensures bus { IfSome result (λ answer. TellsBus answer self.now.holder l) }
+        ensures running { IfNone result (SlotState.Running ≡ slot_state (slot_at self.now l)) }
         ensures free { IfNone result (is_held self.now.holder l ≡ false) }
     {
-        match self.code_at(l) {
-            None => Some(Stepped::Empty),
-            Some(Some(_)) => Some(Stepped::Ended),
-            Some(None) if is_held(self.holder, l) => Some(Stepped::Held),
-            Some(None) => None,
+        match self.state_at(l) {
+            SlotState::Empty => Some(Stepped::Empty),
+            SlotState::Ended(_) => Some(Stepped::Ended),
+            SlotState::Running if is_held(self.holder, l) => Some(Stepped::Held),
+            SlotState::Running => None,
         }
     }
 
     // Steps a LUN whose program goes on and may have the bus.
     fn step_on(&mut self, l: Lun) -> Result<Stepped, AllocError>
-        requires running { Some None ≡ slot_code (slot_at self.old l) }
+        requires running { SlotState.Running ≡ slot_state (slot_at self.old l) }
         requires free { is_held self.old.holder l ≡ false }
         ensures came { IfOk result (λ answer. IsEvent self.old (Step l) (ToStep answer) self.new) }
+        ensures bus { IfOk result (λ answer. TellsBus answer self.new.holder l) }
         ensures err { OnErr result ((self.new ≡ self.old) × CanGoOn self.old l) }
     {
         match self.place(l) {
@@ -304,7 +318,7 @@ impl<A: Allocator + Copy> Core<A> {
         ensures verified { IsVerified job.now }
         ensures core { IsCore self.now }
     {
-        let has_job = self.code_at(l).is_some();
+        let has_job = self.state_at(l).has_job();
         let there = self.place(l).is_some();
         let geometry = self.bus.geometry();
         match load_fault(has_job, there, l, job.lun(), &geometry, job.geometry()) {
@@ -318,6 +332,7 @@ impl<A: Allocator + Copy> Core<A> {
     pub fn load(&mut self, l: Lun, job: Job<A>) -> Result<(), (LoadFault, Job<A>)>
         ensures ok { IfOk result (λ _. IsEvent self.old (Load l job) (ToLoad Loaded) self.new) }
         ensures err { IfErr result (λ e. (e.1 ≡ job) × (self.new ≡ self.old) × IsEvent self.old (Load l job) (ToLoad (NotLoaded e.0 job)) self.new) }
+        ensures refused { IfErr result (λ e. load_fault_at self.old l job ≡ Some e.0) }
     {
         match self.admits(l, &job) {
             Err(fault) => Err((fault, job)),
@@ -342,14 +357,16 @@ impl<A: Allocator + Copy> Core<A> {
     /// A LUN becomes ready, with failure or without; false, with all as it was, where it isn't there or isn't busy. Takes no
     /// memory.
     pub fn ready(&mut self, l: Lun, fail: bool) -> bool
-        ensures { IsEvent self.old (Ready l fail) (ToReady result) self.new }
+        ensures came { IsEvent self.old (Ready l fail) (ToReady result) self.new }
+        ensures no { result ≡ false → self.new ≡ self.old }
     {
         self.bus.ready(l, fail)
     }
 
     /// The array of a LUN becomes ready behind a cache read; false, with all as it was, where none goes on. Takes no memory.
     pub fn array_ready(&mut self, l: Lun) -> bool
-        ensures { IsEvent self.old (ArrayReady l) (ToArrayReady result) self.new }
+        ensures came { IsEvent self.old (ArrayReady l) (ToArrayReady result) self.new }
+        ensures no { result ≡ false → self.new ≡ self.old }
     {
         self.bus.array_ready(l)
     }
@@ -360,10 +377,10 @@ impl<A: Allocator + Copy> Core<A> {
         ensures ok { IfOk result (λ done. IsEvent self.old (Unload l) (ToUnload (Unloaded done.job done.code)) self.new) }
         ensures err { IfErr result (λ fault. (self.new ≡ self.old) × IsEvent self.old (Unload l) (ToUnload (NotUnloaded fault)) self.new) }
     {
-        match self.code_at(l) {
-            None => Err(UnloadFault::U1),
-            Some(None) => Err(UnloadFault::U2),
-            Some(Some(code)) => Ok(Done {
+        match self.state_at(l) {
+            SlotState::Empty => Err(UnloadFault::NoJob),
+            SlotState::Running => Err(UnloadFault::StillRunning),
+            SlotState::Ended(code) => Ok(Done {
                 job: self.empty(l, code),
                 code,
             }),
@@ -372,7 +389,7 @@ impl<A: Allocator + Copy> Core<A> {
 
     // Takes the job of a LUN that has ended with this code.
     fn empty(&mut self, l: Lun, code: u8) -> Job<A>
-        requires { Some (Some code) ≡ slot_code (slot_at self.old l) }
+        requires { SlotState.Ended code ≡ slot_state (slot_at self.old l) }
         ensures { IsEvent self.old (Unload l) (ToUnload (Unloaded result code)) self.new }
     {
         match self.place(l) {

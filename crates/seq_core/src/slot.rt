@@ -1,9 +1,9 @@
 //! A slot: a program in progress on its LUN.
 ghost use Rattle.std.specs.Prelude.{◌≡◌, ◌<◌, ◌^◌, ◌≤◌, List, Some, None, IfOk, OnOk, OnErr, length, slice_get};
-ghost use Rattle.onfi_cycle.specs.declared.Item.{Item};
+ghost use Rattle.onfi_cycle.specs.declared.item.Item.{Item};
 ghost use Rattle.onfi_cycle.specs.Channel.{Channel};
-ghost use Rattle.micro_verify.specs.Places.{IsShaped};
-ghost use Rattle.micro_verify.specs.Program.{Job as JobValue};
+ghost use Rattle.micro_program.specs.Places.{IsShaped};
+ghost use Rattle.micro_program.specs.Program.{Job as JobValue};
 ghost use Rattle.target_bus.specs.Bus.{Traced, channel_of};
 ghost use Rattle.seq_core.specs.Event.{IsVerified};
 ghost use Rattle.seq_core.specs.Loops.{loops_behind};
@@ -17,7 +17,7 @@ use crate::loops::{DEPTH, OpenLoop, go_behind};
 use crate::playing::play;
 use crate::registers::Registers;
 use arrayvec::ArrayVec;
-use micro_verify::Verified;
+use micro_program::Verified;
 use micro_word::Word;
 use onfi_cycle::{Lun, Status};
 use std::alloc::{AllocError, Allocator};
@@ -45,7 +45,7 @@ pub(crate) struct Slot<A: Allocator> {
 
 impl<A: Allocator> Model for Slot<A> {
     ghost use Rattle.std.specs.Prelude.{reverse};
-    ghost use Rattle.micro_verify.specs.Places.{IsShaped};
+    ghost use Rattle.micro_program.specs.Places.{IsShaped};
     ghost use Rattle.seq_core.specs.Event.{IsVerified};
     ghost use Rattle.seq_core.specs.Job.{job_of};
     ghost use Rattle.seq_core.specs.Progress.{Progress};

@@ -1,9 +1,11 @@
 use crate::{
-    Core, Done, Event, Job, LoadFault, Ran, Reply, Shortage, Stepped, UnloadFault, run_events,
+    Core, Done, Event, Job, JobFault, JobRefused, LoadFault, Ran, Reply, Shortage, Stepped,
+    UnloadFault, run_events,
 };
 use die_model::LunDie;
 use linked_list_allocator::LocalHeap;
-use micro_verify::{Verified, verify};
+use micro_program::Verified;
+use micro_verify::verify;
 use micro_word::{Text, Word};
 use nand_geometry::{Geometry, Parts};
 use onfi_cycle::{BusState, Cycle, Item, Kind, Latch, Lun, LunState, Register};
@@ -267,7 +269,7 @@ fn core_of<A: Allocator + Copy>(alloc: A, parts: Parts, count: u8) -> Result<Cor
 }
 
 // The erase as a text of one row and no buffer, verified.
-fn verified<A: Allocator>(alloc: A, parts: Parts) -> Result<Verified<A>, Fail> {
+fn verified<A: Allocator + Copy>(alloc: A, parts: Parts) -> Result<Verified<A>, Fail> {
     let text = Text::of(1, 0, 5, ERASE.to_vec(alloc)?)
         .ok()
         .ok_or("the words are no text")?;
@@ -578,17 +580,17 @@ fn a_failure_is_shown(rt: HostRuntime) -> Result<(), Fail> {
 fn loads_that_are_refused(rt: HostRuntime) -> Result<(), Fail> {
     let mut core = core_of(rt.alloc(), ONE_LUN, 1)?;
     let tries = [
-        Try::Refused(ZERO, ONE_LUN, NEXT, LoadFault::S2),
-        Try::Refused(NEXT, ONE_LUN, NEXT, LoadFault::S2),
-        Try::Refused(ZERO, TWO_LUNS, ONE, LoadFault::S2),
-        Try::Refused(ZERO, TWO_LUNS, ZERO, LoadFault::S5),
+        Try::Refused(ZERO, ONE_LUN, NEXT, LoadFault::OtherLun),
+        Try::Refused(NEXT, ONE_LUN, NEXT, LoadFault::OtherLun),
+        Try::Refused(ZERO, TWO_LUNS, ONE, LoadFault::OtherLun),
+        Try::Refused(ZERO, TWO_LUNS, ZERO, LoadFault::OtherGeometry),
         Try::Steps(&[(ZERO, Stepped::Empty)]),
         Try::Admitted(ONE_LUN, ZERO),
         Try::Fresh(true),
         Try::Load(ONE_LUN, ZERO, 4),
-        Try::Refused(ZERO, ONE_LUN, ZERO, LoadFault::S1),
-        Try::Refused(ZERO, ONE_LUN, NEXT, LoadFault::S1),
-        Try::Refused(ZERO, TWO_LUNS, ZERO, LoadFault::S1),
+        Try::Refused(ZERO, ONE_LUN, ZERO, LoadFault::SlotTaken),
+        Try::Refused(ZERO, ONE_LUN, NEXT, LoadFault::SlotTaken),
+        Try::Refused(ZERO, TWO_LUNS, ZERO, LoadFault::SlotTaken),
         Try::Steps(&BEGIN),
         Try::Trace(0, &BEGINNING),
     ];
@@ -603,13 +605,19 @@ fn is_made<A: Allocator + Copy>(
     lun: Lun,
     base: u32,
     bytes: &[u8],
-    refused: Option<LoadFault>,
+    refused: Option<JobFault>,
 ) -> Result<bool, Fail> {
     let verified = verified(alloc, parts)?;
     let buffer = bytes.to_vec(alloc)?;
     match Job::new(Geometry::of(ONE_LUN)?, 1, lun, base, verified, buffer) {
         Ok(_) => Ok(refused.is_none()),
-        Err((fault, verified, buffer)) => Ok(
+        Err(
+            JobRefused {
+                fault,
+                verified,
+                buffer,
+            },
+        ) => Ok(
             refused == Some(fault)
                 && verified.text().words() == ERASE.as_slice()
                 && verified.geometry().parts() == parts
@@ -620,18 +628,18 @@ fn is_made<A: Allocator + Copy>(
 
 #[test]
 fn jobs_that_are_refused(rt: HostRuntime) -> Result<(), Fail> {
-    let cases: [(Parts, Lun, u32, &[u8], Option<LoadFault>); 10] = [
-        (ONE_LUN, NEXT, 0, &[], Some(LoadFault::S2)),
-        (ONE_LUN, ONE, 0, &[], Some(LoadFault::S2)),
+    let cases: [(Parts, Lun, u32, &[u8], Option<JobFault>); 10] = [
+        (ONE_LUN, NEXT, 0, &[], Some(JobFault::NoSuchLun)),
+        (ONE_LUN, ONE, 0, &[], Some(JobFault::NoSuchLun)),
         (ONE_LUN, ZERO, 31, &[], None),
-        (ONE_LUN, ZERO, 32, &[], Some(LoadFault::S3)),
-        (ONE_LUN, ZERO, u32::MAX, &[], Some(LoadFault::S3)),
-        (ONE_LUN, ZERO, 31, &[7], Some(LoadFault::S4)),
-        (TWO_LUNS, ZERO, 31, &[], Some(LoadFault::S5)),
+        (ONE_LUN, ZERO, 32, &[], Some(JobFault::RowsOutside)),
+        (ONE_LUN, ZERO, u32::MAX, &[], Some(JobFault::RowsOutside)),
+        (ONE_LUN, ZERO, 31, &[7], Some(JobFault::BufferLength)),
+        (TWO_LUNS, ZERO, 31, &[], Some(JobFault::OtherGeometry)),
         // the first fault of several
-        (TWO_LUNS, ONE, 32, &[7], Some(LoadFault::S2)),
-        (TWO_LUNS, ZERO, 32, &[7], Some(LoadFault::S3)),
-        (TWO_LUNS, ZERO, 31, &[7], Some(LoadFault::S4)),
+        (TWO_LUNS, ONE, 32, &[7], Some(JobFault::NoSuchLun)),
+        (TWO_LUNS, ZERO, 32, &[7], Some(JobFault::RowsOutside)),
+        (TWO_LUNS, ZERO, 31, &[7], Some(JobFault::BufferLength)),
     ];
     for (place, (parts, lun, base, bytes, refused)) in cases.iter().enumerate() {
         let same = is_made(rt.alloc(), *parts, *lun, *base, bytes, *refused)?;
@@ -645,13 +653,13 @@ fn what_is_not_there(rt: HostRuntime) -> Result<(), Fail> {
     let mut core = core_of(rt.alloc(), ONE_LUN, 1)?;
     let tries = [
         Try::Steps(&[(ZERO, Stepped::Empty)]),
-        Try::Unload(ZERO, Err(UnloadFault::U1)),
+        Try::Unload(ZERO, Err(UnloadFault::NoJob)),
         Try::Ready(ZERO, false, false),
         Try::Steps(&[(ONE, Stepped::Empty)]),
-        Try::Unload(ONE, Err(UnloadFault::U1)),
+        Try::Unload(ONE, Err(UnloadFault::NoJob)),
         Try::Ready(ONE, false, false),
         Try::Steps(&[(NEXT, Stepped::Empty)]),
-        Try::Unload(NEXT, Err(UnloadFault::U1)),
+        Try::Unload(NEXT, Err(UnloadFault::NoJob)),
         Try::Ready(NEXT, false, false),
         Try::Numbers(Some(0), None),
     ];
@@ -663,14 +671,14 @@ fn what_has_not_ended(rt: HostRuntime) -> Result<(), Fail> {
     let mut core = core_of(rt.alloc(), ONE_LUN, 1)?;
     let tries = [
         Try::Load(ONE_LUN, ZERO, 4),
-        Try::Unload(ZERO, Err(UnloadFault::U2)),
+        Try::Unload(ZERO, Err(UnloadFault::StillRunning)),
         Try::Steps(&BEGIN),
-        Try::Unload(ZERO, Err(UnloadFault::U2)),
+        Try::Unload(ZERO, Err(UnloadFault::StillRunning)),
         Try::Ready(ZERO, false, true),
         Try::Ready(ZERO, false, false),
         Try::Steps(&[(ZERO, Stepped::Went)]),
         Try::HasBus(ZERO, true),
-        Try::Unload(ZERO, Err(UnloadFault::U2)),
+        Try::Unload(ZERO, Err(UnloadFault::StillRunning)),
     ];
     try_all(&rt, rt.alloc(), &mut core, &tries)
 }
@@ -997,20 +1005,39 @@ fn events_are_cut_short(rt: HostRuntime) -> Result<(), Fail> {
 #[test]
 fn faults_of_loads_are_shown(rt: HostRuntime) -> Result<(), Fail> {
     let loads = [
-        (LoadFault::S1, "the LUN has a job already"),
-        (LoadFault::S2, "the LUN isn't there, or isn't the job's"),
-        (LoadFault::S3, "a row of the job is outside the geometry"),
+        (LoadFault::SlotTaken, "the LUN has a job already"),
         (
-            LoadFault::S4,
-            "the buffer hasn't the length that the text names",
+            LoadFault::OtherLun,
+            "the LUN isn't there, or isn't the job's",
         ),
-        (LoadFault::S5, "the text was verified for another geometry"),
         (
-            LoadFault::S6,
-            "the text continues a cache read, and the job doesn't begin with a block",
+            LoadFault::OtherGeometry,
+            "the text was verified for another geometry",
         ),
     ];
     for (fault, text) in loads {
+        assert_eq!(rt; fault.to_string(rt.alloc())?.as_str(), text);
+    }
+    let jobs = [
+        (JobFault::NoSuchLun, "the LUN isn't there"),
+        (
+            JobFault::RowsOutside,
+            "a row of the job is outside the geometry",
+        ),
+        (
+            JobFault::BufferLength,
+            "the buffer hasn't the length that the text names",
+        ),
+        (
+            JobFault::OtherGeometry,
+            "the text was verified for another geometry",
+        ),
+        (
+            JobFault::NotAtBlock,
+            "the text continues a cache read, and the job doesn't begin with a block",
+        ),
+    ];
+    for (fault, text) in jobs {
         assert_eq!(rt; fault.to_string(rt.alloc())?.as_str(), text);
     }
     Ok(())
@@ -1019,8 +1046,8 @@ fn faults_of_loads_are_shown(rt: HostRuntime) -> Result<(), Fail> {
 #[test]
 fn faults_of_unloads_are_shown(rt: HostRuntime) -> Result<(), Fail> {
     let unloads = [
-        (UnloadFault::U1, "the LUN has no job"),
-        (UnloadFault::U2, "the job hasn't ended"),
+        (UnloadFault::NoJob, "the LUN has no job"),
+        (UnloadFault::StillRunning, "the job hasn't ended"),
     ];
     for (fault, text) in unloads {
         assert_eq!(rt; fault.to_string(rt.alloc())?.as_str(), text);

@@ -5,7 +5,11 @@
 #[cfg(test)]
 mod assembly_tests;
 #[cfg(test)]
+mod cause_tests;
+#[cfg(test)]
 mod channel;
+#[cfg(test)]
+mod counter_tests;
 #[cfg(test)]
 mod plain_tests;
 #[cfg(test)]

@@ -5,19 +5,19 @@ use Rattle.std.specs.List.{slice_get}
 use Rattle.nand_geometry.specs.declared.Parts.{Parts}
 use Rattle.nand_geometry.specs.Page.{parameter_bytes}
 use Rattle.nand_geometry.proofs.PageLemmas.{parameters_have_their_length}
-use Rattle.onfi_cycle.specs.declared.Forbidden.TheVariants.{F1}
-use Rattle.onfi_cycle.specs.declared.Item.{Item}
-use Rattle.onfi_cycle.specs.declared.Kind.TheVariants.{Dout}
-use Rattle.onfi_cycle.specs.declared.Latch.{Latch}
-use Rattle.onfi_cycle.specs.declared.Lun.{Lun}
-use Rattle.onfi_cycle.specs.declared.TargetCycle.TheVariants.{OutputCycle}
+use Rattle.onfi_cycle.specs.declared.forbidden.Forbidden.TheVariants.{NotThere}
+use Rattle.onfi_cycle.specs.declared.item.Item.{Item}
+use Rattle.onfi_cycle.specs.declared.item.Kind.TheVariants.{Dout}
+use Rattle.onfi_cycle.specs.declared.lun_facts.Latch.{Latch}
+use Rattle.onfi_cycle.specs.declared.item.Lun.{Lun}
+use Rattle.onfi_cycle.specs.declared.target_cycle.TargetCycle.TheVariants.{OutputCycle}
 use Rattle.onfi_cycle.specs.declared.bus_state.LunState.{LunState}
 use Rattle.onfi_cycle.specs.LunView.{LunView}
 use Rattle.onfi_cycle.specs.Sequence.{tail, facts_of, is_open}
 use Rattle.onfi_cycle.specs.Effect.{is_off}
 use Rattle.onfi_cycle.specs.Lun.{latch, drivers, drivers_from, is_only, luns_of, lun_view, register, read_column, output_column}
 use Rattle.onfi_cycle.specs.Content.{status, shown, shown_by, byte_at, register_bytes, content}
-use Rattle.onfi_cycle.specs.Rules.{breaks_F1, breaks_F12, driver, is_some_and}
+use Rattle.onfi_cycle.specs.Rules.{breaks_not_there, breaks_no_sole_driver, driver, is_some_and}
 use Rattle.onfi_cycle.specs.Permitted.{broken}
 use Rattle.onfi_cycle.specs.Channel.{Channel, IsChannel, cycle, bus_byte, byte_of_driver}
 use Rattle.onfi_cycle.specs.State.{TargetView, BusView, Follows, judged, judged_on}
@@ -34,11 +34,11 @@ use Rattle.target_bus.proofs.Numbers.{numbered_number, number_below, slice_get_n
 
 -- the byte of an output isn't judged
 pub any_byte : (g : Parts) (n : ℕ) (past : List Item) (ce a b : ℕ) → broken g n past (cycle ce Dout a) ≡ broken g n past (cycle ce Dout b)
-unfolding breaks_F1
+unfolding breaks_not_there
 any_byte g n past ce a b = refl
 
 pub any_byte_judged : (state : BusView) (ce a b : ℕ) → judged state (cycle ce Dout a) ≡ judged state (cycle ce Dout b)
-unfolding breaks_F1
+unfolding breaks_not_there
 any_byte_judged state ce a b = at (slice_get state.targets ce)
   where
     at : (o : Option TargetView) → judged_on state.geometry (length state.targets) o (cycle ce Dout a) ≡ judged_on state.geometry (length state.targets) o (cycle ce Dout b)
@@ -54,9 +54,9 @@ neither true b h = cc
 neither false b h = (refl, h)
 
 pub one_driver : (g : Parts) (n : ℕ) (past : List Item) (ce byte : ℕ) → broken g n past (cycle ce Dout byte) ≡ None → IsOne (drivers g past ce)
-unfolding breaks_F12
+unfolding breaks_no_sole_driver
 one_driver g n past ce byte h =
-    let f12 : breaks_F12 (facts_of (tail past ce)) (luns_of g past ce) OutputCycle ≡ false = (permitted_keeps g n past (record { ce = ce; kind = Dout; byte = byte }) h).f12 in
+    let f12 : breaks_no_sole_driver (facts_of (tail past ce)) (luns_of g past ce) OutputCycle ≡ false = (permitted_keeps g n past (record { ce = ce; kind = Dout; byte = byte }) h).f12 in
     at (driver (luns_of g past ce)) refl (not_not _ (neither (is_open (facts_of (tail past ce))) _ f12).1)
   where
     at : (o : Option LunView) → driver (luns_of g past ce) ≡ o → is_some_and (λ v. true) o ≡ true → IsOne (drivers g past ce)
@@ -64,9 +64,9 @@ one_driver g n past ce byte h =
     at (Some v) e k = one_by_views g past ce g.luns 0 v e
 
 pub output_there : (g : Parts) (n : ℕ) (past : List Item) (ce byte : ℕ) → broken g n past (cycle ce Dout byte) ≡ None → ce < n
-unfolding breaks_F1
+unfolding breaks_not_there
 output_there g n past ce byte h =
-    let f1 : leb n ce ≡ false = (first_passed (breaks_F1 n (luns_of g past ce) (cycle ce Dout byte)) F1 _ h).0 in
+    let f1 : leb n ce ≡ false = (first_passed (breaks_not_there n (luns_of g past ce) (cycle ce Dout byte)) NotThere _ h).0 in
     grind (arith, nat_tests)
 
 -- the first that isn't off, one by one

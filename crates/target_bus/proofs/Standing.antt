@@ -9,31 +9,31 @@ use Rattle.std.specs.Result.{is_err}
 use Rattle.std.proofs.Math.Nat.{mul-le-mul_right}
 use Rattle.nand_geometry.specs.declared.Parts.{Parts}
 use Rattle.nand_geometry.specs.Limits.{InLimits, page_len}
-use Rattle.onfi_cycle.specs.declared.Command.{Command}
-use Rattle.onfi_cycle.specs.declared.Command.TheVariants.{Read, ReadConfirm, ChangeReadColumnConfirm, BlockEraseConfirm, BlockErasePlane, ReadStatus, ReadStatusEnhanced, ProgramConfirm, ProgramPlane, ReadId, ReadParameterPage, Reset, ReadCacheSequential, ReadCacheEnd}
-use Rattle.onfi_cycle.specs.declared.Cycle.{Cycle}
-use Rattle.onfi_cycle.specs.declared.Effect.{Effect}
-use Rattle.onfi_cycle.specs.declared.Effect.TheVariants as e
-use Rattle.onfi_cycle.specs.declared.Filling.{Filling}
-use Rattle.onfi_cycle.specs.declared.Filling.TheVariants.{Leaves, Clears, Fills}
-use Rattle.onfi_cycle.specs.declared.Forbidden.TheVariants.{F1}
-use Rattle.onfi_cycle.specs.declared.Item.{Item}
-use Rattle.onfi_cycle.specs.declared.Item.TheVariants.{Cyc, Rdy, Ard}
-use Rattle.onfi_cycle.specs.declared.Latch.{Latch}
-use Rattle.onfi_cycle.specs.declared.Lun.{Lun}
-use Rattle.onfi_cycle.specs.declared.Opening.{Opening}
-use Rattle.onfi_cycle.specs.declared.PageAddress.{PageAddress}
-use Rattle.onfi_cycle.specs.declared.Queued.{Queued}
-use Rattle.onfi_cycle.specs.declared.TailFacts.{TailFacts}
-use Rattle.onfi_cycle.specs.declared.TargetCycle.{TargetCycle}
-use Rattle.onfi_cycle.specs.declared.TargetCycle.TheVariants.{CommandCycle, AddressCycle, InputCycle, OutputCycle}
+use Rattle.onfi_cycle.specs.declared.command.Command.{Command}
+use Rattle.onfi_cycle.specs.declared.command.Command.TheVariants.{Read, ReadConfirm, ChangeReadColumnConfirm, BlockEraseConfirm, BlockErasePlane, ReadStatus, ReadStatusEnhanced, ProgramConfirm, ProgramPlane, ReadId, ReadParameterPage, Reset, ReadCacheSequential, ReadCacheEnd}
+use Rattle.onfi_cycle.specs.declared.item.Cycle.{Cycle}
+use Rattle.onfi_cycle.specs.declared.effect.Effect.{Effect}
+use Rattle.onfi_cycle.specs.declared.effect.Effect.TheVariants as e
+use Rattle.onfi_cycle.specs.declared.fillings.Filling.{Filling}
+use Rattle.onfi_cycle.specs.declared.fillings.Filling.TheVariants.{Leaves, Clears, Fills}
+use Rattle.onfi_cycle.specs.declared.forbidden.Forbidden.TheVariants.{NotThere}
+use Rattle.onfi_cycle.specs.declared.item.Item.{Item}
+use Rattle.onfi_cycle.specs.declared.item.Item.TheVariants.{Cyc, Rdy, Ard}
+use Rattle.onfi_cycle.specs.declared.lun_facts.Latch.{Latch}
+use Rattle.onfi_cycle.specs.declared.item.Lun.{Lun}
+use Rattle.onfi_cycle.specs.declared.tail_facts.Opening.{Opening}
+use Rattle.onfi_cycle.specs.declared.effect.PageAddress.{PageAddress}
+use Rattle.onfi_cycle.specs.declared.lun_facts.Queued.{Queued}
+use Rattle.onfi_cycle.specs.declared.tail_facts.TailFacts.{TailFacts}
+use Rattle.onfi_cycle.specs.declared.target_cycle.TargetCycle.{TargetCycle}
+use Rattle.onfi_cycle.specs.declared.target_cycle.TargetCycle.TheVariants.{CommandCycle, AddressCycle, InputCycle, OutputCycle}
 use Rattle.onfi_cycle.specs.LunView.{LunView}
 use Rattle.onfi_cycle.specs.Sequence.{tail, facts_of, target_cycle, input_column, wants_command, wants_address, row, row_with}
 use Rattle.onfi_cycle.specs.Effect.{is_off, is_data, names_lun, confirm_effect, command_effect, address_effect, opening_address_effect, cycle_effect}
 use Rattle.onfi_cycle.specs.Filling.{filling, cycle_filling}
 use Rattle.onfi_cycle.specs.Lun.{effect_on, latch_alone, luns_of, lun_view}
-use Rattle.onfi_cycle.specs.Rules.{breaks_F1, breaks_F14, lun_is, is_some_and, some_queued_clashes}
-use Rattle.onfi_cycle.specs.declared.Kind.TheVariants.{Dout}
+use Rattle.onfi_cycle.specs.Rules.{breaks_not_there, breaks_column_outside, lun_is, is_some_and, some_queued_clashes}
+use Rattle.onfi_cycle.specs.declared.item.Kind.TheVariants.{Dout}
 use Rattle.onfi_cycle.specs.Channel.{Channel, is_cycle, cycle}
 use Rattle.onfi_cycle.specs.Permitted.{broken}
 use Rattle.onfi_cycle.specs.State.{BusView, Follows}
@@ -182,12 +182,12 @@ can_begin g v d x s f h = tt
 
 -- an input comes inside the page
 input_inside : (g : Parts) (n : ℕ) (past : List Item) (i : Item) (l : Lun) (at : PageAddress) (column byte : ℕ) → broken g n past i ≡ None → filling g (facts_of (tail past l.ce)) i l ≡ Fills at column byte → column < page_len g
-unfolding breaks_F14
+unfolding breaks_column_outside
 input_inside g n past i l at column byte h is =
     let j = is_input g past i l at column byte is in
     let rules = permitted_keeps g n past j.c (sym (ap (broken g n past) j.is) ∙ h) in
     let same : j.c.ce ≡ l.ce = eqb-true j.c.ce l.ce j.ce in
-    let f14 : breaks_F14 g (facts_of (tail past l.ce)) (luns_of g past l.ce) (InputCycle byte) ≡ false = subst (λ (k : TargetCycle). breaks_F14 g (facts_of (tail past l.ce)) (luns_of g past l.ce) k ≡ false) j.cycle (subst (λ (ce : ℕ). breaks_F14 g (facts_of (tail past ce)) (luns_of g past ce) (target_cycle j.c.kind j.c.byte) ≡ false) same rules.f14) in
+    let f14 : breaks_column_outside g (facts_of (tail past l.ce)) (luns_of g past l.ce) (InputCycle byte) ≡ false = subst (λ (k : TargetCycle). breaks_column_outside g (facts_of (tail past l.ce)) (luns_of g past l.ce) k ≡ false) j.cycle (subst (λ (ce : ℕ). breaks_column_outside g (facts_of (tail past ce)) (luns_of g past ce) (target_cycle j.c.kind j.c.byte) ≡ false) same rules.f14) in
     below (page_len g) column (input_column (facts_of (tail past l.ce))) j.place f14
   where
     below : (a b c : ℕ) → b ≡ c → leb a c ≡ false → b < a
@@ -333,9 +333,9 @@ one_works state opened dies past c x k old new f h facts target found place here
 
 -- the target of a permitted cycle is there
 pub cycle_there : (g : Parts) (n : ℕ) (past : List Item) (c : Cycle) → broken g n past (Cyc c) ≡ None → c.ce < n
-unfolding breaks_F1
+unfolding breaks_not_there
 cycle_there g n past c h =
-    let f1 : leb n c.ce ≡ false = (first_passed (breaks_F1 n (luns_of g past c.ce) (Cyc c)) F1 _ h).0 in
+    let f1 : leb n c.ce ≡ false = (first_passed (breaks_not_there n (luns_of g past c.ce) (Cyc c)) NotThere _ h).0 in
     grind (arith, nat_tests)
 
 -- the die of a LUN that is there
@@ -412,17 +412,17 @@ lun_there_by g past l test h = at (ltb l.lun g.luns) refl
         cc
 
 pub ready_there : (g : Parts) (n : ℕ) (past : List Item) (l : Lun) (fail : Bool) → broken g n past (Rdy l.ce l.lun fail) ≡ None → IsLun g n l
-unfolding breaks_F1
+unfolding breaks_not_there
 ready_there g n past l fail h =
-    let f1 : breaks_F1 n (luns_of g past l.ce) (Rdy l.ce l.lun fail) ≡ false = (first_passed (breaks_F1 n (luns_of g past l.ce) (Rdy l.ce l.lun fail)) F1 None h).0 in
+    let f1 : breaks_not_there n (luns_of g past l.ce) (Rdy l.ce l.lun fail) ≡ false = (first_passed (breaks_not_there n (luns_of g past l.ce) (Rdy l.ce l.lun fail)) NotThere None h).0 in
     let parts = neither (leb n l.ce) _ f1 in
     let below : leb n l.ce ≡ false = parts.0 in
     record { target = grind (arith, nat_tests); lun = lun_there_by g past l (λ v. v.busy) (not_not _ parts.1) }
 
 pub array_ready_there : (g : Parts) (n : ℕ) (past : List Item) (l : Lun) → broken g n past (Ard l.ce l.lun) ≡ None → IsLun g n l
-unfolding breaks_F1
+unfolding breaks_not_there
 array_ready_there g n past l h =
-    let f1 : breaks_F1 n (luns_of g past l.ce) (Ard l.ce l.lun) ≡ false = (first_passed (breaks_F1 n (luns_of g past l.ce) (Ard l.ce l.lun)) F1 None h).0 in
+    let f1 : breaks_not_there n (luns_of g past l.ce) (Ard l.ce l.lun) ≡ false = (first_passed (breaks_not_there n (luns_of g past l.ce) (Ard l.ce l.lun)) NotThere None h).0 in
     let parts = neither (leb n l.ce) _ f1 in
     let below : leb n l.ce ≡ false = parts.0 in
     record { target = grind (arith, nat_tests); lun = lun_there_by g past l (λ v. v.array_busy) (not_not _ parts.1) }

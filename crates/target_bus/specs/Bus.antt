@@ -4,14 +4,14 @@ use Rattle.std.specs.Bool.{beq}
 use Rattle.nand_geometry.specs.declared.Parts.{Parts}
 use Rattle.nand_geometry.specs.Limits.{InLimits, page_len, planes}
 use Rattle.nand_geometry.specs.Page.{parameter_bytes}
-use Rattle.onfi_cycle.specs.declared.Lun.{Lun}
-use Rattle.onfi_cycle.specs.declared.Item.{Item}
-use Rattle.onfi_cycle.specs.declared.Kind.{Kind}
-use Rattle.onfi_cycle.specs.declared.Kind.TheVariants.{Adr, Din, Dout}
-use Rattle.onfi_cycle.specs.declared.PageAddress.{PageAddress}
-use Rattle.onfi_cycle.specs.declared.Forbidden.{Forbidden as Rule}
-use Rattle.onfi_cycle.specs.declared.Filling.{Filling}
-use Rattle.onfi_cycle.specs.declared.Effect.{Effect}
+use Rattle.onfi_cycle.specs.declared.item.Lun.{Lun}
+use Rattle.onfi_cycle.specs.declared.item.Item.{Item}
+use Rattle.onfi_cycle.specs.declared.item.Kind.{Kind}
+use Rattle.onfi_cycle.specs.declared.item.Kind.TheVariants.{Adr, Din, Dout}
+use Rattle.onfi_cycle.specs.declared.effect.PageAddress.{PageAddress}
+use Rattle.onfi_cycle.specs.declared.forbidden.Forbidden.{Forbidden as Rule}
+use Rattle.onfi_cycle.specs.declared.fillings.Filling.{Filling}
+use Rattle.onfi_cycle.specs.declared.effect.Effect.{Effect}
 use Rattle.onfi_cycle.specs.Sequence.{tail, facts_of}
 use Rattle.onfi_cycle.specs.Filling.{filling}
 use Rattle.onfi_cycle.specs.Lun.{effect_on}
@@ -25,7 +25,7 @@ use Rattle.die_model.specs.Die.{Die, page_of, is_new}
 use Rattle.die_model.specs.Standing.{IsDieOf}
 use Rattle.target_bus.specs.declared.dies.Worked.{Worked}
 use Rattle.target_bus.specs.declared.refusal.BusFault.{BusFault}
-use Rattle.target_bus.specs.declared.refusal.BusFault.TheVariants.{B1, B2, OutOfMemory}
+use Rattle.target_bus.specs.declared.refusal.BusFault.TheVariants.{DiesMissing, DieUnfit, OutOfMemory}
 use Rattle.target_bus.specs.declared.refusal.BusRefusal.{BusRefusal}
 use Rattle.target_bus.specs.declared.refusal.BusRefusal.TheVariants.{Forbidden}
 use Rattle.target_bus.specs.declared.refusal.BusRefusal.TheVariants as r
@@ -103,7 +103,7 @@ forgotten d = record d { array_page = record { block = 0; page = 0 } }
 
 -- what is wrong with the dies of a channel
 abbrev pub bus_fault : Parts → List Die → Option BusFault
-bus_fault g dies = if not (are_targets g (length dies)) then Some B1 else (if are_new g dies then None else Some B2)
+bus_fault g dies = if not (are_targets g (length dies)) then Some DiesMissing else (if are_new g dies then None else Some DieUnfit)
 
 -- dies are refused by their fault; want of memory comes after each of them
 abbrev pub RefusesDies : BusFault → Option BusFault → Type 0

@@ -3,9 +3,9 @@ ghost use Rattle.std.specs.Prelude.{◌≡◌, ℕ, ◌*◌, ◌+◌, ◌<◌, �
 ghost use Rattle.std.specs.Option.{option_copied};
 ghost use Rattle.nand_geometry.specs.declared.Parts.{Parts};
 ghost use Rattle.nand_geometry.specs.Page.{parameter_bytes};
-ghost use Rattle.onfi_cycle.specs.declared.Item.{Item};
-ghost use Rattle.onfi_cycle.specs.declared.Item.TheVariants.{Cyc, Rdy, Ard};
-ghost use Rattle.onfi_cycle.specs.declared.Kind.TheVariants.{Dout};
+ghost use Rattle.onfi_cycle.specs.declared.item.Item.{Item};
+ghost use Rattle.onfi_cycle.specs.declared.item.Item.TheVariants.{Cyc, Rdy, Ard};
+ghost use Rattle.onfi_cycle.specs.declared.item.Kind.TheVariants.{Dout};
 ghost use Rattle.onfi_cycle.specs.Effect.{is_off};
 ghost use Rattle.onfi_cycle.specs.Lun.{drivers_from, latch, effect_on};
 ghost use Rattle.onfi_cycle.specs.Sequence.{facts_of, tail};
@@ -16,17 +16,17 @@ ghost use Rattle.onfi_cycle.specs.Content.{shown, shown_by, byte_at};
 ghost use Rattle.onfi_cycle.specs.State.{Follows, judged};
 ghost use Rattle.onfi_cycle.specs.Working.{fills, begins};
 ghost use Rattle.onfi_cycle.specs.Readies.{starts_work, bus_due};
-ghost use Rattle.onfi_cycle.specs.declared.Effect.TheVariants.{BecameReady, ArrayBecameReady};
+ghost use Rattle.onfi_cycle.specs.declared.effect.Effect.TheVariants.{BecameReady, ArrayBecameReady};
 ghost use Rattle.die_model.specs.Die.{Die, IsAfter, is_program, status_of, bytes_shown};
 ghost use Rattle.die_model.specs.Standing.{IsDieOf, CanWork, WorkedBy};
 ghost use Rattle.target_bus.specs.Bus.{channel_on, Entries, are_targets, same_sizes, same_features, same_parts, is_new_of, are_new, starting, FindsWork, LeavesBelow, first_of, IsStanding, Permits, StandFor, WholeDies, forgotten, is_input, may_fill};
 
 use die_model::{LunDie, Pages};
 use nand_geometry::{Geometry, Parts};
-use onfi_cycle::effects::is_off;
-use onfi_cycle::readies::{readies_are_due, starts_work};
-use onfi_cycle::sequences::target_of;
-use onfi_cycle::{BusState, Cycle, Effect, Filling, Forbidden, Item, Kind, Latch, Lun, LunState};
+use onfi_cycle::{
+    BusState, Cycle, Effect, Filling, Forbidden, Item, Kind, Latch, Lun, LunState, readies_are_due,
+    starts_work,
+};
 use std::alloc::{AllocError, Allocator};
 
 /// So many dies are 1 to 4 targets of whole LUNs.
@@ -376,7 +376,7 @@ fn is_off_at(state: &BusState, l: Lun) -> bool
 {
     match state.lun_state(l) {
         None => true,
-        Some(found) => is_off(found.latch),
+        Some(found) => found.latch.is_off(),
     }
 }
 
@@ -526,7 +526,7 @@ fn go_on_counted(state: &mut BusState, item: Item, due: usize) -> usize
     ensures ready { is_cycle item ≡ false → result + 1 ≤ due }
     ensures most { result ≤ due + 16 }
 {
-    let ce = target_of(item);
+    let ce = item.target();
     let before = state.due(ce);
     readies_are_due();
     state.facts_fit();

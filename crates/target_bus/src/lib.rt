@@ -9,10 +9,10 @@ mod tests;
 
 ghost use Rattle.std.specs.Prelude.{◌≡◌, ◌≢◌, ℕ, ◌*◌, ◌<◌, ◌≤◌, ◌↔◌, Bool, true, false, List, [], ◌∷◌, Some, None, IsOk, IfOk, IfErr, IsTrue, length, map, reverse, slice_get};
 ghost use Rattle.nand_geometry.specs.Limits.{InLimits};
-ghost use Rattle.onfi_cycle.specs.declared.Item.TheVariants.{Cyc, Rdy, Ard};
-ghost use Rattle.onfi_cycle.specs.declared.Kind.TheVariants.{Dout};
-ghost use Rattle.onfi_cycle.specs.declared.Lun.{Lun};
-ghost use Rattle.onfi_cycle.specs.declared.PageAddress.{PageAddress};
+ghost use Rattle.onfi_cycle.specs.declared.item.Item.TheVariants.{Cyc, Rdy, Ard};
+ghost use Rattle.onfi_cycle.specs.declared.item.Kind.TheVariants.{Dout};
+ghost use Rattle.onfi_cycle.specs.declared.item.Lun.{Lun};
+ghost use Rattle.onfi_cycle.specs.declared.effect.PageAddress.{PageAddress};
 ghost use Rattle.onfi_cycle.specs.Permitted.{broken, is_permitted, is_legal};
 ghost use Rattle.onfi_cycle.specs.Channel.{IsChannel, cycle, bus_byte};
 ghost use Rattle.onfi_cycle.specs.State.{Follows};
@@ -76,10 +76,10 @@ impl<A: Allocator + Copy> Bus<A> {
     {
         let luns = geometry.parts().luns;
         if !are_targets(&geometry, dies.len()) {
-            return Err((BusFault::B1, dies));
+            return Err((BusFault::DiesMissing, dies));
         }
         if !are_new(&geometry, dies.as_slice()) {
-            return Err((BusFault::B2, dies));
+            return Err((BusFault::DieUnfit, dies));
         }
         let targets = (dies.len() / usize::from(luns)) as u8;
         let opened = match copied_pages(alloc, dies.as_slice()) {

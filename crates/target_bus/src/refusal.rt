@@ -10,10 +10,10 @@ use thiserror::Error;
 pub enum BusFault {
     /// They aren't 1 to 4 targets of whole LUNs.
     #[error("the dies aren't 1 to 4 targets with all their LUNs")]
-    B1,
+    DiesMissing,
     /// A die has another geometry, or isn't new.
     #[error("a die has another geometry, or has worked already")]
-    B2,
+    DieUnfit,
     /// There is no memory to keep what its pages are at the opening.
     #[error("out of memory")]
     OutOfMemory,

@@ -79,22 +79,22 @@ struct Step {
 }
 
 const RULES: [Forbidden; 16] = [
-    Forbidden::F1,
-    Forbidden::F1,
-    Forbidden::F2,
-    Forbidden::F3,
-    Forbidden::F4,
-    Forbidden::F5,
-    Forbidden::F6,
-    Forbidden::F7,
-    Forbidden::F8,
-    Forbidden::F9,
-    Forbidden::F10,
-    Forbidden::F11,
-    Forbidden::F12,
-    Forbidden::F13,
-    Forbidden::F14,
-    Forbidden::F15,
+    Forbidden::NotThere,
+    Forbidden::NotThere,
+    Forbidden::CommandUnknown,
+    Forbidden::SequenceOpen,
+    Forbidden::SeveralLuns,
+    Forbidden::NoColumnToChange,
+    Forbidden::CommandMisplaced,
+    Forbidden::AddressMisplaced,
+    Forbidden::RowOutside,
+    Forbidden::LunBusy,
+    Forbidden::QueueClash,
+    Forbidden::InputMisplaced,
+    Forbidden::NoSoleDriver,
+    Forbidden::DataNotReady,
+    Forbidden::ColumnOutside,
+    Forbidden::CacheReadMisplaced,
 ];
 
 fn digit(letter: u8) -> Result<u8, Fail>
@@ -227,7 +227,7 @@ fn answer<A: Allocator + Copy>(bus: &mut Bus<A>, item: Item) -> Told {
     if came {
         Told::Came(item)
     } else {
-        Told::Refused(BusRefusal::Forbidden(Forbidden::F1))
+        Told::Refused(BusRefusal::Forbidden(Forbidden::NotThere))
     }
 }
 
@@ -695,26 +695,28 @@ fn dies_that_are_no_channel(rt: HostRuntime) -> Result<(), Fail> {
     for count in [0, 1, 3, 5, 7, 9, 10] {
         let given = dies(rt.alloc(), TWO_LUNS, count)?;
         let told = Bus::new(rt.alloc(), two, given).err();
-        assert!(rt; told.is_some_and(|e| e.0 == BusFault::B1 && e.1.len() == usize::from(count)));
+        assert!(rt;
+            told.is_some_and(|e| e.0 == BusFault::DiesMissing && e.1.len() == usize::from(count))
+        );
     }
     for (parts, count) in [(ONE_LUN, 0), (ONE_LUN, 5)] {
         let given = dies(rt.alloc(), parts, count)?;
         let told = Bus::new(rt.alloc(), geometry(parts)?, given).err();
-        assert!(rt; told.is_some_and(|e| e.0 == BusFault::B1));
+        assert!(rt; told.is_some_and(|e| e.0 == BusFault::DiesMissing));
     }
     let mut mixed = dies(rt.alloc(), TWO_LUNS, 1)?;
     mixed.push(LunDie::new(rt.alloc(), geometry(ONE_LUN)?)?)?;
     let told = Bus::new(rt.alloc(), two, mixed).err();
-    assert!(rt; told.is_some_and(|e| e.0 == BusFault::B2 && e.1.len() == 2));
+    assert!(rt; told.is_some_and(|e| e.0 == BusFault::DieUnfit && e.1.len() == 2));
     // Both faults: the first is told.
     let other = dies(rt.alloc(), ONE_LUN, 3)?;
     let told = Bus::new(rt.alloc(), two, other).err();
-    assert!(rt; told.is_some_and(|e| e.0 == BusFault::B1));
+    assert!(rt; told.is_some_and(|e| e.0 == BusFault::DiesMissing));
     let mut worked = channel(rt.alloc(), ONE_LUN, 1)?;
     let steps = steps_of(rt.alloc(), "C60 A04 A00x2 Cd0")?;
     play(&rt, &mut worked, steps.as_slice(), "an erase")?;
     let told = Bus::new(rt.alloc(), geometry(ONE_LUN)?, worked.into_dies()).err();
-    assert!(rt; told.is_some_and(|e| e.0 == BusFault::B2));
+    assert!(rt; told.is_some_and(|e| e.0 == BusFault::DieUnfit));
     Ok(())
 }
 
@@ -823,7 +825,10 @@ fn the_parameter_page_is_read_whole(rt: HostRuntime) -> Result<(), Fail> {
     for _ in 0..3 {
         assert!(rt; gives(&mut bus, &page));
     }
-    assert_eq!(rt; bus.take(0), Err(BusRefusal::Forbidden(Forbidden::F14)));
+    assert_eq!(rt;
+        bus.take(0),
+        Err(BusRefusal::Forbidden(Forbidden::ColumnOutside))
+    );
     Ok(())
 }
 
@@ -898,7 +903,7 @@ fn is_made_good<'a>(
             kind: Kind::Cmd,
             byte: 0x15,
         }),
-        rule: Some(Forbidden::F2),
+        rule: Some(Forbidden::CommandUnknown),
     };
     let same = bus.trace() == items && seen_of(bus) == before && comes(bus, unknown);
     *taken = None;

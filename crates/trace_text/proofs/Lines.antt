@@ -4,10 +4,10 @@ use Rattle.std.specs.Prelude.{ok_or}
 use Rattle.std.specs.List.{AllByRecursion, join_with_byte}
 use Rattle.std.proofs.lemmas.Option.{same_Some}
 use Rattle.std.proofs.lemmas.List.Splits.{join_with_byte-slice_split}
-use Rattle.onfi_cycle.specs.declared.Kind.{Kind}
-use Rattle.onfi_cycle.specs.declared.Item.{Item}
-use Rattle.onfi_cycle.specs.declared.Item.TheVariants.{Cyc, Rdy, Ard}
-use Rattle.trace_text.specs.declared.refusal.TraceFault.TheVariants.{X2}
+use Rattle.onfi_cycle.specs.declared.item.Kind.{Kind}
+use Rattle.onfi_cycle.specs.declared.item.Item.{Item}
+use Rattle.onfi_cycle.specs.declared.item.Item.TheVariants.{Cyc, Rdy, Ard}
+use Rattle.trace_text.specs.declared.refusal.TraceFault.TheVariants.{BadNumber}
 use Rattle.trace_text.specs.declared.line.Letter.{Letter}
 use Rattle.trace_text.specs.declared.line.Letter.TheVariants.{CycleOf, Ready, ArrayReady}
 use Rattle.trace_text.specs.Line.{digit, hex_digit, kind_letter, fail_digit, line, IsPrintable, HasByte}
@@ -25,7 +25,7 @@ value item = Some item
 
 -- ---- from the line to the item
 
-numbers : (o : Option Item) (item : Item) → ok_or o X2 ≡ Ok item → o ≡ Some item
+numbers : (o : Option Item) (item : Item) → ok_or o BadNumber ≡ Ok item → o ≡ Some item
 numbers (Some x) item e = cc
 numbers None item e = absurd cc
 

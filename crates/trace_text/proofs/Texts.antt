@@ -6,9 +6,9 @@ use Rattle.std.proofs.lemmas.Bool.{eqb-true, ne_eqb}
 use Rattle.std.proofs.lemmas.List.{append-nil, nil_from_length}
 use Rattle.std.proofs.lemmas.List.Elements.{All-from_get_or, recursion_from_All, All-from_recursion}
 use Rattle.std.proofs.lemmas.Str.Pattern.{IsSplitOnceResult, split_parts}
-use Rattle.onfi_cycle.specs.declared.Item.{Item}
+use Rattle.onfi_cycle.specs.declared.item.Item.{Item}
 use Rattle.trace_text.specs.declared.refusal.TraceFault.{TraceFault}
-use Rattle.trace_text.specs.declared.refusal.TraceFault.TheVariants.{X1}
+use Rattle.trace_text.specs.declared.refusal.TraceFault.TheVariants.{BadShape}
 use Rattle.trace_text.specs.declared.refusal.TraceRefusal.{TraceRefusal}
 use Rattle.trace_text.specs.declared.refusal.TraceRefusal.TheVariants.{Fault, OutOfMemory}
 use Rattle.trace_text.specs.Line.{line, text, IsPrintable, HasByte}
@@ -35,7 +35,7 @@ by_line n front (b ∷ l) rest h =
     ∙ ap (λ (bs : List ℕ). at_line n (line_item bs) >>= λ item. reading_from (n + 1) [] rest >>= λ items. Ok (item ∷ items)) (append_assoc front (b ∷ []) l))
 
 -- a line that isn't ended
-pub by_rest : (n : ℕ) (front l : List ℕ) → HasNoFeed l → 0 < length (front ++ l) → reading_from n front l ≡ Err (Fault X1 n)
+pub by_rest : (n : ℕ) (front l : List ℕ) → HasNoFeed l → 0 < length (front ++ l) → reading_from n front l ≡ Err (Fault BadShape n)
 unfolding reading_from
 by_rest n front [] h some =
     let long : length front ≡ 0 → ⊥ = λ e. omega (arith, length-append front []) in
@@ -61,7 +61,7 @@ fails bs x code h e =
       read = λ n. ap (reading_from n []) whole ∙ by_line n [] x.0.now x.1.now (no_feed x.0.now parts.1) ∙ rw e refl;
     }
 
-pub unended : (bs : List ℕ) → IsSplitOnceResult 10 bs None → 0 < length bs → HasFault bs X1
+pub unended : (bs : List ℕ) → IsSplitOnceResult 10 bs None → 0 < length bs → HasFault bs BadShape
 unended bs h some = record { some = some; read = λ n. by_rest n [] bs (no_feed bs (split_parts 10 bs None h (lit< tt))) some }
 
 -- ---- from the text to the items
@@ -83,7 +83,7 @@ pub record IsTold (bytes : List ℕ) (items : List Item) : Type 0 where
   pub printable : AllByRecursion IsPrintable items
   pub byte : AllByRecursion HasByte items
 
-ended : (n : ℕ) (front : List ℕ) (items : List Item) (t : Bool) → eqb (length front) 0 ≡ t → cond t (done []) (Err (Fault X1 n)) ≡ Ok items → IsTold (front ++ []) items
+ended : (n : ℕ) (front : List ℕ) (items : List Item) (t : Bool) → eqb (length front) 0 ≡ t → cond t (done []) (Err (Fault BadShape n)) ≡ Ok items → IsTold (front ++ []) items
 ended n front items true is e =
     let empty = nil_from_length front (eqb-true (length front) 0 is) in
     let none : [] ≡ items = let h : done [] ≡ done items = e in cc in

@@ -1,9 +1,9 @@
 -- The definitions at a few lines and texts.
 use Rattle.std.proofs.Common.{◌≡◌, [], ◌∷◌, ◌++◌, true, false, Ok, Err, refl}
 use Rattle.std.specs.Prelude.{codes}
-use Rattle.onfi_cycle.specs.declared.Kind.TheVariants.{Cmd, Dout}
-use Rattle.onfi_cycle.specs.declared.Item.TheVariants.{Cyc, Rdy, Ard}
-use Rattle.trace_text.specs.declared.refusal.TraceFault.TheVariants.{X1, X2}
+use Rattle.onfi_cycle.specs.declared.item.Kind.TheVariants.{Cmd, Dout}
+use Rattle.onfi_cycle.specs.declared.item.Item.TheVariants.{Cyc, Rdy, Ard}
+use Rattle.trace_text.specs.declared.refusal.TraceFault.TheVariants.{BadShape, BadNumber}
 use Rattle.trace_text.specs.declared.refusal.TraceRefusal.TheVariants.{Fault}
 use Rattle.trace_text.specs.Line.{line}
 use Rattle.trace_text.specs.Reading.{place_of, byte_of, fail_of, letter_of, cycle, ready, array_ready, line_item, reading_from, reading}
@@ -32,54 +32,54 @@ array_read : line_item (codes "0 Y 1") ≡ Ok (Ard 0 1)
 unfolding line_item letter_of array_ready place_of
 array_read = refl
 
-upper_case : line_item (codes "0 C D0") ≡ Err X2
+upper_case : line_item (codes "0 C D0") ≡ Err BadNumber
 unfolding line_item letter_of cycle place_of byte_of
 upper_case = refl
 
-chip_enable_4 : line_item (codes "4 C 60") ≡ Err X2
+chip_enable_4 : line_item (codes "4 C 60") ≡ Err BadNumber
 unfolding line_item letter_of cycle place_of byte_of
 chip_enable_4 = refl
 
-three_digits : line_item (codes "0 C 600") ≡ Err X2
+three_digits : line_item (codes "0 C 600") ≡ Err BadNumber
 unfolding line_item letter_of cycle place_of byte_of
 three_digits = refl
 
 -- the second field is empty, which is no letter
-two_spaces : line_item (codes "0  C 60") ≡ Err X1
+two_spaces : line_item (codes "0  C 60") ≡ Err BadShape
 unfolding line_item letter_of
 two_spaces = refl
 
 -- a number field is X2 whatever its bytes: a carriage return (13) or nothing
-carriage_return : line_item (codes "0 C 60" ++ 13 ∷ []) ≡ Err X2
+carriage_return : line_item (codes "0 C 60" ++ 13 ∷ []) ≡ Err BadNumber
 unfolding line_item letter_of cycle place_of byte_of
 carriage_return = refl
 
-empty_third : line_item (codes "0 C ") ≡ Err X2
+empty_third : line_item (codes "0 C ") ≡ Err BadNumber
 unfolding line_item letter_of cycle place_of byte_of
 empty_third = refl
 
-empty_first : line_item (codes " C 60") ≡ Err X2
+empty_first : line_item (codes " C 60") ≡ Err BadNumber
 unfolding line_item letter_of cycle place_of byte_of
 empty_first = refl
 
 -- the letter wants another number of fields
-four_of_three : line_item (codes "0 C  60") ≡ Err X1
+four_of_three : line_item (codes "0 C  60") ≡ Err BadShape
 unfolding line_item letter_of
 four_of_three = refl
 
-small_letter : line_item (codes "0 c 60") ≡ Err X1
+small_letter : line_item (codes "0 c 60") ≡ Err BadShape
 unfolding line_item letter_of
 small_letter = refl
 
-no_line : line_item [] ≡ Err X1
+no_line : line_item [] ≡ Err BadShape
 unfolding line_item
 no_line = refl
 
-space_at_the_end : line_item (codes "0 Y 1 ") ≡ Err X1
+space_at_the_end : line_item (codes "0 Y 1 ") ≡ Err BadShape
 unfolding line_item letter_of
 space_at_the_end = refl
 
-five_fields : line_item (codes "9 R 2 1 0") ≡ Err X1
+five_fields : line_item (codes "9 R 2 1 0") ≡ Err BadShape
 unfolding line_item
 five_fields = refl
 
@@ -91,10 +91,10 @@ two_lines : reading (codes "0 Y 1" ++ 10 ∷ codes "1 R 2 0" ++ 10 ∷ []) ≡ O
 unfolding reading_from line_item letter_of array_ready ready place_of fail_of
 two_lines = refl
 
-unended : reading (codes "0 Y 1" ++ 10 ∷ codes "1 R 2 0") ≡ Err (Fault X1 2)
+unended : reading (codes "0 Y 1" ++ 10 ∷ codes "1 R 2 0") ≡ Err (Fault BadShape 2)
 unfolding reading_from line_item letter_of array_ready ready place_of fail_of
 unended = refl
 
-lowest_line : reading (codes "0 Y 1" ++ 10 ∷ codes "1 R 4 0" ++ 10 ∷ codes "1") ≡ Err (Fault X2 2)
+lowest_line : reading (codes "0 Y 1" ++ 10 ∷ codes "1 R 4 0" ++ 10 ∷ codes "1") ≡ Err (Fault BadNumber 2)
 unfolding reading_from line_item letter_of array_ready ready place_of fail_of
 lowest_line = refl

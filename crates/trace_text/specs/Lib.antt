@@ -2,3 +2,4 @@ pub mod Line
 pub mod Reading
 pub mod Trace
 pub mod Checking
+pub mod Codes

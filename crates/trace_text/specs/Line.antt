@@ -1,10 +1,10 @@
 -- The text of a trace: one line for each item.
 use Rattle.std.specs.Prelude.{ℕ, ◌+◌, ◌/◌, ◌%◌, ◌<◌, ◌≤◌, Bool, true, false, ◌&&◌, nat_lt, nat_le, if◌then◌else◌, List, [], ◌∷◌}
 use Rattle.std.specs.List.{flat_map}
-use Rattle.onfi_cycle.specs.declared.Kind.{Kind}
-use Rattle.onfi_cycle.specs.declared.Kind.TheVariants.{Cmd, Adr, Din, Dout}
-use Rattle.onfi_cycle.specs.declared.Item.{Item}
-use Rattle.onfi_cycle.specs.declared.Item.TheVariants.{Cyc, Rdy, Ard}
+use Rattle.onfi_cycle.specs.declared.item.Kind.{Kind}
+use Rattle.onfi_cycle.specs.declared.item.Kind.TheVariants.{Cmd, Adr, Din, Dout}
+use Rattle.onfi_cycle.specs.declared.item.Item.{Item}
+use Rattle.onfi_cycle.specs.declared.item.Item.TheVariants.{Cyc, Rdy, Ard}
 
 -- the digit of a number below ten
 abbrev pub digit : ℕ → ℕ

@@ -1,12 +1,12 @@
 -- Reading a text: the items, or the first fault with its line.
 use Rattle.std.specs.Prelude.{◌≡◌, ℕ, ◌+◌, ◌-◌, ◌*◌, ◌<◌, Bool, true, false, ◌&&◌, ◌==◌, nat_le, if◌then◌else◌, List, [], ◌∷◌, ◌++◌, length, slice_index, Option, Some, None, Result, Ok, Err, IsOk, ok_or}
 use Rattle.std.specs.List.{slice_split}
-use Rattle.onfi_cycle.specs.declared.Kind.{Kind}
-use Rattle.onfi_cycle.specs.declared.Kind.TheVariants.{Cmd, Adr, Din, Dout}
-use Rattle.onfi_cycle.specs.declared.Item.{Item}
-use Rattle.onfi_cycle.specs.declared.Item.TheVariants.{Cyc, Rdy, Ard}
+use Rattle.onfi_cycle.specs.declared.item.Kind.{Kind}
+use Rattle.onfi_cycle.specs.declared.item.Kind.TheVariants.{Cmd, Adr, Din, Dout}
+use Rattle.onfi_cycle.specs.declared.item.Item.{Item}
+use Rattle.onfi_cycle.specs.declared.item.Item.TheVariants.{Cyc, Rdy, Ard}
 use Rattle.trace_text.specs.declared.refusal.TraceFault.{TraceFault}
-use Rattle.trace_text.specs.declared.refusal.TraceFault.TheVariants.{X1, X2}
+use Rattle.trace_text.specs.declared.refusal.TraceFault.TheVariants.{BadShape, BadNumber}
 use Rattle.trace_text.specs.declared.refusal.TraceRefusal.{TraceRefusal}
 use Rattle.trace_text.specs.declared.refusal.TraceRefusal.TheVariants.{Fault, OutOfMemory}
 use Rattle.trace_text.specs.declared.line.Letter.{Letter}
@@ -74,21 +74,21 @@ array_ready ce lun = and_then (place_of ce) (λ ce. and_then (place_of lun) (λ 
 -- C, A, I, O and Y want three fields, and R four. Only then are the number fields looked at: one that hasn't its form
 -- is X2, whatever bytes it has, none at all included
 abbrev pub of_three : Option Letter → List ℕ → List ℕ → Result Item TraceFault
-of_three (Some (CycleOf kind)) ce byte = ok_or (cycle ce kind byte) X2
-of_three (Some Ready) ce third = Err X1
-of_three (Some ArrayReady) ce lun = ok_or (array_ready ce lun) X2
-of_three None ce third = Err X1
+of_three (Some (CycleOf kind)) ce byte = ok_or (cycle ce kind byte) BadNumber
+of_three (Some Ready) ce third = Err BadShape
+of_three (Some ArrayReady) ce lun = ok_or (array_ready ce lun) BadNumber
+of_three None ce third = Err BadShape
 
 abbrev pub of_four : Option Letter → List ℕ → List ℕ → List ℕ → Result Item TraceFault
-of_four (Some (CycleOf kind)) ce third fourth = Err X1
-of_four (Some Ready) ce lun fail = ok_or (ready ce lun fail) X2
-of_four (Some ArrayReady) ce third fourth = Err X1
-of_four None ce third fourth = Err X1
+of_four (Some (CycleOf kind)) ce third fourth = Err BadShape
+of_four (Some Ready) ce lun fail = ok_or (ready ce lun fail) BadNumber
+of_four (Some ArrayReady) ce third fourth = Err BadShape
+of_four None ce third fourth = Err BadShape
 
 abbrev pub item_of : List (List ℕ) → Result Item TraceFault
 item_of (ce ∷ letter ∷ third ∷ []) = of_three (letter_of letter) ce third
 item_of (ce ∷ letter ∷ third ∷ fourth ∷ []) = of_four (letter_of letter) ce third fourth
-item_of _ = Err X1
+item_of _ = Err BadShape
 
 -- the item of a line, or its fault
 unfoldable pub line_item : List ℕ → Result Item TraceFault
@@ -103,7 +103,7 @@ at_line line (Err code) = Err (Fault code line)
 
 -- From line number `line` on, of which `front` is read: a line feed (10) ends a line, and the text ends behind one.
 unfoldable pub reading_from : ℕ → List ℕ → List ℕ → Result (List Item) TraceRefusal
-reading_from line front [] = if length front == 0 then Ok [] else Err (Fault X1 line)
+reading_from line front [] = if length front == 0 then Ok [] else Err (Fault BadShape line)
 reading_from line front (b ∷ bs) =
     if b == 10 then (at_line line (line_item front) >>= λ item. reading_from (line + 1) [] bs >>= λ items. Ok (item ∷ items))
     else reading_from line (front ++ b ∷ []) bs

@@ -1,7 +1,7 @@
 -- Which text is which trace's.
 use Rattle.std.specs.Prelude.{◌≡◌, ℕ, List, Ok}
 use Rattle.std.specs.List.{All}
-use Rattle.onfi_cycle.specs.declared.Item.{Item}
+use Rattle.onfi_cycle.specs.declared.item.Item.{Item}
 use Rattle.trace_text.specs.Line.{text, IsPrintable, HasByte}
 use Rattle.trace_text.specs.Reading.{reading}
 

@@ -57,12 +57,12 @@ fn at(place: usize, rule: Forbidden) -> Option<CheckRefusal> {
 fn a_busy_lun_begins_nothing(rt: HostRuntime) -> Result<(), Fail> {
     assert_eq!(rt;
         refusal(rt.alloc(), ONE_LUN, 1, SECOND_OPENER)?,
-        at(5, Forbidden::F9)
+        at(5, Forbidden::LunBusy)
     );
     assert_eq!(rt; refusal(rt.alloc(), TWO_LUNS, 1, SECOND_OPENER)?, None);
     assert_eq!(rt;
         refusal(rt.alloc(), TWO_LUNS, 1, SECOND_ROW)?,
-        at(8, Forbidden::F9)
+        at(8, Forbidden::LunBusy)
     );
     Ok(())
 }
@@ -91,23 +91,23 @@ fn what_is_not_there(rt: HostRuntime) -> Result<(), Fail> {
     let other_target = "1 C 60\n1 A 00\n1 A 00\n1 A 00\n1 C d0\n0 R 0 0\n";
     assert_eq!(rt;
         refusal(rt.alloc(), ONE_LUN, 1, other_target)?,
-        at(0, Forbidden::F1)
+        at(0, Forbidden::NotThere)
     );
     assert_eq!(rt;
         refusal(rt.alloc(), ONE_LUN, 2, other_target)?,
-        at(5, Forbidden::F1)
+        at(5, Forbidden::NotThere)
     );
     assert_eq!(rt;
         refusal(rt.alloc(), ONE_LUN, 0, ERASE)?,
-        at(0, Forbidden::F1)
+        at(0, Forbidden::NotThere)
     );
     assert_eq!(rt;
         refusal(rt.alloc(), TWO_LUNS, 1, "0 R 2 0\n")?,
-        at(0, Forbidden::F1)
+        at(0, Forbidden::NotThere)
     );
     assert_eq!(rt;
         refusal(rt.alloc(), ONE_LUN, 1, "0 Y 0\n")?,
-        at(0, Forbidden::F1)
+        at(0, Forbidden::NotThere)
     );
     Ok(())
 }
@@ -120,16 +120,16 @@ fn who_drives(rt: HostRuntime) -> Result<(), Fail> {
     let by_78 = "0 C 78\n0 A 20\n0 A 00\n0 A 00\n0 O e0\n0 C 70\n";
     assert_eq!(rt;
         refusal(rt.alloc(), ONE_LUN, 1, nobody)?,
-        at(0, Forbidden::F12)
+        at(0, Forbidden::NoSoleDriver)
     );
     assert_eq!(rt; refusal(rt.alloc(), ONE_LUN, 1, by_70)?, None);
     assert_eq!(rt;
         refusal(rt.alloc(), TWO_LUNS, 1, by_78)?,
-        at(5, Forbidden::F4)
+        at(5, Forbidden::SeveralLuns)
     );
     assert_eq!(rt;
         refusal(rt.alloc(), ONE_LUN, 1, by_78)?,
-        at(0, Forbidden::F2)
+        at(0, Forbidden::CommandUnknown)
     );
     Ok(())
 }
@@ -140,7 +140,7 @@ fn first_of_several_faults(rt: HostRuntime) -> Result<(), Fail> {
     let text = "0 C 60\n0 A 00\n0 C d0\n0 A 00\n0 A 00\n0 C d0\n0 C 31\n";
     assert_eq!(rt;
         refusal(rt.alloc(), ONE_LUN, 1, text)?,
-        at(2, Forbidden::F6)
+        at(2, Forbidden::CommandMisplaced)
     );
     Ok(())
 }
@@ -157,13 +157,16 @@ fn a_long_trace(rt: HostRuntime) -> Result<(), Fail> {
     assert_eq!(rt; check(&geometry, 1, &items), Ok(()));
     items.extend_from_slice(&erase[..7])?;
     items.extend_from_slice(&erase)?;
-    assert_eq!(rt; check(&geometry, 1, &items).err(), at(5007, Forbidden::F9));
+    assert_eq!(rt;
+        check(&geometry, 1, &items).err(),
+        at(5007, Forbidden::LunBusy)
+    );
     Ok(())
 }
 
 #[test]
 fn refusals_are_told(rt: HostRuntime) -> Result<(), Fail> {
-    let told = format!(in rt.alloc(); "{}", CheckRefusal::At(5, Forbidden::F9))?;
+    let told = format!(in rt.alloc(); "{}", CheckRefusal::At(5, Forbidden::LunBusy))?;
     assert_eq!(rt; told.as_str(), "F9 at item 5: the LUN is busy");
     let memory = format!(in rt.alloc(); "{}", CheckRefusal::OutOfMemory)?;
     assert_eq!(rt; memory.as_str(), "out of memory");

@@ -13,7 +13,7 @@ use thiserror::Error;
 pub enum CheckRefusal {
     /// The place of the first item that isn't permitted after those before it, counted from 0, and the first rule
     /// that it breaks.
-    #[error("{1:?} at item {0}: {1}")]
+    #[error("{} at item {}: {}", .1.code(), .0, .1)]
     At(usize, Forbidden),
     /// Memory was refused. [`check`] takes none and never answers this; it stands here for programs that check a trace
     /// they have read.

@@ -2,7 +2,7 @@
 
 ghost use Rattle.std.specs.Prelude.{◌≡◌, [], ◌∷◌, ◌<◌, IfSome, IfNone};
 ghost use Rattle.std.specs.Option.{option_copied, option_to_list};
-ghost use Rattle.trace_text.specs.declared.refusal.TraceFault.TheVariants.{X1};
+ghost use Rattle.trace_text.specs.declared.refusal.TraceFault.TheVariants.{BadShape};
 ghost use Rattle.trace_text.specs.Reading.{fields, place_of, hex_value, byte_of, fail_of, letter_of, cycle, ready, array_ready, line_item};
 
 use crate::refusal::TraceFault;
@@ -131,7 +131,7 @@ impl<'a> Fields<'a> {
     #[tactic(auto, using(crate::proofs::Fields::one_field, crate::proofs::Fields::two_fields, crate::proofs::Fields::five_fields))]
     fn of(line: &'a str) -> Option<Fields<'a>>
         ensures some { IfSome result (λ f. fields line.entry.now ≡ f.ce.now ∷ f.letter.now ∷ f.third.now ∷ option_to_list (option_copied f.fourth)) }
-        ensures none { IfNone result (line_item line.entry.now ≡ Err X1) }
+        ensures none { IfNone result (line_item line.entry.now ≡ Err BadShape) }
     {
         let (ce, rest) = first_field(line)?;
         let (letter, rest) = first_field(rest)?;
@@ -161,13 +161,13 @@ impl<'a> Fields<'a> {
 pub(crate) fn line_item(line: &str) -> Result<Item, TraceFault>
     ensures { result ≡ line_item line.now }
 {
-    let fields = Fields::of(line).ok_or(TraceFault::X1)?;
-    let letter = letter_of(fields.letter).ok_or(TraceFault::X1)?;
+    let fields = Fields::of(line).ok_or(TraceFault::BadShape)?;
+    let letter = letter_of(fields.letter).ok_or(TraceFault::BadShape)?;
     let item = match (letter, fields.fourth) {
         (Letter::CycleOf(kind), None) => cycle(fields.ce, kind, fields.third),
         (Letter::Ready, Some(fail)) => ready(fields.ce, fields.third, fail),
         (Letter::ArrayReady, None) => array_ready(fields.ce, fields.third),
-        _ => return Err(TraceFault::X1),
+        _ => return Err(TraceFault::BadShape),
     };
-    item.ok_or(TraceFault::X2)
+    item.ok_or(TraceFault::BadNumber)
 }

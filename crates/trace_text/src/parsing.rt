@@ -2,7 +2,7 @@
 
 ghost use Rattle.std.specs.Prelude.{◌≡◌, [], List, IsOk, OnOk, IfOk, IfErr, IfSome, MatchOption, MatchResult};
 ghost use Rattle.std.specs.Str.{IsUtf8};
-ghost use Rattle.onfi_cycle.specs.declared.Item.{Item};
+ghost use Rattle.onfi_cycle.specs.declared.item.Item.{Item};
 ghost use Rattle.trace_text.specs.declared.refusal.TraceRefusal.TheVariants.{OutOfMemory};
 ghost use Rattle.trace_text.specs.Trace.{IsTextOf};
 ghost use Rattle.trace_text.specs.Reading.{reading, IsRefusalOf, BeginsWith, HasFault};
@@ -21,7 +21,7 @@ fn first_item(text: &str) -> Result<Option<(Item, &str)>, TraceFault>
     match text.split_once('\n') {
         Some((line, rest)) => Ok(Some((line_item(line)?, rest))),
         None if text.is_empty() => Ok(None),
-        None => Err(TraceFault::X1),
+        None => Err(TraceFault::BadShape),
     }
 }
 
@@ -39,9 +39,9 @@ fn count_items(text: &str) -> Result<usize, TraceRefusal>
                 count += 1;
             }
             Ok(None) => return Ok(count),
-            Err(code) => {
+            Err(fault) => {
                 return Err(TraceRefusal::Fault {
-                    code,
+                    fault,
                     line: count + 1,
                 });
             }

@@ -3,7 +3,7 @@
 ghost use Rattle.std.specs.Prelude.{◌≡◌, ◌++◌, ◌<◌, ◌≤◌, ◌↔◌, IsTrue, IfOk, OnOk};
 ghost use Rattle.std.specs.String.{string_bytes};
 ghost use Rattle.std.specs.List.{All, list_all};
-ghost use Rattle.onfi_cycle.specs.declared.Item.TheVariants.{Cyc};
+ghost use Rattle.onfi_cycle.specs.declared.item.Item.TheVariants.{Cyc};
 ghost use Rattle.trace_text.specs.Line.{kind_letter, line, text, IsPrintable, is_printable_item, HasByte};
 ghost use Rattle.trace_text.specs.Reading.{reading};
 

@@ -2,6 +2,7 @@
 
 ghost use Rattle.std.specs.Prelude.{◌≡◌};
 ghost use Rattle.trace_text.specs.declared.refusal.TraceRefusal.TheVariants.{OutOfMemory};
+ghost use Rattle.trace_text.specs.Codes.{trace_fault_code};
 
 use std::alloc::{AllocError, AllocFailed};
 use thiserror::Error;
@@ -12,18 +13,30 @@ pub enum TraceFault {
     /// The line isn't ended, its second field is none of the letters, or it has another number of fields than its
     /// letter wants.
     #[error("the line hasn't the shape of an item")]
-    X1,
+    BadShape,
     /// A number field isn't a number of its form, whatever characters it has.
     #[error("a field isn't a number of its form")]
-    X2,
+    BadNumber,
+}
+
+impl TraceFault {
+    /// Its code, `X1` to `X2`.
+    pub fn code(self) -> &'static str
+        ensures { result.now ≡ trace_fault_code self }
+    {
+        match self {
+            TraceFault::BadShape => "X1",
+            TraceFault::BadNumber => "X2",
+        }
+    }
 }
 
 /// Why a text gives no trace.
 #[derive(Clone, Copy, Debug, PartialEq, Eq, Error)]
 pub enum TraceRefusal {
     /// The lowest line with a fault, counted from 1, and its first fault.
-    #[error("{code:?} at line {line}: {code}")]
-    Fault { code: TraceFault, line: usize },
+    #[error("{} at line {line}: {fault}", .fault.code())]
+    Fault { fault: TraceFault, line: usize },
     /// Memory was refused to a text without a fault.
     #[error("out of memory")]
     OutOfMemory,

@@ -18,8 +18,8 @@ fn cycle(ce: u8, kind: Kind, byte: u8) -> Item {
     Item::Cyc(Cycle { ce, kind, byte })
 }
 
-fn fault(code: TraceFault, line: usize) -> Option<TraceRefusal> {
-    Some(TraceRefusal::Fault { code, line })
+fn fault(fault: TraceFault, line: usize) -> Option<TraceRefusal> {
+    Some(TraceRefusal::Fault { fault, line })
 }
 
 fn refusal(alloc: Global, text: &str) -> Option<TraceRefusal> {
@@ -151,7 +151,7 @@ fn lines_of_the_wrong_shape(rt: HostRuntime) -> Result<(), Fail> {
         text.push('\n')?;
         assert_eq!(rt;
             refusal(rt.alloc(), &text),
-            fault(TraceFault::X1, 1),
+            fault(TraceFault::BadShape, 1),
             "{line:?}"
         );
     }
@@ -201,7 +201,7 @@ fn numbers_of_the_wrong_form(rt: HostRuntime) {
     for text in texts {
         assert_eq!(rt;
             refusal(rt.alloc(), text),
-            fault(TraceFault::X2, 1),
+            fault(TraceFault::BadNumber, 1),
             "{text:?}"
         );
     }
@@ -210,10 +210,10 @@ fn numbers_of_the_wrong_form(rt: HostRuntime) {
 #[test]
 fn first_line_of_the_erase(rt: HostRuntime) -> Result<(), Fail> {
     let changes = [
-        ("0 X 60", TraceFault::X1),
-        ("0 C D0", TraceFault::X2),
-        ("0 C 6g", TraceFault::X2),
-        ("4 C 60", TraceFault::X2),
+        ("0 X 60", TraceFault::BadShape),
+        ("0 C D0", TraceFault::BadNumber),
+        ("0 C 6g", TraceFault::BadNumber),
+        ("4 C 60", TraceFault::BadNumber),
     ];
     for (line, code) in changes {
         let mut text = String::from_str(rt.alloc(), line)?;
@@ -226,21 +226,24 @@ fn first_line_of_the_erase(rt: HostRuntime) -> Result<(), Fail> {
 #[test]
 fn lowest_fault_is_told(rt: HostRuntime) {
     // Without its last line feed the trace has a fault in its last line.
-    assert_eq!(rt; refusal(rt.alloc(), UNENDED), fault(TraceFault::X1, 10));
+    assert_eq!(rt;
+        refusal(rt.alloc(), UNENDED),
+        fault(TraceFault::BadShape, 10)
+    );
     let texts = [
-        ("0 C D0\n0 X 60\n", TraceFault::X2, 1),
-        ("0 C d0\n0 X 60\n0 C D0\n", TraceFault::X1, 2),
-        ("0 C d0\n0 C D0\n0 X 60", TraceFault::X2, 2),
-        ("0 C d0\n\n", TraceFault::X1, 2),
-        ("0 C d0\n0 Y 1", TraceFault::X1, 2),
-        ("0 Y 1", TraceFault::X1, 1),
+        ("0 C D0\n0 X 60\n", TraceFault::BadNumber, 1),
+        ("0 C d0\n0 X 60\n0 C D0\n", TraceFault::BadShape, 2),
+        ("0 C d0\n0 C D0\n0 X 60", TraceFault::BadNumber, 2),
+        ("0 C d0\n\n", TraceFault::BadShape, 2),
+        ("0 C d0\n0 Y 1", TraceFault::BadShape, 2),
+        ("0 Y 1", TraceFault::BadShape, 1),
         // X1 comes before X2 on one line.
-        ("9 X D0\n", TraceFault::X1, 1),
-        ("9 C D0 7\n", TraceFault::X1, 1),
-        ("9 C D0", TraceFault::X1, 1),
-        ("9 C  D0\n", TraceFault::X1, 1),
-        ("0 C 60\r\n0 X 60\n", TraceFault::X2, 1),
-        ("0 C 60\r", TraceFault::X1, 1),
+        ("9 X D0\n", TraceFault::BadShape, 1),
+        ("9 C D0 7\n", TraceFault::BadShape, 1),
+        ("9 C D0", TraceFault::BadShape, 1),
+        ("9 C  D0\n", TraceFault::BadShape, 1),
+        ("0 C 60\r\n0 X 60\n", TraceFault::BadNumber, 1),
+        ("0 C 60\r", TraceFault::BadShape, 1),
     ];
     for (text, code, line) in texts {
         assert_eq!(rt; refusal(rt.alloc(), text), fault(code, line), "{text:?}");
@@ -257,7 +260,7 @@ fn array_ready_is_read(rt: HostRuntime) -> Result<(), Fail> {
 #[test]
 fn messages(rt: HostRuntime) -> Result<(), Fail> {
     let shape = TraceRefusal::Fault {
-        code: TraceFault::X1,
+        fault: TraceFault::BadShape,
         line: 10,
     };
     assert_eq!(rt;
@@ -265,7 +268,7 @@ fn messages(rt: HostRuntime) -> Result<(), Fail> {
         "X1 at line 10: the line hasn't the shape of an item"
     );
     let number = TraceRefusal::Fault {
-        code: TraceFault::X2,
+        fault: TraceFault::BadNumber,
         line: 1,
     };
     assert_eq!(rt;
@@ -341,8 +344,11 @@ fn refused_memory(rt: HostRuntime) -> Result<(), Fail> {
             }
         }
         // Every fault comes before want of memory.
-        assert_eq!(rt; parse(&heap, UNENDED).err(), fault(TraceFault::X1, 10));
-        assert_eq!(rt; parse(&heap, REST).err(), fault(TraceFault::X1, 1));
+        assert_eq!(rt;
+            parse(&heap, UNENDED).err(),
+            fault(TraceFault::BadShape, 10)
+        );
+        assert_eq!(rt; parse(&heap, REST).err(), fault(TraceFault::BadShape, 1));
         match print(&heap, &items) {
             Ok(text) => assert_eq!(rt; text.as_str(), ERASE),
             Err(AllocError) => printed_at = size + 1,

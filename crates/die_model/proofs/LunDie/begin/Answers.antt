@@ -1,5 +1,5 @@
 use Rattle.std.proofs.Common.{◌≡◌, ℕ, false, List, [], cond, sym, ap, subst, ◌∙◌, refl}
-use Rattle.onfi_cycle.specs.declared.Effect.{Effect}
+use Rattle.onfi_cycle.specs.declared.effect.Effect.{Effect}
 use Rattle.nand_geometry.specs.Limits.{page_len}
 use Rattle.onfi_cycle.specs.Lun.{busy_after, array_busy_after, array_page_after, register_after}
 use Rattle.onfi_cycle.specs.Content.{queued_work_after, pending_work_after}

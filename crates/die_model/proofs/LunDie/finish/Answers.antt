@@ -1,5 +1,5 @@
 use Rattle.std.proofs.Common.{◌≡◌, Bool, true, false, [], cond, sym, ap, subst, ◌∙◌, refl}
-use Rattle.onfi_cycle.specs.declared.Effect.TheVariants.{BecameReady}
+use Rattle.onfi_cycle.specs.declared.effect.Effect.TheVariants.{BecameReady}
 use Rattle.die_model.specs.Die.{Die, IsAfter, works_of}
 use Rattle.die_model.specs.Die.{die_with}
 use Rattle.die_model.proofs.Begun.{ended_pages, ended_failed}

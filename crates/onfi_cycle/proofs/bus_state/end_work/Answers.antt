@@ -1,5 +1,5 @@
 use Rattle.std.proofs.Common.{arith}
-use Rattle.onfi_cycle.specs.declared.Effect.TheVariants.{BecameReady}
+use Rattle.onfi_cycle.specs.declared.effect.Effect.TheVariants.{BecameReady}
 use Rattle.onfi_cycle.proofs.Applied.{one_set, one_beyond}
 use Rattle.onfi_cycle.proofs.bus_state.end_work.Goals as goal
 

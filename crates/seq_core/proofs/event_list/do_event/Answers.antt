@@ -9,10 +9,10 @@ pub returns-in-Ok-clause-ok : goal.returns-in-Ok-clause-ok
 returns-in-Ok-clause-ok g c = rw c.in-Step.is c.in-Ok.ensures.came
 
 pub returns-in-Ready-clause-ok : goal.returns-in-Ready-clause-ok
-returns-in-Ready-clause-ok g c = rw c.in-Ready.is c.ready.ensures
+returns-in-Ready-clause-ok g c = rw c.in-Ready.is c.ready.ensures.came
 
 pub returns-in-ArrayReady-clause-ok : goal.returns-in-ArrayReady-clause-ok
-returns-in-ArrayReady-clause-ok g c = rw c.in-ArrayReady.is c.array_ready.ensures
+returns-in-ArrayReady-clause-ok g c = rw c.in-ArrayReady.is c.array_ready.ensures.came
 
 pub returns-in-Unload-clause-ok : goal.returns-in-Unload-clause-ok
 returns-in-Unload-clause-ok g c =

@@ -1,5 +1,5 @@
 use Rattle.std.proofs.Common.{[], take}
-use Rattle.micro_verify.specs.Moves.{gives}
+use Rattle.micro_program.specs.Moves.{gives}
 use Rattle.seq_core.specs.Playing.{HasPlayed}
 use Rattle.seq_core.proofs.playing.give_all.Given as goal
 

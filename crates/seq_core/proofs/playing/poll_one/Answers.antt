@@ -1,6 +1,6 @@
 use Rattle.std.proofs.Common.{[], ◌∷◌}
-use Rattle.onfi_cycle.specs.declared.Kind.TheVariants.{Cmd}
-use Rattle.micro_verify.specs.Moves.{Give, Take}
+use Rattle.onfi_cycle.specs.declared.item.Kind.TheVariants.{Cmd}
+use Rattle.micro_program.specs.Moves.{Give, Take}
 use Rattle.seq_core.proofs.Played.{quiet_status, own_last, own_same, polled}
 use Rattle.seq_core.proofs.playing.poll_one.Goals as goal
 

@@ -1,6 +1,6 @@
 use Rattle.std.proofs.Common.{◌+◌, [], ◌∷◌, ◌++◌, length}
-use Rattle.onfi_cycle.specs.declared.Kind.TheVariants.{Cmd, Adr}
-use Rattle.micro_verify.specs.Moves.{Give, Take, gives}
+use Rattle.onfi_cycle.specs.declared.item.Kind.TheVariants.{Cmd, Adr}
+use Rattle.micro_program.specs.Moves.{Give, Take, gives}
 use Rattle.seq_core.proofs.Played.{quiet_enhanced, quiet_address, own_last, own_same, own_behind, own_first, play_more, polled}
 use Rattle.seq_core.proofs.playing.poll_row.Goals as goal
 

@@ -1,7 +1,7 @@
 use Rattle.std.proofs.Common.{◌≡◌, ◌∷◌, [], ◌++◌, List, ℕ, ◌≤◌, true, false, None, Some, length, reverse, sym, ap, subst, ◌∙◌, refl, arith}
-use Rattle.onfi_cycle.specs.declared.Item.{Item}
-use Rattle.onfi_cycle.specs.declared.Kind.TheVariants.{Dout}
-use Rattle.onfi_cycle.specs.declared.Item.TheVariants.{Cyc}
+use Rattle.onfi_cycle.specs.declared.item.Item.{Item}
+use Rattle.onfi_cycle.specs.declared.item.Kind.TheVariants.{Dout}
+use Rattle.onfi_cycle.specs.declared.item.Item.TheVariants.{Cyc}
 use Rattle.onfi_cycle.specs.Channel.{is_cycle, cycle, bus_byte}
 use Rattle.onfi_cycle.specs.Permitted.{broken}
 use Rattle.onfi_cycle.specs.State.{Follows}

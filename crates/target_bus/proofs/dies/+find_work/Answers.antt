@@ -1,6 +1,6 @@
 use Rattle.std.proofs.Common.{sym, ◌∙◌, ◌<◌, arith, ◌+◌}
 use Rattle.nand_geometry.specs.declared.Parts.{Parts}
-use Rattle.onfi_cycle.specs.declared.Item.TheVariants.{Cyc}
+use Rattle.onfi_cycle.specs.declared.item.Item.TheVariants.{Cyc}
 use Rattle.target_bus.specs.Bus.{lun_at}
 use Rattle.target_bus.proofs.Standing.{finds_later, rests_by}
 use Rattle.target_bus.proofs.dies.+find_work.Goals as goal

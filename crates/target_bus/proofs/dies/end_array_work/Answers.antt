@@ -1,6 +1,6 @@
 use Rattle.std.proofs.Common.{◌≡◌, ◌<◌, ℕ, ◌∷◌, sym, ap, subst, ◌∙◌, length}
 use Rattle.nand_geometry.specs.declared.Parts.{Parts}
-use Rattle.onfi_cycle.specs.declared.Item.TheVariants.{Rdy, Ard}
+use Rattle.onfi_cycle.specs.declared.item.Item.TheVariants.{Rdy, Ard}
 use Rattle.target_bus.specs.Bus.{channel_on, StandFor}
 use Rattle.target_bus.proofs.Numbers.{placed}
 use Rattle.target_bus.proofs.Standing.{array_ready_there, stands_array_ready, die_there}

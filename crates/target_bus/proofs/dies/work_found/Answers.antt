@@ -1,6 +1,6 @@
 use Rattle.std.proofs.Common.{◌≡◌, ◌*◌, ◌+◌, Some, None, ◌∷◌, sym, ap, subst, ◌∙◌, length}
 use Rattle.nand_geometry.specs.declared.Parts.{Parts}
-use Rattle.onfi_cycle.specs.declared.Item.TheVariants.{Cyc}
+use Rattle.onfi_cycle.specs.declared.item.Item.TheVariants.{Cyc}
 use Rattle.target_bus.specs.Bus.{channel_on, StandFor}
 use Rattle.target_bus.proofs.Numbers.{placed}
 use Rattle.target_bus.proofs.Standing.{found_in, worked_there, can_work_at, none_works, one_works, cycle_there, no_program_at, on_ok}

@@ -1,7 +1,7 @@
 use Rattle.std.proofs.Common.{◌≡◌, ◌*◌, ◌+◌, ◌<◌, Some, None, ◌∷◌, List, sym, ap, subst, ◌∙◌, length, set}
 use Rattle.std.specs.List.{slice_get}
 use Rattle.nand_geometry.specs.declared.Parts.{Parts}
-use Rattle.onfi_cycle.specs.declared.Item.TheVariants.{Cyc}
+use Rattle.onfi_cycle.specs.declared.item.Item.TheVariants.{Cyc}
 use Rattle.onfi_cycle.specs.Working.{fills}
 use Rattle.die_model.specs.Die.{Die}
 use Rattle.target_bus.specs.Bus.{channel_on, StandFor}

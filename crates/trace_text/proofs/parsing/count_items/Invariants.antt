@@ -1,6 +1,6 @@
 use Rattle.std.proofs.Common.{◌+◌, ◌≤◌, List, length}
 use Rattle.std.specs.Str.{IsUtf8}
-use Rattle.onfi_cycle.specs.declared.Item.{Item}
+use Rattle.onfi_cycle.specs.declared.item.Item.{Item}
 use Rattle.trace_text.proofs.Loop.{IsSoFar}
 use Rattle.trace_text.proofs.parsing.count_items.Given as goal
 

@@ -7,8 +7,8 @@ use Rattle.onfi_cycle.specs.Sequence.{target_of}
 use Rattle.onfi_cycle.proofs.Following.{effect_elsewhere, target_not_missing, effect_there}
 use Rattle.onfi_cycle.proofs.bus_state.BusState.effect.Goals as goal
 
-pub returns-then-target_of-l : goal.returns-then-target_of-l
-returns-then-target_of-l c = record { past = λ g n past f here low. effect_elsewhere g past c.args.item c.args.l (grind (arith, nat_tests)) }
+pub returns-then-target-l : goal.returns-then-target-l
+returns-then-target-l c = record { past = λ g n past f here low. effect_elsewhere g past c.args.item c.args.l (grind (arith, nat_tests)) }
 
 pub returns-in-None : goal.returns-in-None
 returns-in-None c = record {

@@ -1,6 +1,6 @@
 use Rattle.std.proofs.Common.{length, sym, ap, ◌∙◌, refl}
-use Rattle.onfi_cycle.specs.declared.Effect.TheVariants.{BecameReady, ArrayBecameReady}
-use Rattle.onfi_cycle.specs.declared.Item.{Item}
+use Rattle.onfi_cycle.specs.declared.effect.Effect.TheVariants.{BecameReady, ArrayBecameReady}
+use Rattle.onfi_cycle.specs.declared.item.Item.{Item}
 use Rattle.onfi_cycle.specs.Applied.{one_after}
 use Rattle.onfi_cycle.specs.State.{target_after}
 use Rattle.onfi_cycle.proofs.Applied.{target_cycled, target_readied, target_array_readied}
@@ -9,7 +9,7 @@ use Rattle.onfi_cycle.proofs.bus_state.TargetState.apply.Goals as goal
 
 pub returns-in-Cyc-clause-value : goal.returns-in-Cyc-clause-value
 returns-in-Cyc-clause-value c =
-    target_cycled c.args.geometry.now c.in-Cyc.cycle c.target_cycle.result c.args.self.now c.apply_cycle.new.self c.target_cycle.ensures c.apply_cycle.ensures.tail c.apply_cycle.ensures.luns ∙
+    target_cycled c.args.geometry.now c.in-Cyc.cycle c.of.result c.args.self.now c.apply_cycle.new.self c.of.ensures c.apply_cycle.ensures.tail c.apply_cycle.ensures.luns ∙
     ap (λ (i : Item). target_after c.args.geometry.now i c.args.self.now) (sym c.in-Cyc.is)
 
 pub returns-in-Rdy-clause-value : goal.returns-in-Rdy-clause-value

@@ -17,4 +17,4 @@ pub loop-preserved : goal.loop-preserved
 loop-preserved c = more_luns c.loop.luns.items _ c.loop.counter c.fresh_lun.result c.loop.invariant c.fresh_lun.ensures c.push.ensures.items
 
 pub returns : goal.returns
-returns c = fresh_target c.no_tail.result c.loop.luns.items c.loop.counter c.args.count c.no_tail.ensures.value c.loop.invariant (omega (arith, c.loop-test.false, c.loop.auto.counter-end))
+returns c = fresh_target c.none.result c.loop.luns.items c.loop.counter c.args.count c.none.ensures.value c.loop.invariant (omega (arith, c.loop-test.false, c.loop.auto.counter-end))

@@ -4,7 +4,8 @@ use Rattle.seq_core.specs.Progress.{Progress}
 use Rattle.seq_core.specs.Shows.{CoreView}
 use Rattle.seq_core.specs.Event.{Unload}
 use Rattle.seq_core.specs.Reply.{ToUnload, Unloaded}
-use Rattle.seq_core.specs.Calls.{IsCore, IsEvent, slot_at, slot_code}
+use Rattle.seq_core.specs.declared.slot_state.SlotState.TheVariants as state
+use Rattle.seq_core.specs.Calls.{IsCore, IsEvent, slot_at, slot_state}
 use Rattle.seq_core.proofs.Below.{refilled}
 use Rattle.seq_core.proofs.Replies.{is_core_after}
 use Rattle.seq_core.proofs.Cores.{view_of, place_of, never_empty, unloaded_now, never_coded}
@@ -22,7 +23,7 @@ pub returns : goal.returns
 returns g c =
     let event = unloaded_now c.self.inside.bus c.self.inside.slots.items _ c.self.inside.holder c.args.l c.in-Some.k c.args.code c.in-Some-take_in.slot c.self.invariant
     (subst (λ (x : CoreView). Some c.in-Some.k ≡ place_of x c.args.l) (sym c.self.view_is) c.in-Some.ensures.value)
-    (subst (λ (x : CoreView). Some (Some c.args.code) ≡ slot_code (slot_at x c.args.l)) (sym c.self.view_is) c.requires)
+    (subst (λ (x : CoreView). state.Ended c.args.code ≡ slot_state (slot_at x c.args.l)) (sym c.self.view_is) c.requires)
     (ap (λ (ss : List (Option Progress)). get_or ss c.in-Some.k None) (sym c.as_mut_slice.ensures.value) ∙ (sym c.take_in.ensures.value ∙ c.in-Some-take_in.is))
     (refilled (length c.self.inside.slots.items) c.self.inside.slots.items c.take_in.new.slots (c.take_in.auto.slots ∙ ap length c.as_mut_slice.ensures.value) refl ∙
     (c.take_in.ensures.slots ∙ ap (λ (ss : List (Option Progress)). set ss c.in-Some.k None) c.as_mut_slice.ensures.value)) in

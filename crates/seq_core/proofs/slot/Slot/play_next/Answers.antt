@@ -1,6 +1,6 @@
 use Rattle.std.proofs.Common.{◌≡◌, true, sym, ◌∙◌, subst, length}
 use Rattle.micro_word.specs.declared.word.Word.{Word}
-use Rattle.micro_verify.specs.Program.{fits}
+use Rattle.micro_program.specs.Program.{fits}
 use Rattle.seq_core.proofs.Calls.{some_same}
 use Rattle.seq_core.proofs.Steps.{reaches_inside}
 use Rattle.seq_core.proofs.slot.Slot.play_next.Goals as goal

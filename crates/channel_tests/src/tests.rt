@@ -1,0 +1,253 @@
+//! One worker on a channel, leases, and passes.
+ghost use Rattle.std.specs.Prelude.{◌≡◌};
+
+use crate::scenes::{
+    Erase, FOUR_LUNS, ONE_LUN, TWO_LUNS, gather, make_erasing, make_two_passes, run_alone, start,
+};
+use channel_work::{ChannelState, Gate, Gathered, NamedDone, Turns, WorkerPass};
+use onfi_cycle::{Item, Lun};
+use std::alloc::Global;
+use std::marker::Brand;
+use std::process::Abort;
+use std::sync::Wait;
+use std::sync::ledger::Blank;
+use std::test::*;
+use trace_text::parse;
+
+// A gate that gives every turn, and lets each LUN be ready after a busy poll.
+struct Open;
+
+impl Gate for Open {
+    fn may_turn(&self, _worker: u32) -> bool {
+        true
+    }
+
+    fn ready(&self, _lun: Lun, polls: u64, _works: u64) -> Option<bool> {
+        if polls < 1 { None } else { Some(false) }
+    }
+
+    fn array_ready(&self, _lun: Lun, _works: u64) -> bool {
+        true
+    }
+
+    fn closed(&self) -> bool {
+        true
+    }
+}
+
+const ZERO: Lun = Lun { ce: 0, lun: 0 };
+
+const ONE: Lun = Lun { ce: 0, lun: 1 };
+
+const ON_ZERO: Erase = Erase {
+    parts: TWO_LUNS,
+    lun: ZERO,
+    base: 0,
+};
+
+const ON_ONE: Erase = Erase {
+    lun: ONE,
+    ..ON_ZERO
+};
+
+// An erase of LUN 0 that is verified for another geometry.
+const ELSEWHERE: Erase = Erase {
+    parts: ONE_LUN,
+    ..ON_ZERO
+};
+
+// What two erases on two LUNs of a target put onto the bus, by one worker.
+const TWO_ERASES: &str = "0 C 60\n0 A 00\n0 A 00\n0 A 00\n0 C d0\n\
+    0 C 78\n0 A 00\n0 A 00\n0 A 00\n0 O 80\n0 R 0 0\n\
+    0 C 60\n0 A 20\n0 A 00\n0 A 00\n0 C d0\n\
+    0 C 78\n0 A 20\n0 A 00\n0 A 00\n0 O 80\n0 R 1 0\n\
+    0 C 78\n0 A 00\n0 A 00\n0 A 00\n0 O e0\n\
+    0 C 78\n0 A 20\n0 A 00\n0 A 00\n0 O e0\n";
+
+// What the erase of LUN 1 puts onto the bus alone.
+const ERASE_OF_ONE: &str = "0 C 60\n0 A 20\n0 A 00\n0 A 00\n0 C d0\n\
+    0 C 78\n0 A 20\n0 A 00\n0 A 00\n0 O 80\n0 R 1 0\n\
+    0 C 78\n0 A 20\n0 A 00\n0 A 00\n0 O e0\n";
+
+// The trace is this text.
+fn is_trace(alloc: Global, trace: &[Item], text: &str) -> Result<bool, Fail> {
+    match parse(alloc, text) {
+        Ok(items) => Ok(items.as_slice() == trace),
+        Err(_) => Err(Fail::from("no trace")),
+    }
+}
+
+// A job that is done: its host, its number, its LUN and its code.
+type Told = (u32, u64, Lun, u8);
+
+fn tell_done(done: &[NamedDone], k: usize) -> Option<Told> {
+    let one = done.get(k)?;
+    Some((
+        one.name.host,
+        one.name.number,
+        one.done.job.lun(),
+        one.done.code,
+    ))
+}
+
+// These erases, by one worker on a target of two LUNs.
+fn erase_alone<L: Turns, R: Wait + AllocGlobal>(
+    rt: &R,
+    blank: Blank,
+    erases: &[Erase],
+) -> Result<Gathered, Fail>
+    requires name { blank.name ≡ L.name }
+    requires parts { (blank.parts ≡ L.parts) × (L.all ≡ L.parts) × (L.parts ≡ 9) }
+{
+    let state = make_erasing::<L, R>(rt, blank, TWO_LUNS, 1, erases)?;
+    run_alone(rt, state, &Open)
+}
+
+#[test]
+fn two_jobs_of_one_worker(rt: HostRuntime) -> Result<(), Fail> {
+    let gathered = erase_alone::<Brand, _>(&rt, Blank::new(9), &[ON_ZERO, ON_ONE])?;
+    assert!(rt; is_trace(rt.alloc(), gathered.core.trace(), TWO_ERASES)?);
+    let done = gathered.done.as_slice();
+    assert_eq!(rt; tell_done(done, 0), Some((0, 0, ZERO, 0)));
+    assert_eq!(rt; tell_done(done, 1), Some((0, 1, ONE, 0)));
+    assert_eq!(rt;
+        (done.len(), gathered.backlog.len(), gathered.turns),
+        (2, 0, 4)
+    );
+    Ok(())
+}
+
+#[test]
+fn a_job_of_another_geometry_stays(rt: HostRuntime) -> Result<(), Fail> {
+    let gathered = erase_alone::<Brand, _>(&rt, Blank::new(9), &[ELSEWHERE, ON_ONE])?;
+    assert!(rt; is_trace(rt.alloc(), gathered.core.trace(), ERASE_OF_ONE)?);
+    let done = gathered.done.as_slice();
+    assert_eq!(rt; tell_done(done, 0), Some((0, 1, ONE, 0)));
+    assert_eq!(rt; (done.len(), gathered.backlog.len()), (1, 1));
+    Ok(())
+}
+
+// Erases of nine LUNs of four targets.
+const FIRST: Erase = Erase {
+    parts: FOUR_LUNS,
+    ..ON_ZERO
+};
+
+const NINE: [Erase; 9] = [
+    Erase {
+        lun: Lun { ce: 0, lun: 0 },
+        ..FIRST
+    },
+    Erase {
+        lun: Lun { ce: 0, lun: 1 },
+        ..FIRST
+    },
+    Erase {
+        lun: Lun { ce: 0, lun: 2 },
+        ..FIRST
+    },
+    Erase {
+        lun: Lun { ce: 0, lun: 3 },
+        ..FIRST
+    },
+    Erase {
+        lun: Lun { ce: 1, lun: 0 },
+        ..FIRST
+    },
+    Erase {
+        lun: Lun { ce: 1, lun: 1 },
+        ..FIRST
+    },
+    Erase {
+        lun: Lun { ce: 2, lun: 2 },
+        ..FIRST
+    },
+    Erase {
+        lun: Lun { ce: 3, lun: 2 },
+        ..FIRST
+    },
+    Erase {
+        lun: Lun { ce: 3, lun: 3 },
+        ..FIRST
+    },
+];
+
+// Starts so many jobs, and parks their leases, for which there must be room.
+fn start_and_park<L: Turns, R: Wait>(
+    rt: &R,
+    state: &mut ChannelState<L>,
+    count: u32,
+) -> Result<(), Fail> {
+    for _ in 0..count {
+        let lease = start(rt, state)?;
+        if state.park(lease).is_err() {
+            return Err(Fail::from("there was room"));
+        }
+    }
+    Ok(())
+}
+
+// Starts a job, and tries to park its lease, for which there must be no room. Its LUN, and that of the first lease taken out.
+fn start_and_keep<L: Turns, R: Wait>(
+    rt: &R,
+    state: &mut ChannelState<L>,
+) -> Result<(u32, u32), Fail> {
+    let lease = start(rt, state)?;
+    match state.park(lease) {
+        Ok(()) => Err(Fail::from("there was no room")),
+        Err(kept) => {
+            let first = state.unpark().ok_or("eight leases are parked")?;
+            Ok((kept.lun(), first.lun()))
+        }
+    }
+}
+
+// Nine jobs are started, and eight of their leases parked.
+fn park_nine<L: Turns, R: Wait + AllocGlobal>(rt: &R, blank: Blank) -> Result<(u32, u32), Fail>
+    requires name { blank.name ≡ L.name }
+    requires parts { (blank.parts ≡ L.parts) × (L.all ≡ L.parts) × (L.parts ≡ 9) }
+{
+    let mut state = make_erasing::<L, R>(rt, blank, FOUR_LUNS, 4, &NINE)?;
+    start_and_park(rt, &mut state, 8)?;
+    start_and_keep(rt, &mut state)
+}
+
+#[test]
+fn nine_leases(rt: HostRuntime) -> Result<(), Fail> {
+    assert_eq!(rt; park_nine::<Brand, _>(&rt, Blank::new(9))?, (15, 0));
+    Ok(())
+}
+
+// A channel isn't gathered with one of two passes, and then it is with both. The turns that it tells.
+fn gather_late<L: Turns>(
+    alloc: Global,
+    state: ChannelState<L>,
+    first: WorkerPass<L>,
+    second: WorkerPass<L>,
+) -> Result<u64, Fail>
+    requires { L.all ≡ L.parts }
+{
+    match state.gather(vec![in alloc; first]?) {
+        Ok(_) => Err(Fail::from("a pass is missing")),
+        Err((state, mut passes)) => {
+            passes.push(second)?;
+            Ok(gather(state, passes)?.turns)
+        }
+    }
+}
+
+// A channel with two passes.
+fn gather_two<L: Turns, R: Wait + AllocGlobal>(rt: &R, blank: Blank) -> Result<u64, Fail>
+    requires name { blank.name ≡ L.name }
+    requires parts { (blank.parts ≡ L.parts) × (L.all ≡ L.parts) × (L.parts ≡ 9) }
+{
+    let mut state = make_erasing::<L, R>(rt, blank, TWO_LUNS, 1, &[])?;
+    let (first, second) = make_two_passes(&mut state)?;
+    gather_late(rt.alloc(), state, first, second)
+}
+
+#[test]
+fn a_channel_waits_for_each_pass(rt: HostRuntime) -> Result<(), Fail> {
+    assert_eq!(rt; gather_two::<Brand, _>(&rt, Blank::new(9))?, 0);
+    Ok(())
+}

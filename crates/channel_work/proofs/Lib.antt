@@ -1,0 +1,16 @@
+pub mod Runs
+pub mod Keeping
+pub mod Counting
+pub mod Turning
+pub mod Jobs
+pub mod Places
+pub mod Picking
+pub mod Finishing
+pub mod Begun
+pub mod Opening
+pub mod Numbers
+pub mod Naming
+pub mod Wellness
+pub mod Bounds
+pub mod Readying
+pub mod Recounting

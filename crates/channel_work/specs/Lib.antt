@@ -1,0 +1,12 @@
+pub mod Stored
+pub mod Turns
+pub mod Counts
+pub mod Rows
+pub mod Channel
+pub mod Done
+pub mod Starting
+pub mod Lawful
+pub mod Turned
+pub mod Finished
+pub mod Coming
+pub mod State

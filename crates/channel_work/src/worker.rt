@@ -1,0 +1,223 @@
+//! The channel under its lock, and the loop of a worker.
+ghost use Rattle.std.specs.Prelude.{◌<◌};
+
+use crate::start::Started;
+use crate::state::{ChannelState, Finished, Readied, Turn, Turns, WorkerPass};
+use crate::tally::find_lun;
+use lun_lease::{Lease, Loaded};
+use nand_geometry::Geometry;
+use onfi_cycle::Lun;
+use std::sync::{Mutex, Wait};
+use std::thread;
+
+/// The state of a channel under its lock.
+#[derive(Drop)]
+pub struct Channel<L: Turns> {
+    geometry: Geometry,
+    state: Mutex<ChannelState<L>>,
+}
+
+impl<L: Turns> Channel<L> {
+    /// Puts a state under a lock.
+    pub fn new(state: ChannelState<L>) -> Channel<L> {
+        Channel {
+            geometry: state.geometry(),
+            state: Mutex::new(state),
+        }
+    }
+
+    /// Gives the state back.
+    pub fn into_state(self) -> ChannelState<L> {
+        let Channel { geometry: _, state } = self;
+        state.into_inner()
+    }
+}
+
+/// What a worker asks of its surroundings.
+pub trait Gate {
+    /// Whether this worker may take a turn now.
+    fn may_turn(&self, worker: u32) -> bool;
+
+    /// Whether the LUN became ready after so many busy polls since its last ready, and so many readies; if so, whether with failure.
+    fn ready(&self, lun: Lun, polls: u64, works: u64) -> Option<bool>;
+
+    /// Whether the array of the LUN became ready after so many readies.
+    fn array_ready(&self, lun: Lun, works: u64) -> bool;
+
+    /// Whether no more jobs come.
+    fn closed(&self) -> bool;
+}
+
+/// Why a worker ended.
+#[derive(Clone, Copy, Debug, PartialEq, Eq)]
+pub enum Cause {
+    /// No more jobs come, and there was nothing to do.
+    Quiet,
+    OutOfMemory,
+}
+
+/// A worker that has ended, with a lease that couldn't be parked.
+#[derive(Drop)]
+pub struct WorkEnd<L: Turns> {
+    pub pass: WorkerPass<L>,
+    pub lease: Option<Lease<Loaded>>,
+    pub cause: Cause,
+}
+
+// What there is to do next.
+#[derive(Drop)]
+enum Next {
+    Go(Lease<Loaded>),
+    Nothing { took: bool },
+    OutOfMemory,
+}
+
+// A job that is started, or else the oldest lease that is parked.
+fn find_next<L: Turns, R: Wait>(rt: &R, channel: &Channel<L>) -> Next {
+    let started = channel.state.lock(rt).start(rt);
+    match started {
+        Started::Loaded(lease) => Next::Go(lease),
+        Started::OutOfMemory => Next::OutOfMemory,
+        Started::Nothing { took } => {
+            let parked = channel.state.lock(rt).unpark();
+            match parked {
+                Some(lease) => Next::Go(lease),
+                None => Next::Nothing { took },
+            }
+        }
+    }
+}
+
+// Parks a lease, which comes back where there is no room.
+fn park<L: Turns, R: Wait>(
+    rt: &R,
+    channel: &Channel<L>,
+    lease: Lease<Loaded>,
+) -> Option<Lease<Loaded>> {
+    channel.state.lock(rt).park(lease).err()
+}
+
+// Finishes the job of a lease that has ended, and tells whether memory sufficed.
+fn finish<L: Turns, R: Wait>(
+    rt: &R,
+    channel: &Channel<L>,
+    lease: Lease<Loaded>,
+) -> (bool, Option<Lease<Loaded>>) {
+    let finished = channel.state.lock(rt).finish(lease);
+    match finished {
+        Finished::NotEnded(lease) => (true, park(rt, channel, lease)),
+        Finished::OutOfMemory(lease) => (false, park(rt, channel, lease)),
+        Finished::Done(lease) => {
+            let seat = lease.release();
+            let _full = channel.state.lock(rt).seat_back(seat);
+            (true, None)
+        }
+    }
+}
+
+// Asks the gate whether a LUN became ready, and tells whether memory sufficed.
+fn ask_ready<L: Turns, G: Gate, R: Wait>(
+    rt: &R,
+    channel: &Channel<L>,
+    gate: &G,
+    l: Lun,
+    polls: u64,
+    works: u64,
+) -> bool {
+    match gate.ready(l, polls, works) {
+        None => true,
+        Some(fail) => channel.state.lock(rt).ready(l, fail) != Readied::OutOfMemory,
+    }
+}
+
+// Asks the gate whether the array of a LUN became ready, and tells whether memory sufficed.
+fn ask_array_ready<L: Turns, G: Gate, R: Wait>(
+    rt: &R,
+    channel: &Channel<L>,
+    gate: &G,
+    n: u32,
+) -> bool
+    requires { n < 16 }
+{
+    let l = find_lun(&channel.geometry, n);
+    let works = channel.state.lock(rt).count(n).works;
+    !gate.array_ready(l, works) || channel.state.lock(rt).array_ready(l) != Readied::OutOfMemory
+}
+
+// Goes on with a lease for one turn, if the gate gives one, and tells whether memory sufficed; a lease that couldn't be parked
+// comes back.
+fn go_on<L: Turns, G: Gate, R: Wait>(
+    rt: &R,
+    channel: &Channel<L>,
+    gate: &G,
+    pass: &mut WorkerPass<L>,
+    lease: Lease<Loaded>,
+) -> (bool, Option<Lease<Loaded>>) {
+    if !gate.may_turn(pass.number()) {
+        return (true, park(rt, channel, lease));
+    }
+    let mut lease = lease;
+    let n = lease.lun();
+    let turn = channel.state.lock(rt).turn(pass, &mut lease);
+    let enough = match turn {
+        Turn::Ended => return finish(rt, channel, lease),
+        Turn::OutOfMemory => false,
+        Turn::HandedOver => ask_array_ready(rt, channel, gate, n),
+        Turn::NotReady { polls, works } => {
+            let l = find_lun(&channel.geometry, n);
+            ask_ready(rt, channel, gate, l, polls, works) && ask_array_ready(rt, channel, gate, n)
+        }
+        Turn::Held | Turn::Empty => true,
+    };
+    (enough, park(rt, channel, lease))
+}
+
+/// A worker: it starts jobs and goes on with those that are parked, until the gate is closed and nothing is left to do, or memory is
+/// refused.
+pub fn work<L: Turns, G: Gate, R: Wait>(
+    rt: &R,
+    channel: &Channel<L>,
+    gate: &G,
+    pass: WorkerPass<L>,
+) -> WorkEnd<L> {
+    let mut pass = pass;
+    let mut kept: Option<Lease<Loaded>> = None;
+    for _ in rt.forever() {
+        let closed = gate.closed();
+        let todo = match kept.take() {
+            Some(lease) => Next::Go(lease),
+            None => find_next(rt, channel),
+        };
+        match todo {
+            Next::OutOfMemory => {
+                return WorkEnd {
+                    pass,
+                    lease: None,
+                    cause: Cause::OutOfMemory,
+                };
+            }
+            Next::Nothing { took } => {
+                if closed && !took {
+                    return WorkEnd {
+                        pass,
+                        lease: None,
+                        cause: Cause::Quiet,
+                    };
+                }
+                thread::yield_now();
+            }
+            Next::Go(lease) => {
+                let (enough, back) = go_on(rt, channel, gate, &mut pass, lease);
+                if !enough {
+                    return WorkEnd {
+                        pass,
+                        lease: back,
+                        cause: Cause::OutOfMemory,
+                    };
+                }
+                kept = back;
+            }
+        }
+    }
+    unreachable!()
+}

@@ -1,5 +1,0 @@
-use Rattle.micro_cause.proofs.CountersThere.{counters_are_there}
-use Rattle.micro_cause.proofs.laws.counters_are_there.Goals as goal
-
-pub returns : goal.returns
-returns c = counters_are_there

@@ -1,5 +1,0 @@
-use Rattle.micro_cause.proofs.LazyRows.{refusals_are_shown}
-use Rattle.micro_cause.proofs.laws.refusals_are_shown.Goals as goal
-
-pub returns : goal.returns
-returns c = refusals_are_shown

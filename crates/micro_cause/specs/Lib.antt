@@ -1,4 +1,0 @@
-pub mod Lazy
-pub mod Cause
-pub mod CauseRows
-pub mod Counters

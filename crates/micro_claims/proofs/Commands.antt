@@ -1,0 +1,343 @@
+-- Commands are sound: of each, what the claim allows, and what it leaves.
+use Rattle.std.proofs.Common.{◌≡◌, ℕ, ◌+◌, ◌%◌, ◌==◌, Bool, true, false, ◌&&◌, ◌||◌, cond, not, ltb, List, [], ◌∷◌, Option, Some, None, refl, sym, ap, ◌∙◌, subst, arith, eq-eqb}
+use Rattle.nand_geometry.specs.declared.Parts.{Parts}
+use Rattle.nand_geometry.specs.declared.RowParts.{RowParts}
+use Rattle.nand_geometry.specs.Row.{row_of, parts_of}
+use Rattle.onfi_cycle.specs.declared.tail_facts.RowBytes.{RowBytes}
+use Rattle.onfi_cycle.specs.declared.command.Command.{Command}
+use Rattle.onfi_cycle.specs.declared.command.Command.TheVariants.{Read, ReadConfirm, ChangeReadColumn, ChangeReadColumnConfirm, BlockErase, BlockEraseConfirm, PageProgram, ChangeWriteColumn, ProgramConfirm}
+use Rattle.onfi_cycle.specs.declared.tail_facts.DataPhase.TheVariants.{Inputs}
+use Rattle.onfi_cycle.specs.declared.item.Item.{Item}
+use Rattle.onfi_cycle.specs.declared.item.Kind.TheVariants.{Cmd}
+use Rattle.onfi_cycle.specs.declared.lun_facts.Latch.{Latch}
+use Rattle.onfi_cycle.specs.declared.lun_facts.Latch.TheVariants.{Off, Status, Data}
+use Rattle.onfi_cycle.specs.declared.effect.Effect.{Effect}
+use Rattle.onfi_cycle.specs.declared.effect.Effect.TheVariants.{Unaffected, ReadStarted, EraseStarted, ProgramStarted, ReadColumnChanged}
+use Rattle.onfi_cycle.specs.declared.lun_facts.Register.{Register}
+use Rattle.onfi_cycle.specs.declared.lun_facts.Register.TheVariants.{Empty, Page, ParameterPage, Identifier}
+use Rattle.onfi_cycle.specs.declared.tail_facts.TailFacts.{TailFacts}
+use Rattle.onfi_cycle.specs.declared.target_cycle.TargetCycle.TheVariants.{CommandCycle}
+use Rattle.onfi_cycle.specs.LunView.{LunView}
+use Rattle.onfi_cycle.specs.Command.{command, is_opener, closes, address_cycles}
+use Rattle.onfi_cycle.specs.Sequence.{facts_after, is_open, wants_command, row, takes_inputs, input_column}
+use Rattle.onfi_cycle.specs.Effect.{is_off, is_data, names_lun, page_address, cycle_effect}
+use Rattle.onfi_cycle.specs.Lun.{resumed, column_at, view_after}
+use Rattle.onfi_cycle.specs.Rules.{may_change_column, is_page_or_parameters}
+use Rattle.onfi_cycle.specs.Channel.{Channel}
+use Rattle.micro_word.specs.declared.word.Word.TheVariants.{Command as CommandWord}
+use Rattle.micro_word.specs.Text.{Microprogram}
+use Rattle.micro_program.specs.Lines.{Line}
+use Rattle.micro_program.specs.Program.{Job, Done, index_now}
+use Rattle.micro_claims.specs.Spans.{Span}
+use Rattle.micro_claims.specs.State.{NoRows, other_closer, State, Registers, KnownTarget, KnownLun, NamedRow, Place, Closed, After, InData, InColumn, Shown, Held, bounds_of, Unknown}
+use Rattle.micro_claims.specs.Against.{is_unfit, closer_refused, drives, may_be_open, command_out_of_place, opener_refused, place_wants, shows_only_data, has_page_or_parameters}
+use Rattle.micro_claims.specs.Reasons.{breaks_cycle_forbidden}
+use Rattle.micro_claims.specs.Leaves.{paid, with_registers, resumed_shows, data_shown, opened_by, work_started, given_at, cached_at, shows_after_read, read_started, command_leaves}
+use Rattle.micro_claims.specs.Accepts.{state_after, accepts}
+use Rattle.micro_program.proofs.Scenes.{Scene, IsScene, CommandAllowed, shown_alone, sole_behind, scene_behind}
+use Rattle.micro_program.specs.Moves.{Give}
+use Rattle.micro_claims.proofs.Fits.{ColumnBegun, closer_among, Address, is_place, RegistersFit, TailFits, ColumnFits, RowIs, NameFits, ShowsFit, LunFits, OutputColumnFits, RegisterFits, Below, latch_among, register_among, Fits, Now, now_of}
+use Rattle.micro_program.proofs.Basics.{and_parts}
+use Rattle.micro_claims.proofs.Tails.{closed_tail, closed_fits, opener_fits, whole_read, whole_erase, whole_column, Programming, programming}
+use Rattle.micro_claims.proofs.Sounding.{KnownJob, NoReasons, unmoved, SoundWord, plain_sound}
+
+-- 1. what serves all of them
+
+pub or_parts : (a b : Bool) → (a || b) ≡ false → (a ≡ false) × (b ≡ false)
+or_parts true b h = cc
+or_parts false b h = (refl, h)
+
+pub not_no : (b : Bool) → not b ≡ false → b ≡ true
+not_no true h = refl
+not_no false h = cc
+
+pub out_of_place : (g : Parts) (text : Microprogram) (v : State) (byte : ℕ) (d : Command) → command byte ≡ d → NoReasons g text v (CommandWord byte) → command_out_of_place g v d ≡ false
+unfolding breaks_cycle_forbidden
+out_of_place g text v byte d is clear = ap (command_out_of_place g v) (sym is) ∙ clear.no_cycle_forbidden
+
+-- a command is sound where its scene allows it, and what it leaves fits
+pub command_sound : (s : Channel) (j : Job) (k : KnownJob s j) (v : State) (past : List Item) (c : Scene) (done : List Done) (rest : List Line) (at byte : ℕ) (d : Command) → command byte ≡ d → IsScene s j.lun past c → Fits s.geometry j v done c true → NoReasons s.geometry j.text v (CommandWord byte) → CommandAllowed s.geometry j.lun.lun c d → (command_leaves s.geometry v d).registers ≡ v.registers → TailFits s.geometry j (command_leaves s.geometry v d).target (now_of j done) (facts_after (CommandCycle d) c.facts) → ShowsFit (command_leaves s.geometry v d).target.shows (scene_behind s.geometry j.lun.lun (CommandCycle d) c) → LunFits s.geometry j (command_leaves s.geometry v d).lun (index_now j.base done) (scene_behind s.geometry j.lun.lun (CommandCycle d) c).view → accepts s.geometry (bounds_of j.text) None (state_after s.geometry v (CommandWord byte)) rest ≡ true → SoundWord s j past done rest at (CommandWord byte)
+unfolding state_after
+command_sound s j k v past c done rest at byte d is scene f clear allowed same tail shows lun acc =
+    plain_sound s j k v past c done rest at (CommandWord byte) (Give Cmd byte ∷ []) refl scene f.registers clear refl
+    (subst (λ (x : Command). CommandAllowed s.geometry j.lun.lun c x) (sym is) allowed, tt)
+    refl
+    (λ answer. subst (λ (x : Command). Fits s.geometry j (with_registers (command_leaves s.geometry v x) (paid 1 (command_leaves s.geometry v x).registers)) (record { word = CommandWord byte; answer = answer } ∷ done) (scene_behind s.geometry j.lun.lun (CommandCycle x) c) true) (sym is)
+    (record {
+      registers = subst (λ (r : Registers). RegistersFit s.geometry j (paid 1 r) (record { word = CommandWord byte; answer = answer } ∷ done)) (sym same) (unmoved s.geometry j v v.registers.place v.registers.polled done (CommandWord byte) answer f.registers clear (record { column = λ n. refl; plane = λ n. refl; index = λ b n. refl }) f.registers.place);
+      tail = λ e. tail;
+      free = λ e. cc;
+      shows = shows;
+      lun = lun;
+    }))
+    acc
+
+-- another latch
+relatched : (g : Parts) (j : Job) (v : KnownLun) (i : ℕ) (view : LunView) (x : Latch) → LunFits g j v i view → LunFits g j v i (record view { latch = x })
+relatched g j v i view x f = record { ready = f.ready; register = f.register; column = f.column; queue = f.queue; last = f.last; cached = f.cached }
+
+-- what shows is kept with the latch
+pub shows_kept : (o : Option Shown) (c d : Scene) → (c.sole ≡ true → d.sole ≡ true) → d.view.latch ≡ c.view.latch → ShowsFit o c → ShowsFit o d
+shows_kept None c d sole latch f = tt
+shows_kept (Some w) c d sole latch f = (sole f.0, ap (latch_among w) latch ∙ f.1)
+
+pub same_either : (b : Bool) → cond b Unaffected Unaffected ≡ Unaffected
+same_either true = refl
+same_either false = refl
+
+-- what an opener needs
+not_yes : (b : Bool) → not b ≡ true → b ≡ false
+not_yes true h = cc
+not_yes false h = refl
+
+record Opening (v : State) (c : Scene) : Type 0 where
+  closed : is_open c.facts ≡ false
+  ready : c.view.busy ≡ false
+
+opening : (g : Parts) (j : Job) (v : State) (done : List Done) (c : Scene) → Fits g j v done c true → may_be_open v ≡ false → v.lun.busy ≡ false → Opening v c
+opening g j v done c f closed ready = record { closed = closed_tail g j v.target (now_of j done) c.facts (f.tail refl) closed; ready = f.lun.ready ready }
+
+-- 2. openers
+
+-- 00h
+resumed_shown : (o : Option Shown) (t : TailFacts) (c : Scene) → ShowsFit o c → ShowsFit (resumed_shows o) (record { facts = t; view = record c.view { latch = resumed c.view.latch }; sole = c.sole })
+resumed_shown None t c f = tt
+resumed_shown (Some w) t c f = (f.0, lit c.view.latch f.1)
+  where
+    lit : (x : Latch) → latch_among w x ≡ true → latch_among (record { status = false; register = true }) (resumed x) ≡ true
+    lit Off h = cc
+    lit Status h = refl
+    lit Data h = refl
+
+pub sound_00 : (s : Channel) (j : Job) (k : KnownJob s j) (v : State) (past : List Item) (c : Scene) (done : List Done) (rest : List Line) (at byte : ℕ) → command byte ≡ Read → IsScene s j.lun past c → Fits s.geometry j v done c true → NoReasons s.geometry j.text v (CommandWord byte) → accepts s.geometry (bounds_of j.text) None (state_after s.geometry v (CommandWord byte)) rest ≡ true → SoundWord s j past done rest at (CommandWord byte)
+sound_00 s j k v past c done rest at byte is scene f clear acc =
+    let free = or_parts (may_be_open v) v.lun.busy (out_of_place s.geometry j.text v byte Read is clear) in
+    let o = opening s.geometry j v done c f free.0 free.1 in
+    command_sound s j k v past c done rest at byte Read is scene f clear (o.closed, o.ready) refl
+    (opener_fits s.geometry j (resumed_shows v.target.shows) (now_of j done) c.facts Read refl)
+    (resumed_shown v.target.shows (facts_after (CommandCycle Read) c.facts) c f.shows)
+    (relatched s.geometry j v.lun (index_now j.base done) c.view (resumed c.view.latch) f.lun)
+    acc
+
+-- 60h and 80h
+pub plain_opener : (s : Channel) (j : Job) (k : KnownJob s j) (v : State) (past : List Item) (c : Scene) (done : List Done) (rest : List Line) (at byte : ℕ) (d : Command) → command byte ≡ d → IsScene s j.lun past c → Fits s.geometry j v done c true → NoReasons s.geometry j.text v (CommandWord byte) → CommandAllowed s.geometry j.lun.lun c d → command_leaves s.geometry v d ≡ opened_by d v → is_place d 0 ≡ true → (cycle_effect s.geometry c.facts (shown_alone c) (CommandCycle d) j.lun.lun ≡ Unaffected) → (sole_behind s.geometry c (CommandCycle d) ≡ c.sole) → accepts s.geometry (bounds_of j.text) None (state_after s.geometry v (CommandWord byte)) rest ≡ true → SoundWord s j past done rest at (CommandWord byte)
+plain_opener s j k v past c done rest at byte d is scene f clear allowed leaves place effect sole acc =
+    command_sound s j k v past c done rest at byte d is scene f clear allowed (ap (λ (x : State). x.registers) leaves)
+    (subst (λ (x : State). TailFits s.geometry j x.target (now_of j done) (facts_after (CommandCycle d) c.facts)) (sym leaves) (opener_fits s.geometry j v.target.shows (now_of j done) c.facts d place))
+    (subst (λ (x : State). ShowsFit x.target.shows (scene_behind s.geometry j.lun.lun (CommandCycle d) c)) (sym leaves) (shows_kept v.target.shows c (scene_behind s.geometry j.lun.lun (CommandCycle d) c) (λ e. sole ∙ e) (ap (λ (e : Effect). (view_after e c.view).latch) effect) f.shows))
+    (subst (λ (x : State). LunFits s.geometry j x.lun (index_now j.base done) (scene_behind s.geometry j.lun.lun (CommandCycle d) c).view) (sym leaves) (subst (λ (e : Effect). LunFits s.geometry j v.lun (index_now j.base done) (view_after e c.view)) (sym effect) f.lun))
+    acc
+
+pub sound_60 : (s : Channel) (j : Job) (k : KnownJob s j) (v : State) (past : List Item) (c : Scene) (done : List Done) (rest : List Line) (at byte : ℕ) → command byte ≡ BlockErase → IsScene s j.lun past c → Fits s.geometry j v done c true → NoReasons s.geometry j.text v (CommandWord byte) → accepts s.geometry (bounds_of j.text) None (state_after s.geometry v (CommandWord byte)) rest ≡ true → SoundWord s j past done rest at (CommandWord byte)
+sound_60 s j k v past c done rest at byte is scene f clear acc =
+    let free = or_parts (may_be_open v) v.lun.busy (out_of_place s.geometry j.text v byte BlockErase is clear) in
+    let o = opening s.geometry j v done c f free.0 free.1 in
+    plain_opener s j k v past c done rest at byte BlockErase is scene f clear (o.closed, o.ready) refl refl (same_either (wants_command c.facts BlockErase && names_lun s.geometry (row c.facts) j.lun.lun)) refl acc
+
+pub sound_80 : (s : Channel) (j : Job) (k : KnownJob s j) (v : State) (past : List Item) (c : Scene) (done : List Done) (rest : List Line) (at byte : ℕ) → command byte ≡ PageProgram → IsScene s j.lun past c → Fits s.geometry j v done c true → NoReasons s.geometry j.text v (CommandWord byte) → accepts s.geometry (bounds_of j.text) None (state_after s.geometry v (CommandWord byte)) rest ≡ true → SoundWord s j past done rest at (CommandWord byte)
+sound_80 s j k v past c done rest at byte is scene f clear acc =
+    let free = or_parts (may_be_open v) v.lun.busy (out_of_place s.geometry j.text v byte PageProgram is clear) in
+    let o = opening s.geometry j v done c f free.0 free.1 in
+    plain_opener s j k v past c done rest at byte PageProgram is scene f clear (o.closed, o.ready) refl refl (same_either (wants_command c.facts PageProgram && names_lun s.geometry (row c.facts) j.lun.lun)) refl acc
+
+-- 05h
+changes : (o : Option Shown) (r : Option Held) (c : Scene) → ShowsFit o c → RegisterFits r c.view.register → c.view.busy ≡ false → shows_only_data o ≡ true → has_page_or_parameters r ≡ true → (c.sole ≡ true) × (may_change_column c.view ≡ true)
+changes None r c shows fits ready shown page = cc
+changes (Some w) None c shows fits ready shown page = cc
+changes (Some w) (Some r) c shows fits ready shown page = (shows.0, rw (is_shown c.view.latch shows.1, ready, is_held c.view.register fits) refl)
+  where
+    is_shown : (x : Latch) → latch_among w x ≡ true → is_data x ≡ true
+    is_shown Off h = cc
+    is_shown Status h = let none = not_yes w.status shown in cc
+    is_shown Data h = refl
+
+    is_held : (x : Register) → register_among r x ≡ true → is_page_or_parameters x ≡ true
+    is_held Empty h = cc
+    is_held (Page p) h = refl
+    is_held ParameterPage h = refl
+    is_held Identifier h = let none = not_yes r.identifier page in cc
+
+pub sound_05 : (s : Channel) (j : Job) (k : KnownJob s j) (v : State) (past : List Item) (c : Scene) (done : List Done) (rest : List Line) (at byte : ℕ) → command byte ≡ ChangeReadColumn → IsScene s j.lun past c → Fits s.geometry j v done c true → NoReasons s.geometry j.text v (CommandWord byte) → accepts s.geometry (bounds_of j.text) None (state_after s.geometry v (CommandWord byte)) rest ≡ true → SoundWord s j past done rest at (CommandWord byte)
+sound_05 s j k v past c done rest at byte is scene f clear acc =
+    let free = or_parts (may_be_open v) (opener_refused s.geometry v ChangeReadColumn) (out_of_place s.geometry j.text v byte ChangeReadColumn is clear) in
+    let held = or_parts (not (shows_only_data v.target.shows) || v.lun.busy) (not (has_page_or_parameters v.lun.register)) free.1 in
+    let ready = or_parts (not (shows_only_data v.target.shows)) v.lun.busy held.0 in
+    let o = opening s.geometry j v done c f free.0 ready.1 in
+    let may = changes v.target.shows v.lun.register c f.shows f.lun.register o.ready (not_no _ ready.0) (not_no _ held.1) in
+    plain_opener s j k v past c done rest at byte ChangeReadColumn is scene f clear ((o.closed, o.ready), may.0, may.1) refl refl (same_either (wants_command c.facts ChangeReadColumn && names_lun s.geometry (row c.facts) j.lun.lun)) refl acc
+
+-- 3. closers
+
+-- the row of the tail is that of the address, and names this LUN
+pub row_names : (g : Parts) (j : Job) (t : TailFacts) (a : Address) → row t ≡ row_of a.r1 a.r2 a.r3 → RowIs g j a → names_lun g (row t) j.lun.lun ≡ true
+row_names g j t a e r = eq-eqb _ _ (ap (λ (n : ℕ). (parts_of g n).lun) e ∙ ap (λ (p : RowParts). p.lun) r.reads)
+
+pub record Wanted (v : State) (d : Command) : Type 0 where
+  pub places : place_wants d v.target.tail ≡ true
+  pub not_refused : closer_refused v d ≡ false
+
+pub wanted : (g : Parts) (text : Microprogram) (v : State) (byte : ℕ) (d : Command) → command byte ≡ d → is_unfit g d ≡ false → is_opener d ≡ false → NoReasons g text v (CommandWord byte) → Wanted v d
+wanted g text v byte d is fit closer clear =
+    let all = not (place_wants d v.target.tail) || closer_refused v d in
+    let fitting = subst (λ (b : Bool). cond b false (cond (is_opener d) (may_be_open v || opener_refused g v d) all) ≡ false) fit (out_of_place g text v byte d is clear) in
+    let closing = subst (λ (b : Bool). cond b (may_be_open v || opener_refused g v d) all ≡ false) closer fitting in
+    let both = or_parts (not (place_wants d v.target.tail)) (closer_refused v d) closing in
+    record { places = not_no _ both.0; not_refused = both.1 }
+
+-- work that leaves no register, and an empty queue
+started_fits : (g : Parts) (j : Job) (v : State) (i : ℕ) (view : LunView) → view.queue ≡ [] → closer_among other_closer view.closer ≡ true → LunFits g j (work_started NoRows v).lun i view
+started_fits g j v i view queue last = record { ready = λ e. cc; register = tt; column = tt; queue = queue; last = last; cached = λ e f. cc }
+
+-- D0h
+pub sound_d0 : (s : Channel) (j : Job) (k : KnownJob s j) (v : State) (past : List Item) (c : Scene) (done : List Done) (rest : List Line) (at byte : ℕ) → command byte ≡ BlockEraseConfirm → IsScene s j.lun past c → Fits s.geometry j v done c true → NoReasons s.geometry j.text v (CommandWord byte) → accepts s.geometry (bounds_of j.text) None (state_after s.geometry v (CommandWord byte)) rest ≡ true → SoundWord s j past done rest at (CommandWord byte)
+sound_d0 s j k v past c done rest at byte is scene f clear acc =
+    let g = s.geometry in
+    let w = whole_erase g j v.target (now_of j done) c.facts (f.tail refl) (wanted g j.text v byte BlockEraseConfirm is refl refl clear).places in
+    let wants : wants_command c.facts BlockEraseConfirm ≡ true = ap (λ (t : TailFacts). wants_command t BlockEraseConfirm) w.facts in
+    let names = row_names g j c.facts w.address (ap row w.facts) (w.row refl) in
+    let effect : cycle_effect g c.facts (shown_alone c) (CommandCycle BlockEraseConfirm) j.lun.lun ≡ EraseStarted false (page_address g (row c.facts)) = rw (wants, names) refl in
+    command_sound s j k v past c done rest at byte BlockEraseConfirm is scene f clear (wants, names) refl
+    (closed_fits g j None None v.target.shows (now_of j done) _ (ap (λ (t : TailFacts). is_open (facts_after (CommandCycle BlockEraseConfirm) t)) w.facts))
+    (shows_kept v.target.shows c (scene_behind g j.lun.lun (CommandCycle BlockEraseConfirm) c) (λ e. e) (ap (λ (e : Effect). (view_after e c.view).latch) effect) f.shows)
+    (subst (λ (e : Effect). LunFits g j (work_started NoRows v).lun (index_now j.base done) (view_after e c.view)) (sym effect) (started_fits g j v (index_now j.base done) (view_after (EraseStarted false (page_address g (row c.facts))) c.view) refl refl))
+    acc
+
+-- 10h
+confirms : (p : Place) → place_wants ProgramConfirm p ≡ true → p ≡ InData
+confirms InData h = refl
+confirms Closed h = cc
+confirms (InColumn n) h = cc
+confirms Unknown h = cc
+confirms (After o n) h = let both = and_parts (closes o ProgramConfirm) (n == address_cycles o) h in absurd (none o both.0)
+  where
+    none : (o : Command) → closes o ProgramConfirm ≡ true → ⊥
+    none Read h = cc
+    none ChangeReadColumn h = cc
+    none BlockErase h = cc
+    none _ h = cc
+
+pub program_row : (g : Parts) (j : Job) (v : KnownTarget) (n : Now) (t : TailFacts) (p : Programming g j v n t) → row t ≡ row_of p.address.r1 p.address.r2 p.address.r3
+program_row g j v n t p = ap (λ (r : RowBytes). row_of r.r1 r.r2 r.r3) p.program.row
+
+pub sound_10 : (s : Channel) (j : Job) (k : KnownJob s j) (v : State) (past : List Item) (c : Scene) (done : List Done) (rest : List Line) (at byte : ℕ) → command byte ≡ ProgramConfirm → IsScene s j.lun past c → Fits s.geometry j v done c true → NoReasons s.geometry j.text v (CommandWord byte) → accepts s.geometry (bounds_of j.text) None (state_after s.geometry v (CommandWord byte)) rest ≡ true → SoundWord s j past done rest at (CommandWord byte)
+sound_10 s j k v past c done rest at byte is scene f clear acc =
+    let g = s.geometry in
+    let p = programming g j v.target (now_of j done) c.facts (place_wants ProgramConfirm) confirms (f.tail refl) (wanted g j.text v byte ProgramConfirm is refl refl clear).places in
+    let wants : wants_command c.facts ProgramConfirm ≡ true = ap takes_inputs p.program.phase in
+    let names = row_names g j c.facts p.address (program_row g j v.target (now_of j done) c.facts p) p.row in
+    let effect : cycle_effect g c.facts (shown_alone c) (CommandCycle ProgramConfirm) j.lun.lun ≡ ProgramStarted false (page_address g (row c.facts)) = rw (wants, names) refl in
+    command_sound s j k v past c done rest at byte ProgramConfirm is scene f clear (wants, names) refl
+    (closed_fits g j None None v.target.shows (now_of j done) _ (rw p.program.begun refl))
+    (shows_kept v.target.shows c (scene_behind g j.lun.lun (CommandCycle ProgramConfirm) c) (λ e. e) (ap (λ (e : Effect). (view_after e c.view).latch) effect) f.shows)
+    (subst (λ (e : Effect). LunFits g j (work_started NoRows v).lun (index_now j.base done) (view_after e c.view)) (sym effect) (started_fits g j v (index_now j.base done) (view_after (ProgramStarted false (page_address g (row c.facts))) c.view) refl refl))
+    acc
+
+-- 30h
+read_column_fits : (o : Option Span) (t : TailFacts) → t.inputs ≡ 0 → ColumnFits (input_column t) o → OutputColumnFits (given_at o) (column_at t.column)
+read_column_fits None t none h = absurd h
+read_column_fits (Some k) t none h =
+    record { at = t.column + 0; is = refl; below = subst (λ (n : ℕ). Below (t.column + n) k.hi) none h; unread = λ e. refl }
+
+page_below : (g : Parts) (j : Job) (a : Address) (now : ℕ) (o : Option NamedRow) → NameFits g j a now o → j.base % g.pages ≡ 0 → Below (a.index % g.pages) (cached_at o).page.hi
+page_below g j a now None h base = tt
+page_below g j a now (Some n) h base = h.page base
+
+-- what is shown behind a read
+read_shown : (g : Parts) (o : Option Shown) (c d : Scene) → d.sole ≡ (c.sole || not (ltb 1 g.luns)) → d.view.latch ≡ Data → ShowsFit o c → ShowsFit (shows_after_read g o) d
+read_shown g (Some w) c d sole latch f = (sole ∙ rw f.0 refl, ap (latch_among (record { status = false; register = true })) latch)
+read_shown g None c d sole latch f = at (ltb 1 g.luns) refl
+  where
+    or_yes : (b : Bool) → (b || true) ≡ true
+    or_yes true = refl
+    or_yes false = refl
+
+    at : (b : Bool) → ltb 1 g.luns ≡ b → ShowsFit (cond b None data_shown) d
+    at true e = tt
+    at false e = (sole ∙ (ap (λ (b : Bool). c.sole || not b) e ∙ or_yes c.sole), ap (latch_among (record { status = false; register = true })) latch)
+
+pub sound_30 : (s : Channel) (j : Job) (k : KnownJob s j) (v : State) (past : List Item) (c : Scene) (done : List Done) (rest : List Line) (at byte : ℕ) → command byte ≡ ReadConfirm → IsScene s j.lun past c → Fits s.geometry j v done c true → NoReasons s.geometry j.text v (CommandWord byte) → accepts s.geometry (bounds_of j.text) None (state_after s.geometry v (CommandWord byte)) rest ≡ true → SoundWord s j past done rest at (CommandWord byte)
+sound_30 s j k v past c done rest at byte is scene f clear acc =
+    let g = s.geometry in
+    let w = whole_read g j v.target (now_of j done) c.facts (f.tail refl) (wanted g j.text v byte ReadConfirm is refl refl clear).places in
+    let wants : wants_command c.facts ReadConfirm ≡ true = ap (λ (t : TailFacts). wants_command t ReadConfirm) w.facts in
+    let row_is : row c.facts ≡ row_of w.address.r1 w.address.r2 w.address.r3 = ap row w.facts in
+    let names = row_names g j c.facts w.address row_is (w.row refl) in
+    let effect : cycle_effect g c.facts (shown_alone c) (CommandCycle ReadConfirm) j.lun.lun ≡ ReadStarted (page_address g (row c.facts)) c.facts.column = rw (wants, names) refl in
+    let page_is : (page_address g (row c.facts)).page ≡ w.address.index % g.pages = ap (λ (n : ℕ). (parts_of g n).page) row_is ∙ ap (λ (p : RowParts). p.page) (w.row refl).reads in
+    command_sound s j k v past c done rest at byte ReadConfirm is scene f clear (wants, names) refl
+    (closed_fits g j None None (shows_after_read g v.target.shows) (now_of j done) _ (ap (λ (t : TailFacts). is_open (facts_after (CommandCycle ReadConfirm) t)) w.facts))
+    (read_shown g v.target.shows c (scene_behind g j.lun.lun (CommandCycle ReadConfirm) c) refl (ap (λ (e : Effect). (view_after e c.view).latch) effect) f.shows)
+    (subst (λ (e : Effect). LunFits g j (read_started g v).lun (index_now j.base done) (view_after e c.view)) (sym effect)
+    (record {
+      ready = λ e. cc;
+      register = refl;
+      column = read_column_fits v.target.column c.facts (ap (λ (t : TailFacts). t.inputs) w.facts) (w.column refl);
+      queue = f.lun.queue;
+      last = refl;
+      cached = λ base e. subst (λ (n : ℕ). Below n (cached_at v.target.named).page.hi) (sym page_is) (page_below g j w.address (index_now j.base done) v.target.named (w.named refl) base);
+    }))
+    acc
+
+-- E0h
+pub driven : (o : Option Shown) (c : Scene) → ShowsFit o c → not (drives o) ≡ false → (c.sole ≡ true) × (is_off c.view.latch ≡ false)
+driven None c f h = cc
+driven (Some w) c f h = (f.0, on c.view.latch f.1)
+  where
+    on : (x : Latch) → latch_among w x ≡ true → is_off x ≡ false
+    on Off h = cc
+    on Status h = refl
+    on Data h = refl
+
+pub sound_e0 : (s : Channel) (j : Job) (k : KnownJob s j) (v : State) (past : List Item) (c : Scene) (done : List Done) (rest : List Line) (at byte : ℕ) → command byte ≡ ChangeReadColumnConfirm → IsScene s j.lun past c → Fits s.geometry j v done c true → NoReasons s.geometry j.text v (CommandWord byte) → accepts s.geometry (bounds_of j.text) None (state_after s.geometry v (CommandWord byte)) rest ≡ true → SoundWord s j past done rest at (CommandWord byte)
+sound_e0 s j k v past c done rest at byte is scene f clear acc =
+    let g = s.geometry in
+    let want = wanted g j.text v byte ChangeReadColumnConfirm is refl refl clear in
+    let w = whole_column g j v.target (now_of j done) c.facts (f.tail refl) want.places in
+    let one = driven v.target.shows c f.shows want.not_refused in
+    let wants : wants_command c.facts ChangeReadColumnConfirm ≡ true = ap (λ (t : TailFacts). wants_command t ChangeReadColumnConfirm) w.facts in
+    let effect : cycle_effect g c.facts (shown_alone c) (CommandCycle ChangeReadColumnConfirm) j.lun.lun ≡ ReadColumnChanged c.facts.column = rw (wants, one.0, one.1) refl in
+    command_sound s j k v past c done rest at byte ChangeReadColumnConfirm is scene f clear (wants, one.0) refl
+    (closed_fits g j None None v.target.shows (now_of j done) _ (ap (λ (t : TailFacts). is_open (facts_after (CommandCycle ChangeReadColumnConfirm) t)) w.facts))
+    (shows_kept v.target.shows c (scene_behind g j.lun.lun (CommandCycle ChangeReadColumnConfirm) c) (λ e. e) (ap (λ (e : Effect). (view_after e c.view).latch) effect) f.shows)
+    (subst (λ (e : Effect). LunFits g j (record v.lun { column = given_at v.target.column }) (index_now j.base done) (view_after e c.view)) (sym effect)
+    (record { ready = f.lun.ready; register = f.lun.register; column = read_column_fits v.target.column c.facts (ap (λ (t : TailFacts). t.inputs) w.facts) (w.column refl); queue = f.lun.queue; last = f.lun.last; cached = f.lun.cached }))
+    acc
+
+-- 85h
+changes_column : (p : Place) → place_wants ChangeWriteColumn p ≡ true → p ≡ InData
+changes_column InData h = refl
+changes_column Closed h = cc
+changes_column (InColumn n) h = cc
+changes_column Unknown h = cc
+changes_column (After o n) h = let both = and_parts (closes o ChangeWriteColumn) (n == address_cycles o) h in absurd (none o both.0)
+  where
+    none : (o : Command) → closes o ChangeWriteColumn ≡ true → ⊥
+    none Read h = cc
+    none ChangeReadColumn h = cc
+    none BlockErase h = cc
+    none _ h = cc
+
+behind_85 : (t : TailFacts) (a : Address) → t.phase ≡ Inputs → t.row ≡ record { r1 = a.r1; r2 = a.r2; r3 = a.r3 } → t.is_empty ≡ false → ColumnBegun 0 a (facts_after (CommandCycle ChangeWriteColumn) t)
+behind_85 t a phase row begun =
+    record { few = omega arith; alone = rw begun refl; program = record { phase = rw (begun, phase) refl; row = rw begun row; begun = rw begun refl }; column = λ e. absurd (omega (arith, e)) }
+
+pub sound_85 : (s : Channel) (j : Job) (k : KnownJob s j) (v : State) (past : List Item) (c : Scene) (done : List Done) (rest : List Line) (at byte : ℕ) → command byte ≡ ChangeWriteColumn → IsScene s j.lun past c → Fits s.geometry j v done c true → NoReasons s.geometry j.text v (CommandWord byte) → accepts s.geometry (bounds_of j.text) None (state_after s.geometry v (CommandWord byte)) rest ≡ true → SoundWord s j past done rest at (CommandWord byte)
+sound_85 s j k v past c done rest at byte is scene f clear acc =
+    let g = s.geometry in
+    let p = programming g j v.target (now_of j done) c.facts (place_wants ChangeWriteColumn) changes_column (f.tail refl) (wanted g j.text v byte ChangeWriteColumn is refl refl clear).places in
+    let wants : wants_command c.facts ChangeWriteColumn ≡ true = ap takes_inputs p.program.phase in
+    let effect : cycle_effect g c.facts (shown_alone c) (CommandCycle ChangeWriteColumn) j.lun.lun ≡ Unaffected = same_either (wants_command c.facts ChangeWriteColumn && names_lun g (row c.facts) j.lun.lun) in
+    command_sound s j k v past c done rest at byte ChangeWriteColumn is scene f clear wants refl
+    (record {
+      place = InColumn 0;
+      here = refl;
+      address = p.address;
+      is = behind_85 c.facts p.address p.program.phase p.program.row p.program.begun;
+      now = λ e. cc;
+      column = λ e. cc;
+      row = λ e. p.row;
+      named = λ e. p.named;
+    })
+    (shows_kept v.target.shows c (scene_behind g j.lun.lun (CommandCycle ChangeWriteColumn) c) (λ e. e) (ap (λ (e : Effect). (view_after e c.view).latch) effect) f.shows)
+    (subst (λ (e : Effect). LunFits g j v.lun (index_now j.base done) (view_after e c.view)) (sym effect) f.lun)
+    acc

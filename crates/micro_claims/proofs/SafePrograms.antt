@@ -1,0 +1,107 @@
+-- Programs that are accepted, computed by the definitions; so they are safe. And some that aren't accepted.
+use Rattle.std.proofs.Common.{◌≡◌, true, false, refl, List, [], ◌∷◌, None, arith}
+use Rattle.micro_word.specs.declared.word.Word.{Word}
+use Rattle.micro_word.specs.declared.word.Word.TheVariants.{End, Command, Address, Get, Wait, Yield}
+use Rattle.onfi_cycle.specs.Command.{command}
+use Rattle.micro_program.specs.Unsafe.{one_lun}
+use Rattle.micro_program.specs.Lines.{unrolled}
+use Rattle.micro_claims.specs.State.{first_state, bounds_of}
+use Rattle.micro_claims.specs.Reasons.{reason_against, breaks_cycle_forbidden, breaks_address_unaligned, breaks_handover_in_sequence, breaks_buffer_passed, breaks_row_or_plane_outside, breaks_column_too_large, breaks_no_status, breaks_ends_too_soon, breaks_over_budget, breaks_command_not_allowed}
+use Rattle.micro_claims.specs.Accepts.{accepts, state_after}
+use Rattle.micro_claims.specs.SafePrograms.{two_luns, some_text, read_words, handing_words, program_words, column_words, checked_words, parts_words, planes_words, blocks_words, cache_words, identity_words, one_lun_with_cache, with_rows, SomeAreSafe}
+use Rattle.micro_claims.proofs.AcceptedLines.{accepted_is_safe}
+
+read_is : accepts one_lun (bounds_of (some_text 528 536 read_words)) None first_state (unrolled read_words) ≡ true
+unfolding command unrolled state_after reason_against breaks_cycle_forbidden breaks_address_unaligned breaks_handover_in_sequence breaks_buffer_passed breaks_row_or_plane_outside breaks_column_too_large breaks_no_status breaks_ends_too_soon breaks_over_budget breaks_command_not_allowed
+read_is = refl
+
+read_among_others_is : accepts two_luns (bounds_of (some_text 528 536 read_words)) None first_state (unrolled read_words) ≡ true
+unfolding command unrolled state_after reason_against breaks_cycle_forbidden breaks_address_unaligned breaks_handover_in_sequence breaks_buffer_passed breaks_row_or_plane_outside breaks_column_too_large breaks_no_status breaks_ends_too_soon breaks_over_budget breaks_command_not_allowed
+read_among_others_is = refl
+
+handing_is : accepts one_lun (bounds_of (some_text 528 538 handing_words)) None first_state (unrolled handing_words) ≡ true
+unfolding command unrolled state_after reason_against breaks_cycle_forbidden breaks_address_unaligned breaks_handover_in_sequence breaks_buffer_passed breaks_row_or_plane_outside breaks_column_too_large breaks_no_status breaks_ends_too_soon breaks_over_budget breaks_command_not_allowed
+handing_is = refl
+
+handing_among_others_is : accepts two_luns (bounds_of (some_text 528 541 handing_words)) None first_state (unrolled handing_words) ≡ true
+unfolding command unrolled state_after reason_against breaks_cycle_forbidden breaks_address_unaligned breaks_handover_in_sequence breaks_buffer_passed breaks_row_or_plane_outside breaks_column_too_large breaks_no_status breaks_ends_too_soon breaks_over_budget breaks_command_not_allowed
+handing_among_others_is = refl
+
+program_is : accepts one_lun (bounds_of (some_text 100 127 program_words)) None first_state (unrolled program_words) ≡ true
+unfolding command unrolled state_after reason_against breaks_cycle_forbidden breaks_address_unaligned breaks_handover_in_sequence breaks_buffer_passed breaks_row_or_plane_outside breaks_column_too_large breaks_no_status breaks_ends_too_soon breaks_over_budget breaks_command_not_allowed
+program_is = refl
+
+program_among_others_is : accepts two_luns (bounds_of (some_text 100 127 program_words)) None first_state (unrolled program_words) ≡ true
+unfolding command unrolled state_after reason_against breaks_cycle_forbidden breaks_address_unaligned breaks_handover_in_sequence breaks_buffer_passed breaks_row_or_plane_outside breaks_column_too_large breaks_no_status breaks_ends_too_soon breaks_over_budget breaks_command_not_allowed
+program_among_others_is = refl
+
+column_is : accepts one_lun (bounds_of (some_text 26 38 column_words)) None first_state (unrolled column_words) ≡ true
+unfolding command unrolled state_after reason_against breaks_cycle_forbidden breaks_address_unaligned breaks_handover_in_sequence breaks_buffer_passed breaks_row_or_plane_outside breaks_column_too_large breaks_no_status breaks_ends_too_soon breaks_over_budget breaks_command_not_allowed
+column_is = refl
+
+column_among_others_is : accepts two_luns (bounds_of (some_text 26 38 column_words)) None first_state (unrolled column_words) ≡ true
+unfolding command unrolled state_after reason_against breaks_cycle_forbidden breaks_address_unaligned breaks_handover_in_sequence breaks_buffer_passed breaks_row_or_plane_outside breaks_column_too_large breaks_no_status breaks_ends_too_soon breaks_over_budget breaks_command_not_allowed
+column_among_others_is = refl
+
+checked_is : accepts two_luns (bounds_of (some_text 0 5 checked_words)) None first_state (unrolled checked_words) ≡ true
+unfolding command unrolled state_after reason_against breaks_cycle_forbidden breaks_address_unaligned breaks_handover_in_sequence breaks_buffer_passed breaks_row_or_plane_outside breaks_column_too_large breaks_no_status breaks_ends_too_soon breaks_over_budget breaks_command_not_allowed
+checked_is = refl
+
+parts_is : accepts two_luns (bounds_of (some_text 8 18 parts_words)) None first_state (unrolled parts_words) ≡ true
+unfolding command unrolled state_after reason_against breaks_cycle_forbidden breaks_address_unaligned breaks_handover_in_sequence breaks_buffer_passed breaks_row_or_plane_outside breaks_column_too_large breaks_no_status breaks_ends_too_soon breaks_over_budget breaks_command_not_allowed
+parts_is = refl
+
+planes_is : accepts two_luns (bounds_of (some_text 0 10 planes_words)) None first_state (unrolled planes_words) ≡ true
+unfolding command unrolled state_after reason_against breaks_cycle_forbidden breaks_address_unaligned breaks_handover_in_sequence breaks_buffer_passed breaks_row_or_plane_outside breaks_column_too_large breaks_no_status breaks_ends_too_soon breaks_over_budget breaks_command_not_allowed
+planes_is = refl
+
+blocks_is : accepts two_luns (bounds_of (with_rows 8 0 10 blocks_words)) None first_state (unrolled blocks_words) ≡ true
+unfolding command unrolled state_after reason_against breaks_cycle_forbidden breaks_address_unaligned breaks_handover_in_sequence breaks_buffer_passed breaks_row_or_plane_outside breaks_column_too_large breaks_no_status breaks_ends_too_soon breaks_over_budget breaks_command_not_allowed
+blocks_is = refl
+
+cached_is : accepts one_lun_with_cache (bounds_of (with_rows 2 1056 1067 cache_words)) None first_state (unrolled cache_words) ≡ true
+unfolding command unrolled state_after reason_against breaks_cycle_forbidden breaks_address_unaligned breaks_handover_in_sequence breaks_buffer_passed breaks_row_or_plane_outside breaks_column_too_large breaks_no_status breaks_ends_too_soon breaks_over_budget breaks_command_not_allowed
+cached_is = refl
+
+identity_is : accepts one_lun (bounds_of (some_text 772 778 identity_words)) None first_state (unrolled identity_words) ≡ true
+unfolding command unrolled state_after reason_against breaks_cycle_forbidden breaks_address_unaligned breaks_handover_in_sequence breaks_buffer_passed breaks_row_or_plane_outside breaks_column_too_large breaks_no_status breaks_ends_too_soon breaks_over_budget breaks_command_not_allowed
+identity_is = refl
+
+-- one byte of buffer too few, one cycle of budget too few, data before the status was asked for again
+short_buffer : accepts one_lun (bounds_of (some_text 527 536 read_words)) None first_state (unrolled read_words) ≡ false
+unfolding command unrolled state_after reason_against breaks_cycle_forbidden breaks_address_unaligned breaks_handover_in_sequence breaks_buffer_passed breaks_row_or_plane_outside breaks_column_too_large breaks_no_status breaks_ends_too_soon breaks_over_budget breaks_command_not_allowed
+short_buffer = refl
+
+short_budget : accepts one_lun (bounds_of (some_text 528 535 read_words)) None first_state (unrolled read_words) ≡ false
+unfolding command unrolled state_after reason_against breaks_cycle_forbidden breaks_address_unaligned breaks_handover_in_sequence breaks_buffer_passed breaks_row_or_plane_outside breaks_column_too_large breaks_no_status breaks_ends_too_soon breaks_over_budget breaks_command_not_allowed
+short_budget = refl
+
+unasked : List Word
+unasked = Command 0x00 ∷ (Address 0 5 ∷ (Command 0x30 ∷ (Wait ∷ (Yield ∷ (Command 0x00 ∷ (Get 528 ∷ (End 0 ∷ [])))))))
+
+unasked_alone : accepts one_lun (bounds_of (some_text 528 536 unasked)) None first_state (unrolled unasked) ≡ true
+unfolding command unrolled state_after reason_against breaks_cycle_forbidden breaks_address_unaligned breaks_handover_in_sequence breaks_buffer_passed breaks_row_or_plane_outside breaks_column_too_large breaks_no_status breaks_ends_too_soon breaks_over_budget breaks_command_not_allowed unasked
+unasked_alone = refl
+
+unasked_among_others : accepts two_luns (bounds_of (some_text 528 536 unasked)) None first_state (unrolled unasked) ≡ false
+unfolding command unrolled state_after reason_against breaks_cycle_forbidden breaks_address_unaligned breaks_handover_in_sequence breaks_buffer_passed breaks_row_or_plane_outside breaks_column_too_large breaks_no_status breaks_ends_too_soon breaks_over_budget breaks_command_not_allowed unasked
+unasked_among_others = refl
+
+pub some_are_safe : SomeAreSafe
+some_are_safe =
+    record {
+      read = accepted_is_safe (some_text 528 536 read_words) one_lun (omega arith) read_is;
+      read_among_others = accepted_is_safe (some_text 528 536 read_words) two_luns (omega arith) read_among_others_is;
+      handing = accepted_is_safe (some_text 528 538 handing_words) one_lun (omega arith) handing_is;
+      handing_among_others = accepted_is_safe (some_text 528 541 handing_words) two_luns (omega arith) handing_among_others_is;
+      program = accepted_is_safe (some_text 100 127 program_words) one_lun (omega arith) program_is;
+      program_among_others = accepted_is_safe (some_text 100 127 program_words) two_luns (omega arith) program_among_others_is;
+      column = accepted_is_safe (some_text 26 38 column_words) one_lun (omega arith) column_is;
+      column_among_others = accepted_is_safe (some_text 26 38 column_words) two_luns (omega arith) column_among_others_is;
+      checked = accepted_is_safe (some_text 0 5 checked_words) two_luns (omega arith) checked_is;
+      parts = accepted_is_safe (some_text 8 18 parts_words) two_luns (omega arith) parts_is;
+      planes = accepted_is_safe (some_text 0 10 planes_words) two_luns (omega arith) planes_is;
+      blocks = accepted_is_safe (with_rows 8 0 10 blocks_words) two_luns (omega arith) blocks_is;
+      cached = accepted_is_safe (with_rows 2 1056 1067 cache_words) one_lun_with_cache (omega arith) cached_is;
+      identity = accepted_is_safe (some_text 772 778 identity_words) one_lun (omega arith) identity_is;
+    }

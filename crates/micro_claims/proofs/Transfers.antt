@@ -1,0 +1,131 @@
+-- Outputs and inputs, one by one: what a scene must allow, and the scene behind so many of them.
+use Rattle.std.proofs.Common.{◌≡◌, ℕ, zero, suc, ◌+◌, ◌≤◌, Bool, true, false, cond, nat_le, List, [], ◌∷◌, Option, Some, None, refl, sym, ap, ◌∙◌, subst, arith, length, replicate}
+use Rattle.std.proofs.lemmas.Bool.Decides.{nat_tests}
+use Rattle.nand_geometry.specs.declared.Parts.{Parts}
+use Rattle.nand_geometry.specs.Limits.{page_len}
+use Rattle.onfi_cycle.specs.declared.tail_facts.DataPhase.TheVariants.{Inputs}
+use Rattle.onfi_cycle.specs.declared.item.Kind.TheVariants.{Din}
+use Rattle.onfi_cycle.specs.declared.lun_facts.Latch.TheVariants.{Status, Data}
+use Rattle.onfi_cycle.specs.declared.lun_facts.ReadColumn.{ReadColumn}
+use Rattle.onfi_cycle.specs.declared.tail_facts.TailFacts.{TailFacts}
+use Rattle.onfi_cycle.specs.declared.target_cycle.TargetCycle.TheVariants.{InputCycle, OutputCycle}
+use Rattle.onfi_cycle.specs.LunView.{LunView}
+use Rattle.onfi_cycle.specs.Sequence.{facts_after, extended_facts, is_open, input_column, takes_inputs}
+use Rattle.onfi_cycle.specs.Lun.{output_column, option_plus}
+use Rattle.onfi_cycle.specs.Rules.{register_len, is_empty}
+use Rattle.micro_program.specs.Moves.{Take, gives}
+use Rattle.micro_program.proofs.Scenes.{Scene, scene_behind}
+use Rattle.micro_program.proofs.SceneMoves.{MovesAllowed, scene_after}
+use Rattle.micro_claims.proofs.Fits.{Address, InProgram}
+
+-- 1. outputs of data
+
+-- a LUN that was read so often
+abbrev pub read_on : ℕ → LunView → LunView
+read_on n v = record v { column = record v.column { outputs = v.column.outputs + n } }
+
+pub record Outputs (g : Parts) (lun : ℕ) (n : ℕ) (c : Scene) : Type 0 where
+  pub allowed : MovesAllowed g lun (replicate n Take) c
+  pub closed : is_open (scene_after g lun (replicate n Take) c).facts ≡ false
+  pub sole : (scene_after g lun (replicate n Take) c).sole ≡ true
+
+-- nothing is open behind an output
+closed_behind : (t : TailFacts) → is_open t ≡ false → is_open (facts_after OutputCycle t) ≡ false
+closed_behind t h = at t.is_empty refl
+  where
+    at : (b : Bool) → t.is_empty ≡ b → is_open (cond t.is_empty t (extended_facts OutputCycle t)) ≡ false
+    at true e = rw e h
+    at false e = rw e refl
+
+-- outputs of status
+status_view : (g : Parts) (lun : ℕ) (c : Scene) → c.sole ≡ true → c.view.latch ≡ Status → scene_behind g lun OutputCycle c ≡ record { facts = facts_after OutputCycle c.facts; view = c.view; sole = c.sole }
+status_view g lun c sole latch = rw (sole, latch) refl
+
+pub status_outputs : (g : Parts) (lun : ℕ) (n : ℕ) (c : Scene) → is_open c.facts ≡ false → c.sole ≡ true → c.view.latch ≡ Status → Outputs g lun n c × ((scene_after g lun (replicate n Take) c).view ≡ c.view)
+status_outputs g lun zero c closed sole latch = (record { allowed = tt; closed = closed; sole = sole }, refl)
+status_outputs g lun (suc n) c closed sole latch =
+    let next : Scene = record { facts = facts_after OutputCycle c.facts; view = c.view; sole = c.sole } in
+    let is = status_view g lun c sole latch in
+    let rest = status_outputs g lun n next (closed_behind c.facts closed) sole latch in (
+      record {
+        allowed = (record { closed = closed; sole = sole; has_byte = rw latch refl; inside = rw latch refl }, subst (λ (x : Scene). MovesAllowed g lun (replicate n Take) x) (sym is) rest.0.allowed);
+        closed = ap (λ (x : Scene). is_open (scene_after g lun (replicate n Take) x).facts) is ∙ rest.0.closed;
+        sole = ap (λ (x : Scene). (scene_after g lun (replicate n Take) x).sole) is ∙ rest.0.sole;
+      },
+      ap (λ (x : Scene). (scene_after g lun (replicate n Take) x).view) is ∙ rest.1,
+    )
+
+-- outputs of data
+data_view : (g : Parts) (lun : ℕ) (c : Scene) → c.sole ≡ true → c.view.latch ≡ Data → scene_behind g lun OutputCycle c ≡ record { facts = facts_after OutputCycle c.facts; view = read_on 1 c.view; sole = c.sole }
+data_view g lun c sole latch = rw (sole, latch) refl
+
+pub record CanRead (g : Parts) (v : LunView) (at : ℕ) (n : ℕ) : Type 0 where
+  pub latch : v.latch ≡ Data
+  pub ready : v.busy ≡ false
+  pub held : is_empty v.register ≡ false
+  pub column : output_column v.column ≡ Some at
+  pub inside : at + n ≤ register_len g v.register
+
+read_one : (k : ReadColumn) (at : ℕ) → output_column k ≡ Some at → output_column (record k { outputs = k.outputs + 1 }) ≡ Some (at + 1)
+read_one k at h = by k.lost k.given h
+  where
+    by : (b : Bool) (o : Option ℕ) → cond b None (option_plus k.outputs o) ≡ Some at → cond b None (option_plus (k.outputs + 1) o) ≡ Some (at + 1)
+    by true o h = cc
+    by false None h = cc
+    by false (Some m) h =
+        let same : m + k.outputs ≡ at = cc in
+        let more : m + (k.outputs + 1) ≡ at + 1 = omega (arith, same) in
+        ap Some more
+
+pub data_outputs : (g : Parts) (lun : ℕ) (n : ℕ) (c : Scene) (at : ℕ) → is_open c.facts ≡ false → c.sole ≡ true → CanRead g c.view at n → Outputs g lun n c × ((scene_after g lun (replicate n Take) c).view ≡ read_on n c.view)
+data_outputs g lun zero c at closed sole can =
+    let none : c.view.column.outputs ≡ c.view.column.outputs + 0 = omega arith in
+    (record { allowed = tt; closed = closed; sole = sole }, ap (λ (m : ℕ). record c.view { column = record c.view.column { outputs = m } }) none)
+data_outputs g lun (suc n) c at closed sole can =
+    let next : Scene = record { facts = facts_after OutputCycle c.facts; view = read_on 1 c.view; sole = c.sole } in
+    let is = data_view g lun c sole can.latch in
+    let more = can.inside in
+    let rest = data_outputs g lun n next (at + 1) (closed_behind c.facts closed) sole (record { latch = can.latch; ready = can.ready; held = can.held; column = read_one c.view.column at can.column; inside = omega (arith, more) }) in
+    let number : c.view.column.outputs + 1 + n ≡ c.view.column.outputs + suc n = omega arith in
+    let past : nat_le (register_len g c.view.register) at ≡ false = grind (arith, nat_tests, more) in (
+      record {
+        allowed = (record { closed = closed; sole = sole; has_byte = rw (can.latch, can.ready, can.held, can.column) refl; inside = rw (can.latch, can.column, past) refl }, subst (λ (x : Scene). MovesAllowed g lun (replicate n Take) x) (sym is) rest.0.allowed);
+        closed = ap (λ (x : Scene). is_open (scene_after g lun (replicate n Take) x).facts) is ∙ rest.0.closed;
+        sole = ap (λ (x : Scene). (scene_after g lun (replicate n Take) x).sole) is ∙ rest.0.sole;
+      },
+      ap (λ (x : Scene). (scene_after g lun (replicate n Take) x).view) is ∙ (rest.1 ∙ ap (λ (m : ℕ). record c.view { column = record c.view.column { outputs = m } }) number),
+    )
+
+-- 2. inputs
+
+-- the tail with one input more
+pub record Put (a : Address) (before : TailFacts) (n : ℕ) (t : TailFacts) : Type 0 where
+  pub program : InProgram a Inputs t
+  pub column : input_column t ≡ input_column before + n
+
+pub record InputsGo (g : Parts) (lun : ℕ) (bytes : List ℕ) (a : Address) (c : Scene) : Type 0 where
+  pub facts : TailFacts
+  pub allowed : MovesAllowed g lun (gives Din bytes) c
+  pub leads : scene_after g lun (gives Din bytes) c ≡ record { facts = facts; view = c.view; sole = c.sole }
+  pub put : Put a c.facts (length bytes) facts
+
+one_input : (a : Address) (t : TailFacts) (b : ℕ) → InProgram a Inputs t → InProgram a Inputs (facts_after (InputCycle b) t)
+one_input a t b p = record { phase = rw (p.begun, p.phase) refl; row = rw p.begun p.row; begun = rw p.begun refl }
+
+input_more : (t : TailFacts) (b : ℕ) → t.is_empty ≡ false → input_column (facts_after (InputCycle b) t) ≡ input_column t + 1
+input_more t b e = rw e (omega arith)
+
+pub inputs_go : (g : Parts) (lun : ℕ) (a : Address) (bytes : List ℕ) (c : Scene) → InProgram a Inputs c.facts → input_column c.facts + length bytes ≤ page_len g → InputsGo g lun bytes a c
+inputs_go g lun a [] c p inside = record { facts = c.facts; allowed = tt; leads = refl; put = record { program = p; column = omega arith } }
+inputs_go g lun a (b ∷ bytes) c p inside =
+    let next : Scene = scene_behind g lun (InputCycle b) c in
+    let more = input_more c.facts b p.begun in
+    let rest = inputs_go g lun a bytes next (one_input a c.facts b p) (omega (arith, more, inside)) in
+    let below : nat_le (page_len g) (input_column c.facts) ≡ false = grind (arith, nat_tests, inside) in
+    let column = rest.put.column in
+    record {
+      facts = rest.facts;
+      allowed = ((ap takes_inputs p.phase, below), rest.allowed);
+      leads = rest.leads;
+      put = record { program = rest.put.program; column = omega (arith, column, more) };
+    }

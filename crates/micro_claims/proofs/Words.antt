@@ -1,0 +1,270 @@
+-- Outputs, inputs and registers are sound.
+use Rattle.std.proofs.Common.{◌≡◌, ℕ, zero, suc, ◌+◌, ◌≤◌, Bool, true, false, ◌&&◌, ◌||◌, cond, not, nat_le, min, List, [], ◌∷◌, Option, Some, None, refl, sym, ap, ◌∙◌, subst, arith, length, replicate}
+use Rattle.std.proofs.lemmas.Bool.Decides.{nat_tests}
+use Rattle.nand_geometry.specs.declared.Parts.{Parts}
+use Rattle.nand_geometry.specs.Limits.{InLimits, page_len}
+use Rattle.onfi_cycle.specs.declared.item.Item.{Item}
+use Rattle.onfi_cycle.specs.declared.item.Kind.TheVariants.{Din}
+use Rattle.onfi_cycle.specs.declared.lun_facts.Latch.{Latch}
+use Rattle.onfi_cycle.specs.declared.lun_facts.Latch.TheVariants.{Off, Status, Data}
+use Rattle.onfi_cycle.specs.declared.lun_facts.ReadColumn.{ReadColumn}
+use Rattle.onfi_cycle.specs.declared.lun_facts.Register.{Register}
+use Rattle.onfi_cycle.specs.declared.lun_facts.Register.TheVariants.{Empty, Page, ParameterPage, Identifier}
+use Rattle.onfi_cycle.specs.LunView.{LunView}
+use Rattle.onfi_cycle.specs.Sequence.{is_open, input_column}
+use Rattle.onfi_cycle.specs.Lun.{output_column, option_plus}
+use Rattle.onfi_cycle.specs.Rules.{is_empty, register_len}
+use Rattle.onfi_cycle.specs.Channel.{Channel}
+use Rattle.micro_word.specs.declared.word.Word.TheVariants.{Get, Put}
+use Rattle.micro_program.specs.Lines.{Line}
+use Rattle.micro_program.specs.Program.{Job, Done, index_now, place_now, buffer_now}
+use Rattle.micro_program.specs.Moves.{Take, gives, and_then, part, put_bytes}
+use Rattle.micro_claims.specs.Spans.{Span, bound_plus, is_at_most, plus, plus_between}
+use Rattle.micro_claims.specs.State.{State, KnownLun, Place, Closed, After, InData, InColumn, Unknown, Shown, Held, OutputColumn, bounds_of}
+use Rattle.micro_claims.specs.Against.{may_be_open, drives, may_show_data, has_register, has_column, least_length, column_bound, span_bound, is_in_data}
+use Rattle.micro_claims.specs.Reasons.{breaks_cycle_forbidden, breaks_buffer_passed, breaks_column_too_large}
+use Rattle.micro_claims.specs.Leaves.{column_read, span_more}
+use Rattle.micro_claims.specs.Accepts.{state_after, accepts}
+use Rattle.micro_program.proofs.Scenes.{Scene, IsScene}
+use Rattle.micro_program.proofs.SceneMoves.{scene_after}
+use Rattle.micro_claims.proofs.Fits.{Below, TailFits, ShowsFit, LunFits, OutputFits, OutputColumnFits, RegisterFits, register_among, latch_among, ColumnFits, Fits, now_of}
+use Rattle.micro_claims.proofs.Numbers.{below_plus, surely}
+use Rattle.micro_claims.proofs.Tails.{closed_tail, closed_fits, programming}
+use Rattle.micro_claims.proofs.Sounding.{KnownJob, NoReasons, unmoved, SoundWord, plain_sound}
+use Rattle.micro_claims.proofs.Commands.{or_parts, not_no, shows_kept}
+use Rattle.micro_claims.proofs.Transfers.{Outputs, status_outputs, data_outputs, CanRead, inputs_go}
+use Rattle.micro_program.proofs.Costs.{buffer_len}
+
+-- 1. outputs
+
+read_more : (n : ℕ) (k : ReadColumn) (at : ℕ) → output_column k ≡ Some at → output_column (record k { outputs = k.outputs + n }) ≡ Some (at + n)
+read_more n k at h = by k.lost k.given h
+  where
+    by : (b : Bool) (o : Option ℕ) → cond b None (option_plus k.outputs o) ≡ Some at → cond b None (option_plus (k.outputs + n) o) ≡ Some (at + n)
+    by true o h = cc
+    by false None h = cc
+    by false (Some m) h =
+        let same : m + k.outputs ≡ at = cc in
+        let more : m + (k.outputs + n) ≡ at + n = omega (arith, same) in
+        ap Some more
+
+min_l : (a b : ℕ) → min a b ≤ a
+min_l a b = grind arith
+
+min_r : (a b : ℕ) → min a b ≤ b
+min_r a b = grind arith
+
+pub least_register : (g : Parts) (o : Option Held) (r : Register) → RegisterFits o r → has_register o ≡ true → 4 ≤ page_len g → least_length g o ≤ register_len g r
+least_register g None r f h small = cc
+least_register g (Some w) r f h small = by w.identifier w.page w.parameters r f
+  where
+    by : (i p q : Bool) (r : Register) → register_among (record { page = p; parameters = q; identifier = i }) r ≡ true → cond i 4 (cond p (cond q (min 768 (page_len g)) (page_len g)) 768) ≤ register_len g r
+    by i p q Empty f = cc
+    by true p q (Page x) f = small
+    by true p q ParameterPage f = omega arith
+    by true p q Identifier f = omega arith
+    by false true true (Page x) f = min_r 768 (page_len g)
+    by false true false (Page x) f = omega arith
+    by false false q (Page x) f = cc
+    by false true true ParameterPage f = min_l 768 (page_len g)
+    by false true false ParameterPage f = cc
+    by false false q ParameterPage f = omega arith
+    by false p q Identifier f = cc
+
+-- what a `get` is against
+record GetClear (g : Parts) (v : State) (n buffer : ℕ) : Type 0 where
+  closed : may_be_open v ≡ false
+  driven : drives v.target.shows ≡ true
+  ready : may_show_data v.target.shows ≡ true → (v.lun.busy ≡ false) × (has_register v.lun.register ≡ true) × (has_column v.lun.column ≡ true)
+  inside : may_show_data v.target.shows ≡ true → is_at_most (bound_plus (column_bound v.lun.column) n) (least_length g v.lun.register) ≡ true
+  place : is_at_most (bound_plus v.registers.place.hi n) buffer ≡ true
+
+and_no_more : (a b : Bool) → a ≡ true → (a && b) ≡ false → b ≡ false
+and_no_more true b h k = k
+and_no_more false b h k = cc
+
+get_clear : (g : Parts) (j : Job) (v : State) (n : ℕ) → NoReasons g j.text v (Get n) → GetClear g v n j.text.buffer
+unfolding breaks_cycle_forbidden breaks_buffer_passed breaks_column_too_large
+get_clear g j v n clear =
+    let two = or_parts (may_be_open v || not (drives v.target.shows)) (may_show_data v.target.shows && (v.lun.busy || not (has_register v.lun.register) || not (has_column v.lun.column))) clear.no_cycle_forbidden in
+    let one = or_parts (may_be_open v) (not (drives v.target.shows)) two.0 in
+    record {
+      closed = one.0;
+      driven = not_no _ one.1;
+      ready = λ e.
+          let three = or_parts (v.lun.busy || not (has_register v.lun.register)) (not (has_column v.lun.column)) (and_no_more (may_show_data v.target.shows) _ e two.1) in
+          let four = or_parts v.lun.busy (not (has_register v.lun.register)) three.0 in
+          (four.0, not_no _ four.1, not_no _ three.1);
+      inside = λ e. not_no _ (and_no_more (may_show_data v.target.shows) _ e clear.no_column_too_large);
+      place = not_no _ clear.no_buffer_passed;
+    }
+
+-- what outputs lead to
+record GetGoes (g : Parts) (j : Job) (l : KnownLun) (o : Option Shown) (i : ℕ) (n : ℕ) (c : Scene) : Type 0 where
+  outputs : Outputs g j.lun.lun n c
+  shows : ShowsFit o (scene_after g j.lun.lun (replicate n Take) c)
+  lun : LunFits g j (record l { column = column_read o n l.column }) i (scene_after g j.lun.lun (replicate n Take) c).view
+
+-- the column behind outputs of status, and behind those of data
+status_column : (w : Shown) (n : ℕ) (o : Option OutputColumn) (k : ReadColumn) → OutputColumnFits o k → OutputColumnFits (column_read (Some w) n o) k
+status_column w n None k f = tt
+status_column w n (Some c) k f = at w.register w.status
+  where
+    least : (b : Bool) → ℕ
+    least b = cond b 0 n
+
+    at : (b s : Bool) → OutputColumnFits (cond b (Some (record { at = plus_between c.at (cond s 0 n) n; read = true })) (Some c)) k
+    at true s =
+        let more : Below (f.at + 0) (bound_plus c.at.hi n) = below_plus f.at c.at.hi 0 n f.below (omega arith) in
+        record { at = f.at; is = f.is; below = subst (λ (m : ℕ). Below m (bound_plus c.at.hi n)) (let e : f.at + 0 ≡ f.at = omega arith in e) more; unread = λ e. cc }
+    at false s = f
+
+data_column : (w : Shown) (n : ℕ) (o : Option OutputColumn) (k : ReadColumn) → w.register ≡ true → OutputColumnFits o k → OutputColumnFits (column_read (Some w) n o) (record k { outputs = k.outputs + n })
+data_column w n None k e f = tt
+data_column w n (Some c) k e f =
+    subst (λ (b : Bool). OutputColumnFits (cond b (Some (record { at = plus_between c.at (cond w.status 0 n) n; read = true })) (Some c)) (record k { outputs = k.outputs + n })) (sym e)
+    (record { at = f.at + n; is = read_more n k f.at f.is; below = below_plus f.at c.at.hi n n f.below (omega arith); unread = λ x. cc })
+
+can_read : (g : Parts) (j : Job) (l : KnownLun) (i n : ℕ) (view : LunView) → LunFits g j l i view → view.latch ≡ Data → l.busy ≡ false → has_register l.register ≡ true → (k : OutputColumn) → l.column ≡ Some k → (f : OutputFits k view.column) → is_at_most (bound_plus k.at.hi n) (least_length g l.register) ≡ true → 4 ≤ page_len g → CanRead g view f.at n
+can_read g j l i n view lun latch ready held k is f inside small =
+    let least = least_register g l.register view.register lun.register held small in
+    let most = surely f.at k.at.hi n (least_length g l.register) f.below inside in
+    record { latch = latch; ready = lun.ready ready; held = not_empty l.register view.register lun.register held; column = f.is; inside = omega (arith, least, most) }
+  where
+    not_empty : (o : Option Held) (r : Register) → RegisterFits o r → has_register o ≡ true → is_empty r ≡ false
+    not_empty None r f h = cc
+    not_empty (Some w) Empty f h = cc
+    not_empty (Some w) (Page p) f h = refl
+    not_empty (Some w) ParameterPage f h = refl
+    not_empty (Some w) Identifier f h = refl
+
+-- the clear conditions of a `get`, of these parts of a claim
+record GetFree (g : Parts) (l : KnownLun) (o : Option Shown) (n : ℕ) : Type 0 where
+  driven : drives o ≡ true
+  ready : may_show_data o ≡ true → (l.busy ≡ false) × (has_register l.register ≡ true) × (has_column l.column ≡ true)
+  inside : may_show_data o ≡ true → is_at_most (bound_plus (column_bound l.column) n) (least_length g l.register) ≡ true
+
+get_goes : (g : Parts) (j : Job) (l : KnownLun) (o : Option Shown) (i n : ℕ) (c : Scene) → is_open c.facts ≡ false → ShowsFit o c → LunFits g j l i c.view → GetFree g l o n → 4 ≤ page_len g → GetGoes g j l o i n c
+get_goes g j l None i n c closed shows lun free small = let d = free.driven in cc
+get_goes g j l (Some w) i n c closed shows lun free small = by c.view.latch refl shows.1
+  where
+    with_column : (k : Option OutputColumn) → l.column ≡ k → OutputColumnFits k c.view.column → has_column k ≡ true → is_at_most (bound_plus (column_bound k) n) (least_length g l.register) ≡ true → c.view.latch ≡ Data → w.register ≡ true → GetGoes g j l (Some w) i n c
+    with_column None is f has inside latch e = cc
+    with_column (Some k) is f has inside latch e =
+        let ready = free.ready e in
+        let can = can_read g j l i n c.view lun latch ready.0 ready.1 k is f inside small in
+        let outs = data_outputs g j.lun.lun n c f.at closed shows.0 can in
+        record {
+          outputs = outs.0;
+          shows = (outs.0.sole, ap (λ (v : LunView). latch_among w v.latch) outs.1 ∙ shows.1);
+          lun = subst (λ (v : LunView). LunFits g j (record l { column = column_read (Some w) n l.column }) i v) (sym outs.1)
+              (record { ready = lun.ready; register = lun.register; column = data_column w n l.column c.view.column e lun.column; queue = lun.queue; last = lun.last; cached = lun.cached });
+        }
+
+    by : (x : Latch) → c.view.latch ≡ x → latch_among w x ≡ true → GetGoes g j l (Some w) i n c
+    by Off latch among = cc
+    by Status latch among =
+        let outs = status_outputs g j.lun.lun n c closed shows.0 latch in
+        record {
+          outputs = outs.0;
+          shows = (outs.0.sole, ap (λ (v : LunView). latch_among w v.latch) outs.1 ∙ shows.1);
+          lun = subst (λ (v : LunView). LunFits g j (record l { column = column_read (Some w) n l.column }) i v) (sym outs.1)
+              (record { ready = lun.ready; register = lun.register; column = status_column w n l.column c.view.column lun.column; queue = lun.queue; last = lun.last; cached = lun.cached });
+        }
+    by Data latch among = with_column l.column refl lun.column (free.ready among).2 (free.inside among) latch among
+
+fits_buffer : (n buffer place : ℕ) (o : Option ℕ) → Below place o → is_at_most (bound_plus o n) buffer ≡ true → nat_le (place + n) buffer ≡ true
+fits_buffer n buffer place o below h = let most = surely place o n buffer below h in grind (arith, nat_tests, most)
+
+page_some : (g : Parts) → InLimits g → 4 ≤ page_len g
+page_some g l = let x = l.page_bytes_least in omega (arith, x)
+
+pub sound_get : (s : Channel) (j : Job) (k : KnownJob s j) (v : State) (past : List Item) (c : Scene) (done : List Done) (rest : List Line) (at n : ℕ) → IsScene s j.lun past c → Fits s.geometry j v done c true → NoReasons s.geometry j.text v (Get n) → accepts s.geometry (bounds_of j.text) None (state_after s.geometry v (Get n)) rest ≡ true → SoundWord s j past done rest at (Get n)
+unfolding state_after
+sound_get s j k v past c done rest at n scene f clear acc =
+    let g = s.geometry in
+    let free = get_clear g j v n clear in
+    let shut = closed_tail g j v.target (now_of j done) c.facts (f.tail refl) free.closed in
+    let goes = get_goes g j v.lun v.target.shows (index_now j.base done) n c shut f.shows f.lun (record { driven = free.driven; ready = free.ready; inside = free.inside }) (page_some g k.limits) in
+    plain_sound s j k v past c done rest at (Get n) (replicate n Take) refl scene f.registers clear refl goes.outputs.allowed
+    (fits_buffer n j.text.buffer (place_now done) v.registers.place.hi f.registers.place free.place)
+    (λ answer. record {
+      registers = unmoved g j v (plus v.registers.place n) v.registers.polled done (Get n) answer f.registers clear (record { column = λ m. refl; plane = λ m. refl; index = λ b m. refl }) (below_plus (place_now done) v.registers.place.hi n n f.registers.place (omega arith));
+      tail = λ e. closed_fits g j None None v.target.shows (now_of j done) _ goes.outputs.closed;
+      free = λ e. cc;
+      shows = goes.shows;
+      lun = goes.lun;
+    })
+    acc
+
+-- 2. inputs
+
+in_data : (p : Place) → is_in_data p ≡ true → p ≡ InData
+in_data InData h = refl
+in_data Closed h = cc
+in_data (After o n) h = cc
+in_data (InColumn n) h = cc
+in_data Unknown h = cc
+
+part_len : (from n : ℕ) (xs : List ℕ) → from + n ≤ length xs → length (part from n xs) ≡ n
+part_len zero zero xs h = refl
+part_len zero (suc n) [] h = absurd (omega (arith, h))
+part_len zero (suc n) (x ∷ xs) h = ap suc (part_len zero n xs (omega (arith, h)))
+part_len (suc m) n [] h = let e : suc m + n ≤ 0 = h in absurd (omega (arith, e))
+part_len (suc m) n (x ∷ xs) h = part_len m n xs (omega (arith, h))
+
+put_there : (j : Job) (done : List Done) (n : ℕ) → place_now done + n ≤ length (buffer_now j.buffer done) → put_bytes j done n ≡ Some (part (place_now done) n (buffer_now j.buffer done))
+put_there j done n h = let e : nat_le (place_now done + n) (length (buffer_now j.buffer done)) ≡ true = grind (arith, nat_tests, h) in rw e refl
+
+record PutClear (g : Parts) (v : State) (n buffer : ℕ) : Type 0 where
+  data_open : is_in_data v.target.tail ≡ true
+  inside : is_at_most (bound_plus (span_bound v.target.column) n) (page_len g) ≡ true
+  place : is_at_most (bound_plus v.registers.place.hi n) buffer ≡ true
+
+put_clear : (g : Parts) (j : Job) (v : State) (n : ℕ) → NoReasons g j.text v (Put n) → PutClear g v n j.text.buffer
+unfolding breaks_cycle_forbidden breaks_buffer_passed breaks_column_too_large
+put_clear g j v n clear = record { data_open = not_no _ clear.no_cycle_forbidden; inside = not_no _ clear.no_column_too_large; place = not_no _ clear.no_buffer_passed }
+
+-- the column of the tail, so many inputs on
+column_on : (o : Option Span) (column n limit : ℕ) → ColumnFits column o → is_at_most (bound_plus (span_bound o) n) limit ≡ true → (column + n ≤ limit) × ColumnFits (column + n) (span_more n o)
+column_on None column n limit f h = absurd f
+column_on (Some k) column n limit f h = (surely column k.hi n limit f h, below_plus column k.hi n n f (omega arith))
+
+pub sound_put : (s : Channel) (j : Job) (k : KnownJob s j) (v : State) (past : List Item) (c : Scene) (done : List Done) (rest : List Line) (at n : ℕ) → IsScene s j.lun past c → Fits s.geometry j v done c true → NoReasons s.geometry j.text v (Put n) → accepts s.geometry (bounds_of j.text) None (state_after s.geometry v (Put n)) rest ≡ true → SoundWord s j past done rest at (Put n)
+unfolding state_after
+sound_put s j k v past c done rest at n scene f clear acc =
+    let g = s.geometry in
+    let free = put_clear g j v n clear in
+    let p = programming g j v.target (now_of j done) c.facts is_in_data in_data (f.tail refl) free.data_open in
+    let on = column_on v.target.column (input_column c.facts) n (page_len g) p.column free.inside in
+    let low = surely (place_now done) v.registers.place.hi n j.text.buffer f.registers.place free.place in
+    let len = buffer_len j.buffer done in
+    let whole = k.buffer in
+    let there : place_now done + n ≤ length (buffer_now j.buffer done) = omega (arith, low, len, whole) in
+    let bytes : List ℕ = part (place_now done) n (buffer_now j.buffer done) in
+    let count : length bytes ≡ n = part_len (place_now done) n (buffer_now j.buffer done) there in
+    let room = on.0 in
+    let go = inputs_go g j.lun.lun p.address bytes c p.program (omega (arith, room, count)) in
+    plain_sound s j k v past c done rest at (Put n) (gives Din bytes) refl scene f.registers clear (ap (λ (o : Option (List ℕ)). and_then o (λ xs. Some (gives Din xs))) (put_there j done n there)) go.allowed
+    (fits_buffer n j.text.buffer (place_now done) v.registers.place.hi f.registers.place free.place)
+    (λ answer. subst (λ (x : Scene). Fits g j (state_after g v (Put n)) (record { word = Put n; answer = answer } ∷ done) x true) (sym go.leads)
+    (record {
+      registers = unmoved g j v (plus v.registers.place n) v.registers.polled done (Put n) answer f.registers clear (record { column = λ m. refl; plane = λ m. refl; index = λ b m. refl }) (below_plus (place_now done) v.registers.place.hi n n f.registers.place (omega arith));
+      tail = λ e. record {
+        place = InData;
+        here = still_here (f.tail refl) free.data_open;
+        address = p.address;
+        is = go.put.program;
+        now = λ x. cc;
+        column = λ x. subst (λ (m : ℕ). ColumnFits m (span_more n v.target.column)) (sym go.put.column ∙ refl) (subst (λ (m : ℕ). ColumnFits (input_column c.facts + m) (span_more n v.target.column)) (sym count) on.1);
+        row = λ x. p.row;
+        named = λ x. p.named;
+      };
+      free = λ e. cc;
+      shows = shows_kept v.target.shows c (record { facts = go.facts; view = c.view; sole = c.sole }) (λ e. e) refl f.shows;
+      lun = f.lun;
+    }))
+    acc
+  where
+    still_here : (t : TailFits s.geometry j v.target (now_of j done) c.facts) → is_in_data v.target.tail ≡ true → v.target.tail ≡ InData
+    still_here t all = in_data v.target.tail all

@@ -1,0 +1,309 @@
+-- What a word leaves of what is known before it.
+use Rattle.std.specs.Prelude.{ℕ, ◌+◌, ◌-◌, ◌/◌, ◌%◌, ◌==◌, Bool, true, false, ◌&&◌, nat_lt, nat_le, min, if◌then◌else◌, Option, Some, None}
+use Rattle.nand_geometry.specs.declared.Parts.{Parts}
+use Rattle.onfi_cycle.specs.declared.command.Command.{Command}
+use Rattle.onfi_cycle.specs.declared.command.Command.TheVariants.{Read, ReadConfirm, ChangeReadColumn, ChangeReadColumnConfirm, BlockErase, BlockEraseConfirm, BlockErasePlane, PageProgram, ChangeWriteColumn, ProgramConfirm, ProgramPlane, ReadId, ReadParameterPage, Reset, ReadCacheSequential, ReadCacheEnd}
+use Rattle.micro_claims.specs.Spans.{copied, plus, plus_between, greatest_bound}
+use Rattle.micro_claims.specs.Planes.{no_planes, either_plane}
+use Rattle.micro_claims.specs.State.{State, Registers, KnownTarget, KnownLun, Span, PageRange, Place, Closed, After, InData, InColumn, Unknown, Drift, IndexMove, On, To, NamedRow, Shown, Held, OutputColumn, QueuedRows, NoRows, SomeRows, AnyRows, LastCloser, CachedPage, Planes, exactly, not_cached, other_closer, closed}
+use Rattle.micro_claims.specs.Against.{same_test}
+
+-- ---- parts of a state
+
+abbrev pub with_registers : State → Registers → State
+with_registers s r = record { registers = r; target = s.target; lun = s.lun }
+
+abbrev pub with_target : State → KnownTarget → State
+with_target s t = record { registers = s.registers; target = t; lun = s.lun }
+
+abbrev pub with_lun : State → KnownLun → State
+with_lun s l = record { registers = s.registers; target = s.target; lun = l }
+
+abbrev pub status_shown : Option Shown
+status_shown = Some (record { status = true; register = false })
+
+abbrev pub data_shown : Option Shown
+data_shown = Some (record { status = false; register = true })
+
+-- what is shown behind 00h
+abbrev pub resumed_shows : Option Shown → Option Shown
+resumed_shows None = None
+resumed_shows (Some w) = data_shown
+
+-- a status after data was read loses the column
+abbrev pub unread : Option OutputColumn → Option OutputColumn
+unread None = None
+unread (Some k) = if k.read then None else Some k
+
+abbrev pub given_at : Option Span → Option OutputColumn
+given_at None = None
+given_at (Some at) = Some (record { at = copied at; read = false })
+
+abbrev pub page_register : Option Held
+page_register = Some (record { page = true; parameters = false; identifier = false })
+
+-- ---- cost and status
+
+-- what costs nothing leaves the state as it is
+abbrev pub cost_plus : ℕ → Span → Span
+cost_plus n s = if n == 0 then s else plus s n
+
+abbrev pub paid : ℕ → Registers → Registers
+paid n r = record r { cost = cost_plus n r.cost }
+
+-- behind a status poll
+abbrev pub polled : State → State
+polled s =
+    record {
+      registers = record s.registers { polled = true };
+      target = closed status_shown;
+      lun = record s.lun { column = unread s.lun.column };
+    }
+
+-- behind a poll that says ready
+abbrev pub found_ready : State → State
+found_ready s = with_lun s (record s.lun { busy = false })
+
+-- what is still known where others may have the bus
+abbrev pub handed_over : Parts → State → State
+handed_over g s =
+    if nat_lt 1 g.luns then record { registers = s.registers; target = closed None; lun = record s.lun { column = unread s.lun.column } } else s
+
+-- ---- drifts
+
+-- as far as this, one of the two being 0; or unknown
+abbrev pub drift_of : (ahead behind : ℕ) → Option Drift
+drift_of ahead behind =
+    if nat_le ahead greatest_bound && nat_le behind greatest_bound
+    then Some (record { ahead = ahead - min ahead behind; behind = behind - min ahead behind }) else None
+
+-- the index register moved on
+abbrev pub drift_more : ℕ → Drift → Option Drift
+drift_more n d = drift_of (d.ahead + n) d.behind
+
+-- the index register was at one number over the base, and is now at another
+abbrev pub drift_moved : (from to : ℕ) → Drift → Option Drift
+drift_moved from to d = drift_of (d.ahead + to) (d.behind + from)
+
+abbrev pub and_drift : Option Drift → (Drift → Option Drift) → Option Drift
+and_drift None move = None
+and_drift (Some d) move = move d
+
+abbrev pub rows_at : Bool → Planes → Option Drift → QueuedRows
+rows_at erase planes None = AnyRows
+rows_at erase planes (Some d) = SomeRows erase planes d
+
+abbrev pub named_moved : (Drift → Option Drift) → Option NamedRow → Option NamedRow
+named_moved move None = None
+named_moved move (Some n) = Some (record n { drift = and_drift n.drift move })
+
+abbrev pub rows_moved : (Drift → Option Drift) → QueuedRows → QueuedRows
+rows_moved move NoRows = NoRows
+rows_moved move AnyRows = AnyRows
+rows_moved move (SomeRows erase planes d) = rows_at erase planes (move d)
+
+-- the index register moves: what is said of rows by their distance from it moves too
+abbrev pub index_moved : (Drift → Option Drift) → Span → PageRange → State → State
+index_moved move index page s =
+    record {
+      registers = record s.registers { index = index; page = page };
+      target = record s.target { named = named_moved move s.target.named };
+      lun = record s.lun { queue = rows_moved move s.lun.queue };
+    }
+
+-- from a known index the distance is known
+abbrev pub drift_set : Option ℕ → ℕ → Drift → Option Drift
+drift_set None to d = None
+drift_set (Some from) to d = drift_moved from to d
+
+-- how a row that is as far from the index register is after a move of the register
+abbrev pub moved_by : IndexMove → Drift → Option Drift
+moved_by (On rows) d = drift_more rows d
+moved_by (To from row) d = drift_set from row d
+
+-- the place in the block, n pages on
+abbrev pub page_plus : ℕ → ℕ → PageRange → PageRange
+page_plus pages n r =
+    if r.lo == r.hi then record { lo = (r.lo + n) % pages; hi = (r.lo + n) % pages }
+    else (if nat_le r.lo r.hi && nat_lt (r.hi + n % pages) pages then record { lo = r.lo + n % pages; hi = r.hi + n % pages } else record { lo = 0; hi = pages - 1 })
+
+-- ---- commands
+
+abbrev pub opened_by : Command → State → State
+opened_by c s = with_target s (record { tail = After c 0; column = None; named = None; shows = s.target.shows })
+
+-- work on the LUN that leaves it without a register
+abbrev pub work_started : QueuedRows → State → State
+work_started queue s =
+    record {
+      registers = s.registers;
+      target = closed s.target.shows;
+      lun = record { busy = true; register = None; column = None; queue = queue; last = other_closer; cached = s.lun.cached };
+    }
+
+-- the row of the tail joins the queue
+abbrev pub queued_planes : QueuedRows → Planes
+queued_planes NoRows = no_planes
+queued_planes AnyRows = no_planes
+queued_planes (SomeRows erase planes d) = planes
+
+-- the queued rows are of this kind, and as far from the index register
+abbrev pub same_drift : Option Drift → Drift → Bool
+same_drift None d = false
+same_drift (Some c) d = c.ahead == d.ahead && c.behind == d.behind
+
+abbrev pub goes_along : Bool → Option Drift → QueuedRows → Bool
+goes_along erase drift NoRows = true
+goes_along erase drift AnyRows = false
+goes_along erase drift (SomeRows kind planes d) = same_test erase kind && same_drift drift d
+
+abbrev pub queued_more : Bool → QueuedRows → Option NamedRow → QueuedRows
+queued_more erase queue None = AnyRows
+queued_more erase queue (Some n) = if goes_along erase n.drift queue then rows_at erase (either_plane n.planes (queued_planes queue)) n.drift else AnyRows
+
+abbrev pub cached_at : Option NamedRow → CachedPage
+cached_at None = not_cached
+cached_at (Some n) = record { index = copied n.index; page = record { lo = 0; hi = Some n.page; grown = None } }
+
+abbrev pub shows_after_read : Parts → Option Shown → Option Shown
+shows_after_read g None = if nat_lt 1 g.luns then None else data_shown
+shows_after_read g (Some w) = data_shown
+
+abbrev pub read_started : Parts → State → State
+read_started g s =
+    record {
+      registers = s.registers;
+      target = closed (shows_after_read g s.target.shows);
+      lun = record {
+        busy = true;
+        register = page_register;
+        column = given_at s.target.column;
+        queue = s.lun.queue;
+        last = record { read = true; cache = false; other = false };
+        cached = cached_at s.target.named;
+      };
+    }
+
+abbrev pub cache_read : LastCloser → CachedPage → State → State
+cache_read last cached s =
+    record {
+      registers = s.registers;
+      target = closed data_shown;
+      lun = record { busy = true; register = page_register; column = Some (record { at = exactly 0; read = false }); queue = s.lun.queue; last = last; cached = cached };
+    }
+
+abbrev pub command_leaves : Parts → State → Command → State
+command_leaves g s Read = with_target s (record { tail = After Read 0; column = None; named = None; shows = resumed_shows s.target.shows })
+command_leaves g s ChangeReadColumn = opened_by ChangeReadColumn s
+command_leaves g s BlockErase = opened_by BlockErase s
+command_leaves g s PageProgram = opened_by PageProgram s
+command_leaves g s ReadId = opened_by ReadId s
+command_leaves g s ReadParameterPage = opened_by ReadParameterPage s
+command_leaves g s ChangeWriteColumn = with_target s (record s.target { tail = InColumn 0 })
+command_leaves g s ReadConfirm = read_started g s
+command_leaves g s ChangeReadColumnConfirm =
+    record { registers = s.registers; target = closed s.target.shows; lun = record s.lun { column = given_at s.target.column } }
+command_leaves g s BlockEraseConfirm = work_started NoRows s
+command_leaves g s ProgramConfirm = work_started NoRows s
+command_leaves g s BlockErasePlane = work_started (queued_more true s.lun.queue s.target.named) s
+command_leaves g s ProgramPlane = work_started (queued_more false s.lun.queue s.target.named) s
+command_leaves g s Reset =
+    record { registers = s.registers; target = closed None; lun = record { busy = true; register = None; column = None; queue = NoRows; last = other_closer; cached = s.lun.cached } }
+command_leaves g s ReadCacheSequential =
+    cache_read (record { read = false; cache = true; other = false }) (record { index = plus s.lun.cached.index 1; page = plus s.lun.cached.page 1 }) s
+command_leaves g s ReadCacheEnd = cache_read other_closer s.lun.cached s
+command_leaves g s _ = s
+
+-- ---- addresses
+
+-- after so many addresses; no opener takes more than five
+abbrev pub after_few : Command → ℕ → Place
+after_few opener n = if nat_le n 5 then After opener n else Unknown
+
+-- where the tail is after so many addresses of an opener; those of 80h lead into data, the one of 90h or ECh closes
+abbrev pub opener_leads_to : Command → ℕ → Place
+opener_leads_to PageProgram n = if n == 5 then InData else after_few PageProgram n
+opener_leads_to ReadId n = Closed
+opener_leads_to ReadParameterPage n = Closed
+opener_leads_to opener n = after_few opener n
+
+-- those of 85h lead back into data
+abbrev pub column_leads_to : ℕ → Place
+column_leads_to n = if n == 2 then InData else (if nat_le n 1 then InColumn n else Unknown)
+
+-- where the tail is after so many addresses more
+abbrev pub address_leads_to : ℕ → Place → Place
+address_leads_to count Closed = Closed
+address_leads_to count (After opener n) = opener_leads_to opener (n + count)
+address_leads_to count InData = InData
+address_leads_to count (InColumn n) = column_leads_to (n + count)
+address_leads_to count Unknown = Unknown
+
+-- the greatest page of the index register in its block
+abbrev pub greatest_page_of : ℕ → PageRange → ℕ → Option ℕ → ℕ
+greatest_page_of pages r lo None = r.hi
+greatest_page_of pages r lo (Some hi) = if lo / pages == hi / pages && nat_lt (hi % pages) r.hi && nat_le hi greatest_bound then hi % pages else r.hi
+
+abbrev pub name_now : Parts → Registers → NamedRow
+name_now g r =
+    record { index = copied r.index; planes = r.planes; page = greatest_page_of g.pages r.page r.index.lo r.index.hi; drift = Some (record { ahead = 0; behind = 0 }) }
+
+abbrev pub target_after_addresses : Parts → State → (from count : ℕ) → KnownTarget
+target_after_addresses g s from count =
+    record {
+      tail = address_leads_to count s.target.tail;
+      column = if nat_le from 1 && nat_le 2 (from + count) then Some (copied s.registers.column) else s.target.column;
+      named = if nat_le 5 (from + count) then Some (name_now g s.registers) else s.target.named;
+      shows = s.target.shows;
+    }
+
+abbrev pub identity_read : State → Command → State
+identity_read s ReadId =
+    record {
+      registers = s.registers;
+      target = closed data_shown;
+      lun = record s.lun { register = Some (record { page = false; parameters = false; identifier = true }); column = Some (record { at = exactly 0; read = false }); last = other_closer };
+    }
+identity_read s ReadParameterPage =
+    record {
+      registers = s.registers;
+      target = closed data_shown;
+      lun = record s.lun { busy = true; register = Some (record { page = false; parameters = true; identifier = false }); column = Some (record { at = exactly 0; read = false }); last = other_closer };
+    }
+identity_read s _ = s
+
+-- the one address of 90h or ECh shows what it reads; others are an address of the sequence
+abbrev pub address_leaves_at : Parts → State → (from count : ℕ) → Place → State
+address_leaves_at g s from count (After ReadId n) = identity_read s ReadId
+address_leaves_at g s from count (After ReadParameterPage n) = identity_read s ReadParameterPage
+address_leaves_at g s from count _ = with_target s (target_after_addresses g s from count)
+
+abbrev pub address_leaves : Parts → State → (from count : ℕ) → State
+address_leaves g s from count = address_leaves_at g s from count s.target.tail
+
+-- ---- outputs and inputs
+
+abbrev pub column_read : Option Shown → ℕ → Option OutputColumn → Option OutputColumn
+column_read None n k = None
+column_read (Some w) n None = None
+column_read (Some w) n (Some k) = if w.register then Some (record { at = plus_between k.at (if w.status then 0 else n) n; read = true }) else Some k
+
+abbrev pub get_leaves : State → ℕ → State
+get_leaves s n =
+    record {
+      registers = record s.registers { place = plus s.registers.place n };
+      target = closed s.target.shows;
+      lun = record s.lun { column = column_read s.target.shows n s.lun.column };
+    }
+
+abbrev pub span_more : ℕ → Option Span → Option Span
+span_more n None = None
+span_more n (Some k) = Some (plus k n)
+
+abbrev pub put_leaves : State → ℕ → State
+put_leaves s n =
+    record {
+      registers = record s.registers { place = plus s.registers.place n };
+      target = record s.target { column = span_more n s.target.column };
+      lun = s.lun;
+    }

@@ -1,0 +1,12 @@
+pub mod Spans
+pub mod Planes
+pub mod State
+pub mod Against
+pub mod Reasons
+pub mod Leaves
+pub mod Accepts
+pub mod Certificate
+pub mod Order
+pub mod Joins
+pub mod SafePrograms
+pub mod Codes

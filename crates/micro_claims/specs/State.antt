@@ -1,0 +1,62 @@
+-- What is known of a program before its first word, and where something is open.
+use Rattle.std.specs.Prelude.{true, false, Option, None}
+use Rattle.micro_word.specs.Text.{Microprogram}
+use Rattle.micro_program.specs.Lines.{continues_cache_read}
+pub use Rattle.micro_claims.specs.Spans.{Span, Growth, exactly}
+pub use Rattle.micro_claims.specs.Planes.{Planes, just_plane}
+pub use Rattle.micro_claims.specs.declared.state.PageRange.{PageRange}
+pub use Rattle.micro_claims.specs.declared.state.Registers.{Registers}
+pub use Rattle.micro_claims.specs.declared.state.Place.{Place}
+pub use Rattle.micro_claims.specs.declared.state.Place.TheVariants.{Closed, After, InData, InColumn, Unknown}
+pub use Rattle.micro_claims.specs.declared.state.Drift.{Drift}
+pub use Rattle.micro_claims.specs.declared.state.IndexMove.{IndexMove}
+pub use Rattle.micro_claims.specs.declared.state.IndexMove.TheVariants.{On, To}
+pub use Rattle.micro_claims.specs.declared.state.LoopPlace.{LoopPlace}
+pub use Rattle.micro_claims.specs.declared.state.LoopPlace.TheVariants.{Head, Heads, After as AfterTurns}
+pub use Rattle.micro_claims.specs.declared.state.NamedRow.{NamedRow}
+pub use Rattle.micro_claims.specs.declared.state.Shown.{Shown}
+pub use Rattle.micro_claims.specs.declared.state.KnownTarget.{KnownTarget}
+pub use Rattle.micro_claims.specs.declared.state.Held.{Held}
+pub use Rattle.micro_claims.specs.declared.state.OutputColumn.{OutputColumn}
+pub use Rattle.micro_claims.specs.declared.state.QueuedRows.{QueuedRows}
+pub use Rattle.micro_claims.specs.declared.state.QueuedRows.TheVariants.{NoRows, SomeRows, AnyRows}
+pub use Rattle.micro_claims.specs.declared.state.LastCloser.{LastCloser}
+pub use Rattle.micro_claims.specs.declared.state.CachedPage.{CachedPage}
+pub use Rattle.micro_claims.specs.declared.state.KnownLun.{KnownLun}
+pub use Rattle.micro_claims.specs.declared.state.State.{State}
+pub use Rattle.micro_claims.specs.declared.state.Bounds.{Bounds}
+
+-- what is read off a text before its first word
+abbrev pub bounds_of : Microprogram → Bounds
+bounds_of text = record { rows = text.rows; buffer = text.buffer; budget = text.budget; continues_cache_read = continues_cache_read text.words }
+
+-- the last closer is 30h or another one or none, but not 31h
+abbrev pub any_but_31 : LastCloser
+any_but_31 = record { read = true; cache = false; other = true }
+
+abbrev pub other_closer : LastCloser
+other_closer = record { read = false; cache = false; other = true }
+
+abbrev pub any_number : Span
+any_number = record { lo = 0; hi = None; grown = None }
+
+-- nothing is known of the page
+abbrev pub not_cached : CachedPage
+not_cached = record { index = any_number; page = any_number }
+
+-- nothing is open
+abbrev pub closed : Option Shown → KnownTarget
+closed shows = record { tail = Closed; column = None; named = None; shows = shows }
+
+abbrev pub first_registers : Registers
+first_registers =
+    record { column = exactly 0; planes = just_plane 0; index = exactly 0; page = record { lo = 0; hi = 0 }; place = exactly 0; cost = exactly 0; polled = false }
+
+-- before the first word: the registers are 0; nothing is open, the LUN is ready, its queue is empty and it reads no cache; and no more
+abbrev pub first_state : State
+first_state =
+    record {
+      registers = first_registers;
+      target = closed None;
+      lun = record { busy = false; register = None; column = None; queue = NoRows; last = any_but_31; cached = not_cached };
+    }

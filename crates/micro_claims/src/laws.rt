@@ -1,0 +1,17 @@
+//! What always holds of claims: each function here does nothing, and its contract is a law.
+
+ghost use Rattle.micro_claims.specs.SafePrograms.{AcceptedLinesAreSafe};
+
+/// A text whose lines are accepted from the first state, word by word and in each way that a branch may go, is safe.
+pub fn accepted_lines_are_safe()
+    ensures { AcceptedLinesAreSafe }
+{}
+
+ghost use Rattle.micro_claims.specs.SafePrograms.{SomeAreSafe};
+
+/// Programs that are safe since they are accepted: a read and its data, on one LUN and on several; a read that lets others have the
+/// bus; a program of a page, also in parts; a change of the read column; an erase with its status, of two planes, and of two blocks in
+/// a loop; a cache read; the identifier, the parameter page and a reset.
+pub fn some_are_safe()
+    ensures { SomeAreSafe }
+{}

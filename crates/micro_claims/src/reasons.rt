@@ -1,0 +1,534 @@
+//! The reasons against a word, by what is known before it.
+ghost use Rattle.std.specs.Prelude.{◌≡◌, ◌^◌, ◌<◌, ◌==◌, ◌||◌, ◌&&◌, not};
+ghost use Rattle.micro_program.specs.Program.{cost};
+ghost use Rattle.micro_claims.specs.Against.{shows_only_data, drives, may_show_data, has_page_or_parameters, length_of, least_length, may_be_queued, is_read, is_erase, queue_refuses, is_unfit, opener_refused, closer_refused, command_out_of_place, command_past_rows, asks_status, command_not_for_programs, continues_unseen, has_second_column, column_limit, byte_of_column, is_identity_byte, identity_refused, row_refused, surely_past, address_out_of_place, begins_elsewhere, column_past, row_outside, output_refused, column_bound, output_past, span_bound, input_past, may_be_unready, may_be_open, next_address};
+ghost use Rattle.micro_claims.specs.Spans.{bound_plus, is_at_most};
+ghost use Rattle.micro_claims.specs.Reasons.{breaks_cycle_forbidden, breaks_address_unaligned, breaks_handover_in_sequence, breaks_buffer_passed, breaks_row_or_plane_outside, breaks_column_too_large, breaks_no_status, breaks_ends_too_soon, breaks_over_budget, breaks_command_not_allowed, reason_against};
+
+use crate::planes::Planes;
+use crate::refusal::Reason;
+use crate::span::{Span, bound_plus, is_at_most};
+use crate::state::{Bounds, Held, KnownLun, KnownTarget, OutputColumn, Place, QueuedRows, State};
+use micro_word::Word;
+use nand_geometry::Geometry;
+use onfi_cycle::{Command, is_undeclared};
+
+/// How many cycles a word costs; a `wait` costs none.
+pub fn cost(geometry: &Geometry, word: Word) -> u64
+    ensures value { result ≡ cost geometry.now word }
+    ensures small { result < 2 ^ 32 }
+{
+    match word {
+        Word::Command { .. } => 1,
+        Word::Address { count, .. } => u64::from(count),
+        Word::Get { len } | Word::Put { len } => u64::from(len),
+        Word::ReadStatus => { if geometry.parts().luns > 1 { 5 } else { 2 } }
+        _ => 0,
+    }
+}
+
+// Not a command of the profile, or one that isn't declared.
+fn is_unfit(geometry: &Geometry, command: Command) -> bool
+    ensures { result ≡ is_unfit geometry.now command }
+{
+    !command.is_known() || is_undeclared(geometry, command)
+}
+
+// Programs may not use the command.
+fn is_not_for_programs(geometry: &Geometry, command: Command) -> bool
+    ensures { result ≡ command_not_for_programs geometry.now command }
+{
+    is_unfit(geometry, command)
+        || matches!(command, Command::ReadStatus | Command::ReadStatusEnhanced)
+        || command.wants_one_lun() && geometry.parts().luns > 1
+}
+
+// The second column cycle is among these.
+fn has_second_column(from: u8, count: u8) -> bool
+    ensures { result ≡ has_second_column from count }
+{
+    from <= 1 && u32::from(from) + u32::from(count) >= 2
+}
+
+// The byte of the column register, where it is known.
+fn is_identity_byte(opener: Command, from: u8, column: Option<u64>) -> bool
+    ensures { result ≡ is_identity_byte opener from column }
+{
+    match column {
+        None => false,
+        Some(column) => {
+            let byte = if from == 0 {
+                column % 256
+            } else {
+                column / 256 % 256
+            };
+            from <= 1 && opener.takes_address(byte as u8)
+        }
+    }
+}
+
+// A command that programs may not use; and 31h in a text that is not known to have one.
+#[tactic(auto, unfolding(crate::specs::Reasons::breaks_command_not_allowed))]
+fn breaks_command_not_allowed(geometry: &Geometry, bounds: Bounds, word: Word) -> bool
+    ensures { result ≡ breaks_command_not_allowed geometry.now bounds word }
+{
+    match word {
+        Word::Command { byte } => {
+            let command = Command::of(byte);
+            is_not_for_programs(geometry, command)
+                || command == Command::ReadCacheSequential && !bounds.continues_cache_read
+        }
+        _ => false,
+    }
+}
+
+impl Held {
+    // The least length that the register may have.
+    fn least_length(self, geometry: &Geometry) -> u32
+        ensures { result ≡ length_of geometry.now self }
+    {
+        if self.identifier {
+            4
+        } else if !self.page {
+            768
+        } else if self.parameters {
+            geometry.page_len().min(768)
+        } else {
+            geometry.page_len()
+        }
+    }
+}
+
+impl QueuedRows {
+    fn may_be_some(self) -> bool
+        ensures { result ≡ may_be_queued self }
+    {
+        !matches!(self, QueuedRows::NoRows)
+    }
+
+    // The queue may refuse a row of these planes, of this opener.
+    fn refuses(self, planes: Planes, opener: Command) -> bool
+        ensures { result ≡ queue_refuses self planes opener }
+    {
+        match self {
+            QueuedRows::NoRows => false,
+            QueuedRows::AnyRows => true,
+            QueuedRows::SomeRows {
+                erase,
+                planes: queued,
+                drift,
+            } => {
+                opener == Command::Read
+                    || erase != (opener == Command::BlockErase)
+                    || drift.ahead != drift.behind
+                    || planes.meet(queued)
+            }
+        }
+    }
+}
+
+impl KnownTarget {
+    // The LUN surely drives alone.
+    fn drives(&self) -> bool
+        ensures { result ≡ drives self.now.shows }
+    {
+        self.shows.is_some()
+    }
+
+    fn shows_only_data(&self) -> bool
+        ensures { result ≡ shows_only_data self.now.shows }
+    {
+        match self.shows {
+            None => false,
+            Some(shown) => !shown.status,
+        }
+    }
+
+    fn may_show_data(&self) -> bool
+        ensures { result ≡ may_show_data self.now.shows }
+    {
+        match self.shows {
+            None => false,
+            Some(shown) => shown.register,
+        }
+    }
+}
+
+impl KnownLun {
+    fn has_page_or_parameters(&self) -> bool
+        ensures { result ≡ has_page_or_parameters self.now.register }
+    {
+        match self.register {
+            None => false,
+            Some(held) => !held.identifier,
+        }
+    }
+
+    fn least_length(&self, geometry: &Geometry) -> u32
+        ensures { result ≡ least_length geometry.now self.now.register }
+    {
+        match self.register {
+            None => 0,
+            Some(held) => held.least_length(geometry),
+        }
+    }
+
+    // An opener that reads an identifier or a parameter page may be refused.
+    fn may_work(&self) -> bool
+        ensures { result ≡ self.now.busy || may_be_queued self.now.queue || self.now.last.cache }
+    {
+        self.busy || self.queue.may_be_some() || self.last.cache
+    }
+}
+
+impl State {
+    /// A sequence may be open.
+    pub fn may_be_open(&self) -> bool
+        ensures { result ≡ may_be_open self.now }
+    {
+        self.target.tail.is_open()
+    }
+
+    // A continued cache read may pass its block.
+    fn may_leave_the_block(&self, geometry: &Geometry) -> bool
+        ensures { result ≡ not (is_at_most (bound_plus self.now.lun.cached.page.hi 2) geometry.now.pages) }
+    {
+        let next = bound_plus(self.lun.cached.page.hi, 2);
+        !is_at_most(next, u64::from(geometry.parts().pages))
+    }
+
+    // An opener may be refused, though nothing is open.
+    fn refuses_opener(&self, geometry: &Geometry, opener: Command) -> bool
+        ensures { result ≡ opener_refused geometry.now self.now opener }
+    {
+        match opener {
+            Command::ChangeReadColumn => {
+                !self.target.shows_only_data()
+                    || self.lun.busy
+                    || !self.lun.has_page_or_parameters()
+            }
+            Command::Read | Command::BlockErase | Command::PageProgram => self.lun.busy,
+            Command::ReadId | Command::ReadParameterPage => self.lun.may_work(),
+            Command::ReadCacheSequential => {
+                !self.target.drives()
+                    || self.lun.busy
+                    || self.lun.last.other
+                    || self.may_leave_the_block(geometry)
+            }
+            Command::ReadCacheEnd => {
+                !self.target.drives() || self.lun.busy || self.lun.last.other || self.lun.last.read
+            }
+            _ => false,
+        }
+    }
+
+    // A command that is no opener may find no driver to work on.
+    fn refuses_closer(&self, closer: Command) -> bool
+        ensures { result ≡ closer_refused self.now closer }
+    {
+        closer == Command::ChangeReadColumnConfirm && !self.target.drives()
+    }
+
+    fn refuses_command(&self, geometry: &Geometry, command: Command) -> bool
+        ensures { result ≡ command_out_of_place geometry.now self.now command }
+    {
+        if is_unfit(geometry, command) {
+            false
+        } else if command.is_opener() {
+            self.may_be_open() || self.refuses_opener(geometry, command)
+        } else {
+            !self.target.tail.wants(command) || self.refuses_closer(command)
+        }
+    }
+
+    // A continued cache read may go past the rows.
+    fn may_pass_rows(&self, geometry: &Geometry, rows: u32, command: Command) -> bool
+        ensures { result ≡ command_past_rows geometry.now rows self.now command }
+    {
+        command == Command::ReadCacheSequential
+            && !is_unfit(geometry, command)
+            && !is_at_most(bound_plus(self.lun.cached.index.hi, 2), u64::from(rows))
+    }
+
+    // How long what the column is of may be.
+    fn column_limit(&self, geometry: &Geometry) -> u32
+        ensures { result ≡ column_limit geometry.now self.now self.now.target.tail }
+    {
+        match self.target.tail {
+            Place::After {
+                opener: Command::ChangeReadColumn,
+                ..
+            } => {
+                if self.target.drives() {
+                    self.lun.least_length(geometry)
+                } else {
+                    0
+                }
+            }
+            _ => geometry.page_len(),
+        }
+    }
+
+    // The one address of Read ID or Read Parameter Page may be refused.
+    fn refuses_identity(&self, geometry: &Geometry, from: u8, count: u8) -> bool
+        ensures { result ≡ identity_refused geometry.now self.now from count self.now.target.tail }
+    {
+        match self.target.tail {
+            Place::After { opener, .. } => {
+                geometry.parts().luns > 1
+                    || count != 1
+                    || !is_identity_byte(opener, from, self.registers.column.only())
+            }
+            _ => false,
+        }
+    }
+
+    // The last row cycle may be refused.
+    fn refuses_row(&self) -> bool
+        ensures { result ≡ row_refused self.now self.now.target.tail }
+    {
+        match self.target.tail {
+            Place::After { opener, .. } => {
+                self.lun.busy
+                    || self.lun.last.cache
+                    || self.lun.queue.refuses(self.registers.planes, opener)
+            }
+            _ => false,
+        }
+    }
+
+    // An address begins with the byte that is wanted, and holds the second column cycle.
+    fn completes_column(&self, from: u8, count: u8) -> bool
+        ensures { result ≡ (from == next_address self.now.target.tail && has_second_column from count) }
+    {
+        usize::from(from) == self.target.tail.next_address() && has_second_column(from, count)
+    }
+
+    // The column is surely past its limit, so that nothing is asked of the cycles after it.
+    fn surely_past(&self, geometry: &Geometry, from: u8, count: u8) -> bool
+        ensures { result ≡ surely_past geometry.now self.now from count self.now.target.tail }
+    {
+        self.completes_column(from, count)
+            && u64::from(self.column_limit(geometry)) <= self.registers.column.lo
+    }
+
+    fn refuses_address(&self, geometry: &Geometry, from: u8, count: u8) -> bool
+        ensures { result ≡ address_out_of_place geometry.now self.now from count self.now.target.tail }
+    {
+        let tail = self.target.tail;
+        let left = tail.addresses_left();
+        if left == 0 {
+            true
+        } else if tail.takes_identity() {
+            self.refuses_identity(geometry, from, count)
+        } else if self.surely_past(geometry, from, count) {
+            false
+        } else {
+            left < usize::from(count)
+                || usize::from(from) == tail.next_address()
+                    && u32::from(from) + u32::from(count) >= 5
+                    && self.refuses_row()
+        }
+    }
+
+    // An address begins at another byte than the one that is wanted.
+    fn begins_elsewhere(&self, from: u8) -> bool
+        ensures { result ≡ begins_elsewhere from self.now.target.tail }
+    {
+        let tail = self.target.tail;
+        tail.addresses_left() != 0
+            && !tail.takes_identity()
+            && usize::from(from) != tail.next_address()
+    }
+
+    fn may_pass_column(&self, geometry: &Geometry, from: u8, count: u8) -> bool
+        ensures { result ≡ column_past geometry.now self.now from count self.now.target.tail }
+    {
+        let tail = self.target.tail;
+        tail.addresses_left() != 0
+            && !tail.takes_identity()
+            && self.completes_column(from, count)
+            && !is_at_most(
+                bound_plus(self.registers.column.hi, 1),
+                u64::from(self.column_limit(geometry)),
+            )
+    }
+
+    // A row cycle, with the index or the plane perhaps outside.
+    fn may_leave_rows(&self, geometry: &Geometry, rows: u32, from: u8, count: u8) -> bool
+        ensures { result ≡ row_outside geometry.now rows self.now from count }
+    {
+        u32::from(from) + u32::from(count) > 2
+            && (!is_at_most(bound_plus(self.registers.index.hi, 1), u64::from(rows))
+                || !self.registers.planes.are_below(geometry.planes()))
+    }
+
+    fn refuses_output(&self) -> bool
+        ensures { result ≡ output_refused self.now }
+    {
+        self.may_be_open()
+            || !self.target.drives()
+            || self.target.may_show_data()
+                && (self.lun.busy || self.lun.register.is_none() || self.lun.column.is_none())
+    }
+
+    fn may_pass_register(&self, geometry: &Geometry, len: u32) -> bool
+        ensures { result ≡ output_past geometry.now self.now len }
+    {
+        let column = match self.lun.column {
+            None => None,
+            Some(column) => column.at.hi,
+        };
+        self.target.may_show_data()
+            && !is_at_most(
+                bound_plus(column, u64::from(len)),
+                u64::from(self.lun.least_length(geometry)),
+            )
+    }
+
+    fn may_pass_page(&self, geometry: &Geometry, len: u32) -> bool
+        ensures { result ≡ input_past geometry.now self.now len }
+    {
+        let column = match self.target.column {
+            None => None,
+            Some(column) => column.hi,
+        };
+        !is_at_most(
+            bound_plus(column, u64::from(len)),
+            u64::from(geometry.page_len()),
+        )
+    }
+
+    // The LUN may be busy, have rows queued or read a cache, or a sequence be open.
+    fn may_be_unready(&self) -> bool
+        ensures { result ≡ may_be_unready self.now }
+    {
+        self.lun.busy || self.may_be_open() || self.lun.queue.may_be_some() || self.lun.last.cache
+    }
+
+    #[tactic(auto, unfolding(crate::specs::Reasons::breaks_cycle_forbidden))]
+    fn breaks_cycle_forbidden(&self, geometry: &Geometry, word: Word) -> bool
+        ensures { result ≡ breaks_cycle_forbidden geometry.now self.now word }
+    {
+        match word {
+            Word::Command { byte } => self.refuses_command(geometry, Command::of(byte)),
+            Word::Address { from, count } => self.refuses_address(geometry, from, count),
+            Word::Get { .. } => self.refuses_output(),
+            Word::Put { .. } => !self.target.tail.is_in_data(),
+            Word::ReadStatus => self.may_be_open(),
+            _ => false,
+        }
+    }
+
+    #[tactic(auto, unfolding(crate::specs::Reasons::breaks_address_unaligned))]
+    fn breaks_address_unaligned(&self, word: Word) -> bool
+        ensures { result ≡ breaks_address_unaligned self.now word }
+    {
+        match word {
+            Word::Address { from, .. } => self.begins_elsewhere(from),
+            Word::Column { .. } | Word::RowAdd { .. } | Word::Row { .. } | Word::Plane { .. } => {
+                self.target.tail.is_inside_address()
+            }
+            _ => false,
+        }
+    }
+
+    #[tactic(auto, unfolding(crate::specs::Reasons::breaks_handover_in_sequence))]
+    fn breaks_handover_in_sequence(&self, word: Word) -> bool
+        ensures { result ≡ breaks_handover_in_sequence self.now word }
+    {
+        match word {
+            Word::Wait | Word::Yield => self.may_be_open(),
+            _ => false,
+        }
+    }
+
+    #[tactic(auto, unfolding(crate::specs::Reasons::breaks_buffer_passed))]
+    fn breaks_buffer_passed(&self, buffer: u32, word: Word) -> bool
+        ensures { result ≡ breaks_buffer_passed buffer self.now word }
+    {
+        match word {
+            Word::Get { len } | Word::Put { len } => !is_at_most(
+                bound_plus(self.registers.place.hi, u64::from(len)),
+                u64::from(buffer),
+            ),
+            _ => false,
+        }
+    }
+
+    #[tactic(auto, unfolding(crate::specs::Reasons::breaks_row_or_plane_outside))]
+    fn breaks_row_or_plane_outside(&self, geometry: &Geometry, rows: u32, word: Word) -> bool
+        ensures { result ≡ breaks_row_or_plane_outside geometry.now rows self.now word }
+    {
+        match word {
+            Word::Command { byte } => self.may_pass_rows(geometry, rows, Command::of(byte)),
+            Word::Address { from, count } => self.may_leave_rows(geometry, rows, from, count),
+            Word::Plane { plane } => plane > 3,
+            _ => false,
+        }
+    }
+
+    #[tactic(auto, unfolding(crate::specs::Reasons::breaks_column_too_large))]
+    fn breaks_column_too_large(&self, geometry: &Geometry, word: Word) -> bool
+        ensures { result ≡ breaks_column_too_large geometry.now self.now word }
+    {
+        match word {
+            Word::Address { from, count } => self.may_pass_column(geometry, from, count),
+            Word::Get { len } => self.may_pass_register(geometry, len),
+            Word::Put { len } => self.may_pass_page(geometry, len),
+            _ => false,
+        }
+    }
+
+    #[tactic(auto, unfolding(crate::specs::Reasons::breaks_no_status))]
+    fn breaks_no_status(&self, word: Word) -> bool
+        ensures { result ≡ breaks_no_status self.now word }
+    {
+        matches!(word, Word::BranchOnStatus { .. }) && !self.registers.polled
+    }
+
+    #[tactic(auto, unfolding(crate::specs::Reasons::breaks_ends_too_soon))]
+    fn breaks_ends_too_soon(&self, word: Word) -> bool
+        ensures { result ≡ breaks_ends_too_soon self.now word }
+    {
+        matches!(word, Word::End { .. }) && self.may_be_unready()
+    }
+
+    #[tactic(auto, unfolding(crate::specs::Reasons::breaks_over_budget))]
+    fn breaks_over_budget(&self, geometry: &Geometry, budget: u32, word: Word) -> bool
+        ensures { result ≡ breaks_over_budget geometry.now budget self.now word }
+    {
+        let cost = cost(geometry, word);
+        cost > 0 && !is_at_most(bound_plus(self.registers.cost.hi, cost), u64::from(budget))
+    }
+
+    /// The lowest reason against a word.
+    #[tactic(auto, unfolding(crate::specs::Reasons::reason_against))]
+    pub fn reason_against(&self, geometry: &Geometry, bounds: Bounds, word: Word) -> Option<Reason>
+        ensures { result ≡ reason_against geometry.now bounds self.now word }
+    {
+        if self.breaks_cycle_forbidden(geometry, word) {
+            Some(Reason::CycleForbidden)
+        } else if self.breaks_address_unaligned(word) {
+            Some(Reason::AddressUnaligned)
+        } else if self.breaks_handover_in_sequence(word) {
+            Some(Reason::HandoverInSequence)
+        } else if self.breaks_buffer_passed(bounds.buffer, word) {
+            Some(Reason::BufferPassed)
+        } else if self.breaks_row_or_plane_outside(geometry, bounds.rows, word) {
+            Some(Reason::RowOrPlaneOutside)
+        } else if self.breaks_column_too_large(geometry, word) {
+            Some(Reason::ColumnTooLarge)
+        } else if self.breaks_no_status(word) {
+            Some(Reason::NoStatus)
+        } else if self.breaks_ends_too_soon(word) {
+            Some(Reason::EndsTooSoon)
+        } else if self.breaks_over_budget(geometry, bounds.budget, word) {
+            Some(Reason::OverBudget)
+        } else if breaks_command_not_allowed(geometry, bounds, word) {
+            Some(Reason::CommandNotAllowed)
+        } else {
+            None
+        }
+    }
+}

@@ -1,0 +1,246 @@
+-- What a scene allows is permitted and the LUN's own.
+use Rattle.std.proofs.Common.{◌≡◌, ℕ, ◌<◌, Bool, true, false, ◌&&◌, ◌||◌, not, ltb, nat_le, Option, Some, None, List, refl, sym, ap, ◌∙◌, subst, arith, ltb-false, eqb-true}
+use Rattle.nand_geometry.specs.declared.Parts.{Parts}
+use Rattle.nand_geometry.specs.Limits.{page_len}
+use Rattle.nand_geometry.specs.Row.{parts_of}
+use Rattle.onfi_cycle.specs.declared.command.Command.{Command}
+use Rattle.onfi_cycle.specs.declared.command.Command.TheVariants.{Read, ReadConfirm, ChangeReadColumn, ChangeReadColumnConfirm, BlockErase, BlockEraseConfirm, BlockErasePlane, ReadStatus, ReadStatusEnhanced, PageProgram, ChangeWriteColumn, ProgramConfirm, ProgramPlane, ReadId, ReadParameterPage, Reset, ReadCacheSequential, ReadCacheEnd, Unknown}
+use Rattle.onfi_cycle.specs.declared.item.Lun.{Lun}
+use Rattle.onfi_cycle.specs.declared.item.Item.{Item}
+use Rattle.onfi_cycle.specs.declared.tail_facts.Opening.{Opening}
+use Rattle.onfi_cycle.specs.declared.effect.PageAddress.{PageAddress}
+use Rattle.onfi_cycle.specs.declared.lun_facts.Queued.{Queued}
+use Rattle.onfi_cycle.specs.declared.tail_facts.TailFacts.{TailFacts}
+use Rattle.onfi_cycle.specs.declared.target_cycle.TargetCycle.TheVariants.{CommandCycle, AddressCycle, InputCycle, OutputCycle}
+use Rattle.onfi_cycle.specs.LunView.{LunView}
+use Rattle.onfi_cycle.specs.Command.{at_last_row, addresses_the_array, is_change_read_column}
+use Rattle.onfi_cycle.specs.Sequence.{opened, is_open, takes_inputs, wants_command, wants_address, row_with, column_with, input_column}
+use Rattle.onfi_cycle.specs.Effect.{page_address}
+use Rattle.onfi_cycle.specs.Lun.{lun_view, luns_of, views_from}
+use Rattle.onfi_cycle.specs.Rules.{ends_row, some_lun_is, named_lun_is, is_some_and, driver, second_of_page, second_column, caching, continues_cache, ends_cache, may_change_column, has_some, is_refused_by, register_len, has_no_byte, is_past_register, breaks_command_unknown, breaks_sequence_open, breaks_several_luns, breaks_no_column_to_change, breaks_command_misplaced, breaks_address_misplaced, breaks_row_outside, breaks_lun_busy, breaks_queue_clash, breaks_input_misplaced, breaks_no_sole_driver, breaks_data_not_ready, breaks_column_outside, breaks_cache_read_misplaced}
+use Rattle.onfi_cycle.specs.Permitted.{judge_cycle}
+use Rattle.onfi_cycle.specs.Channel.{Channel, is_there}
+use Rattle.micro_program.proofs.Below.{facts}
+use Rattle.micro_program.proofs.Basics.{there_lun}
+use Rattle.micro_program.proofs.Views.{some_at, passes_at}
+use Rattle.micro_program.proofs.Scenes.{Scene, IsScene, CommandAllowed, AddressAllowed}
+
+-- 1. commands
+
+judge_read : (g : Parts) (t : TailFacts) (luns : List LunView) → is_open t ≡ false → some_lun_is (λ v. not v.busy) luns ≡ true → judge_cycle g t luns (CommandCycle Read) ≡ None
+unfolding breaks_command_unknown breaks_sequence_open breaks_several_luns breaks_no_column_to_change breaks_command_misplaced breaks_address_misplaced breaks_row_outside breaks_lun_busy breaks_queue_clash breaks_input_misplaced breaks_no_sole_driver breaks_data_not_ready breaks_column_outside breaks_cache_read_misplaced
+judge_read g t luns closed ready = rw (closed, ready) refl
+
+judge_erase : (g : Parts) (t : TailFacts) (luns : List LunView) → is_open t ≡ false → some_lun_is (λ v. not v.busy) luns ≡ true → judge_cycle g t luns (CommandCycle BlockErase) ≡ None
+unfolding breaks_command_unknown breaks_sequence_open breaks_several_luns breaks_no_column_to_change breaks_command_misplaced breaks_address_misplaced breaks_row_outside breaks_lun_busy breaks_queue_clash breaks_input_misplaced breaks_no_sole_driver breaks_data_not_ready breaks_column_outside breaks_cache_read_misplaced
+judge_erase g t luns closed ready = rw (closed, ready) refl
+
+judge_program : (g : Parts) (t : TailFacts) (luns : List LunView) → is_open t ≡ false → some_lun_is (λ v. not v.busy) luns ≡ true → judge_cycle g t luns (CommandCycle PageProgram) ≡ None
+unfolding breaks_command_unknown breaks_sequence_open breaks_several_luns breaks_no_column_to_change breaks_command_misplaced breaks_address_misplaced breaks_row_outside breaks_lun_busy breaks_queue_clash breaks_input_misplaced breaks_no_sole_driver breaks_data_not_ready breaks_column_outside breaks_cache_read_misplaced
+judge_program g t luns closed ready = rw (closed, ready) refl
+
+judge_read_column : (g : Parts) (t : TailFacts) (luns : List LunView) (v : LunView) → is_open t ≡ false → some_lun_is (λ w. not w.busy) luns ≡ true → driver luns ≡ Some v → may_change_column v ≡ true → judge_cycle g t luns (CommandCycle ChangeReadColumn) ≡ None
+unfolding breaks_command_unknown breaks_sequence_open breaks_several_luns breaks_no_column_to_change breaks_command_misplaced breaks_address_misplaced breaks_row_outside breaks_lun_busy breaks_queue_clash breaks_input_misplaced breaks_no_sole_driver breaks_data_not_ready breaks_column_outside breaks_cache_read_misplaced
+judge_read_column g t luns v closed ready one may = rw (closed, ready, one, may) refl
+
+judge_status : (g : Parts) (t : TailFacts) (luns : List LunView) → is_open t ≡ false → ltb 1 g.luns ≡ false → judge_cycle g t luns (CommandCycle ReadStatus) ≡ None
+unfolding breaks_command_unknown breaks_sequence_open breaks_several_luns breaks_no_column_to_change breaks_command_misplaced breaks_address_misplaced breaks_row_outside breaks_lun_busy breaks_queue_clash breaks_input_misplaced breaks_no_sole_driver breaks_data_not_ready breaks_column_outside breaks_cache_read_misplaced
+judge_status g t luns closed one = rw (closed, one) refl
+
+judge_enhanced : (g : Parts) (t : TailFacts) (luns : List LunView) → is_open t ≡ false → g.enhanced ≡ true → judge_cycle g t luns (CommandCycle ReadStatusEnhanced) ≡ None
+unfolding breaks_command_unknown breaks_sequence_open breaks_several_luns breaks_no_column_to_change breaks_command_misplaced breaks_address_misplaced breaks_row_outside breaks_lun_busy breaks_queue_clash breaks_input_misplaced breaks_no_sole_driver breaks_data_not_ready breaks_column_outside breaks_cache_read_misplaced
+judge_enhanced g t luns closed enhanced = rw (closed, enhanced) refl
+
+judge_reset : (g : Parts) (t : TailFacts) (luns : List LunView) → is_open t ≡ false → ltb 1 g.luns ≡ false → judge_cycle g t luns (CommandCycle Reset) ≡ None
+unfolding breaks_command_unknown breaks_sequence_open breaks_several_luns breaks_no_column_to_change breaks_command_misplaced breaks_address_misplaced breaks_row_outside breaks_lun_busy breaks_queue_clash breaks_input_misplaced breaks_no_sole_driver breaks_data_not_ready breaks_column_outside breaks_cache_read_misplaced
+judge_reset g t luns closed one = rw (closed, one) refl
+
+judge_id : (g : Parts) (t : TailFacts) (luns : List LunView) → is_open t ≡ false → ltb 1 g.luns ≡ false → some_lun_is (λ v. not v.busy) luns ≡ true → some_lun_is (λ v. has_some v.queue) luns ≡ false → some_lun_is caching luns ≡ false → judge_cycle g t luns (CommandCycle ReadId) ≡ None
+unfolding breaks_command_unknown breaks_sequence_open breaks_several_luns breaks_no_column_to_change breaks_command_misplaced breaks_address_misplaced breaks_row_outside breaks_lun_busy breaks_queue_clash breaks_input_misplaced breaks_no_sole_driver breaks_data_not_ready breaks_column_outside breaks_cache_read_misplaced
+judge_id g t luns closed one ready queue cache = rw (closed, one, ready, queue, cache) refl
+
+judge_parameters : (g : Parts) (t : TailFacts) (luns : List LunView) → is_open t ≡ false → ltb 1 g.luns ≡ false → some_lun_is (λ v. not v.busy) luns ≡ true → some_lun_is (λ v. has_some v.queue) luns ≡ false → some_lun_is caching luns ≡ false → judge_cycle g t luns (CommandCycle ReadParameterPage) ≡ None
+unfolding breaks_command_unknown breaks_sequence_open breaks_several_luns breaks_no_column_to_change breaks_command_misplaced breaks_address_misplaced breaks_row_outside breaks_lun_busy breaks_queue_clash breaks_input_misplaced breaks_no_sole_driver breaks_data_not_ready breaks_column_outside breaks_cache_read_misplaced
+judge_parameters g t luns closed one ready queue cache = rw (closed, one, ready, queue, cache) refl
+
+judge_cache : (g : Parts) (t : TailFacts) (luns : List LunView) (v : LunView) → is_open t ≡ false → g.cache ≡ true → driver luns ≡ Some v → continues_cache g v ≡ true → judge_cycle g t luns (CommandCycle ReadCacheSequential) ≡ None
+unfolding breaks_command_unknown breaks_sequence_open breaks_several_luns breaks_no_column_to_change breaks_command_misplaced breaks_address_misplaced breaks_row_outside breaks_lun_busy breaks_queue_clash breaks_input_misplaced breaks_no_sole_driver breaks_data_not_ready breaks_column_outside breaks_cache_read_misplaced
+judge_cache g t luns v closed declared one passes = rw (closed, declared, one, passes) refl
+
+judge_cache_end : (g : Parts) (t : TailFacts) (luns : List LunView) (v : LunView) → is_open t ≡ false → g.cache ≡ true → driver luns ≡ Some v → ends_cache v ≡ true → judge_cycle g t luns (CommandCycle ReadCacheEnd) ≡ None
+unfolding breaks_command_unknown breaks_sequence_open breaks_several_luns breaks_no_column_to_change breaks_command_misplaced breaks_address_misplaced breaks_row_outside breaks_lun_busy breaks_queue_clash breaks_input_misplaced breaks_no_sole_driver breaks_data_not_ready breaks_column_outside breaks_cache_read_misplaced
+judge_cache_end g t luns v closed declared one passes = rw (closed, declared, one, passes) refl
+
+judge_30 : (g : Parts) (t : TailFacts) (luns : List LunView) → wants_command t ReadConfirm ≡ true → judge_cycle g t luns (CommandCycle ReadConfirm) ≡ None
+unfolding breaks_command_unknown breaks_sequence_open breaks_several_luns breaks_no_column_to_change breaks_command_misplaced breaks_address_misplaced breaks_row_outside breaks_lun_busy breaks_queue_clash breaks_input_misplaced breaks_no_sole_driver breaks_data_not_ready breaks_column_outside breaks_cache_read_misplaced
+judge_30 g t luns wants = rw wants refl
+
+judge_d0 : (g : Parts) (t : TailFacts) (luns : List LunView) → wants_command t BlockEraseConfirm ≡ true → judge_cycle g t luns (CommandCycle BlockEraseConfirm) ≡ None
+unfolding breaks_command_unknown breaks_sequence_open breaks_several_luns breaks_no_column_to_change breaks_command_misplaced breaks_address_misplaced breaks_row_outside breaks_lun_busy breaks_queue_clash breaks_input_misplaced breaks_no_sole_driver breaks_data_not_ready breaks_column_outside breaks_cache_read_misplaced
+judge_d0 g t luns wants = rw wants refl
+
+judge_d1 : (g : Parts) (t : TailFacts) (luns : List LunView) → wants_command t BlockErasePlane ≡ true → g.multi_plane ≡ true → judge_cycle g t luns (CommandCycle BlockErasePlane) ≡ None
+unfolding breaks_command_unknown breaks_sequence_open breaks_several_luns breaks_no_column_to_change breaks_command_misplaced breaks_address_misplaced breaks_row_outside breaks_lun_busy breaks_queue_clash breaks_input_misplaced breaks_no_sole_driver breaks_data_not_ready breaks_column_outside breaks_cache_read_misplaced
+judge_d1 g t luns wants declared = rw (wants, declared) refl
+
+judge_10 : (g : Parts) (t : TailFacts) (luns : List LunView) → wants_command t ProgramConfirm ≡ true → judge_cycle g t luns (CommandCycle ProgramConfirm) ≡ None
+unfolding breaks_command_unknown breaks_sequence_open breaks_several_luns breaks_no_column_to_change breaks_command_misplaced breaks_address_misplaced breaks_row_outside breaks_lun_busy breaks_queue_clash breaks_input_misplaced breaks_no_sole_driver breaks_data_not_ready breaks_column_outside breaks_cache_read_misplaced
+judge_10 g t luns wants = rw wants refl
+
+judge_11 : (g : Parts) (t : TailFacts) (luns : List LunView) → wants_command t ProgramPlane ≡ true → g.multi_plane ≡ true → judge_cycle g t luns (CommandCycle ProgramPlane) ≡ None
+unfolding breaks_command_unknown breaks_sequence_open breaks_several_luns breaks_no_column_to_change breaks_command_misplaced breaks_address_misplaced breaks_row_outside breaks_lun_busy breaks_queue_clash breaks_input_misplaced breaks_no_sole_driver breaks_data_not_ready breaks_column_outside breaks_cache_read_misplaced
+judge_11 g t luns wants declared = rw (wants, declared) refl
+
+judge_e0 : (g : Parts) (t : TailFacts) (luns : List LunView) → wants_command t ChangeReadColumnConfirm ≡ true → judge_cycle g t luns (CommandCycle ChangeReadColumnConfirm) ≡ None
+unfolding breaks_command_unknown breaks_sequence_open breaks_several_luns breaks_no_column_to_change breaks_command_misplaced breaks_address_misplaced breaks_row_outside breaks_lun_busy breaks_queue_clash breaks_input_misplaced breaks_no_sole_driver breaks_data_not_ready breaks_column_outside breaks_cache_read_misplaced
+judge_e0 g t luns wants = rw wants refl
+
+judge_85 : (g : Parts) (t : TailFacts) (luns : List LunView) → wants_command t ChangeWriteColumn ≡ true → judge_cycle g t luns (CommandCycle ChangeWriteColumn) ≡ None
+unfolding breaks_command_unknown breaks_sequence_open breaks_several_luns breaks_no_column_to_change breaks_command_misplaced breaks_address_misplaced breaks_row_outside breaks_lun_busy breaks_queue_clash breaks_input_misplaced breaks_no_sole_driver breaks_data_not_ready breaks_column_outside breaks_cache_read_misplaced
+judge_85 g t luns wants = rw wants refl
+
+-- the only LUN of its target
+some_of_one : (g : Parts) (past : List Item) (l : Lun) (test : LunView → Bool) → g.luns ≡ 1 → l.lun ≡ 0 → some_lun_is test (luns_of g past l.ce) ≡ (test (lun_view g past l) || false)
+some_of_one g past l test one zero_is =
+    ap (λ (n : ℕ). some_lun_is test (views_from g past l.ce n 0)) one ∙ ap (λ (n : ℕ). test (lun_view g past (record { ce = l.ce; lun = n })) || false) (sym zero_is)
+
+or_false : (b : Bool) → b ≡ false → (b || false) ≡ false
+or_false true h = cc
+or_false false h = refl
+
+pub one_lun : (s : Channel) (l : Lun) → is_there s l ≡ true → ltb 1 s.geometry.luns ≡ false → (s.geometry.luns ≡ 1) × (l.lun ≡ 0)
+one_lun s l there one =
+    let below = there_lun s l there in
+    let most = ltb-false 1 s.geometry.luns one in
+    (omega (arith, below, most), omega (arith, below, most))
+
+pub command_judged : (s : Channel) (l : Lun) (past : List Item) (c : Scene) → is_there s l ≡ true → IsScene s l past c → (d : Command) → CommandAllowed s.geometry l.lun c d → judge_cycle s.geometry c.facts (luns_of s.geometry past l.ce) (CommandCycle d) ≡ None
+command_judged s l past c there k d a = by d a
+  where
+    some_ready : c.view.busy ≡ false → some_lun_is (λ v. not v.busy) (luns_of s.geometry past l.ce) ≡ true
+    some_ready h = some_at s.geometry past l (λ v. not v.busy) (there_lun s l there) (ap (λ (v : LunView). not v.busy) k.view ∙ rw h refl)
+
+    the_driver : c.sole ≡ true → driver (luns_of s.geometry past l.ce) ≡ Some c.view
+    the_driver h = facts.sole_driver s.geometry past l (k.sole h) ∙ ap Some k.view
+
+    none_of : (test : LunView → Bool) → ltb 1 s.geometry.luns ≡ false → test c.view ≡ false → some_lun_is test (luns_of s.geometry past l.ce) ≡ false
+    none_of test one h = let is = one_lun s l there one in some_of_one s.geometry past l test is.0 is.1 ∙ or_false (test (lun_view s.geometry past l)) (ap test k.view ∙ h)
+
+    by : (d : Command) → CommandAllowed s.geometry l.lun c d → judge_cycle s.geometry c.facts (luns_of s.geometry past l.ce) (CommandCycle d) ≡ None
+    by Read a = judge_read s.geometry c.facts _ a.0 (some_ready a.1)
+    by BlockErase a = judge_erase s.geometry c.facts _ a.0 (some_ready a.1)
+    by PageProgram a = judge_program s.geometry c.facts _ a.0 (some_ready a.1)
+    by ChangeReadColumn a = judge_read_column s.geometry c.facts _ c.view a.0.0 (some_ready a.0.1) (the_driver a.1) a.2
+    by ReadStatus a = judge_status s.geometry c.facts _ a.0 a.1
+    by ReadStatusEnhanced a = judge_enhanced s.geometry c.facts _ a.0 a.1
+    by ReadId a = judge_id s.geometry c.facts _ a.closed a.one (some_ready a.ready) (none_of (λ v. has_some v.queue) a.one a.no_queue) (none_of caching a.one a.no_cache)
+    by ReadParameterPage a = judge_parameters s.geometry c.facts _ a.closed a.one (some_ready a.ready) (none_of (λ v. has_some v.queue) a.one a.no_queue) (none_of caching a.one a.no_cache)
+    by Reset a = judge_reset s.geometry c.facts _ a.0 a.1
+    by ReadCacheSequential a = judge_cache s.geometry c.facts _ c.view a.closed a.declared (the_driver a.sole) a.passes
+    by ReadCacheEnd a = judge_cache_end s.geometry c.facts _ c.view a.closed a.declared (the_driver a.sole) a.passes
+    by ReadConfirm a = judge_30 s.geometry c.facts _ a.0
+    by BlockEraseConfirm a = judge_d0 s.geometry c.facts _ a.0
+    by BlockErasePlane a = judge_d1 s.geometry c.facts _ a.0.0 a.1
+    by ProgramConfirm a = judge_10 s.geometry c.facts _ a.0
+    by ProgramPlane a = judge_11 s.geometry c.facts _ a.0.0 a.1
+    by ChangeReadColumnConfirm a = judge_e0 s.geometry c.facts _ a.0
+    by ChangeWriteColumn a = judge_85 s.geometry c.facts _ a
+    by Unknown a = absurd a
+
+from_command : (g : Parts) (t u : TailFacts) (luns : List LunView) (c d : Command) → t ≡ u → c ≡ d → judge_cycle g u luns (CommandCycle d) ≡ None → judge_cycle g t luns (CommandCycle c) ≡ None
+from_command g t u luns c d e f h =
+    subst (λ (x : TailFacts). judge_cycle g x luns (CommandCycle c) ≡ None) (sym e) (subst (λ (x : Command). judge_cycle g u luns (CommandCycle x) ≡ None) (sym f) h)
+
+-- 2. addresses
+
+and_no : (a b : Bool) → b ≡ false → (a && b) ≡ false
+and_no true b h = h
+and_no false b h = refl
+
+-- what is no last row cycle ends no row of any opener
+ends_none : (among : Command → Bool) (o : Option Opening) → opened (λ c n. true && at_last_row c n) o ≡ false → opened (λ c n. among c && at_last_row c n) o ≡ false
+ends_none among None h = refl
+ends_none among (Some o) h = and_no (among o.opener) (at_last_row o.opener o.addresses) h
+
+refused_none : (g : Parts) (p : PageAddress) (q : List Queued) (o : Option Opening) → opened (λ c n. true && at_last_row c n) o ≡ false → is_refused_by g o p q ≡ false
+refused_none g p q None h = refl
+refused_none g p q (Some o) h = rw h refl
+
+no_lun : (test : LunView → Bool) (o : Option LunView) → ((v : LunView) → test v ≡ false) → is_some_and test o ≡ false
+no_lun test None h = refl
+no_lun test (Some v) h = h v
+
+judge_address : (g : Parts) (t : TailFacts) (luns : List LunView) (b : ℕ) → breaks_address_misplaced t (AddressCycle b) ≡ false → breaks_row_outside g t (AddressCycle b) ≡ false → breaks_lun_busy g t luns (AddressCycle b) ≡ false → breaks_queue_clash g t luns (AddressCycle b) ≡ false → breaks_column_outside g t luns (AddressCycle b) ≡ false → breaks_cache_read_misplaced g t luns (AddressCycle b) ≡ false → judge_cycle g t luns (AddressCycle b) ≡ None
+unfolding breaks_command_unknown breaks_sequence_open breaks_several_luns breaks_no_column_to_change breaks_command_misplaced breaks_input_misplaced breaks_no_sole_driver breaks_data_not_ready
+judge_address g t luns b f7 f8 f9 f10 f14 f15 = rw (f7, f8, f9, f10, f14, f15) refl
+
+-- both fail, or the first fails
+both_no : (a b : Bool) → (a ≡ true → b ≡ false) → (a && b) ≡ false
+both_no true b h = h refl
+both_no false b h = refl
+
+or_no : (a b : Bool) → a ≡ false → b ≡ false → (a || b) ≡ false
+or_no true b h k = cc
+or_no false b h k = k
+
+is_not : (b : Bool) → b ≡ true → not b ≡ false
+is_not true h = refl
+is_not false h = cc
+
+-- an address that a scene allows
+pub address_judged : (s : Channel) (l : Lun) (past : List Item) (c : Scene) (byte : ℕ) → is_there s l ≡ true → IsScene s l past c → AddressAllowed s.geometry l.lun c byte → judge_cycle s.geometry c.facts (luns_of s.geometry past l.ce) (AddressCycle byte) ≡ None
+unfolding breaks_address_misplaced breaks_row_outside breaks_lun_busy breaks_queue_clash breaks_column_outside breaks_cache_read_misplaced
+address_judged s l past c byte there k a = at (ends_row (λ d. true) c.facts) refl
+  where
+    g : Parts
+    g = s.geometry
+
+    luns : List LunView
+    luns = luns_of s.geometry past l.ce
+
+    here : l.lun < s.geometry.luns
+    here = there_lun s l there
+
+    f7 : breaks_address_misplaced c.facts (AddressCycle byte) ≡ false
+    f7 = is_not (wants_address c.facts byte) a.wanted
+
+    f14 : breaks_column_outside g c.facts luns (AddressCycle byte) ≡ false
+    f14 =
+        or_no (second_of_page c.facts && nat_le (page_len g) (column_with c.facts byte)) _ (both_no (second_of_page c.facts) _ a.column)
+        (both_no (second_column is_change_read_column c.facts) _ (λ e. let r = a.read_column e in let one : driver luns ≡ Some c.view = facts.sole_driver g past l (k.sole r.0) ∙ ap Some k.view in ap (is_some_and (λ v. nat_le (register_len g v.register) (column_with c.facts byte))) one ∙ r.1))
+
+    -- the LUN that a row names passes as this one does
+    named : (n : ℕ) (test : LunView → Bool) → (parts_of g n).lun ≡ l.lun → test c.view ≡ false → named_lun_is g n test luns ≡ false
+    named n test e h = passes_at g past l _ test here e ∙ (ap test k.view ∙ h)
+
+    at : (b : Bool) → ends_row (λ d. true) c.facts ≡ b → judge_cycle g c.facts luns (AddressCycle byte) ≡ None
+    at true e =
+        let r = a.row e in
+        let is : (parts_of g (row_with c.facts byte)).lun ≡ l.lun = eqb-true _ _ r.names in
+        judge_address g c.facts luns byte f7
+        (both_no (ends_row (λ d. true) c.facts) _ (λ x. is_not _ r.inside))
+        (both_no (ends_row addresses_the_array c.facts) _ (λ x. named (row_with c.facts byte) (λ v. v.busy) is (r.ready x)))
+        (named (row_with c.facts byte) (λ v. is_refused_by g c.facts.opening (page_address g (row_with c.facts byte)) v.queue) is r.goes)
+        f14
+        (both_no (ends_row addresses_the_array c.facts) _ (λ x. named (row_with c.facts byte) caching is (r.no_cache x)))
+    at false e =
+        let none = ends_none addresses_the_array c.facts.opening e in
+        judge_address g c.facts luns byte f7
+        (both_no (ends_row (λ d. true) c.facts) _ (λ x. clash x e))
+        (both_no (ends_row addresses_the_array c.facts) _ (λ x. clash x none))
+        (no_lun (λ v. is_refused_by g c.facts.opening (page_address g (row_with c.facts byte)) v.queue) _ (λ v. refused_none g (page_address g (row_with c.facts byte)) v.queue c.facts.opening e))
+        f14
+        (both_no (ends_row addresses_the_array c.facts) _ (λ x. clash x none))
+      where
+        clash : {x y : Bool} → x ≡ true → x ≡ false → y ≡ false
+        clash h k = cc
+
+-- 3. inputs and outputs
+
+pub input_judged : (g : Parts) (t : TailFacts) (luns : List LunView) (b : ℕ) → takes_inputs t.phase ≡ true → nat_le (page_len g) (input_column t) ≡ false → judge_cycle g t luns (InputCycle b) ≡ None
+unfolding breaks_command_unknown breaks_sequence_open breaks_several_luns breaks_no_column_to_change breaks_command_misplaced breaks_address_misplaced breaks_row_outside breaks_lun_busy breaks_queue_clash breaks_input_misplaced breaks_no_sole_driver breaks_data_not_ready breaks_column_outside breaks_cache_read_misplaced
+input_judged g t luns b takes inside = rw (takes, inside) refl
+
+pub output_judged : (g : Parts) (t : TailFacts) (luns : List LunView) (v : LunView) → is_open t ≡ false → driver luns ≡ Some v → has_no_byte v ≡ false → is_past_register g v ≡ false → judge_cycle g t luns OutputCycle ≡ None
+unfolding breaks_command_unknown breaks_sequence_open breaks_several_luns breaks_no_column_to_change breaks_command_misplaced breaks_address_misplaced breaks_row_outside breaks_lun_busy breaks_queue_clash breaks_input_misplaced breaks_no_sole_driver breaks_data_not_ready breaks_column_outside breaks_cache_read_misplaced
+output_judged g t luns v closed one byte inside = rw (closed, one, byte, inside) refl

@@ -1,0 +1,134 @@
+-- What one LUN sees of its target: the facts of the tail, what the rules see of the LUN, and whether it is known to drive alone.
+-- Which cycle of its own is permitted, and what it leaves, is told by that alone.
+use Rattle.std.proofs.Common.{◌≡◌, ℕ, Bool, true, false, ◌||◌, cond, not, ltb, nat_le, Option, Some, None, List}
+use Rattle.nand_geometry.specs.declared.Parts.{Parts}
+use Rattle.nand_geometry.specs.Limits.{page_len}
+use Rattle.nand_geometry.specs.Row.{parts_of, is_inside}
+use Rattle.onfi_cycle.specs.declared.command.Command.{Command}
+use Rattle.onfi_cycle.specs.declared.command.Command.TheVariants.{Read, ReadConfirm, ChangeReadColumn, ChangeReadColumnConfirm, BlockErase, BlockEraseConfirm, BlockErasePlane, ReadStatus, ReadStatusEnhanced, PageProgram, ChangeWriteColumn, ProgramConfirm, ProgramPlane, ReadId, ReadParameterPage, Reset, ReadCacheSequential, ReadCacheEnd, Unknown}
+use Rattle.onfi_cycle.specs.declared.item.Lun.{Lun}
+use Rattle.onfi_cycle.specs.declared.item.Item.{Item}
+use Rattle.onfi_cycle.specs.declared.lun_facts.Latch.{Latch}
+use Rattle.onfi_cycle.specs.declared.lun_facts.Latch.TheVariants.{Off}
+use Rattle.onfi_cycle.specs.declared.tail_facts.Opening.{Opening}
+use Rattle.onfi_cycle.specs.declared.tail_facts.TailFacts.{TailFacts}
+use Rattle.onfi_cycle.specs.declared.target_cycle.TargetCycle.{TargetCycle}
+use Rattle.onfi_cycle.specs.declared.target_cycle.TargetCycle.TheVariants.{CommandCycle, AddressCycle, InputCycle, OutputCycle}
+use Rattle.onfi_cycle.specs.LunView.{LunView}
+use Rattle.onfi_cycle.specs.Sequence.{tail, facts_of, facts_after, is_open, takes_inputs, wants_command, wants_address, row, row_with, column_with, input_column}
+use Rattle.onfi_cycle.specs.Effect.{page_address, names_lun, cycle_effect}
+use Rattle.onfi_cycle.specs.Lun.{drivers, is_only, lun_view, view_after}
+use Rattle.onfi_cycle.specs.Rules.{ends_row, second_of_page, second_column, caching, continues_cache, ends_cache, may_change_column, has_some, is_refused_by, register_len, has_no_byte, is_past_register}
+use Rattle.onfi_cycle.specs.Command.{addresses_the_array, is_change_read_column}
+use Rattle.onfi_cycle.specs.Channel.{Channel}
+
+pub record Scene : Type 0 where
+  pub facts : TailFacts
+  pub view : LunView
+  pub sole : Bool
+
+-- the scene is what the LUN sees after this past
+pub record IsScene (s : Channel) (l : Lun) (past : List Item) (c : Scene) : Type 0 where
+  pub facts : facts_of (tail past l.ce) ≡ c.facts
+  pub view : lun_view s.geometry past l ≡ c.view
+  pub sole : c.sole ≡ true → is_only (drivers s.geometry past l.ce) l.lun ≡ true
+
+-- ---- what is allowed
+
+abbrev pub OpenerAllowed : Scene → Type 0
+OpenerAllowed c = (is_open c.facts ≡ false) × (c.view.busy ≡ false)
+
+abbrev pub CloserAllowed : Parts → ℕ → Scene → Command → Type 0
+CloserAllowed g lun c d = (wants_command c.facts d ≡ true) × (names_lun g (row c.facts) lun ≡ true)
+
+pub record IdentityAllowed (g : Parts) (c : Scene) : Type 0 where
+  pub closed : is_open c.facts ≡ false
+  pub one : ltb 1 g.luns ≡ false
+  pub ready : c.view.busy ≡ false
+  pub no_queue : has_some c.view.queue ≡ false
+  pub no_cache : caching c.view ≡ false
+
+pub record CacheAllowed (g : Parts) (c : Scene) (test : LunView → Bool) : Type 0 where
+  pub closed : is_open c.facts ≡ false
+  pub declared : g.cache ≡ true
+  pub sole : c.sole ≡ true
+  pub passes : test c.view ≡ true
+
+abbrev pub CommandAllowed : Parts → ℕ → Scene → Command → Type 0
+CommandAllowed g lun c Read = OpenerAllowed c
+CommandAllowed g lun c BlockErase = OpenerAllowed c
+CommandAllowed g lun c PageProgram = OpenerAllowed c
+CommandAllowed g lun c ChangeReadColumn = OpenerAllowed c × (c.sole ≡ true) × (may_change_column c.view ≡ true)
+CommandAllowed g lun c ReadStatus = (is_open c.facts ≡ false) × (ltb 1 g.luns ≡ false)
+CommandAllowed g lun c ReadStatusEnhanced = (is_open c.facts ≡ false) × (g.enhanced ≡ true)
+CommandAllowed g lun c ReadId = IdentityAllowed g c
+CommandAllowed g lun c ReadParameterPage = IdentityAllowed g c
+CommandAllowed g lun c Reset = (is_open c.facts ≡ false) × (ltb 1 g.luns ≡ false)
+CommandAllowed g lun c ReadCacheSequential = CacheAllowed g c (continues_cache g)
+CommandAllowed g lun c ReadCacheEnd = CacheAllowed g c ends_cache
+CommandAllowed g lun c ReadConfirm = CloserAllowed g lun c ReadConfirm
+CommandAllowed g lun c BlockEraseConfirm = CloserAllowed g lun c BlockEraseConfirm
+CommandAllowed g lun c BlockErasePlane = CloserAllowed g lun c BlockErasePlane × (g.multi_plane ≡ true)
+CommandAllowed g lun c ProgramConfirm = CloserAllowed g lun c ProgramConfirm
+CommandAllowed g lun c ProgramPlane = CloserAllowed g lun c ProgramPlane × (g.multi_plane ≡ true)
+CommandAllowed g lun c ChangeReadColumnConfirm = (wants_command c.facts ChangeReadColumnConfirm ≡ true) × (c.sole ≡ true)
+CommandAllowed g lun c ChangeWriteColumn = wants_command c.facts ChangeWriteColumn ≡ true
+CommandAllowed g lun c Unknown = ⊥
+
+-- the last row cycle
+pub record RowAllowed (g : Parts) (lun : ℕ) (c : Scene) (byte : ℕ) : Type 0 where
+  pub inside : is_inside g (parts_of g (row_with c.facts byte)) ≡ true
+  pub names : names_lun g (row_with c.facts byte) lun ≡ true
+  pub ready : ends_row addresses_the_array c.facts ≡ true → c.view.busy ≡ false
+  pub goes : is_refused_by g c.facts.opening (page_address g (row_with c.facts byte)) c.view.queue ≡ false
+  pub no_cache : ends_row addresses_the_array c.facts ≡ true → caching c.view ≡ false
+
+pub record AddressAllowed (g : Parts) (lun : ℕ) (c : Scene) (byte : ℕ) : Type 0 where
+  pub wanted : wants_address c.facts byte ≡ true
+  pub row : ends_row (λ d. true) c.facts ≡ true → RowAllowed g lun c byte
+  pub column : second_of_page c.facts ≡ true → nat_le (page_len g) (column_with c.facts byte) ≡ false
+  pub read_column : second_column is_change_read_column c.facts ≡ true → (c.sole ≡ true) × (nat_le (register_len g c.view.register) (column_with c.facts byte) ≡ false)
+
+pub record OutputAllowed (g : Parts) (c : Scene) : Type 0 where
+  pub closed : is_open c.facts ≡ false
+  pub sole : c.sole ≡ true
+  pub has_byte : has_no_byte c.view ≡ false
+  pub inside : is_past_register g c.view ≡ false
+
+abbrev pub Allowed : Parts → ℕ → Scene → TargetCycle → Type 0
+Allowed g lun c (CommandCycle d) = CommandAllowed g lun c d
+Allowed g lun c (AddressCycle byte) = AddressAllowed g lun c byte
+Allowed g lun c (InputCycle byte) = (takes_inputs c.facts.phase ≡ true) × (nat_le (page_len g) (input_column c.facts) ≡ false)
+Allowed g lun c OutputCycle = OutputAllowed g c
+
+-- ---- what is left
+
+-- its latch if it is known to drive alone, and else Off
+abbrev pub shown_alone : Scene → Latch
+shown_alone c = cond c.sole c.view.latch Off
+
+abbrev pub command_sole : Parts → Bool → Command → Bool
+command_sole g sole Reset = false
+command_sole g sole ReadStatus = false
+command_sole g sole ReadConfirm = sole || not (ltb 1 g.luns)
+command_sole g sole _ = sole
+
+abbrev pub opener_sole : Parts → Bool → Command → Bool
+opener_sole g sole ReadStatusEnhanced = false
+opener_sole g sole ReadId = not (ltb 1 g.luns)
+opener_sole g sole ReadParameterPage = not (ltb 1 g.luns)
+opener_sole g sole _ = sole
+
+abbrev pub address_sole : Parts → Bool → Option Opening → Bool
+address_sole g sole None = sole
+address_sole g sole (Some o) = opener_sole g sole o.opener
+
+abbrev pub sole_behind : Parts → Scene → TargetCycle → Bool
+sole_behind g c (CommandCycle d) = command_sole g c.sole d
+sole_behind g c (AddressCycle byte) = address_sole g c.sole c.facts.opening
+sole_behind g c (InputCycle byte) = c.sole
+sole_behind g c OutputCycle = c.sole
+
+abbrev pub scene_behind : Parts → ℕ → TargetCycle → Scene → Scene
+scene_behind g lun cycle c =
+    record { facts = facts_after cycle c.facts; view = view_after (cycle_effect g c.facts (shown_alone c) cycle lun) c.view; sole = sole_behind g c cycle }

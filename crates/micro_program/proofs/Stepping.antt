@@ -1,0 +1,245 @@
+-- A cycle that a scene allows is own, and leads to the scene behind it.
+use Rattle.std.proofs.Common.{◌≡◌, ◌⊎◌, inl, inr, ℕ, zero, suc, ◌+◌, Bool, true, false, ◌&&◌, ◌||◌, cond, not, ltb, Option, Some, None, List, ◌∷◌, refl, sym, ap, ◌∙◌, subst, eqb-true, eq-eqb}
+use Rattle.nand_geometry.specs.declared.Parts.{Parts}
+use Rattle.onfi_cycle.specs.declared.command.Command.{Command}
+use Rattle.onfi_cycle.specs.declared.command.Command.TheVariants.{Read, ReadConfirm, ChangeReadColumnConfirm, BlockEraseConfirm, BlockErasePlane, ReadStatus, ReadStatusEnhanced, ProgramConfirm, ProgramPlane, ReadId, ReadParameterPage, Reset, ReadCacheSequential, ReadCacheEnd}
+use Rattle.onfi_cycle.specs.declared.item.Lun.{Lun}
+use Rattle.onfi_cycle.specs.declared.item.Item.{Item}
+use Rattle.onfi_cycle.specs.declared.item.Kind.{Kind}
+use Rattle.onfi_cycle.specs.declared.lun_facts.Latch.{Latch}
+use Rattle.onfi_cycle.specs.declared.lun_facts.Latch.TheVariants.{Off, Status, Data}
+use Rattle.onfi_cycle.specs.declared.tail_facts.Opening.{Opening}
+use Rattle.onfi_cycle.specs.declared.effect.Effect.{Effect}
+use Rattle.onfi_cycle.specs.declared.effect.Effect.TheVariants.{Unaffected, DataOutput, CacheReadContinued, CacheReadEnded}
+use Rattle.onfi_cycle.specs.declared.tail_facts.TailFacts.{TailFacts}
+use Rattle.onfi_cycle.specs.declared.target_cycle.TargetCycle.{TargetCycle}
+use Rattle.onfi_cycle.specs.declared.target_cycle.TargetCycle.TheVariants.{CommandCycle, AddressCycle, InputCycle, OutputCycle}
+use Rattle.onfi_cycle.specs.LunView.{LunView}
+use Rattle.onfi_cycle.specs.Command.{reads_identity}
+use Rattle.onfi_cycle.specs.Sequence.{facts_after, target_cycle, wants_command, wants_address, row, row_with}
+use Rattle.onfi_cycle.specs.Effect.{is_off, is_data, names_lun, command_effect, address_effect, opening_address_effect, cycle_effect}
+use Rattle.onfi_cycle.specs.Lun.{latch, latch_after, latch_alone, effect_on, drivers, drivers_from, is_only, lun_view, luns_of, view_after}
+use Rattle.onfi_cycle.specs.Rules.{ends_row}
+use Rattle.onfi_cycle.specs.Permitted.{broken, judge_cycle}
+use Rattle.onfi_cycle.specs.OtherLun.{keeps_to}
+use Rattle.onfi_cycle.specs.Channel.{Channel, IsOwn, is_there, cycle}
+use Rattle.micro_program.proofs.Below.{facts, driver_on}
+use Rattle.micro_program.proofs.Basics.{and_parts, and_true, eqb_self, there_lun}
+use Rattle.micro_program.proofs.Calm.{own_effect}
+use Rattle.micro_program.proofs.Cycles.{permitted_cycle}
+use Rattle.micro_program.proofs.Scenes.{Scene, IsScene, CommandAllowed, AddressAllowed, Allowed, shown_alone, command_sole, opener_sole, address_sole, sole_behind, scene_behind}
+use Rattle.micro_program.proofs.Judged.{one_lun, command_judged, address_judged, input_judged, output_judged}
+
+-- 1. permitted, and the LUN's own
+
+command_keeps_to : (s : Channel) (l : Lun) (past : List Item) (c : Scene) → IsScene s l past c → (d : Command) → CommandAllowed s.geometry l.lun c d → keeps_to s.geometry past l (CommandCycle d) ≡ true
+command_keeps_to s l past c k ReadConfirm a = ap (λ (t : TailFacts). names_lun s.geometry (row t) l.lun) k.facts ∙ a.1
+command_keeps_to s l past c k BlockEraseConfirm a = ap (λ (t : TailFacts). names_lun s.geometry (row t) l.lun) k.facts ∙ a.1
+command_keeps_to s l past c k BlockErasePlane a = ap (λ (t : TailFacts). names_lun s.geometry (row t) l.lun) k.facts ∙ a.0.1
+command_keeps_to s l past c k ProgramConfirm a = ap (λ (t : TailFacts). names_lun s.geometry (row t) l.lun) k.facts ∙ a.1
+command_keeps_to s l past c k ProgramPlane a = ap (λ (t : TailFacts). names_lun s.geometry (row t) l.lun) k.facts ∙ a.0.1
+command_keeps_to s l past c k ChangeReadColumnConfirm a = k.sole a.1
+command_keeps_to s l past c k ReadCacheSequential a = k.sole a.sole
+command_keeps_to s l past c k ReadCacheEnd a = k.sole a.sole
+command_keeps_to s l past c k _ a = refl
+
+either : (b : Bool) (x : Bool) → (b ≡ true → x ≡ true) → cond b x true ≡ true
+either true x h = h refl
+either false x h = refl
+
+cycle_keeps_to : (s : Channel) (l : Lun) (past : List Item) (c : Scene) → IsScene s l past c → (d : TargetCycle) → Allowed s.geometry l.lun c d → keeps_to s.geometry past l d ≡ true
+cycle_keeps_to s l past c k (CommandCycle d) a = command_keeps_to s l past c k d a
+cycle_keeps_to s l past c k (AddressCycle byte) a =
+    subst (λ (t : TailFacts). cond (ends_row (λ d. true) t) (names_lun s.geometry (row_with t byte) l.lun) true ≡ true) (sym k.facts)
+    (either (ends_row (λ d. true) c.facts) _ (λ e. (a.row e).names))
+cycle_keeps_to s l past c k (InputCycle byte) a = refl
+cycle_keeps_to s l past c k OutputCycle a = k.sole a.sole
+
+cycle_judged : (s : Channel) (l : Lun) (past : List Item) (c : Scene) → is_there s l ≡ true → IsScene s l past c → (d : TargetCycle) → Allowed s.geometry l.lun c d → judge_cycle s.geometry c.facts (luns_of s.geometry past l.ce) d ≡ None
+cycle_judged s l past c there k (CommandCycle d) a = command_judged s l past c there k d a
+cycle_judged s l past c there k (AddressCycle byte) a = address_judged s l past c byte there k a
+cycle_judged s l past c there k (InputCycle byte) a = input_judged s.geometry c.facts _ byte a.0 a.1
+cycle_judged s l past c there k OutputCycle a = output_judged s.geometry c.facts _ c.view a.closed (facts.sole_driver s.geometry past l (k.sole a.sole) ∙ ap Some k.view) a.has_byte a.inside
+
+pub own_cycle : (s : Channel) (l : Lun) (past : List Item) (c : Scene) → is_there s l ≡ true → IsScene s l past c → (kind : Kind) (byte : ℕ) → Allowed s.geometry l.lun c (target_cycle kind byte) → IsOwn s l past (cycle l.ce kind byte)
+own_cycle s l past c there k kind byte a =
+    record {
+      permitted = permitted_cycle s past l kind byte there (subst (λ (t : TailFacts). judge_cycle s.geometry t (luns_of s.geometry past l.ce) (target_cycle kind byte) ≡ None) (sym k.facts) (cycle_judged s l past c there k (target_cycle kind byte) a));
+      own = and_true _ _ (eqb_self l.ce) (cycle_keeps_to s l past c k (target_cycle kind byte) a);
+    }
+
+-- 2. what the LUN is behind it
+
+same_command_effect : (g : Parts) (t : TailFacts) (x : Latch) (c : Scene) (lun : ℕ) → (c.sole ≡ true → x ≡ shown_alone c) → (d : Command) → CommandAllowed g lun c d → command_effect g t x d lun ≡ command_effect g t (shown_alone c) d lun
+same_command_effect g t x c lun h ChangeReadColumnConfirm a = ap (λ (y : Latch). command_effect g t y ChangeReadColumnConfirm lun) (h a.1)
+same_command_effect g t x c lun h ReadCacheSequential a = ap (λ (y : Latch). command_effect g t y ReadCacheSequential lun) (h a.sole)
+same_command_effect g t x c lun h ReadCacheEnd a = ap (λ (y : Latch). command_effect g t y ReadCacheEnd lun) (h a.sole)
+same_command_effect g t x c lun h _ a = refl
+
+same_effect : (g : Parts) (t : TailFacts) (x : Latch) (c : Scene) (lun : ℕ) → (c.sole ≡ true → x ≡ shown_alone c) → (d : TargetCycle) → Allowed g lun c d → cycle_effect g t x d lun ≡ cycle_effect g t (shown_alone c) d lun
+same_effect g t x c lun h (CommandCycle d) a = same_command_effect g t x c lun h d a
+same_effect g t x c lun h (AddressCycle byte) a = refl
+same_effect g t x c lun h (InputCycle byte) a = refl
+same_effect g t x c lun h OutputCycle a = ap (λ (y : Latch). cycle_effect g t y OutputCycle lun) (h a.sole)
+
+view_behind : (s : Channel) (l : Lun) (past : List Item) (c : Scene) → is_there s l ≡ true → IsScene s l past c → (kind : Kind) (byte : ℕ) → Allowed s.geometry l.lun c (target_cycle kind byte) → broken s.geometry s.targets past (cycle l.ce kind byte) ≡ None → lun_view s.geometry (cycle l.ce kind byte ∷ past) l ≡ view_after (cycle_effect s.geometry c.facts (shown_alone c) (target_cycle kind byte) l.lun) c.view
+view_behind s l past c there k kind byte a permitted =
+    let g = s.geometry in
+    let d = target_cycle kind byte in
+    let alone : c.sole ≡ true → latch_alone g past l ≡ shown_alone c = λ h. rw (k.sole h, h) (ap (λ (v : LunView). v.latch) k.view) in
+    let effect : effect_on g past (cycle l.ce kind byte) l ≡ cycle_effect g c.facts (shown_alone c) d l.lun =
+    own_effect g past l kind byte ∙ (ap (λ (t : TailFacts). cycle_effect g t (latch_alone g past l) d l.lun) k.facts ∙ same_effect g c.facts (latch_alone g past l) c l.lun alone d a) in
+    facts.lun g s.targets past (cycle l.ce kind byte) l permitted (there_lun s l there) ∙ (ap (λ (e : Effect). view_after e (lun_view g past l)) effect ∙ ap (view_after (cycle_effect g c.facts (shown_alone c) d l.lun)) k.view)
+
+-- 3. whether it drives alone behind it
+
+pub drivers_same : (f h : ℕ → Latch) → ((m : ℕ) → is_off (f m) ≡ is_off (h m)) → (count n : ℕ) → drivers_from f count n ≡ drivers_from h count n
+drivers_same f h e zero n = refl
+drivers_same f h e (suc count) n =
+    ap (λ (b : Bool). cond b (drivers_from f count (n + 1)) (n ∷ drivers_from f count (n + 1))) (e n) ∙ ap (λ (ds : List ℕ). cond (is_off (h n)) ds (n ∷ ds)) (drivers_same f h e count (n + 1))
+
+-- a cycle leaves each latch off or on, where that of this LUN is on
+abbrev LeavesOff : Parts → ℕ → TailFacts → TargetCycle → Type 0
+LeavesOff g lun t d = (m : ℕ) (x : Latch) → (m ≡ lun → is_off x ≡ false) → is_off (latch_after (cycle_effect g t x d m) x) ≡ is_off x
+
+still_sole : (s : Channel) (l : Lun) (past : List Item) (c : Scene) → IsScene s l past c → (kind : Kind) (byte : ℕ) → LeavesOff s.geometry l.lun c.facts (target_cycle kind byte) → c.sole ≡ true → is_only (drivers s.geometry (cycle l.ce kind byte ∷ past) l.ce) l.lun ≡ true
+still_sole s l past c k kind byte leaves sole =
+    ap (λ (ds : List ℕ). is_only ds l.lun) (drivers_same (λ m. latch g (cycle l.ce kind byte ∷ past) (record { ce = l.ce; lun = m })) (λ m. latch g past (record { ce = l.ce; lun = m })) each g.luns 0) ∙ k.sole sole
+  where
+    g : Parts
+    g = s.geometry
+
+    on : (m : ℕ) → m ≡ l.lun → is_off (latch g past (record { ce = l.ce; lun = m })) ≡ false
+    on m e = ap (λ (n : ℕ). is_off (latch g past (record { ce = l.ce; lun = n }))) e ∙ driver_on (λ n. latch g past (record { ce = l.ce; lun = n })) g.luns 0 l.lun (k.sole sole)
+
+    each : (m : ℕ) → is_off (latch g (cycle l.ce kind byte ∷ past) (record { ce = l.ce; lun = m })) ≡ is_off (latch g past (record { ce = l.ce; lun = m }))
+    each m =
+        let x = latch g past (record { ce = l.ce; lun = m }) in
+        rw (eqb_self l.ce) (ap (λ (t : TailFacts). is_off (latch_after (cycle_effect g t x (target_cycle kind byte) m) x)) k.facts ∙ leaves m x (on m))
+
+-- the only LUN of its target drives alone where it is on
+pub sole_of_one : (s : Channel) (l : Lun) (past : List Item) → is_there s l ≡ true → ltb 1 s.geometry.luns ≡ false → is_off (latch s.geometry past l) ≡ false → is_only (drivers s.geometry past l.ce) l.lun ≡ true
+sole_of_one s l past there one on =
+    let is = one_lun s l there one in
+    let first : is_off (latch s.geometry past (record { ce = l.ce; lun = 0 })) ≡ false = ap (λ (n : ℕ). is_off (latch s.geometry past (record { ce = l.ce; lun = n }))) (sym is.1) ∙ on in
+    subst (λ (n : ℕ). is_only (drivers_from (λ m. latch s.geometry past (record { ce = l.ce; lun = m })) n 0) l.lun ≡ true) (sym is.0) (rw first (eq-eqb 0 l.lun (sym is.1)))
+
+leaves_either : (b : Bool) (e : Effect) (x : Latch) → (b ≡ true → is_off (latch_after e x) ≡ is_off x) → is_off (latch_after (cond b e Unaffected) x) ≡ is_off x
+leaves_either true e x h = h refl
+leaves_either false e x h = refl
+
+leaves_other : (e : Effect) (x : Latch) → (is_off x ≡ false → is_off (latch_after e x) ≡ false) → is_off (latch_after (cond (is_off x) Unaffected e) x) ≡ is_off x
+leaves_other e Off h = refl
+leaves_other e Status h = h refl
+leaves_other e Data h = h refl
+
+-- the commands that leave a driver alone
+abbrev leaves_drivers : Command → Bool
+leaves_drivers Reset = false
+leaves_drivers ReadStatus = false
+leaves_drivers _ = true
+
+command_leaves_off : (g : Parts) (lun : ℕ) (c : Scene) (d : Command) → leaves_drivers d ≡ true → CommandAllowed g lun c d → LeavesOff g lun c.facts (CommandCycle d)
+command_leaves_off g lun c Read h a m Off on = refl
+command_leaves_off g lun c Read h a m Status on = refl
+command_leaves_off g lun c Read h a m Data on = refl
+command_leaves_off g lun c ReadConfirm h a m x on =
+    leaves_either (wants_command c.facts ReadConfirm && names_lun g (row c.facts) m) _ x
+    (λ e. sym (on (sym (eqb-true _ m (and_parts _ _ e).1) ∙ eqb-true _ lun a.1)))
+command_leaves_off g lun c ChangeReadColumnConfirm h a m x on = leaves_either (wants_command c.facts ChangeReadColumnConfirm && not (is_off x)) _ x (λ e. refl)
+command_leaves_off g lun c ReadCacheSequential h a m x on = leaves_other CacheReadContinued x (λ e. refl)
+command_leaves_off g lun c ReadCacheEnd h a m x on = leaves_other CacheReadEnded x (λ e. refl)
+command_leaves_off g lun c ReadStatusEnhanced h a m x on = refl
+command_leaves_off g lun c Reset h a m x on = cc
+command_leaves_off g lun c ReadStatus h a m x on = cc
+command_leaves_off g lun c d h a m x on = leaves_either (wants_command c.facts d && names_lun g (row c.facts) m) _ x (λ e. refl)
+
+-- the openers whose addresses leave each driver
+abbrev quiet : Command → Bool
+quiet ReadStatusEnhanced = false
+quiet ReadId = false
+quiet ReadParameterPage = false
+quiet _ = true
+
+address_leaves_off : (g : Parts) (t : TailFacts) (byte : ℕ) (lun : ℕ) (o : Opening) → t.opening ≡ Some o → quiet o.opener ≡ true → LeavesOff g lun t (AddressCycle byte)
+address_leaves_off g t byte lun o e q m x on = ap (λ (p : Option Opening). is_off (latch_after (opening_address_effect g t byte p m) x)) e ∙ by o.opener q
+  where
+    by : (d : Command) → quiet d ≡ true → is_off (latch_after (address_effect g t byte d o.addresses m) x) ≡ is_off x
+    by ReadStatusEnhanced q = cc
+    by ReadId q = cc
+    by ReadParameterPage q = cc
+    by _ q = refl
+
+read_lights : (g : Parts) (t : TailFacts) (x y : Latch) (lun : ℕ) → wants_command t ReadConfirm ≡ true → names_lun g (row t) lun ≡ true → latch_after (command_effect g t x ReadConfirm lun) y ≡ Data
+read_lights g t x y lun wants names = rw (wants, names) refl
+
+identity_lights : (g : Parts) (t : TailFacts) (byte n : ℕ) (d : Command) (y : Latch) (lun : ℕ) → wants_address t byte ≡ true → reads_identity d ≡ true → latch_after (address_effect g t byte d n lun) y ≡ Data
+identity_lights g t byte n ReadId y lun wants h = rw wants refl
+identity_lights g t byte n ReadParameterPage y lun wants h = rw wants refl
+identity_lights g t byte n _ y lun wants h = cc
+
+off_by : (x y : Latch) → x ≡ y → is_off y ≡ false → is_off x ≡ false
+off_by x y e h = ap is_off e ∙ h
+
+not_true : (b : Bool) → not b ≡ true → b ≡ false
+not_true true h = cc
+not_true false h = refl
+
+or_cases : (a b : Bool) → (a || b) ≡ true → (a ≡ true) ⊎ (b ≡ true)
+or_cases true b h = inl refl
+or_cases false b h = inr h
+
+sole_next : (s : Channel) (l : Lun) (past : List Item) (c : Scene) → is_there s l ≡ true → IsScene s l past c → (kind : Kind) (byte : ℕ) (d : TargetCycle) → target_cycle kind byte ≡ d → Allowed s.geometry l.lun c d → lun_view s.geometry (cycle l.ce kind byte ∷ past) l ≡ view_after (cycle_effect s.geometry c.facts (shown_alone c) d l.lun) c.view → sole_behind s.geometry c d ≡ true → is_only (drivers s.geometry (cycle l.ce kind byte ∷ past) l.ce) l.lun ≡ true
+sole_next s l past c there k kind byte d is a view h = by d is a view h
+  where
+    g : Parts
+    g = s.geometry
+
+    still : (d : TargetCycle) → target_cycle kind byte ≡ d → LeavesOff g l.lun c.facts d → c.sole ≡ true → is_only (drivers g (cycle l.ce kind byte ∷ past) l.ce) l.lun ≡ true
+    still d is leaves sole = still_sole s l past c k kind byte (subst (λ (x : TargetCycle). LeavesOff g l.lun c.facts x) (sym is) leaves) sole
+
+    latch_is : (d : TargetCycle) → lun_view g (cycle l.ce kind byte ∷ past) l ≡ view_after (cycle_effect g c.facts (shown_alone c) d l.lun) c.view → latch g (cycle l.ce kind byte ∷ past) l ≡ latch_after (cycle_effect g c.facts (shown_alone c) d l.lun) c.view.latch
+    latch_is d view = ap (λ (v : LunView). v.latch) view
+
+    by_command : (d : Command) → target_cycle kind byte ≡ CommandCycle d → CommandAllowed g l.lun c d → lun_view g (cycle l.ce kind byte ∷ past) l ≡ view_after (cycle_effect g c.facts (shown_alone c) (CommandCycle d) l.lun) c.view → command_sole g c.sole d ≡ true → is_only (drivers g (cycle l.ce kind byte ∷ past) l.ce) l.lun ≡ true
+    by_command Reset is a view h = cc
+    by_command ReadStatus is a view h = cc
+    by_command ReadConfirm is a view h = elim (or_cases c.sole (not (ltb 1 g.luns)) h) [
+      | inl e ↦ still (CommandCycle ReadConfirm) is (command_leaves_off g l.lun c ReadConfirm refl a) e
+      | inr e ↦ sole_of_one s l (cycle l.ce kind byte ∷ past) there (not_true (ltb 1 g.luns) e) (off_by _ Data (latch_is (CommandCycle ReadConfirm) view ∙ read_lights g c.facts (shown_alone c) c.view.latch l.lun a.0 a.1) refl)
+    ]
+    by_command d is a view h = still (CommandCycle d) is (command_leaves_off g l.lun c d refl a) h
+
+    by_address : (b : ℕ) (o : Option Opening) → c.facts.opening ≡ o → target_cycle kind byte ≡ AddressCycle b → AddressAllowed g l.lun c b → lun_view g (cycle l.ce kind byte ∷ past) l ≡ view_after (cycle_effect g c.facts (shown_alone c) (AddressCycle b) l.lun) c.view → address_sole g c.sole o ≡ true → is_only (drivers g (cycle l.ce kind byte ∷ past) l.ce) l.lun ≡ true
+    by_address b None e is a view h = still (AddressCycle b) is (λ m x on. rw e refl) h
+    by_address b (Some o) e is a view h = by_opener o.opener refl h
+      where
+        lights : (d : Command) → o.opener ≡ d → reads_identity d ≡ true → not (ltb 1 g.luns) ≡ true → is_only (drivers g (cycle l.ce kind byte ∷ past) l.ce) l.lun ≡ true
+        lights d f q one =
+            let effect : cycle_effect g c.facts (shown_alone c) (AddressCycle b) l.lun ≡ address_effect g c.facts b o.opener o.addresses l.lun = ap (λ (p : Option Opening). opening_address_effect g c.facts b p l.lun) e in
+            sole_of_one s l (cycle l.ce kind byte ∷ past) there (not_true (ltb 1 g.luns) one)
+            (off_by _ Data (latch_is (AddressCycle b) view ∙ (ap (λ (x : Effect). latch_after x c.view.latch) effect ∙ identity_lights g c.facts b o.addresses o.opener c.view.latch l.lun a.wanted (ap reads_identity f ∙ q))) refl)
+
+        by_opener : (d : Command) → o.opener ≡ d → opener_sole g c.sole d ≡ true → is_only (drivers g (cycle l.ce kind byte ∷ past) l.ce) l.lun ≡ true
+        by_opener ReadStatusEnhanced f h = cc
+        by_opener ReadId f h = lights ReadId f refl h
+        by_opener ReadParameterPage f h = lights ReadParameterPage f refl h
+        by_opener d f h = still (AddressCycle b) is (address_leaves_off g c.facts b l.lun o e (ap quiet f)) h
+
+    by : (d : TargetCycle) → target_cycle kind byte ≡ d → Allowed g l.lun c d → lun_view g (cycle l.ce kind byte ∷ past) l ≡ view_after (cycle_effect g c.facts (shown_alone c) d l.lun) c.view → sole_behind g c d ≡ true → is_only (drivers g (cycle l.ce kind byte ∷ past) l.ce) l.lun ≡ true
+    by (CommandCycle e) is a view h = by_command e is a view h
+    by (AddressCycle b) is a view h = by_address b c.facts.opening refl is a view h
+    by (InputCycle b) is a view h = still (InputCycle b) is (λ m x on. refl) h
+    by OutputCycle is a view h = still OutputCycle is (λ m x on. leaves_either (is_data x) DataOutput x (λ e. refl)) h
+
+-- 4. both
+
+pub scene_next : (s : Channel) (l : Lun) (past : List Item) (c : Scene) → is_there s l ≡ true → IsScene s l past c → (kind : Kind) (byte : ℕ) → Allowed s.geometry l.lun c (target_cycle kind byte) → IsScene s l (cycle l.ce kind byte ∷ past) (scene_behind s.geometry l.lun (target_cycle kind byte) c)
+scene_next s l past c there k kind byte a =
+    let own = own_cycle s l past c there k kind byte a in
+    let view = view_behind s l past c there k kind byte a own.permitted in
+    record {
+      facts = facts.tail past (record { ce = l.ce; kind = kind; byte = byte }) l.ce refl ∙ ap (facts_after (target_cycle kind byte)) k.facts;
+      view = view;
+      sole = sole_next s l past c there k kind byte (target_cycle kind byte) refl a view;
+    }

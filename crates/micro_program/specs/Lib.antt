@@ -1,0 +1,12 @@
+pub mod Lines
+pub mod Places
+pub mod Program
+pub mod Moves
+pub mod Played
+pub mod Step
+pub mod Safe
+pub mod Actions
+pub mod Laws
+pub mod Unsafe
+pub mod Nested
+pub mod Verified

@@ -1,0 +1,21 @@
+-- What moves make of the trace of a channel.
+use Rattle.std.specs.Prelude.{ℕ, List, [], ◌∷◌, Option, Some}
+use Rattle.onfi_cycle.specs.declared.item.Kind.TheVariants.{Dout}
+use Rattle.onfi_cycle.specs.declared.item.Item.{Item}
+use Rattle.onfi_cycle.specs.Channel.{Channel, cycle, bus_byte}
+use Rattle.micro_program.specs.Moves.{Move, Give, Take, and_then}
+
+-- the trace after some moves, and the bytes that they took
+pub record Played : Type 0 where
+  pub past : List Item
+  pub bytes : List ℕ
+
+abbrev pub with_byte : ℕ → Played → Option Played
+with_byte byte p = Some (record { past = p.past; bytes = byte ∷ p.bytes })
+
+-- the moves on a target after a past; each output carries the byte that the one driver shows, and there must be one
+abbrev pub played : Channel → ℕ → List Move → List Item → Option Played
+played s ce [] past = Some (record { past = past; bytes = [] })
+played s ce (Give kind byte ∷ rest) past = played s ce rest (cycle ce kind byte ∷ past)
+played s ce (Take ∷ rest) past =
+    and_then (bus_byte s past ce) (λ byte. and_then (played s ce rest (cycle ce Dout byte ∷ past)) (with_byte byte))

@@ -1,0 +1,99 @@
+-- The one address of 90h and ECh: how it is judged, and where it stops.
+use Rattle.std.proofs.lemmas.Bool.Decides.{nat_tests}
+use Rattle.std.proofs.Common.{◌≡◌, ℕ, zero, suc, ◌+◌, ◌/◌, ◌%◌, ◌≤◌, ◌==◌, Bool, true, false, ◌&&◌, ◌||◌, not, nat_le, List, [], ◌∷◌, Some, None, refl, ap, ◌∙◌, arith, length, take, drop, eqb-true}
+use Rattle.nand_geometry.specs.declared.Parts.{Parts}
+use Rattle.onfi_cycle.specs.declared.command.Command.{Command}
+use Rattle.onfi_cycle.specs.declared.command.Command.TheVariants.{ReadId, ReadParameterPage}
+use Rattle.onfi_cycle.specs.declared.forbidden.Forbidden.TheVariants.{AddressMisplaced}
+use Rattle.onfi_cycle.specs.declared.target_cycle.TargetCycle.TheVariants.{AddressCycle}
+use Rattle.onfi_cycle.specs.declared.tail_facts.TailFacts.{TailFacts}
+use Rattle.onfi_cycle.specs.LunView.{LunView}
+use Rattle.onfi_cycle.specs.Command.{reads_identity, takes_address}
+use Rattle.onfi_cycle.specs.Channel.{Channel}
+use Rattle.micro_word.specs.declared.word.Word.TheVariants.{Address as AddressWord}
+use Rattle.micro_word.specs.Text.{Microprogram}
+use Rattle.micro_claims.specs.Against.{byte_of_column}
+use Rattle.micro_program.specs.Moves.{address, column_bytes}
+use Rattle.micro_program.specs.Program.{column_now}
+use Rattle.micro_claims.proofs.Fits.{Address, Opened, bytes_of, opener_facts, facts_behind}
+use Rattle.micro_verify.specs.Lazy.{lone_job, Run}
+use Rattle.micro_verify.specs.Cause.{WordStops, is_of_cycle_forbidden}
+use Rattle.micro_verify.proofs.Lone.{Lone, IsAlone, IsLone, lone_behind, judged}
+use Rattle.micro_verify.proofs.AddressesJudged.{plain_judged}
+use Rattle.micro_verify.proofs.AddressStops.{address_stops, unwanted_judged}
+
+-- 1. one cycle
+
+-- behind the command
+abbrev pub asked : Command → LunView → Lone
+asked o view = record { facts = opener_facts o; view = view }
+
+pub none_yet : (o : Command) (n : ℕ) (a : Address) (t : TailFacts) → reads_identity o ≡ true → Opened o n a t → n ≡ 0
+none_yet ReadId n a t reads is = eqb-true n 0 is.place
+none_yet ReadParameterPage n a t reads is = eqb-true n 0 is.place
+none_yet _ n a t reads is = cc
+
+pub asked_is : (o : Command) (n : ℕ) (a : Address) (c : Lone) → reads_identity o ≡ true → Opened o n a c.facts → c ≡ asked o c.view
+asked_is o n a c reads is = λ i. record { facts = facts_are i; view = c.view }
+  where
+    facts_are : c.facts ≡ opener_facts o
+    facts_are = is.facts ∙ ap (λ (m : ℕ). facts_behind (opener_facts o) (take m (bytes_of o a))) (none_yet o n a c.facts reads is)
+
+pub identity_judged : (g : Parts) (o : Command) (view : LunView) (byte : ℕ) → reads_identity o ≡ true → takes_address o byte ≡ true → judged g (asked o view) (AddressCycle byte) ≡ None
+identity_judged g ReadId view byte reads takes = plain_judged g (asked ReadId view) byte (rw takes refl) refl refl (λ p q. refl)
+identity_judged g ReadParameterPage view byte reads takes = plain_judged g (asked ReadParameterPage view) byte (rw takes refl) refl refl (λ p q. refl)
+identity_judged g _ view byte reads takes = cc
+
+other_byte : (g : Parts) (o : Command) (view : LunView) (byte : ℕ) → reads_identity o ≡ true → takes_address o byte ≡ false → judged g (asked o view) (AddressCycle byte) ≡ Some AddressMisplaced
+other_byte g ReadId view byte reads takes = unwanted_judged g (asked ReadId view) byte (rw takes refl)
+other_byte g ReadParameterPage view byte reads takes = unwanted_judged g (asked ReadParameterPage view) byte (rw takes refl)
+other_byte g _ view byte reads takes = cc
+
+-- a second one isn't wanted
+second_byte : (g : Parts) (o : Command) (view : LunView) (first byte : ℕ) → reads_identity o ≡ true → judged g (lone_behind g (AddressCycle first) (asked o view)) (AddressCycle byte) ≡ Some AddressMisplaced
+second_byte g ReadId view first byte reads = unwanted_judged g (lone_behind g (AddressCycle first) (asked ReadId view)) byte refl
+second_byte g ReadParameterPage view first byte reads = unwanted_judged g (lone_behind g (AddressCycle first) (asked ReadParameterPage view)) byte refl
+second_byte g _ view first byte reads = cc
+
+-- 2. where it stops
+
+column_address : (s : Channel) (text : Microprogram) (r : Run) (from count : ℕ) → from + count ≤ 2 → address s.geometry (lone_job s.geometry text) r.done from count ≡ Some (take count (drop from (column_bytes (column_now r.done))))
+column_address s text r from count few = let short : nat_le (from + count) 2 ≡ true = grind (arith, nat_tests, few) in rw short refl
+
+-- among the bytes of the column it is another, or one of two
+pub identity_stops : (s : Channel) (text : Microprogram) (r : Run) (c : Lone) (from count : ℕ) (o : Command) → IsAlone s → IsLone s r.past c → c ≡ asked o c.view → reads_identity o ≡ true → 1 ≤ count → from + count ≤ 2 → (not (count == 1) || not (nat_le from 1 && takes_address o (byte_of_column from (column_now r.done)))) ≡ true → WordStops s (lone_job s.geometry text) r (AddressWord from count) is_of_cycle_forbidden
+identity_stops s text r c from count o k is here reads some few refused = by from count some few refused (column_address s text r from count few)
+  where
+    g : Parts
+    g = s.geometry
+
+    b0 : ℕ
+    b0 = column_now r.done % 256
+
+    b1 : ℕ
+    b1 = column_now r.done / 256 % 256
+
+    is_no : (b : Bool) → not b ≡ true → b ≡ false
+    is_no true h = cc
+    is_no false h = refl
+
+    -- at its first byte
+    at_once : (from count : ℕ) (xs : List ℕ) (byte : ℕ) → address g (lone_job g text) r.done from count ≡ Some (take count (byte ∷ xs)) → 1 ≤ count → count ≤ length (byte ∷ xs) → takes_address o byte ≡ false → WordStops s (lone_job g text) r (AddressWord from count) is_of_cycle_forbidden
+    at_once from count xs byte bytes some few wrong =
+        address_stops s text r c from count 0 (byte ∷ xs) is_of_cycle_forbidden bytes (omega (arith, some)) few k is tt AddressMisplaced (ap (λ (x : Lone). judged g x (AddressCycle byte)) here ∙ other_byte g o c.view byte reads wrong) refl
+
+    by : (from count : ℕ) → 1 ≤ count → from + count ≤ 2 → (not (count == 1) || not (nat_le from 1 && takes_address o (byte_of_column from (column_now r.done)))) ≡ true → address g (lone_job g text) r.done from count ≡ Some (take count (drop from (column_bytes (column_now r.done)))) → WordStops s (lone_job g text) r (AddressWord from count) is_of_cycle_forbidden
+    by from zero some few refused bytes = absurd (omega (arith, some))
+    by zero (suc zero) some few refused bytes = at_once 0 1 (b1 ∷ []) b0 bytes some (omega arith) (is_no _ refused)
+    by (suc zero) (suc zero) some few refused bytes = at_once 1 1 [] b1 bytes some (omega arith) (is_no _ refused)
+    by zero (suc (suc zero)) some few refused bytes = on (takes_address o b0) refl
+      where
+        on : (b : Bool) → takes_address o b0 ≡ b → WordStops s (lone_job g text) r (AddressWord 0 2) is_of_cycle_forbidden
+        on false e = at_once 0 2 (b1 ∷ []) b0 bytes some (omega arith) e
+        on true e =
+            address_stops s text r c 0 2 1 (b0 ∷ (b1 ∷ [])) is_of_cycle_forbidden bytes (omega arith) (omega arith) k is
+            (ap (λ (x : Lone). judged g x (AddressCycle b0)) here ∙ identity_judged g o c.view b0 reads e, tt) AddressMisplaced
+            (ap (λ (x : Lone). judged g (lone_behind g (AddressCycle b0) x) (AddressCycle b1)) here ∙ second_byte g o c.view b0 b1 reads) refl
+    by zero (suc (suc (suc n))) some few refused bytes = absurd (omega (arith, few))
+    by (suc zero) (suc (suc n)) some few refused bytes = absurd (omega (arith, few))
+    by (suc (suc m)) (suc n) some few refused bytes = absurd (omega (arith, few))

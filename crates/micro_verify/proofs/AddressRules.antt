@@ -1,0 +1,70 @@
+-- What the claim says against the second column cycle and the last row cycle of an address is what the rules say.
+use Rattle.std.proofs.Common.{◌≡◌, ℕ, ◌+◌, ◌*◌, ◌/◌, ◌%◌, ◌≤◌, ◌<◌, Bool, true, false, ◌||◌, cond, not, nat_le, List, Option, Some, None, refl, sym, ap, ◌∙◌, subst}
+use Rattle.nand_geometry.specs.declared.Parts.{Parts}
+use Rattle.nand_geometry.specs.declared.RowParts.{RowParts}
+use Rattle.nand_geometry.specs.Limits.{planes}
+use Rattle.nand_geometry.specs.Row.{row_of}
+use Rattle.onfi_cycle.specs.declared.command.Command.{Command}
+use Rattle.onfi_cycle.specs.declared.forbidden.Forbidden.{Forbidden}
+use Rattle.onfi_cycle.specs.declared.forbidden.Forbidden.TheVariants.{LunBusy, QueueClash, ColumnOutside, CacheReadMisplaced}
+use Rattle.onfi_cycle.specs.LunView.{LunView}
+use Rattle.onfi_cycle.specs.Command.{addresses_the_array}
+use Rattle.onfi_cycle.specs.Effect.{page_address}
+use Rattle.onfi_cycle.specs.Rules.{caching, refused_by}
+use Rattle.micro_claims.specs.declared.state.State.{State}
+use Rattle.micro_claims.specs.declared.state.Place.TheVariants.{After}
+use Rattle.micro_claims.specs.declared.planes.Planes.{Planes}
+use Rattle.micro_claims.specs.Spans.{greatest_bound, bound_plus, is_at_most}
+use Rattle.micro_claims.specs.Against.{queue_refuses, row_refused}
+use Rattle.micro_program.specs.Program.{Job, Done, index_now, plane_now, column_now}
+use Rattle.micro_claims.proofs.Fits.{Address, RowIs}
+use Rattle.micro_claims.proofs.AddressSteps.{carried}
+use Rattle.micro_claims.proofs.Addressing.{carried_is}
+use Rattle.micro_verify.specs.Cause.{is_of_cycle_forbidden}
+use Rattle.micro_verify.proofs.Mirrors.{RegistersMirror, LunMirror, exact_test}
+use Rattle.micro_verify.proofs.AddressesJudged.{row_rule, column_rule}
+use Rattle.micro_verify.proofs.AddressCauses.{index_test}
+use Rattle.micro_verify.proofs.QueueExact.{refuses_is}
+
+-- 1. the last row cycle
+
+-- the row is refused by the LUN
+abbrev pub is_refused : Parts → Command → Address → LunView → Bool
+is_refused g o a view = view.busy || caching view || refused_by g o (page_address g (row_of a.r1 a.r2 a.r3)) view.queue
+
+pub row_refused_is : (g : Parts) (j : Job) (v : State) (done : List Done) (view : LunView) (o : Command) (n : ℕ) (a : Address) → addresses_the_array o ≡ true → RegistersMirror g v.registers done → LunMirror g v.lun (index_now 0 done) view → RowIs g j a → a.index ≡ index_now 0 done → a.plane ≡ plane_now done → row_refused v (After o n) ≡ is_refused g o a view
+row_refused_is g j v done view o n a array m lun row index plane =
+    let page : (page_address g (row_of a.r1 a.r2 a.r3)).page ≡ index_now 0 done % g.pages = ap (λ (p : RowParts). p.page) row.reads ∙ ap (λ (i : ℕ). i % g.pages) index in
+    let block : (page_address g (row_of a.r1 a.r2 a.r3)).block ≡ index_now 0 done / g.pages * planes g + plane_now done = ap (λ (p : RowParts). p.block) row.reads ∙ (λ i. index i / g.pages * planes g + plane i) in
+    let low : plane_now done < planes g = subst (λ (p : ℕ). p < planes g) plane row.low in
+    let queue : queue_refuses v.lun.queue v.registers.planes o ≡ refused_by g o (page_address g (row_of a.r1 a.r2 a.r3)) view.queue =
+    ap (λ (p : Planes). queue_refuses v.lun.queue p o) m.planes ∙ refuses_is g (index_now 0 done) v.lun.queue view.queue o (page_address g (row_of a.r1 a.r2 a.r3)) (plane_now done) array lun.queue low m.plane_low page block in
+    λ i. lun.busy i || lun.caching i || queue i
+
+-- a row that is refused breaks a rule of V7, another none
+pub refused_breaks : (g : Parts) (o : Command) (a : Address) (view : LunView) → is_refused g o a view ≡ true → (rule : Forbidden) × ((row_rule g o a view ≡ Some rule) × (is_of_cycle_forbidden rule ≡ true))
+refused_breaks g o a view h = at view.busy refl (refused_by g o (page_address g (row_of a.r1 a.r2 a.r3)) view.queue) refl (caching view) refl
+  where
+    at : (b : Bool) → view.busy ≡ b → (q : Bool) → refused_by g o (page_address g (row_of a.r1 a.r2 a.r3)) view.queue ≡ q → (k : Bool) → caching view ≡ k → (rule : Forbidden) × ((row_rule g o a view ≡ Some rule) × (is_of_cycle_forbidden rule ≡ true))
+    at true e q f k i = (LunBusy, (rw e refl, refl))
+    at false e true f k i = (QueueClash, (rw (e, f) refl, refl))
+    at false e false f true i = (CacheReadMisplaced, (rw (e, f, i) refl, refl))
+    at false e false f false i = let none : is_refused g o a view ≡ false = rw (e, f, i) refl in let both : true ≡ false = sym h ∙ none in cc
+
+pub taken_breaks_none : (g : Parts) (o : Command) (a : Address) (view : LunView) → is_refused g o a view ≡ false → row_rule g o a view ≡ None
+taken_breaks_none g o a view h = at view.busy refl (caching view) refl (refused_by g o (page_address g (row_of a.r1 a.r2 a.r3)) view.queue) refl
+  where
+    at : (b : Bool) → view.busy ≡ b → (k : Bool) → caching view ≡ k → (q : Bool) → refused_by g o (page_address g (row_of a.r1 a.r2 a.r3)) view.queue ≡ q → row_rule g o a view ≡ None
+    at true e k i q f = let some : is_refused g o a view ≡ true = rw e refl in let both : true ≡ false = sym some ∙ h in cc
+    at false e true i q f = let some : is_refused g o a view ≡ true = rw (e, i) refl in let both : true ≡ false = sym some ∙ h in cc
+    at false e false i true f = let some : is_refused g o a view ≡ true = rw (e, i, f) refl in let both : true ≡ false = sym some ∙ h in cc
+    at false e false i false f = rw (e, i, f) refl
+
+-- 2. the second column cycle
+
+pub past_is : (g : Parts) (v : State) (done : List Done) (limit : ℕ) → limit ≤ greatest_bound → RegistersMirror g v.registers done → not (is_at_most (bound_plus v.registers.column.hi 1) limit) ≡ nat_le limit (column_now done)
+past_is g v done limit low m =
+    ap (λ (o : Option ℕ). not (is_at_most (bound_plus o 1) limit)) m.column.hi ∙ (ap not (exact_test (column_now done) 1 limit low) ∙ index_test (column_now done) limit)
+
+pub column_rule_is : (len : ℕ) (a : Address) (column : ℕ) → a.column ≡ column → column < 65536 → column_rule len (carried a) ≡ cond (nat_le len column) (Some ColumnOutside) None
+column_rule_is len a column same low = ap (column_rule len) (ap (λ (n : ℕ). n % 256 % 256 + 256 * (n / 256 % 256)) same ∙ carried_is column low)

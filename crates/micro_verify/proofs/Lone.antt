@@ -1,0 +1,169 @@
+-- The LUN of a channel that has no other: what it and its tail are tells by itself which cycle is permitted, by which rule it isn't, and
+-- what each cycle leaves.
+use Rattle.std.proofs.Common.{◌≡◌, ℕ, Bool, true, false, ◌||◌, ◌&&◌, Option, Some, None, List, [], ◌∷◌, ◌++◌, refl, sym, ap, ◌∙◌, subst, arith}
+use Rattle.nand_geometry.specs.declared.Parts.{Parts}
+use Rattle.onfi_cycle.specs.declared.forbidden.Forbidden.{Forbidden}
+use Rattle.onfi_cycle.specs.declared.forbidden.Forbidden.TheVariants.{NoSoleDriver}
+use Rattle.onfi_cycle.specs.declared.item.Item.{Item}
+use Rattle.onfi_cycle.specs.declared.item.Item.TheVariants.{Rdy}
+use Rattle.onfi_cycle.specs.declared.item.Kind.{Kind}
+use Rattle.onfi_cycle.specs.declared.item.Kind.TheVariants.{Dout}
+use Rattle.onfi_cycle.specs.declared.lun_facts.Latch.{Latch}
+use Rattle.onfi_cycle.specs.declared.lun_facts.Latch.TheVariants.{Off, Status, Data}
+use Rattle.onfi_cycle.specs.declared.tail_facts.TailFacts.{TailFacts}
+use Rattle.onfi_cycle.specs.declared.target_cycle.TargetCycle.{TargetCycle}
+use Rattle.onfi_cycle.specs.declared.target_cycle.TargetCycle.TheVariants.{OutputCycle}
+use Rattle.onfi_cycle.specs.LunView.{LunView}
+use Rattle.onfi_cycle.specs.Sequence.{target_cycle, tail, facts_of, facts_after, is_open}
+use Rattle.onfi_cycle.specs.Effect.{cycle_effect}
+use Rattle.onfi_cycle.specs.Lun.{latch, latch_alone, alone, drivers_from, drivers, is_only, lun_view, luns_of, views_from, view_after, effect_on, is_cache_read}
+use Rattle.onfi_cycle.specs.Rules.{breaks_not_there, breaks_command_unknown, breaks_sequence_open, breaks_several_luns, breaks_no_column_to_change, breaks_command_misplaced, breaks_address_misplaced, breaks_row_outside, breaks_lun_busy, breaks_queue_clash, breaks_input_misplaced, breaks_no_sole_driver}
+use Rattle.onfi_cycle.specs.Permitted.{broken, judge_cycle, is_legal}
+use Rattle.onfi_cycle.specs.Channel.{Channel, IsChannel, cycle}
+use Rattle.micro_program.specs.Moves.{Move, Give, Take, and_then}
+use Rattle.micro_program.specs.Played.{Played, played, with_byte}
+use Rattle.micro_verify.specs.Lazy.{the_lun, item_of}
+use Rattle.micro_verify.specs.Cause.{Stops}
+use Rattle.micro_program.proofs.Below.{facts, readies, outputs}
+use Rattle.micro_program.proofs.Calm.{own_effect}
+use Rattle.micro_program.proofs.SceneMoves.{cycle_of}
+
+pub record Lone : Type 0 where
+  pub facts : TailFacts
+  pub view : LunView
+
+-- a channel with one LUN
+pub record IsAlone (s : Channel) : Type 0 where
+  pub is_channel : IsChannel s
+  pub one : s.geometry.luns ≡ 1
+  pub target : s.targets ≡ 1
+
+-- a legal past, and what it leaves
+pub record IsLone (s : Channel) (past : List Item) (c : Lone) : Type 0 where
+  pub legal : is_legal s.geometry s.targets past ≡ true
+  pub facts : facts_of (tail past 0) ≡ c.facts
+  pub view : lun_view s.geometry past the_lun ≡ c.view
+
+-- the rule that a cycle breaks first
+abbrev pub judged : Parts → Lone → TargetCycle → Option Forbidden
+judged g c d = judge_cycle g c.facts (c.view ∷ []) d
+
+abbrev pub lone_behind : Parts → TargetCycle → Lone → Lone
+lone_behind g d c = record { facts = facts_after d c.facts; view = view_after (cycle_effect g c.facts c.view.latch d 0) c.view }
+
+-- 1. a cycle
+
+luns_are : (s : Channel) (past : List Item) (c : Lone) → IsAlone s → IsLone s past c → luns_of s.geometry past 0 ≡ c.view ∷ []
+luns_are s past c k is =
+    subst (λ (n : ℕ). views_from s.geometry past 0 n 0 ≡ c.view ∷ []) (sym k.one) (ap (λ (v : LunView). v ∷ []) is.view)
+
+pub broken_is : (s : Channel) (past : List Item) (c : Lone) → IsAlone s → IsLone s past c → (kind : Kind) (byte : ℕ) → broken s.geometry s.targets past (cycle 0 kind byte) ≡ judged s.geometry c (target_cycle kind byte)
+unfolding breaks_not_there
+broken_is s past c k is kind byte =
+    subst (λ (n : ℕ). broken s.geometry n past (cycle 0 kind byte) ≡ judged s.geometry c (target_cycle kind byte)) (sym k.target)
+    (ap (λ (t : TailFacts). judge_cycle s.geometry t (luns_of s.geometry past 0) (target_cycle kind byte)) is.facts ∙ ap (λ (vs : List LunView). judge_cycle s.geometry c.facts vs (target_cycle kind byte)) (luns_are s past c k is))
+
+alone_is : (g : Parts) (past : List Item) → g.luns ≡ 1 → latch_alone g past the_lun ≡ latch g past the_lun
+alone_is g past one = subst (λ (n : ℕ). alone n (λ m. latch g past (record { ce = 0; lun = m })) 0 ≡ latch g past the_lun) (sym one) (at (latch g past the_lun) refl)
+  where
+    at : (x : Latch) → latch g past the_lun ≡ x → alone 1 (λ m. latch g past (record { ce = 0; lun = m })) 0 ≡ latch g past the_lun
+    at Off e = rw e refl
+    at Status e = rw e refl
+    at Data e = rw e refl
+
+pub lone_next : (s : Channel) (past : List Item) (c : Lone) → IsAlone s → IsLone s past c → (kind : Kind) (byte : ℕ) → judged s.geometry c (target_cycle kind byte) ≡ None → IsLone s (cycle 0 kind byte ∷ past) (lone_behind s.geometry (target_cycle kind byte) c)
+lone_next s past c k is kind byte h =
+    let g = s.geometry in
+    let d = target_cycle kind byte in
+    let permitted : broken g s.targets past (cycle 0 kind byte) ≡ None = broken_is s past c k is kind byte ∙ h in
+    let effect : effect_on g past (cycle 0 kind byte) the_lun ≡ cycle_effect g c.facts c.view.latch d 0 =
+    own_effect g past the_lun kind byte ∙ (ap (λ (x : Latch). cycle_effect g (facts_of (tail past 0)) x d 0) (alone_is g past k.one ∙ ap (λ (v : LunView). v.latch) is.view) ∙ ap (λ (t : TailFacts). cycle_effect g t c.view.latch d 0) is.facts) in
+    record {
+      legal = facts.legal g s.targets past (cycle 0 kind byte) is.legal permitted;
+      facts = facts.tail past (record { ce = 0; kind = kind; byte = byte }) 0 refl ∙ ap (facts_after d) is.facts;
+      view = facts.lun g s.targets past (cycle 0 kind byte) the_lun permitted (let one : g.luns ≡ 1 = k.one in omega (arith, one)) ∙ (ap (λ e. view_after e (lun_view g past the_lun)) effect ∙ ap (view_after (cycle_effect g c.facts c.view.latch d 0)) is.view);
+    }
+
+-- 2. moves
+
+-- each of the moves is permitted where it comes
+abbrev pub MovesPass : Parts → List Move → Lone → Type 0
+MovesPass g [] c = Unit {0}
+MovesPass g (move ∷ rest) c = (judged g c (cycle_of move) ≡ None) × MovesPass g rest (lone_behind g (cycle_of move) c)
+
+abbrev pub lone_after : Parts → List Move → Lone → Lone
+lone_after g [] c = c
+lone_after g (move ∷ rest) c = lone_after g rest (lone_behind g (cycle_of move) c)
+
+-- what moves that pass make of a past
+pub record Plays (s : Channel) (moved : List Move) (past : List Item) (c : Lone) : Type 0 where
+  pub p : Played
+  pub plays : played s 0 moved past ≡ Some p
+  pub is : IsLone s p.past (lone_after s.geometry moved c)
+
+silent : (o : Bool) → (o || true) ≡ true
+silent true = refl
+silent false = refl
+
+-- where the LUN is off, an output breaks a rule
+no_driver : (g : Parts) (c : Lone) → c.view.latch ≡ Off → judged g c OutputCycle ≡ None → ⊥
+unfolding breaks_command_unknown breaks_sequence_open breaks_several_luns breaks_no_column_to_change breaks_command_misplaced breaks_address_misplaced breaks_row_outside breaks_lun_busy breaks_queue_clash breaks_input_misplaced breaks_no_sole_driver
+no_driver g c e h = let x : judged g c OutputCycle ≡ Some NoSoleDriver = rw (e, silent (is_open c.facts)) refl in let y : Some NoSoleDriver ≡ None = sym x ∙ h in cc
+
+drives : (s : Channel) (past : List Item) (c : Lone) → IsAlone s → IsLone s past c → judged s.geometry c OutputCycle ≡ None → is_only (drivers s.geometry past 0) 0 ≡ true
+drives s past c k is h = on c.view.latch refl
+  where
+    on : (x : Latch) → c.view.latch ≡ x → is_only (drivers s.geometry past 0) 0 ≡ true
+    on Off e = absurd (no_driver s.geometry c e h)
+    on Status e = subst (λ (n : ℕ). is_only (drivers_from (λ m. latch s.geometry past (record { ce = 0; lun = m })) n 0) 0 ≡ true) (sym k.one) (let shows : latch s.geometry past the_lun ≡ Status = ap (λ (v : LunView). v.latch) is.view ∙ e in rw shows refl)
+    on Data e = subst (λ (n : ℕ). is_only (drivers_from (λ m. latch s.geometry past (record { ce = 0; lun = m })) n 0) 0 ≡ true) (sym k.one) (let shows : latch s.geometry past the_lun ≡ Data = ap (λ (v : LunView). v.latch) is.view ∙ e in rw shows refl)
+
+pub moves_play : (s : Channel) (moved : List Move) (past : List Item) (c : Lone) → IsAlone s → IsLone s past c → MovesPass s.geometry moved c → Plays s moved past c
+moves_play s [] past c k is pass = record { p = record { past = past; bytes = [] }; plays = refl; is = is }
+moves_play s (Give kind byte ∷ rest) past c k is pass =
+    let more = moves_play s rest (cycle 0 kind byte ∷ past) (lone_behind s.geometry (target_cycle kind byte) c) k (lone_next s past c k is kind byte pass.0) pass.1 in
+    record { p = more.p; plays = more.plays; is = more.is }
+moves_play s (Take ∷ rest) past c k is pass =
+    let shown = outputs.has_byte s k.is_channel past the_lun 0 (broken_is s past c k is Dout 0 ∙ pass.0) (drives s past c k is pass.0) in
+    let more = moves_play s rest (cycle 0 Dout shown.0 ∷ past) (lone_behind s.geometry OutputCycle c) k (lone_next s past c k is Dout shown.0 pass.0) pass.1 in
+    record {
+      p = record { past = more.p.past; bytes = shown.0 ∷ more.p.bytes };
+      plays = ap (λ (o : Option ℕ). and_then o (λ byte. and_then (played s 0 rest (cycle 0 Dout byte ∷ past)) (with_byte byte))) shown.1 ∙ ap (λ (o : Option Played). and_then o (with_byte shown.0)) more.plays;
+      is = more.is;
+    }
+
+-- first moves that pass, and one that breaks a rule of a sort
+pub stops_there : (s : Channel) (first : List Move) (next : Move) (rest : List Move) (past : List Item) (c : Lone) (sort : Forbidden → Bool) → IsAlone s → IsLone s past c → MovesPass s.geometry first c → (rule : Forbidden) → judged s.geometry (lone_after s.geometry first c) (cycle_of next) ≡ Some rule → sort rule ≡ true → Stops s (first ++ (next ∷ rest)) past sort
+stops_there s first next rest past c sort k is pass rule breaks sorted =
+    let q = moves_play s first past c k is pass in
+    record {
+      first = first;
+      next = next;
+      rest = rest;
+      parts = refl;
+      p = q.p;
+      plays = q.plays;
+      legal = q.is.legal;
+      rule = rule;
+      breaks = by next breaks q.is;
+      sorted = sorted;
+    }
+  where
+    by : (next : Move) → judged s.geometry (lone_after s.geometry first c) (cycle_of next) ≡ Some rule → {later : List Item} → IsLone s later (lone_after s.geometry first c) → broken s.geometry s.targets later (item_of next) ≡ Some rule
+    by (Give kind byte) h {later} at = broken_is s later (lone_after s.geometry first c) k at kind byte ∙ h
+    by Take h {later} at = broken_is s later (lone_after s.geometry first c) k at Dout 0 ∙ h
+
+-- 3. the ready before a wait
+
+may_come : (s : Channel) (past : List Item) (c : Lone) → IsAlone s → IsLone s past c → c.view.busy ≡ true → broken s.geometry s.targets past (Rdy 0 0 false) ≡ None
+unfolding breaks_not_there
+may_come s past c k is busy = rw (k.target, luns_are s past c k is, busy) refl
+
+pub ready_next : (s : Channel) (past : List Item) (c : Lone) → IsAlone s → IsLone s past c → c.view.busy ≡ true → IsLone s (Rdy 0 0 false ∷ past) (record { facts = c.facts; view = record c.view { busy = false; array_busy = c.view.array_busy || (true && is_cache_read c.view.closer) } })
+ready_next s past c k is busy =
+    let permitted : broken s.geometry s.targets past (Rdy 0 0 false) ≡ None = may_come s past c k is busy in
+    record {
+      legal = facts.legal s.geometry s.targets past (Rdy 0 0 false) is.legal permitted;
+      facts = is.facts;
+      view = readies.own s.geometry past the_lun false ∙ (ap (λ (v : LunView). record v { busy = false; array_busy = v.array_busy || (v.busy && is_cache_read v.closer) }) is.view ∙ rw busy refl);
+    }

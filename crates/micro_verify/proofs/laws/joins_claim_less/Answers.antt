@@ -1,5 +1,0 @@
-use Rattle.micro_verify.proofs.Joining.{joins_claim_less}
-use Rattle.micro_verify.proofs.laws.joins_claim_less.Goals as goal
-
-pub returns : goal.returns
-returns c = joins_claim_less

@@ -1,5 +1,0 @@
-use Rattle.micro_verify.proofs.ShapeNested.{shape_is_right}
-use Rattle.micro_verify.proofs.laws.shape_is_nested.Goals as goal
-
-pub returns : goal.returns
-returns c = shape_is_right

@@ -1,5 +1,0 @@
-use Rattle.micro_verify.proofs.SafePrograms.{some_are_safe}
-use Rattle.micro_verify.proofs.laws.some_are_safe.Goals as goal
-
-pub returns : goal.returns
-returns c = some_are_safe

@@ -1,0 +1,221 @@
+-- What two states both claim is claimed by either.
+use Rattle.std.proofs.Common.{◌≡◌, ℕ, ◌≤◌, ◌==◌, Bool, true, false, ◌&&◌, ◌||◌, not, cond, Option, Some, None, refl, sym, ap, ◌∙◌, subst, arith}
+use Rattle.std.specs.Prelude.{nat_le, min, max}
+use Rattle.std.proofs.lemmas.Bool.Decides.{nat_tests}
+use Rattle.micro_claims.specs.declared.span.Span.{Span}
+use Rattle.micro_claims.specs.declared.span.Growth.{Growth}
+use Rattle.micro_claims.specs.declared.planes.Planes.{Planes}
+use Rattle.micro_claims.specs.Planes.{either_plane}
+use Rattle.micro_claims.specs.declared.state.State.{State}
+use Rattle.micro_claims.specs.declared.state.Registers.{Registers}
+use Rattle.micro_claims.specs.declared.state.KnownTarget.{KnownTarget}
+use Rattle.micro_claims.specs.declared.state.KnownLun.{KnownLun}
+use Rattle.micro_claims.specs.declared.state.Place.{Place}
+use Rattle.micro_claims.specs.declared.state.Place.TheVariants.{Closed, After, InData, InColumn, Unknown}
+use Rattle.micro_claims.specs.declared.state.Drift.{Drift}
+use Rattle.micro_claims.specs.declared.state.NamedRow.{NamedRow}
+use Rattle.micro_claims.specs.declared.state.Shown.{Shown}
+use Rattle.micro_claims.specs.declared.state.Held.{Held}
+use Rattle.micro_claims.specs.declared.state.OutputColumn.{OutputColumn}
+use Rattle.micro_claims.specs.declared.state.QueuedRows.{QueuedRows}
+use Rattle.micro_claims.specs.declared.state.QueuedRows.TheVariants.{NoRows, SomeRows, AnyRows}
+use Rattle.micro_claims.specs.Against.{same_test, is_open_place}
+use Rattle.micro_claims.specs.Order.{is_bound_within, is_growth_within, is_span_within, may_within, are_planes_within, same_place, is_place_within, same_drift_as, is_drift_within, are_registers_within, is_column_within, is_name_within, is_named_within, is_shows_within, is_target_within, is_register_within, is_output_within, are_rows_within, is_lun_within, is_state_within}
+use Rattle.micro_claims.specs.Joins.{greater_bound, joined_growth, joined_span, joined_pages, joined_registers, joined_place, both_know, joined_drift, joined_name, joined_shown, joined_target, joined_held, joined_output, joined_rows, joined_closer, joined_cached, joined_lun, joined, JoinsClaimLess}
+use Rattle.micro_program.proofs.Basics.{and_parts, and_true}
+use Rattle.micro_walk.proofs.Shapes.{same_is, drift_is}
+
+-- both of two claims are at least what is claimed
+record Both (a b : Bool) : Type 0 where
+  one : a ≡ true
+  other : b ≡ true
+
+both_and : (a b c d : Bool) → Both a b → Both c d → Both (a && c) (b && d)
+both_and a b c d p q = record { one = and_true a c p.one q.one; other = and_true b d p.other q.other }
+
+-- 1. numbers
+
+at_least : (a b : ℕ) → Both (nat_le (min a b) a) (nat_le (min a b) b)
+at_least a b = record { one = grind (arith, nat_tests); other = grind (arith, nat_tests) }
+
+at_most : (a b : ℕ) → Both (nat_le a (max a b)) (nat_le b (max a b))
+at_most a b = record { one = grind (arith, nat_tests); other = grind (arith, nat_tests) }
+
+bounds_join : (a b : Option ℕ) → Both (is_bound_within a (greater_bound a b)) (is_bound_within b (greater_bound a b))
+bounds_join (Some m) (Some n) = at_most m n
+bounds_join (Some m) None = record { one = refl; other = refl }
+bounds_join None b = record { one = refl; other = refl }
+
+growths_join : (d e : Option Growth) → Both (is_growth_within d (joined_growth d e)) (is_growth_within e (joined_growth d e))
+growths_join (Some d) (Some e) = both_and _ _ _ _ (at_least d.lo e.lo) (bounds_join d.hi e.hi)
+growths_join (Some d) None = record { one = refl; other = refl }
+growths_join None e = record { one = refl; other = refl }
+
+spans_join : (s t : Span) → Both (is_span_within s (joined_span s t)) (is_span_within t (joined_span s t))
+spans_join s t = both_and _ _ _ _ (at_least s.lo t.lo) (both_and _ _ _ _ (bounds_join s.hi t.hi) (growths_join s.grown t.grown))
+
+-- 2. what may be, and what is known
+
+either_may : (b c : Bool) → Both (may_within b (b || c)) (may_within c (b || c))
+either_may true true = record { one = refl; other = refl }
+either_may true false = record { one = refl; other = refl }
+either_may false true = record { one = refl; other = refl }
+either_may false false = record { one = refl; other = refl }
+
+both_must : (b c : Bool) → Both (may_within (b && c) b) (may_within (b && c) c)
+both_must true true = record { one = refl; other = refl }
+both_must true false = record { one = refl; other = refl }
+both_must false c = record { one = refl; other = refl }
+
+planes_join : (p q : Planes) → Both (are_planes_within p (either_plane p q)) (are_planes_within q (either_plane p q))
+planes_join p q = both_and _ _ _ _ (either_may p.zero q.zero) (both_and _ _ _ _ (either_may p.one q.one) (both_and _ _ _ _ (either_may p.two q.two) (either_may p.three q.three)))
+
+-- 3. the registers
+
+registers_join : (s t : Registers) → Both (are_registers_within s (joined_registers s t)) (are_registers_within t (joined_registers s t))
+registers_join s t =
+    both_and _ _ _ _ (spans_join s.column t.column)
+    (both_and _ _ _ _ (planes_join s.planes t.planes)
+    (both_and _ _ _ _ (spans_join s.index t.index)
+    (both_and _ _ _ _ (at_least s.page.lo t.page.lo)
+    (both_and _ _ _ _ (at_most s.page.hi t.page.hi)
+    (both_and _ _ _ _ (spans_join s.place t.place)
+    (both_and _ _ _ _ (spans_join s.cost t.cost) (both_must s.polled t.polled)))))))
+
+-- 4. the target
+
+place_itself : (p : Place) → same_place p p ≡ true → is_place_within p p ≡ true
+place_itself Unknown h = refl
+place_itself Closed h = refl
+place_itself (After c n) h = h
+place_itself InData h = refl
+place_itself (InColumn n) h = h
+
+places_join : (p q : Place) → Both (is_place_within p (joined_place p q)) (is_place_within q (joined_place p q))
+places_join p q = at (same_place p q) refl (is_open_place p) refl (is_open_place q) refl
+  where
+    at : (same : Bool) → same_place p q ≡ same → (a : Bool) → is_open_place p ≡ a → (b : Bool) → is_open_place q ≡ b → Both (is_place_within p (cond same p (cond (a || b) Unknown Closed))) (is_place_within q (cond same p (cond (a || b) Unknown Closed)))
+    at true e a ea b eb =
+        let is : p ≡ q = same_is p q e in
+        let here : is_place_within p p ≡ true = place_itself p (ap (same_place p) is ∙ e) in
+        record { one = here; other = subst (λ (x : Place). is_place_within x p ≡ true) is here }
+    at false e true ea b eb = record { one = refl; other = refl }
+    at false e false ea true eb = record { one = refl; other = refl }
+    at false e false ea false eb = record { one = ap not ea; other = ap not eb }
+
+columns_join : (a b : Option Span) → Both (is_column_within a (both_know joined_span a b)) (is_column_within b (both_know joined_span a b))
+columns_join (Some s) (Some t) = spans_join s t
+columns_join (Some s) None = record { one = refl; other = refl }
+columns_join None b = record { one = refl; other = refl }
+
+drift_itself : (d e : Drift) → same_drift_as d e ≡ true → Both (same_drift_as d d) (same_drift_as e d)
+drift_itself d e h =
+    let is : d ≡ e = drift_is d e h in
+    let here : same_drift_as d d ≡ true = ap (same_drift_as d) is ∙ h in
+    record { one = here; other = subst (λ (x : Drift). same_drift_as x d ≡ true) is here }
+
+drifts_join : (a b : Option Drift) → Both (is_drift_within a (joined_drift a b)) (is_drift_within b (joined_drift a b))
+drifts_join (Some d) (Some e) = at (same_drift_as d e) refl
+  where
+    at : (same : Bool) → same_drift_as d e ≡ same → Both (is_drift_within (Some d) (cond same (Some d) None)) (is_drift_within (Some e) (cond same (Some d) None))
+    at true h = drift_itself d e h
+    at false h = record { one = refl; other = refl }
+drifts_join (Some d) None = record { one = refl; other = refl }
+drifts_join None b = record { one = refl; other = refl }
+
+names_join : (n m : NamedRow) → Both (is_name_within n (joined_name n m)) (is_name_within m (joined_name n m))
+names_join n m =
+    both_and _ _ _ _ (spans_join n.index m.index)
+    (both_and _ _ _ _ (planes_join n.planes m.planes)
+    (both_and _ _ _ _ (at_most n.page m.page) (drifts_join n.drift m.drift)))
+
+named_join : (a b : Option NamedRow) → Both (is_named_within a (both_know joined_name a b)) (is_named_within b (both_know joined_name a b))
+named_join (Some n) (Some m) = names_join n m
+named_join (Some n) None = record { one = refl; other = refl }
+named_join None b = record { one = refl; other = refl }
+
+shows_join : (a b : Option Shown) → Both (is_shows_within a (both_know joined_shown a b)) (is_shows_within b (both_know joined_shown a b))
+shows_join (Some w) (Some x) = both_and _ _ _ _ (either_may w.status x.status) (either_may w.register x.register)
+shows_join (Some w) None = record { one = refl; other = refl }
+shows_join None b = record { one = refl; other = refl }
+
+targets_join : (s t : KnownTarget) → Both (is_target_within s (joined_target s t)) (is_target_within t (joined_target s t))
+targets_join s t =
+    both_and _ _ _ _ (places_join s.tail t.tail)
+    (both_and _ _ _ _ (columns_join s.column t.column)
+    (both_and _ _ _ _ (named_join s.named t.named) (shows_join s.shows t.shows)))
+
+-- 5. the LUN
+
+registered_join : (a b : Option Held) → Both (is_register_within a (both_know joined_held a b)) (is_register_within b (both_know joined_held a b))
+registered_join (Some r) (Some q) = both_and _ _ _ _ (either_may r.page q.page) (both_and _ _ _ _ (either_may r.parameters q.parameters) (either_may r.identifier q.identifier))
+registered_join (Some r) None = record { one = refl; other = refl }
+registered_join None b = record { one = refl; other = refl }
+
+outputs_join : (a b : Option OutputColumn) → Both (is_output_within a (both_know joined_output a b)) (is_output_within b (both_know joined_output a b))
+outputs_join (Some k) (Some m) = both_and _ _ _ _ (spans_join k.at m.at) (either_may k.read m.read)
+outputs_join (Some k) None = record { one = refl; other = refl }
+outputs_join None b = record { one = refl; other = refl }
+
+test_itself : (a b : Bool) → same_test a b ≡ true → Both (same_test a a) (same_test b a)
+test_itself true true h = record { one = refl; other = refl }
+test_itself false false h = record { one = refl; other = refl }
+test_itself true false h = absurd cc
+test_itself false true h = absurd cc
+
+rows_itself : (erase : Bool) (planes : Planes) (d : Drift) → are_rows_within (SomeRows erase planes d) (SomeRows erase planes d) ≡ true
+rows_itself erase planes d = and_true _ _ (test erase) (and_true _ _ (same planes) (drift d))
+  where
+    test : (a : Bool) → same_test a a ≡ true
+    test true = refl
+    test false = refl
+
+    may : (b : Bool) → may_within b b ≡ true
+    may true = refl
+    may false = refl
+
+    same : (p : Planes) → are_planes_within p p ≡ true
+    same p = and_true _ _ (may p.zero) (and_true _ _ (may p.one) (and_true _ _ (may p.two) (may p.three)))
+
+    equal : (n : ℕ) → (n == n) ≡ true
+    equal n = grind (arith, nat_tests)
+
+    drift : (e : Drift) → same_drift_as e e ≡ true
+    drift e = and_true _ _ (equal e.ahead) (equal e.behind)
+
+queues_join : (a b : QueuedRows) → Both (are_rows_within a (joined_rows a b)) (are_rows_within b (joined_rows a b))
+queues_join NoRows NoRows = record { one = refl; other = refl }
+queues_join NoRows (SomeRows kind ps e) = record { one = refl; other = rows_itself kind ps e }
+queues_join NoRows AnyRows = record { one = refl; other = refl }
+queues_join (SomeRows erase planes d) NoRows = record { one = rows_itself erase planes d; other = refl }
+queues_join (SomeRows erase planes d) (SomeRows kind ps e) = at (same_test erase kind) refl (same_drift_as d e) refl
+  where
+    joins : Bool → Bool → QueuedRows
+    joins a b = cond (a && b) (SomeRows erase (either_plane planes ps) d) AnyRows
+
+    at : (a : Bool) → same_test erase kind ≡ a → (b : Bool) → same_drift_as d e ≡ b → Both (are_rows_within (SomeRows erase planes d) (joins a b)) (are_rows_within (SomeRows kind ps e) (joins a b))
+    at true ha true hb = both_and _ _ _ _ (test_itself erase kind ha) (both_and _ _ _ _ (planes_join planes ps) (drift_itself d e hb))
+    at true ha false hb = record { one = refl; other = refl }
+    at false ha b hb = record { one = refl; other = refl }
+queues_join (SomeRows erase planes d) AnyRows = record { one = refl; other = refl }
+queues_join AnyRows b = record { one = refl; other = refl }
+
+luns_join : (s t : KnownLun) → Both (is_lun_within s (joined_lun s t)) (is_lun_within t (joined_lun s t))
+luns_join s t =
+    both_and _ _ _ _ (either_may s.busy t.busy)
+    (both_and _ _ _ _ (registered_join s.register t.register)
+    (both_and _ _ _ _ (outputs_join s.column t.column)
+    (both_and _ _ _ _ (queues_join s.queue t.queue)
+    (both_and _ _ _ _ (either_may s.last.read t.last.read)
+    (both_and _ _ _ _ (either_may s.last.cache t.last.cache)
+    (both_and _ _ _ _ (either_may s.last.other t.last.other)
+    (both_and _ _ _ _ (spans_join s.cached.index t.cached.index) (spans_join s.cached.page t.cached.page))))))))
+
+-- 6. states
+
+states_join : (s t : State) → Both (is_state_within s (joined s t)) (is_state_within t (joined s t))
+unfolding is_state_within joined
+states_join s t = both_and _ _ _ _ (registers_join s.registers t.registers) (both_and _ _ _ _ (targets_join s.target t.target) (luns_join s.lun t.lun))
+
+pub joins_claim_less : JoinsClaimLess
+joins_claim_less s t = let both = states_join s t in (both.one, both.other)

@@ -1,0 +1,5 @@
+pub mod Shape
+pub mod Faults
+pub mod Verdicts
+pub mod Erase
+pub mod Certified

@@ -1,0 +1,179 @@
+//! Examining a text: its shape first, and then, from its first word on, what is known before each word and whether anything is against it.
+ghost use Rattle.std.specs.Prelude.{◌≡◌, true, false, length, replicate, Option, Some, None, IfOk, IfErr};
+ghost use Rattle.micro_claims.specs.declared.refusal.Fault.{Fault};
+ghost use Rattle.micro_program.specs.Lines.{all_lead_on, leads_on, continues_cache_read, is_command_31};
+ghost use Rattle.micro_claims.specs.declared.state.State.{State};
+ghost use Rattle.micro_claims.specs.State.{first_state, bounds_of};
+ghost use Rattle.micro_walk.specs.Shape.{shape_fault};
+ghost use Rattle.micro_walk.specs.Faults.{onward, walked, is_loop, has_loop, fault_of};
+ghost use Rattle.micro_walk.specs.Verdicts.{MayFind, IsVerified};
+
+use crate::finding::Finding;
+use crate::following::{follow, reason_at};
+use crate::looping::find_certificate;
+use crate::shape::shape_fault;
+use micro_claims::{Bounds, Fault, State};
+use micro_word::{Text, Word};
+use nand_geometry::Geometry;
+use std::alloc::{AllocError, Allocator};
+
+// Some word continues a cache read.
+fn continues_cache_read(words: &[Word]) -> bool
+    ensures { result ≡ continues_cache_read words.now }
+{
+    match words {
+        [] => false,
+        [first, rest @ ..] => {
+            matches!(first, Word::Command { byte: 0x31 }) || continues_cache_read(rest)
+        }
+    }
+}
+
+// What is read off a text before its first word.
+pub(crate) fn bounds_of<A: Allocator>(text: &Text<A>) -> Bounds
+    ensures { result ≡ bounds_of text.now }
+{
+    Bounds {
+        rows: u32::from(text.rows()),
+        buffer: text.buffer(),
+        budget: text.budget(),
+        continues_cache_read: continues_cache_read(text.words()),
+    }
+}
+
+// Some word is a loop.
+fn has_loop(words: &[Word]) -> bool
+    ensures { result ≡ has_loop words.now }
+{
+    match words {
+        [] => false,
+        [first, rest @ ..] => matches!(first, Word::Loop { .. }) || has_loop(rest),
+    }
+}
+
+// The word is no branch and no loop.
+fn leads_on(word: Word) -> bool
+    ensures { result ≡ leads_on word }
+{
+    !matches!(
+        word,
+        Word::BranchOnStatus { .. } | Word::Loop { .. } | Word::Next | Word::Jump { .. }
+    )
+}
+
+/// No word is a branch or a loop.
+pub fn all_lead_on(words: &[Word]) -> bool
+    ensures { result ≡ all_lead_on words.now }
+{
+    match words {
+        [] => true,
+        [first, rest @ ..] => leads_on(*first) && all_lead_on(rest),
+    }
+}
+
+// What is known after a word: nothing after an `end`.
+fn onward(geometry: &Geometry, known: Option<State>, word: Word) -> Option<State>
+    ensures { result ≡ onward geometry.now known word }
+{
+    match (known, word) {
+        (None, _) | (_, Word::End { .. }) => None,
+        (Some(state), _) => Some(state.after(geometry, word)),
+    }
+}
+
+// The lowest word with a reason against it, of words without branches and loops.
+fn first_fault(geometry: &Geometry, bounds: Bounds, words: &[Word]) -> Option<Fault>
+    ensures { result ≡ walked geometry.now bounds 0 (Some first_state) words.now }
+{
+    let mut known = Some(State::first());
+    for (place, word) in words.iter().enumerate() {
+        if let Some(reason) = reason_at(geometry, bounds, &known, *word) {
+            return Some(Fault {
+                word: place,
+                reason,
+            });
+        }
+        known = onward(geometry, known, *word);
+    }
+    None
+}
+
+// A text without branches and loops: how many words were walked, or why it is refused.
+fn examine_straight<A: Allocator>(text: &Text<A>, geometry: &Geometry) -> Result<u64, Finding>
+    requires shape { shape_fault text.now.words ≡ None }
+    requires straight { all_lead_on text.now.words ≡ true }
+    ensures verified { IfOk result (λ walked. IsVerified text.now geometry.now walked) }
+    ensures refused { IfErr result (λ e. MayFind e geometry.now text.now) }
+{
+    let words = text.words();
+    match first_fault(geometry, bounds_of(text), words) {
+        None => Ok(words.len() as u64),
+        Some(fault) => Err(Finding::Against(fault)),
+    }
+}
+
+// A text with branches and without loops, with room for what is known before each word.
+fn examine_branches<A: Allocator>(
+    text: &Text<A>,
+    geometry: &Geometry,
+    known: &mut [Option<State>],
+) -> Result<u64, Finding>
+    requires shape { shape_fault text.now.words ≡ None }
+    requires no_loops { has_loop text.now.words ≡ false }
+    requires room { known.old ≡ replicate (length text.now.words) None }
+    ensures verified { IfOk result (λ walked. IsVerified text.now geometry.now walked) }
+    ensures refused { IfErr result (λ e. MayFind e geometry.now text.now) }
+{
+    let _ = geometry.parts();
+    let words = text.words();
+    match follow(geometry, bounds_of(text), words, known) {
+        None => Ok(words.len() as u64),
+        Some(fault) => Err(Finding::Against(fault)),
+    }
+}
+
+// A text with loops, with room for its certificate.
+fn examine_loops<A: Allocator>(
+    text: &Text<A>,
+    geometry: &Geometry,
+    claims: &mut [Option<State>],
+) -> Result<u64, Finding>
+    requires shape { shape_fault text.now.words ≡ None }
+    requires loops { has_loop text.now.words ≡ true }
+    requires room { length text.now.words ≡ length claims.old }
+    ensures verified { IfOk result (λ walked. IsVerified text.now geometry.now walked) }
+    ensures refused { IfErr result (λ e. MayFind e geometry.now text.now) }
+{
+    let _ = geometry.parts();
+    match find_certificate(geometry, bounds_of(text), text.words(), claims) {
+        Ok(walked) => Ok(walked),
+        Err(fault) => Err(Finding::Against(fault)),
+    }
+}
+
+/// Examines a text for a geometry: how many words were walked to find that it is safe, or what is against it.
+///
+/// First comes the shape of the text: V1 for a text without words, V2 at the lowest `loop` or `next` without its partner, V3 at the lowest `loop` that
+/// is nested five deep, V4 at the lowest branch that doesn't lead forward in its own loop, V5 for a last word that isn't `end`. Then, of
+/// a text without loops, the lowest word with something against it, in any way that leads to it, and its lowest reason; of a text with
+/// loops, a word at which a fault can't be ruled out. Words that no way reaches are looked at for their shape alone.
+///
+/// Texts with branches or loops, and only they, take memory, from the allocator of the text, before their words are walked: where it is
+/// refused the answer is `OutOfMemory`.
+pub fn examine<A: Allocator>(text: &Text<A>, geometry: &Geometry) -> Result<u64, Finding>
+    ensures verified { IfOk result (λ walked. IsVerified text.now geometry.now walked) }
+    ensures refused { IfErr result (λ e. MayFind e geometry.now text.now) }
+{
+    let words = text.words();
+    if let Some(fault) = shape_fault(words) {
+        return Err(Finding::Against(fault));
+    }
+    if all_lead_on(words) {
+        return examine_straight(text, geometry);
+    }
+    match vec![in text.allocator(); None; words.len()] {
+        Err(AllocError) => Err(Finding::OutOfMemory),
+        Ok(mut claims) if has_loop(words) => examine_loops(text, geometry, claims.as_mut_slice()),
+        Ok(mut claims) => examine_branches(text, geometry, claims.as_mut_slice()),
+    }
+}

@@ -1,0 +1,116 @@
+//! Texts with branches and without loops: what all ways claim that lead to a word, and the lowest word with a reason against it.
+ghost use Rattle.std.specs.Prelude.{◌≡◌, ◌<◌, length, replicate, Option, None};
+ghost use Rattle.micro_claims.specs.declared.state.State.{State};
+ghost use Rattle.micro_claims.specs.Certificate.{claim};
+ghost use Rattle.micro_walk.specs.Faults.{met, reached, led, led_from, known_first, reason_at, followed};
+
+use crate::check::claim;
+use micro_claims::{Bounds, Fault, Reason, State};
+use micro_word::Word;
+use nand_geometry::Geometry;
+
+// What is claimed of a place to which one more way leads.
+fn met(before: Option<State>, state: &State) -> State
+    ensures { result ≡ met before state.now }
+{
+    match before {
+        None => *state,
+        Some(before) => before.join(state),
+    }
+}
+
+/// A way leads to a place with a state.
+pub(crate) fn reach(known: &mut [Option<State>], at: usize, state: &State)
+    ensures value { known.new ≡ reached known.old at state.now }
+    ensures length { length known.new ≡ length known.old }
+{
+    let met = met(claim(known, at), state);
+    if at < known.len() {
+        known[at] = Some(met);
+    }
+}
+
+// A word leads from a state to each place where it may lead.
+fn lead(geometry: &Geometry, known: &mut [Option<State>], at: usize, state: &State, word: Word)
+    requires { at < length known.old }
+    ensures { known.new ≡ led geometry.now known.old at state.now word }
+{
+    let after = state.after(geometry, word);
+    match word {
+        Word::End { .. } => {}
+        Word::BranchOnStatus { target, .. } => {
+            reach(known, at + 1, &after);
+            reach(known, usize::from(target), &after);
+        }
+        Word::Jump { target } => reach(known, usize::from(target), &after),
+        _ => reach(known, at + 1, &after),
+    }
+}
+
+// Nowhere from a word that no way leads to.
+fn lead_from(
+    geometry: &Geometry,
+    known: &mut [Option<State>],
+    at: usize,
+    state: &Option<State>,
+    word: Word,
+)
+    requires { at < length known.old }
+    ensures value { known.new ≡ led_from geometry.now known.old at state.now word }
+    ensures length { length known.new ≡ length known.old }
+{
+    if let Some(state) = state {
+        lead(geometry, known, at, state, word);
+    }
+}
+
+/// The lowest reason against a word; none where no way leads.
+pub(crate) fn reason_at(
+    geometry: &Geometry,
+    bounds: Bounds,
+    known: &Option<State>,
+    word: Word,
+) -> Option<Reason>
+    ensures { result ≡ reason_at geometry.now bounds known.now word }
+{
+    match known {
+        None => None,
+        Some(state) => state.reason_against(geometry, bounds, word),
+    }
+}
+
+// The lowest word with a reason against it, by what is known.
+fn first_fault(
+    geometry: &Geometry,
+    bounds: Bounds,
+    words: &[Word],
+    known: &mut [Option<State>],
+) -> Option<Fault>
+    requires { length known.old ≡ length words.now }
+    ensures { result ≡ followed geometry.now bounds known.old 0 words.now }
+{
+    for (at, word) in words.iter().enumerate() {
+        let state = claim(known, at);
+        if let Some(reason) = reason_at(geometry, bounds, &state, *word) {
+            return Some(Fault { word: at, reason });
+        }
+        lead_from(geometry, known, at, &state, *word);
+    }
+    None
+}
+
+/// The lowest word with a reason against it, in all ways from the first word on. Nothing is known at first.
+pub(crate) fn follow(
+    geometry: &Geometry,
+    bounds: Bounds,
+    words: &[Word],
+    known: &mut [Option<State>],
+) -> Option<Fault>
+    requires { known.old ≡ replicate (length words.now) None }
+    ensures { result ≡ followed geometry.now bounds (known_first words.now) 0 words.now }
+{
+    if !known.is_empty() {
+        known[0] = Some(State::first());
+    }
+    first_fault(geometry, bounds, words, known)
+}

@@ -1,0 +1,21 @@
+//! Walking a text: whether each way through it is safe, found by what is known before each word.
+//!
+//! The definitions stand in `specs/`: the shape of a text (`Shape`), its fault (`Faults`), what may be found against it (`Verdicts`), and texts
+//! with a certificate (`Certified`). [`examine`] looks at a whole text, [`certify`] goes by claims that somebody else has found.
+#![tactic(auto)]
+
+mod certifying;
+mod check;
+mod examining;
+mod finding;
+mod following;
+pub mod laws;
+mod looping;
+mod proved;
+mod search;
+mod shape;
+
+pub use certifying::{Claims, certify};
+pub use examining::{all_lead_on, examine};
+pub use finding::Finding;
+pub use proved::faultless;

@@ -1,0 +1,96 @@
+//! Texts with loops: a certificate that is searched for, and checked.
+ghost use Rattle.std.specs.Prelude.{◌≡◌, ◌≤◌, ◌<◌, true, length, IfOk, IfErr};
+ghost use Rattle.micro_claims.specs.declared.refusal.Fault.{Fault};
+ghost use Rattle.micro_claims.specs.Certificate.{is_certified};
+ghost use Rattle.micro_claims.specs.Order.{machine};
+ghost use Rattle.micro_program.specs.Verified.{IsFewWalked};
+ghost use Rattle.micro_walk.specs.Verdicts.{IsOfWord};
+
+use crate::check::{is_certified, word_holds};
+use crate::following::reason_at;
+use crate::search::{Found, find};
+use crate::shape::nests_two_deep;
+use micro_claims::{Bounds, Fault, Reason, State};
+use micro_word::Word;
+use nand_geometry::Geometry;
+
+// How often a word is walked at most: 16 times for each loop around it.
+const TWO_DEEP: u32 = 256;
+
+const FOUR_DEEP: u32 = 65_536;
+
+// How many words are walked at most.
+fn most_walked(words: &[Word]) -> u32
+    requires { length words.now ≤ 1024 }
+    ensures { IsFewWalked words.now result }
+{
+    let each = if nests_two_deep(words) {
+        TWO_DEEP
+    } else {
+        FOUR_DEEP
+    };
+    each * words.len() as u32
+}
+
+// The lowest reason against the word at a place; V7 where there is none.
+fn fault_there(
+    geometry: &Geometry,
+    bounds: Bounds,
+    words: &[Word],
+    claims: &[Option<State>],
+    at: usize,
+) -> Fault
+    requires inside { at < length words.now }
+    requires same { length words.now ≡ length claims.now }
+    ensures { IsOfWord words.now result }
+{
+    let reason = match reason_at(geometry, bounds, &claims[at], words[at]) {
+        Some(reason) => reason,
+        None => Reason::CycleForbidden,
+    };
+    Fault { word: at, reason }
+}
+
+// The first place whose claim doesn't lead to what is claimed where its word leads; the first place of all, if there is none.
+fn first_unheld(
+    geometry: &Geometry,
+    bounds: Bounds,
+    words: &[Word],
+    claims: &[Option<State>],
+) -> usize
+    requires some { 0 < length words.now }
+    requires same { length words.now ≡ length claims.now }
+    ensures { result < length words.now }
+{
+    for at in 0..words.len() {
+        if let Some(state) = claims[at] {
+            if !word_holds(geometry, bounds, words, claims, at, &state, words[at]) {
+                return at;
+            }
+        }
+    }
+    0
+}
+
+/// Looks for a certificate of words and checks it: how many words were walked, or a word that couldn't be shown to be safe.
+pub(crate) fn find_certificate(
+    geometry: &Geometry,
+    bounds: Bounds,
+    words: &[Word],
+    claims: &mut [Option<State>],
+) -> Result<u64, Fault>
+    requires some { 0 < length words.now }
+    requires few { length words.now ≤ 1024 }
+    requires same { length words.now ≡ length claims.old }
+    ensures certified { IfOk result (λ walked. is_certified (machine geometry.now bounds) words.now claims.new ≡ true) }
+    ensures walked { IfOk result (λ walked. IsFewWalked words.now walked) }
+    ensures refused { IfErr result (λ fault. IsOfWord words.now fault) }
+{
+    let Found { walked, stopped } = find(geometry, bounds, words, claims, most_walked(words));
+    let at = match stopped {
+        Some(at) if at < words.len() => at,
+        _ if is_certified(geometry, bounds, words, claims) => return Ok(u64::from(walked)),
+        _ => first_unheld(geometry, bounds, words, claims),
+    };
+    Err(fault_there(geometry, bounds, words, claims, at))
+}

@@ -1,0 +1,230 @@
+//! The search for a certificate. Nothing rests on what it finds: the check decides.
+ghost use Rattle.std.specs.Prelude.{◌≡◌, ◌≤◌, length};
+
+use crate::check::step;
+use crate::following::reach;
+use micro_claims::{Bounds, State};
+use micro_word::Word;
+use nand_geometry::Geometry;
+
+// How deep loops are nested at most.
+const DEPTH: usize = 4;
+
+// A loop in which the walk is: its first place, the state that enters it, its turns, and how often it has been walked again.
+#[derive(Clone, Copy)]
+struct Walked {
+    head: usize,
+    entry: Option<State>,
+    turns: u16,
+    again: u8,
+}
+
+const NOT_WALKED: Walked = Walked {
+    head: 0,
+    entry: None,
+    turns: 1,
+    again: 0,
+};
+
+// Nothing is claimed from one place to another.
+fn forget(claims: &mut [Option<State>], from: usize, to: usize)
+    ensures { length claims.new ≡ length claims.old }
+{
+    for at in from..to {
+        if at < claims.len() {
+            claims[at] = None;
+        }
+    }
+}
+
+// The places to which a word leads are reached. Whether nothing is against the word.
+fn lead(
+    geometry: &Geometry,
+    bounds: Bounds,
+    claims: &mut [Option<State>],
+    at: usize,
+    state: &State,
+    word: Word,
+) -> bool
+    ensures { length claims.new ≡ length claims.old }
+{
+    match word {
+        Word::BranchOnStatus { target, .. } => {
+            reach(claims, at.saturating_add(1), state);
+            reach(claims, usize::from(target), state);
+            state.registers.polled
+        }
+        Word::Jump { target } => {
+            reach(claims, usize::from(target), state);
+            true
+        }
+        Word::End { .. } => step(geometry, bounds, state, word).is_some(),
+        _ => match step(geometry, bounds, state, word) {
+            None => false,
+            Some(after) => {
+                reach(claims, at.saturating_add(1), &after);
+                true
+            }
+        },
+    }
+}
+
+// What a later turn may begin with, once more: from the eighth walk on numbers that still grow have no bound, and from the
+// twelfth nothing is known.
+fn wider(head: &State, heads: &State, again: u8) -> State {
+    match again {
+        0..=6 => head.join(heads),
+        7..=10 => head.widen(heads),
+        _ => State::unknown().at_head(),
+    }
+}
+
+// At the `next` of a loop: the loop once more, where a later turn may begin with more than is claimed at its head.
+fn once_more(claims: &mut [Option<State>], at: usize, walked: &Walked) -> Option<Walked>
+    ensures { length claims.new ≡ length claims.old }
+{
+    if at >= claims.len() || walked.head >= claims.len() {
+        return None;
+    }
+    let (Some(entry), Some(head), Some(end)) = (walked.entry, claims[walked.head], claims[at])
+    else {
+        return None;
+    };
+    let heads = entry.at_heads(&end, walked.turns);
+    if walked.turns <= 1 || walked.again >= 13 || heads.is_within(&head) {
+        let after = entry.after_turns(&end, walked.turns);
+        reach(claims, at.saturating_add(1), &after);
+        return None;
+    }
+    forget(claims, walked.head, at.saturating_add(1));
+    reach(claims, walked.head, &wider(&head, &heads, walked.again));
+    Some(Walked {
+        again: walked.again + 1,
+        ..*walked
+    })
+}
+
+/// What a search comes to: how many words it walked, and the place where it found something against a word.
+#[derive(Drop)]
+pub(crate) struct Found {
+    pub walked: u32,
+    pub stopped: Option<usize>,
+}
+
+// The walk is at a place, in so many loops.
+#[derive(Drop)]
+struct Walk {
+    at: usize,
+    depth: usize,
+    loops: [Walked; DEPTH],
+}
+
+impl Walk {
+    // A loop is entered, where there is room for it.
+    fn enter(&mut self, claims: &mut [Option<State>], turns: u16) -> bool
+        ensures { length claims.new ≡ length claims.old }
+    {
+        if self.depth >= DEPTH || self.at >= claims.len() {
+            return false;
+        }
+        let entry = claims[self.at];
+        self.at += 1;
+        self.loops[self.depth] = Walked {
+            head: self.at,
+            entry,
+            turns,
+            again: 0,
+        };
+        self.depth += 1;
+        if let Some(state) = entry {
+            reach(claims, self.at, &state.at_head());
+        }
+        true
+    }
+
+    // At a `next`: back to its loop, or on.
+    fn turn(&mut self, claims: &mut [Option<State>]) -> bool
+        ensures { length claims.new ≡ length claims.old }
+    {
+        if self.depth == 0 || self.depth > DEPTH {
+            return false;
+        }
+        match once_more(claims, self.at, &self.loops[self.depth - 1]) {
+            Some(again) => {
+                self.at = again.head;
+                self.loops[self.depth - 1] = again;
+            }
+            None => {
+                self.depth -= 1;
+                self.at = self.at.saturating_add(1);
+            }
+        }
+        true
+    }
+
+    // One word on. Whether nothing is against it.
+    fn step(
+        &mut self,
+        geometry: &Geometry,
+        bounds: Bounds,
+        claims: &mut [Option<State>],
+        word: Word,
+    ) -> bool
+        ensures { length claims.new ≡ length claims.old }
+    {
+        match word {
+            Word::Loop { turns } => self.enter(claims, turns),
+            Word::Next => self.turn(claims),
+            _ => {
+                let at = self.at;
+                self.at = at.saturating_add(1);
+                at >= claims.len()
+                    || match claims[at] {
+                        None => true,
+                        Some(state) => lead(geometry, bounds, claims, at, &state, word),
+                    }
+            }
+        }
+    }
+}
+
+/// Fills in what is claimed before each word, by walking at most so many words. Where the walk finds something against a word it
+/// stops there.
+pub(crate) fn find(
+    geometry: &Geometry,
+    bounds: Bounds,
+    words: &[Word],
+    claims: &mut [Option<State>],
+    most: u32,
+) -> Found
+    ensures few { result.walked ≤ most }
+    ensures length { length claims.new ≡ length claims.old }
+{
+    let all = claims.len();
+    forget(claims, 0, all);
+    reach(claims, 0, &State::first());
+    let mut walk = Walk {
+        at: 0,
+        depth: 0,
+        loops: [NOT_WALKED; DEPTH],
+    };
+    for walked in 0..most {
+        let at = walk.at;
+        if at >= words.len() {
+            return Found {
+                walked,
+                stopped: None,
+            };
+        }
+        if !walk.step(geometry, bounds, claims, words[at]) {
+            return Found {
+                walked,
+                stopped: Some(at),
+            };
+        }
+    }
+    Found {
+        walked: most,
+        stopped: None,
+    }
+}

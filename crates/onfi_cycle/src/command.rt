@@ -1,0 +1,231 @@
+//! The commands: their bytes, and what each asks of its sequence.
+ghost use Rattle.std.specs.Prelude.{ℕ, ◌≡◌, ◌<◌, ◌^◌, Option};
+ghost use Rattle.onfi_cycle.specs.Command.{command, opcode, is_known, is_opener, address_cycles, closes, takes_address, at_last_row, addresses_the_array, reads_identity, wants_ready, wants_one_lun};
+ghost use Rattle.onfi_cycle.specs.Sequence.{is_proper_beginning};
+
+/// The commands of the profile. Each name is the one of ONFI 4.x; the section that defines it
+/// bears that name, and stands in the table of docs/MODEL.md. [`Command::of`] and [`Command::opcode`] lead from
+/// bytes to commands and back.
+#[derive(Clone, Copy, Debug, PartialEq, Eq)]
+pub enum Command {
+    /// 00h, Read Definition. Alone it turns a LUN that shows status back to data.
+    Read,
+    /// 30h, Read Definition.
+    ReadConfirm,
+    /// 05h, Change Read Column Definition.
+    ChangeReadColumn,
+    /// E0h, Change Read Column Definition.
+    ChangeReadColumnConfirm,
+    /// 60h, Block Erase Definition.
+    BlockErase,
+    /// D0h, Block Erase Definition.
+    BlockEraseConfirm,
+    /// D1h, Multi-plane Block Erase.
+    BlockErasePlane,
+    /// 70h, Read Status Definition.
+    ReadStatus,
+    /// 78h, Read Status Enhanced Definition.
+    ReadStatusEnhanced,
+    /// 80h, Page Program Definition.
+    PageProgram,
+    /// 85h, Change Write Column Definition.
+    ChangeWriteColumn,
+    /// 10h, Page Program Definition.
+    ProgramConfirm,
+    /// 11h, Multi-plane Page Program.
+    ProgramPlane,
+    /// 90h, Read ID Definition.
+    ReadId,
+    /// ECh, Read Parameter Page Definition.
+    ReadParameterPage,
+    /// FFh, Reset Definition.
+    Reset,
+    /// 31h, Read Cache Definition.
+    ReadCacheSequential,
+    /// 3Fh, Read Cache Definition.
+    ReadCacheEnd,
+    /// Any other byte.
+    Unknown,
+}
+
+impl Command {
+    /// The command of a byte, `Unknown` for a byte that the profile doesn't have (docs/MODEL.md, "Commands").
+    #[tactic(auto, unfolding(crate::specs::Command::command))]
+    pub fn of(byte: u8) -> Command
+        ensures { result ≡ command byte }
+    {
+        match byte {
+            0x00 => Command::Read,
+            0x30 => Command::ReadConfirm,
+            0x05 => Command::ChangeReadColumn,
+            0xe0 => Command::ChangeReadColumnConfirm,
+            0x60 => Command::BlockErase,
+            0xd0 => Command::BlockEraseConfirm,
+            0xd1 => Command::BlockErasePlane,
+            0x70 => Command::ReadStatus,
+            0x78 => Command::ReadStatusEnhanced,
+            0x80 => Command::PageProgram,
+            0x85 => Command::ChangeWriteColumn,
+            0x10 => Command::ProgramConfirm,
+            0x11 => Command::ProgramPlane,
+            0x90 => Command::ReadId,
+            0xec => Command::ReadParameterPage,
+            0xff => Command::Reset,
+            0x31 => Command::ReadCacheSequential,
+            0x3f => Command::ReadCacheEnd,
+            _ => Command::Unknown,
+        }
+    }
+
+    /// The byte of a command, None for `Unknown`.
+    pub fn opcode(self) -> Option<u8>
+        ensures { result ≡ opcode self }
+    {
+        match self {
+            Command::Read => Some(0x00),
+            Command::ReadConfirm => Some(0x30),
+            Command::ChangeReadColumn => Some(0x05),
+            Command::ChangeReadColumnConfirm => Some(0xe0),
+            Command::BlockErase => Some(0x60),
+            Command::BlockEraseConfirm => Some(0xd0),
+            Command::BlockErasePlane => Some(0xd1),
+            Command::ReadStatus => Some(0x70),
+            Command::ReadStatusEnhanced => Some(0x78),
+            Command::PageProgram => Some(0x80),
+            Command::ChangeWriteColumn => Some(0x85),
+            Command::ProgramConfirm => Some(0x10),
+            Command::ProgramPlane => Some(0x11),
+            Command::ReadId => Some(0x90),
+            Command::ReadParameterPage => Some(0xec),
+            Command::Reset => Some(0xff),
+            Command::ReadCacheSequential => Some(0x31),
+            Command::ReadCacheEnd => Some(0x3f),
+            Command::Unknown => None,
+        }
+    }
+
+    /// The command is one of the profile.
+    pub fn is_known(self) -> bool
+        ensures { result ≡ is_known self }
+    {
+        self != Command::Unknown
+    }
+
+    /// The command begins a sequence.
+    pub fn is_opener(self) -> bool
+        ensures { result ≡ is_opener self }
+    {
+        !matches!(
+            self,
+            Command::ReadConfirm
+                | Command::ChangeReadColumnConfirm
+                | Command::BlockEraseConfirm
+                | Command::BlockErasePlane
+                | Command::ChangeWriteColumn
+                | Command::ProgramConfirm
+                | Command::ProgramPlane
+                | Command::Unknown
+        )
+    }
+
+    /// How many address cycles follow an opener.
+    pub fn address_cycles(self) -> usize
+        ensures { result ≡ address_cycles self }
+    {
+        match self {
+            Command::Read | Command::PageProgram => 5,
+            Command::BlockErase | Command::ReadStatusEnhanced => 3,
+            Command::ChangeReadColumn => 2,
+            Command::ReadId | Command::ReadParameterPage => 1,
+            _ => 0,
+        }
+    }
+
+    /// The closer ends what the opener began, straight after its addresses.
+    pub fn closes(self, closer: Command) -> bool
+        ensures { result ≡ closes self closer }
+    {
+        match self {
+            Command::Read => matches!(closer, Command::ReadConfirm),
+            Command::ChangeReadColumn => matches!(closer, Command::ChangeReadColumnConfirm),
+            Command::BlockErase => {
+                matches!(
+                    closer,
+                    Command::BlockEraseConfirm | Command::BlockErasePlane
+                )
+            }
+            _ => false,
+        }
+    }
+
+    /// Read ID takes the address 20h alone, and Read Parameter Page 00h.
+    pub fn takes_address(self, byte: u8) -> bool
+        ensures { result ≡ takes_address self byte }
+    {
+        match self {
+            Command::ReadId => byte == 0x20,
+            Command::ReadParameterPage => byte == 0x00,
+            _ => true,
+        }
+    }
+
+    /// After this many address cycles the next one is the last of a row.
+    pub fn at_last_row(self, addresses: usize) -> bool
+        ensures { result ≡ at_last_row self addresses }
+    {
+        match self {
+            Command::Read | Command::PageProgram => addresses == 4,
+            Command::BlockErase | Command::ReadStatusEnhanced => addresses == 2,
+            _ => false,
+        }
+    }
+
+    /// The opener's row is of the array.
+    pub fn addresses_the_array(self) -> bool
+        ensures { result ≡ addresses_the_array self }
+    {
+        matches!(
+            self,
+            Command::Read | Command::BlockErase | Command::PageProgram
+        )
+    }
+
+    /// The opener reads what stands beside the array.
+    pub fn reads_identity(self) -> bool
+        ensures { result ≡ reads_identity self }
+    {
+        matches!(self, Command::ReadId | Command::ReadParameterPage)
+    }
+
+    /// The opener wants a ready LUN on its target.
+    pub fn wants_ready(self) -> bool
+        ensures { result ≡ wants_ready self }
+    {
+        matches!(self, Command::ChangeReadColumn)
+            || self.addresses_the_array()
+            || self.reads_identity()
+    }
+
+    /// The opener works on a target with one LUN alone.
+    pub fn wants_one_lun(self) -> bool
+        ensures { result ≡ wants_one_lun self }
+    {
+        matches!(
+            self,
+            Command::ReadStatus | Command::ReadId | Command::ReadParameterPage | Command::Reset
+        )
+    }
+
+    /// So many addresses after an opener are the beginning of a sequence, and not the command 00h alone.
+    pub fn is_proper_beginning(self, addresses: usize) -> bool
+        ensures { result ≡ is_proper_beginning self addresses }
+    {
+        match self {
+            Command::Read => 0 < addresses && addresses <= 5,
+            Command::ChangeReadColumn => addresses <= 2,
+            Command::BlockErase => addresses <= 3,
+            Command::PageProgram => addresses <= 5,
+            _ => addresses < self.address_cycles(),
+        }
+    }
+}

@@ -1,0 +1,65 @@
+//! The rules of permitted items.
+ghost use Rattle.std.specs.Prelude.{◌≡◌};
+ghost use Rattle.onfi_cycle.specs.Codes.{forbidden_code};
+
+use thiserror::Error;
+
+/// The rules of permitted items, in the order in which they are tried. docs/MODEL.md states each in full.
+#[derive(Clone, Copy, Debug, PartialEq, Eq, Error)]
+pub enum Forbidden {
+    #[error("the chip enable or the LUN isn't there, or what becomes ready isn't busy")]
+    NotThere,
+    #[error("the command is unknown, or the parameter page doesn't declare it")]
+    CommandUnknown,
+    #[error("a sequence is open on the target, so none may begin")]
+    SequenceOpen,
+    #[error("the command works on targets with one LUN alone")]
+    SeveralLuns,
+    #[error("a change of the read column needs one driver that is ready and gives a page or the parameter page")]
+    NoColumnToChange,
+    #[error("the command doesn't go on with the sequence of its target")]
+    CommandMisplaced,
+    #[error("the address doesn't go on with the sequence of its target")]
+    AddressMisplaced,
+    #[error("the row is outside the geometry")]
+    RowOutside,
+    #[error("the LUN is busy")]
+    LunBusy,
+    #[error("the queue of the LUN doesn't go together with this")]
+    QueueClash,
+    #[error("an input comes elsewhere than in the data of a program")]
+    InputMisplaced,
+    #[error("an output comes in an open sequence, or with other than one driver")]
+    NoSoleDriver,
+    #[error("the driver gives data, but is busy, has no register or has lost its column")]
+    DataNotReady,
+    #[error("the column is past the page or the register")]
+    ColumnOutside,
+    #[error("the cache read doesn't stand so")]
+    CacheReadMisplaced,
+}
+
+impl Forbidden {
+    /// Its code, `F1` to `F15`.
+    pub fn code(self) -> &'static str
+        ensures { result.now ≡ forbidden_code self }
+    {
+        match self {
+            Forbidden::NotThere => "F1",
+            Forbidden::CommandUnknown => "F2",
+            Forbidden::SequenceOpen => "F3",
+            Forbidden::SeveralLuns => "F4",
+            Forbidden::NoColumnToChange => "F5",
+            Forbidden::CommandMisplaced => "F6",
+            Forbidden::AddressMisplaced => "F7",
+            Forbidden::RowOutside => "F8",
+            Forbidden::LunBusy => "F9",
+            Forbidden::QueueClash => "F10",
+            Forbidden::InputMisplaced => "F11",
+            Forbidden::NoSoleDriver => "F12",
+            Forbidden::DataNotReady => "F13",
+            Forbidden::ColumnOutside => "F14",
+            Forbidden::CacheReadMisplaced => "F15",
+        }
+    }
+}

@@ -1,0 +1,4 @@
+pub mod Line
+pub mod Told
+pub mod Shown
+pub mod Run

@@ -1,0 +1,46 @@
+//! What a line of a run file says.
+
+/// One line of a run file.
+#[derive(Clone, Copy, Debug, PartialEq, Eq)]
+pub enum Statement<'a> {
+    /// The file of the parameter page.
+    Page {
+        path: &'a str,
+    },
+    /// The number of targets, 1 to 4.
+    Targets {
+        count: u8,
+    },
+    /// The file of a die's image, read before the run and written after it.
+    Image {
+        target: u32,
+        lun: u32,
+        path: &'a str,
+    },
+    /// A job: its word file, the file of what the buffer holds first, and the file of what it holds after the end.
+    Job {
+        target: u32,
+        lun: u32,
+        base: u32,
+        text: &'a str,
+        input: Option<&'a str>,
+        output: Option<&'a str>,
+    },
+    /// A LUN becomes ready when so many polls since its last ready have shown busy, 1 to 1,000.
+    Polls {
+        count: u32,
+    },
+    /// The ready of this number of the LUN, from 1, is with failure.
+    Fail {
+        target: u32,
+        lun: u32,
+        ready: u32,
+    },
+}
+
+/// A statement with the number of its line, from 1.
+#[derive(Clone, Copy, Debug, PartialEq, Eq)]
+pub struct Numbered<'a> {
+    pub line: usize,
+    pub statement: Statement<'a>,
+}

@@ -1,0 +1,283 @@
+use nand_geometry::{Geometry, Parts};
+use seq_files::MapFiles;
+use seq_run::{RunEnd, RunRequest, run_on};
+use std::alloc::{AllocError, Global};
+use std::process::Abort;
+use std::sync::Wait;
+use std::test::Fail;
+use std::thread::Threads;
+
+// One LUN of 8 blocks of 4 pages of 512 + 16 bytes, in one plane.
+pub(crate) const ONE_LUN: Parts = Parts {
+    page_bytes: 512,
+    spare_bytes: 16,
+    pages: 4,
+    blocks: 8,
+    luns: 1,
+    plane_bits: 0,
+    enhanced: false,
+    multi_plane: false,
+    cache: false,
+};
+
+// Two such LUNs, each in two planes.
+pub(crate) const TWO_LUNS: Parts = Parts {
+    luns: 2,
+    plane_bits: 1,
+    enhanced: true,
+    multi_plane: true,
+    ..ONE_LUN
+};
+
+// The erase of one block: cmd 60, addr 2 3, cmd d0, wait, end 0; rows 1, budget 5.
+pub(crate) const ERASE: [u8; 36] = [
+    0x4e, 0x4d, 0x50, 0x31, 0x05, 0x00, 0x01, 0x00, 0x00, 0x00, 0x00, 0x00, 0x05, 0x00, 0x00, 0x00,
+    0x01, 0x60, 0x00, 0x00, 0x02, 0x02, 0x03, 0x00, 0x01, 0xd0, 0x00, 0x00, 0x0a, 0x00, 0x00, 0x00,
+    0x00, 0x00, 0x00, 0x00,
+];
+
+// Programs two bytes of the buffer into page 0, and reads them back behind themselves: 22 words; rows 1, buffer 4, budget 19.
+pub(crate) const BOTH: [u8; 104] = [
+    0x4e, 0x4d, 0x50, 0x31, 22, 0, 1, 0, 4, 0, 0, 0, 19, 0, 0, 0, // the header
+    8, 0, 0, 0, 9, 0, 0, 0, 6, 0, 0, 0, 5, 0, 0, 0, 1, 0x80, 0, 0, 2, 0, 5, 0, 4, 0, 2, 0, 1, 0x10,
+    0, 0, 0x0a, 0, 0, 0, 0x0d, 1, 21, 0, // the program
+    8, 0, 0, 0, 9, 0, 0, 0, 6, 0, 0, 0, 5, 0, 2, 0, 1, 0, 0, 0, 2, 0, 5, 0, 1, 0x30, 0, 0, 0x0a, 0,
+    0, 0, 1, 0, 0, 0, 3, 0, 2, 0, // the read
+    0, 0, 0, 0, 0, 1, 0, 0,
+];
+
+// The image of an erased die of the one LUN or of the two.
+pub(crate) const EMPTY: [u8; 24] = [
+    0x4e, 0x44, 0x49, 0x31, 0, 2, 0, 0, 16, 0, 0, 0, 4, 0, 0, 0, 8, 0, 0, 0, 0, 0, 0, 0,
+];
+
+// What became of a run: how it ended, and what it printed on standard output and on standard error.
+#[derive(Drop)]
+pub(crate) struct Played {
+    pub end: RunEnd,
+    pub output: Vec<u8>,
+    pub errors: Vec<u8>,
+}
+
+// Files with the pages `one` and `two` of these LUNs, and the word file `erase`.
+pub(crate) fn make_files(alloc: Global) -> Result<MapFiles, Fail> {
+    let mut files = MapFiles::new(alloc);
+    files.put("one", &Geometry::of(ONE_LUN)?.page())?;
+    files.put("two", &Geometry::of(TWO_LUNS)?.page())?;
+    files.put("erase", &ERASE)?;
+    files.put("both", &BOTH)?;
+    files.put("empty", &EMPTY)?;
+    Ok(files)
+}
+
+// A run of the file `run` with so many workers.
+pub(crate) fn ask(workers: u8) -> RunRequest<'static> {
+    RunRequest {
+        path: "run",
+        workers,
+        is_quiet: false,
+        trace: None,
+        has_stats: false,
+    }
+}
+
+// Does a run.
+pub(crate) fn play<R: Threads + Wait + Sync + AllocGlobal>(
+    rt: &R,
+    files: &mut MapFiles,
+    request: RunRequest<'_>,
+) -> Played {
+    let mut output = Vec::new(rt.alloc());
+    let mut errors = Vec::new(rt.alloc());
+    let end = run_on(rt, rt.alloc(), files, &mut output, &mut errors, request);
+    Played {
+        end,
+        output,
+        errors,
+    }
+}
+
+// A run file with one worker, with what must be printed and the status.
+struct Tried {
+    run: &'static str,
+    output: &'static str,
+    status: u8,
+}
+
+// Runs each of them on files of its own.
+fn try_all<R: Threads + Wait + Sync + Abort + AllocGlobal>(
+    rt: &R,
+    all: &[Tried],
+) -> Result<(), Fail> {
+    for tried in all {
+        let mut files = make_files(rt.alloc())?;
+        files.put("run", tried.run.as_bytes())?;
+        let played = play(rt, &mut files, ask(1));
+        let output = str::from_utf8(played.output.as_slice()).unwrap_or("not UTF-8");
+        assert_eq!(rt; output, tried.output, "of {}", tried.run);
+        assert_eq!(rt; played.end.status(), tried.status, "of {}", tried.run);
+    }
+    Ok(())
+}
+
+const TWO_JOBS: [Tried; 6] = [
+    Tried {
+        run: "page two\ntargets 1\npolls 1\njob 0 0 0 erase - -\njob 0 1 0 erase - -\n",
+        output: "0 C 60\n0 A 00\n0 A 00\n0 A 00\n0 C d0\n0 C 78\n0 A 00\n0 A 00\n0 A 00\n0 O 80\n0 R 0 0\n0 C 60\n0 A 20\n0 A 00\n0 A 00\n0 C d0\n0 C 78\n0 A 20\n0 A 00\n0 A 00\n0 O 80\n0 R 1 0\n0 C 78\n0 A 00\n0 A 00\n0 A 00\n0 O e0\n0 C 78\n0 A 20\n0 A 00\n0 A 00\n0 O e0\njob 1 end 0\njob 2 end 0\n",
+        status: 0,
+    },
+    Tried {
+        run: "page two\ntargets 1\npolls 1\njob 0 0 0 erase - -\njob 0 1 0 erase - -\nfail 0 1 1\n",
+        output: "0 C 60\n0 A 00\n0 A 00\n0 A 00\n0 C d0\n0 C 78\n0 A 00\n0 A 00\n0 A 00\n0 O 80\n0 R 0 0\n0 C 60\n0 A 20\n0 A 00\n0 A 00\n0 C d0\n0 C 78\n0 A 20\n0 A 00\n0 A 00\n0 O 80\n0 R 1 1\n0 C 78\n0 A 00\n0 A 00\n0 A 00\n0 O e0\n0 C 78\n0 A 20\n0 A 00\n0 A 00\n0 O e1\njob 1 end 0\njob 2 end 0\n",
+        status: 0,
+    },
+    Tried {
+        run: "page two\ntargets 1\npolls 1\njob 0 0 15 erase - -\n",
+        output: "0 C 60\n0 A 1b\n0 A 00\n0 A 00\n0 C d0\n0 C 78\n0 A 00\n0 A 00\n0 A 00\n0 O 80\n0 R 0 0\n0 C 78\n0 A 00\n0 A 00\n0 A 00\n0 O e0\njob 1 end 0\n",
+        status: 0,
+    },
+    Tried {
+        run: "page two\ntargets 1\npolls 1\njob 0 0 16 erase - -\njob 0 1 0 erase - -\n",
+        output: "refused S3 at 4\n",
+        status: 1,
+    },
+    Tried {
+        run: "page two\ntargets 1\npolls 1\njob 0 2 0 erase - -\njob 0 1 0 erase - -\n",
+        output: "refused J4 at 4\n",
+        status: 1,
+    },
+    Tried {
+        run: "page two\ntargets 1\npolls 0\njob 0 0 0 erase - -\njob 0 1 0 erase - -\n",
+        output: "refused J2 at 3\n",
+        status: 1,
+    },
+];
+
+#[test]
+fn two_jobs_of_one_worker(rt: HostRuntime) -> Result<(), Fail> {
+    try_all(&rt, &TWO_JOBS)
+}
+
+// A run file that is refused or has a fault, with what must be printed on standard output and on standard error.
+const REFUSED: [Tried; 14] = [
+    Tried {
+        run: "pages two\n",
+        output: "refused J1 at 1\n",
+        status: 1,
+    },
+    Tried {
+        run: "page two\ntargets 5\n",
+        output: "refused J2 at 2\n",
+        status: 1,
+    },
+    Tried {
+        run: "",
+        output: "refused J3 at 1\n",
+        status: 1,
+    },
+    Tried {
+        run: "page two\ntargets 1\nfail 1 0 1\n",
+        output: "refused J4 at 3\n",
+        status: 1,
+    },
+    Tried {
+        run: "page two\ntargets 1\njob 0 0 0 erase one -\n",
+        output: "refused J5 at 3\n",
+        status: 1,
+    },
+    Tried {
+        run: "page erase\nbad\n",
+        output: "refused P1 at 1\n",
+        status: 1,
+    },
+    Tried {
+        run: "page two\n; a comment\ntargets 1\nimage 0 1 erase\n",
+        output: "refused I2 at 4\n",
+        status: 1,
+    },
+    Tried {
+        run: "page two\ntargets 1\nimage 0 2 nothing\n",
+        output: "refused J4 at 3\n",
+        status: 1,
+    },
+    Tried {
+        run: "page two\ntargets 1\njob 0 0 16 one nothing -\n",
+        output: "refused M2 at 3\n",
+        status: 1,
+    },
+    Tried {
+        run: "page one\ntargets 1\njob 0 0 0 both one -\nbad\n",
+        output: "refused J5 at 3\n",
+        status: 1,
+    },
+    Tried {
+        run: "page one\ntargets 1\njob 0 0 32 both empty -\n",
+        output: "refused J5 at 3\n",
+        status: 1,
+    },
+    Tried {
+        run: "page one\ntargets 1\njob 0 0 32 both - -\nbad\n",
+        output: "refused S3 at 3\n",
+        status: 1,
+    },
+    Tried {
+        run: "page one\ntargets 1\njob 0 0 31 both - -\nbad\n",
+        output: "refused J1 at 4\n",
+        status: 1,
+    },
+    Tried {
+        run: "page one\ntargets 1\njob 0 0 0 nothing - -\nbad\n",
+        output: "",
+        status: 2,
+    },
+];
+
+#[test]
+fn refused_runs(rt: HostRuntime) -> Result<(), Fail> {
+    try_all(&rt, &REFUSED)
+}
+
+// A file must have these bytes first, and this length.
+fn expect_file(
+    rt: &impl Abort,
+    files: &MapFiles,
+    path: &str,
+    first: &[u8],
+    length: usize,
+) -> Result<(), Fail> {
+    let bytes = files.get(path).ok_or("the file is there")?;
+    assert!(rt; bytes.starts_with(first), "of {path}");
+    assert_eq!(rt; bytes.len(), length, "of {path}");
+    Ok(())
+}
+
+const BEHIND: &str = "page one\ntargets 1\nimage 0 0 die\njob 0 0 0 both in out\n";
+
+// The image of a die after two runs, each of which begins with the image of the one before.
+#[test]
+fn a_program_then_a_read(rt: HostRuntime) -> Result<(), Fail> {
+    let mut files = make_files(rt.alloc())?;
+    files.put("run", BEHIND.as_bytes())?;
+    files.put("die", &EMPTY)?;
+    files.put("in", &[0xa5, 0x3c])?;
+    assert_eq!(rt; play(&rt, &mut files, ask(1)).end, RunEnd::Done);
+    expect_file(&rt, &files, "out", &[0xa5, 0x3c, 0xa5, 0x3c], 4)?;
+    expect_file(
+        &rt,
+        &files,
+        "die",
+        &[0x4e, 0x44, 0x49, 0x31, 0, 2, 0, 0, 16],
+        556,
+    )?;
+    files.put("in", &[0x0f, 0x0f])?;
+    assert_eq!(rt; play(&rt, &mut files, ask(2)).end, RunEnd::Done);
+    expect_file(&rt, &files, "out", &[0x0f, 0x0f, 0x05, 0x0c], 4)?;
+    expect_file(
+        &rt,
+        &files,
+        "die",
+        &[0x4e, 0x44, 0x49, 0x31, 0, 2, 0, 0, 16],
+        556,
+    )?;
+    Ok(())
+}

@@ -1,0 +1,5 @@
+pub mod Commands
+pub mod Exits
+pub mod Failures
+pub mod Lines
+pub mod Refusals

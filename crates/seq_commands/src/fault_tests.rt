@@ -1,0 +1,233 @@
+use crate::tests::{
+    ASSEMBLE, CHECK, DISASSEMBLE, ERASE, ERASE_FILE, ONE_LUN, TRACE, UPGRADE, VERIFY, do_command,
+    files_of,
+};
+use crate::{Command, Exit, Medium, command_on, command_told};
+use linked_list_allocator::LocalHeap;
+use seq_files::{FileError, MapFiles};
+use std::alloc::Global;
+use std::io::{self, Write};
+use std::process::Abort;
+use std::test::Fail;
+
+// Each command with the text that it reads, none for a word file, and how many files it reads and writes.
+const COMMANDS: [(Command<'static>, &str, usize); 5] = [
+    (ASSEMBLE, ERASE, 2),
+    (DISASSEMBLE, "", 1),
+    (UPGRADE, "", 2),
+    (VERIFY, "", 2),
+    (CHECK, TRACE, 2),
+];
+
+// Files with what a command reads.
+fn files_with(alloc: Global, text: &str) -> Result<MapFiles, Fail> {
+    if text.is_empty() {
+        return files_of(alloc, ONE_LUN, &ERASE_FILE);
+    }
+    files_of(alloc, ONE_LUN, text.as_bytes())
+}
+
+// What the call of this number is for.
+fn medium_of(command: Command<'_>, call: usize) -> Medium {
+    match command {
+        Command::Assemble { .. } | Command::Upgrade { .. } if call == 1 => Medium::Output,
+        Command::Verify { .. } | Command::Check { .. } if call == 0 => Medium::Page,
+        _ => Medium::Input,
+    }
+}
+
+// A call of a command fails: it is the last one, nothing is printed, and no file is written.
+fn expect_fault(
+    rt: &(impl Abort + AllocGlobal),
+    command: Command<'_>,
+    text: &str,
+    call: usize,
+) -> Result<(), Fail> {
+    for (error, exit) in [
+        (FileError::Fault, Exit::FileFault(medium_of(command, call))),
+        (FileError::OutOfMemory, Exit::OutOfMemory),
+    ] {
+        let mut files = files_with(rt.alloc(), text)?;
+        files.fail_at(call, error);
+        let seen = do_command(rt.alloc(), &mut files, command);
+        assert_eq!(rt; seen.exit, exit);
+        assert!(rt; seen.output.is_empty() && seen.errors.is_empty());
+        assert_eq!(rt; files.calls(), call.saturating_add(1));
+        assert_eq!(rt; files.get("out"), None);
+    }
+    Ok(())
+}
+
+#[test]
+fn each_call_fails(rt: HostRuntime) -> Result<(), Fail> {
+    for (command, text, calls) in COMMANDS {
+        for call in 0..calls {
+            expect_fault(&rt, command, text, call)?;
+        }
+        let mut files = files_with(rt.alloc(), text)?;
+        files.fail_at(calls, FileError::Fault);
+        assert_eq!(rt;
+            do_command(rt.alloc(), &mut files, command).exit,
+            Exit::Done
+        );
+        assert_eq!(rt; files.calls(), calls);
+    }
+    Ok(())
+}
+
+#[test]
+fn files_that_are_not_there(rt: HostRuntime) -> Result<(), Fail> {
+    for (command, _, _) in COMMANDS {
+        let mut files = MapFiles::new(rt.alloc());
+        let seen = do_command(rt.alloc(), &mut files, command);
+        assert_eq!(rt; seen.exit, Exit::FileFault(medium_of(command, 0)));
+        assert!(rt; seen.output.is_empty() && seen.errors.is_empty());
+    }
+    Ok(())
+}
+
+// A text that isn't UTF-8 is a fault of its file.
+#[test]
+fn texts_of_other_bytes(rt: HostRuntime) -> Result<(), Fail> {
+    for command in [ASSEMBLE, CHECK] {
+        let mut files = files_of(rt.alloc(), ONE_LUN, &[0x30, 0xff, 0x0a])?;
+        let seen = do_command(rt.alloc(), &mut files, command);
+        assert_eq!(rt; seen.exit, Exit::FileFault(Medium::Input));
+        assert!(rt; seen.output.is_empty() && seen.errors.is_empty());
+        assert_eq!(rt; files.get("out"), None);
+    }
+    Ok(())
+}
+
+// Takes so many bytes, and then nothing.
+#[derive(Drop)]
+struct Full {
+    room: usize,
+    kind: io::ErrorKind,
+}
+
+impl Write for Full {
+    fn write(&mut self, buf: &[u8]) -> io::Result<usize> {
+        let taken = buf.len().min(self.room);
+        if taken == 0 {
+            return Err(io::Error::from(self.kind));
+        }
+        self.room = self.room.saturating_sub(taken);
+        Ok(taken)
+    }
+
+    fn flush(&mut self) -> io::Result<()> {
+        Ok(())
+    }
+}
+
+// An output that is full: the files are written by then.
+#[test]
+fn outputs_that_fail(rt: HostRuntime) -> Result<(), Fail> {
+    for (kind, exit) in [
+        (io::ErrorKind::BrokenPipe, Exit::FileFault(Medium::Stream)),
+        (io::ErrorKind::OutOfMemory, Exit::OutOfMemory),
+    ] {
+        for (command, text, calls) in COMMANDS {
+            let mut files = files_with(rt.alloc(), text)?;
+            let mut output = Full { room: 2, kind };
+            assert_eq!(rt;
+                command_on(rt.alloc(), &mut files, &mut output, command),
+                exit
+            );
+            assert_eq!(rt; files.calls(), calls);
+        }
+        let mut files = files_of(rt.alloc(), ONE_LUN, &[])?;
+        let mut output = Full { room: 2, kind };
+        let mut errors = Vec::new(rt.alloc());
+        let got = command_told(rt.alloc(), &mut files, &mut output, &mut errors, VERIFY);
+        assert_eq!(rt; got, exit);
+        assert!(rt; errors.is_empty());
+    }
+    Ok(())
+}
+
+// A refusal stands where standard error takes nothing.
+#[test]
+fn errors_that_fail(rt: HostRuntime) -> Result<(), Fail> {
+    let mut files = files_of(rt.alloc(), ONE_LUN, &[])?;
+    let mut output = Vec::new(rt.alloc());
+    let mut errors = Full {
+        room: 3,
+        kind: io::ErrorKind::BrokenPipe,
+    };
+    let exit = command_told(rt.alloc(), &mut files, &mut output, &mut errors, VERIFY);
+    assert_eq!(rt; exit.status(), 1);
+    assert_eq!(rt; output.as_slice(), b"refused M1 at 0\n".as_slice());
+    Ok(())
+}
+
+// What a command comes to on a heap of this size: nothing is printed or written where it is out of memory.
+fn fits_heap(
+    rt: &(impl Abort + AllocGlobal),
+    size: usize,
+    command: Command<'_>,
+    text: &str,
+) -> Result<bool, Fail> {
+    let heap = LocalHeap::new(rt.alloc(), size)?;
+    let mut files = files_with(rt.alloc(), text)?;
+    let mut output = Vec::new(rt.alloc());
+    let exit = command_on(&heap, &mut files, &mut output, command);
+    if exit == Exit::OutOfMemory {
+        assert!(rt; output.is_empty());
+        assert_eq!(rt; files.get("out"), None);
+        return Ok(false);
+    }
+    assert_eq!(rt; exit, Exit::Done);
+    assert!(rt; !output.is_empty());
+    Ok(true)
+}
+
+#[test]
+fn refused_memory(rt: HostRuntime) -> Result<(), Fail> {
+    for (command, text, _) in COMMANDS {
+        let mut refused: usize = 0;
+        for size in 0..200usize {
+            if !fits_heap(&rt, 64 * size, command, text)? {
+                refused = size + 1;
+            }
+        }
+        assert!(rt; refused > 0 && refused < 200, "{refused}");
+    }
+    Ok(())
+}
+
+// The next number of a fixed generator.
+fn next(seed: u64) -> u64 {
+    let a = seed ^ (seed << 13);
+    let b = a ^ (a >> 7);
+    b ^ (b << 17)
+}
+
+fn noise(alloc: Global, seed: u64, len: usize) -> Result<Vec<u8>, Fail> {
+    let mut bytes = Vec::new(alloc);
+    let mut state = seed;
+    for _ in 0..len {
+        state = next(state);
+        bytes.push((state >> 32 & 0xff) as u8)?;
+    }
+    Ok(bytes)
+}
+
+// Noise is refused, or isn't UTF-8; nothing is written.
+#[test]
+fn binary_noise(rt: HostRuntime) -> Result<(), Fail> {
+    for seed in 1..100u64 {
+        let bytes = noise(rt.alloc(), seed * 7919, 300)?;
+        for (command, _, _) in COMMANDS {
+            let mut files = files_of(rt.alloc(), ONE_LUN, bytes.as_slice())?;
+            let status = do_command(rt.alloc(), &mut files, command).exit.status();
+            assert!(rt; status == 1 || status == 2);
+            assert_eq!(rt; files.get("out"), None);
+            files.put("die.page", bytes.as_slice())?;
+            let status = do_command(rt.alloc(), &mut files, command).exit.status();
+            assert!(rt; status == 1 || status == 2);
+        }
+    }
+    Ok(())
+}

@@ -1,0 +1,500 @@
+ghost use Rattle.std.specs.Prelude.{◌<◌};
+
+use crate::tests::{
+    ASSEMBLE, CHECK, DISASSEMBLE, ERASE_FILE, ONE_LUN, TWO_LUNS, UPGRADE, VERIFY, do_command,
+    expect, files_of,
+};
+use crate::{Command, Exit, Explained, Refusal};
+use micro_claims::Reason;
+use nand_geometry::{Geometry, Parts};
+use seq_core::JobFault;
+use seq_files::MapFiles;
+use std::process::Abort;
+use std::test::Fail;
+
+// The smallest texts that are refused, with the line and the words.
+const SOURCES: [(&str, &str, &str); 10] = [
+    (
+        "x",
+        "refused A1 at 1\n",
+        "in: line 1: `x`: a word, or a label alone on its line (a letter, then letters, digits or _, 32 at most) (A1)\n",
+    ),
+    (
+        "rows",
+        "refused A2 at 1\n",
+        "in: line 1: `rows`: rows takes a number from 1 to 4096 (A2)\n",
+    ),
+    (
+        "rows 1\nbuffer 0\nbudget 5\ncmd 6g\n",
+        "refused A2 at 4\n",
+        "in: line 4: `cmd 6g`: cmd takes two hexadecimal digits (A2)\n",
+    ),
+    (
+        "rows 0",
+        "refused A3 at 1\n",
+        "in: line 1: `rows 0`: rows takes a number from 1 to 4096 (A3)\n",
+    ),
+    (
+        "rows 1\nbuffer 0\nbudget 5\njmp L\n",
+        "refused A4 at 4\n",
+        "in: line 4: `jmp L`: no line has this label (A4)\n",
+    ),
+    (
+        "rows 1\nbuffer 0\nbudget 5\nL:\nL:\nwait\n",
+        "refused A5 at 5\n",
+        "in: line 5: `L:`: a line before has this label (A5)\n",
+    ),
+    (
+        "rows 1\nbuffer 0\nbudget 5\nL:\n",
+        "refused A6 at 4\n",
+        "in: line 4: `L:`: a label names the next word, and there is none (A6)\n",
+    ),
+    (
+        "",
+        "refused A8 at 1\n",
+        "in: line 1: ``: the first three lines are rows N, buffer N and budget N, in this order (A8)\n",
+    ),
+    (
+        "rows 1\nbuffer 0\nwait\n",
+        "refused A8 at 3\n",
+        "in: line 3: `wait`: the first three lines are rows N, buffer N and budget N, in this order (A8)\n",
+    ),
+    (
+        "rows 1\nbuffer 0\nbudget 5\ncmd 60\naddr 3 3\n",
+        "refused A3 at 5\n",
+        "in: line 5: `addr 3 3`: addr takes FROM and COUNT, COUNT from 1, together 5 at most (A3)\n",
+    ),
+];
+
+#[test]
+fn sources(rt: HostRuntime) -> Result<(), Fail> {
+    for (text, line, words) in SOURCES {
+        let files = expect(&rt, ONE_LUN, text.as_bytes(), ASSEMBLE, line, words)?;
+        assert_eq!(rt; files.get("out"), None);
+    }
+    Ok(())
+}
+
+#[test]
+fn too_many_words(rt: HostRuntime) -> Result<(), Fail> {
+    let mut text = String::from_str(rt.alloc(), "rows 1\nbuffer 0\nbudget 5\n")?;
+    for _ in 0..1025 {
+        text.push_str("wait\n")?;
+    }
+    expect(
+        &rt,
+        ONE_LUN,
+        text.as_bytes(),
+        ASSEMBLE,
+        "refused A7 at 1028\n",
+        "in: line 1028: `wait`: a text has 1,024 words at most (A7)\n",
+    )?;
+    Ok(())
+}
+
+// A file with one byte turned into another.
+fn changed(place: usize, byte: u8) -> [u8; 36]
+    requires { place < 36 }
+{
+    let mut file = ERASE_FILE;
+    file[place] = byte;
+    file
+}
+
+// Both commands that only read a word file refuse it alike, and nothing is written.
+fn expect_file(
+    rt: &(impl Abort + AllocGlobal),
+    file: &[u8],
+    line: &str,
+    words: &str,
+) -> Result<(), Fail> {
+    expect(rt, ONE_LUN, file, DISASSEMBLE, line, words)?;
+    expect(rt, ONE_LUN, file, VERIFY, line, words)?;
+    let files = expect(rt, ONE_LUN, file, UPGRADE, line, words)?;
+    assert_eq!(rt; files.get("out"), None);
+    Ok(())
+}
+
+#[test]
+fn word_files(rt: HostRuntime) -> Result<(), Fail> {
+    let mut longer = ERASE_FILE.to_vec(rt.alloc())?;
+    longer.push(0)?;
+    expect_file(
+        &rt,
+        &[],
+        "refused M1 at 0\n",
+        "in: the file is shorter than its header of 16 bytes (M1)\n",
+    )?;
+    expect_file(
+        &rt,
+        &ERASE_FILE[..15],
+        "refused M1 at 0\n",
+        "in: the file is shorter than its header of 16 bytes (M1)\n",
+    )?;
+    expect_file(
+        &rt,
+        &changed(3, 0x33),
+        "refused M2 at 0\n",
+        "in: the file begins with neither NMP1 nor NMP2 (M2)\n",
+    )?;
+    expect_file(
+        &rt,
+        &ERASE_FILE[..35],
+        "refused M3 at 0\n",
+        "in: the header names more than 1024 words, or more than the file has (M3)\n",
+    )?;
+    expect_file(
+        &rt,
+        &changed(24, 0x11),
+        "refused M4 at 2\n",
+        "in: word 2: no word has this code (M4)\n",
+    )?;
+    expect_file(
+        &rt,
+        &changed(29, 1),
+        "refused M5 at 3\n",
+        "in: word 3: a byte that this word doesn't use isn't 0 (M5)\n",
+    )?;
+    expect_file(
+        &rt,
+        &changed(22, 0),
+        "refused M6 at 1\n",
+        "in: word 1: a number is out of its range (M6)\n",
+    )?;
+    expect_file(
+        &rt,
+        &changed(6, 0),
+        "refused M6 at 0\n",
+        "in: the header or word 0: a number is out of its range (M6)\n",
+    )?;
+    expect_file(
+        &rt,
+        longer.as_slice(),
+        "refused M7 at 0\n",
+        "in: the file goes on after its last word (M7)\n",
+    )?;
+    Ok(())
+}
+
+// A page of one LUN with one byte turned into another, and with its checksum.
+fn page_with(place: usize, byte: u8, sum: [u8; 2]) -> Result<[u8; 256], Fail>
+    requires { place < 256 }
+{
+    let mut page = Geometry::of(ONE_LUN)?.page();
+    page[place] = byte;
+    page[254] = sum[0];
+    page[255] = sum[1];
+    Ok(page)
+}
+
+// Both commands that read a page refuse it alike, and read no more.
+fn expect_page(
+    rt: &(impl Abort + AllocGlobal),
+    page: &[u8],
+    code: &str,
+    meaning: &str,
+) -> Result<(), Fail> {
+    for command in [VERIFY, CHECK] {
+        let mut files = MapFiles::new(rt.alloc());
+        files.put("die.page", page)?;
+        let seen = do_command(rt.alloc(), &mut files, command);
+        let line = format!(in rt.alloc(); "refused {code} at 0\n")?;
+        let words = format!(in rt.alloc(); "die.page: {meaning} ({code})\n")?;
+        assert_eq!(rt; str::from_utf8(seen.output.as_slice())?, line.as_str());
+        assert_eq!(rt; str::from_utf8(seen.errors.as_slice())?, words.as_str());
+        assert_eq!(rt; seen.exit.status(), 1);
+        assert_eq!(rt; files.calls(), 1);
+    }
+    Ok(())
+}
+
+#[test]
+fn pages(rt: HostRuntime) -> Result<(), Fail> {
+    let page = Geometry::of(ONE_LUN)?.page();
+    expect_page(
+        &rt,
+        &[],
+        "P1",
+        "fewer than the 256 bytes of a parameter page",
+    )?;
+    expect_page(
+        &rt,
+        &page[..255],
+        "P1",
+        "fewer than the 256 bytes of a parameter page",
+    )?;
+    expect_page(
+        &rt,
+        &page_with(0, 0, [0x11, 0x56])?,
+        "P2",
+        "no copy of the parameter page has the signature",
+    )?;
+    expect_page(
+        &rt,
+        &page_with(80, 1, [0x11, 0x56])?,
+        "P3",
+        "no copy of the parameter page with the signature has the right checksum",
+    )?;
+    expect_page(
+        &rt,
+        &page_with(6, 1, [0x63, 0x20])?,
+        "P4",
+        "a 16-bit bus is declared",
+    )?;
+    expect_page(
+        &rt,
+        &page_with(101, 0x22, [0xbe, 0xbc])?,
+        "P5",
+        "address cycles other than two for the column and three for the row are declared",
+    )?;
+    expect_page(
+        &rt,
+        &page_with(100, 0, [0x6e, 0x7b])?,
+        "P7",
+        "the LUNs aren't 1 to 4, or a row needs more than 24 bits",
+    )?;
+    expect_page(
+        &rt,
+        &page_with(113, 3, [0x28, 0xdd])?,
+        "P8",
+        "more than two plane bits, or fewer blocks than planes",
+    )?;
+    expect_page(
+        &rt,
+        &page_with(100, 2, [0x90, 0x21])?,
+        "P9",
+        "several LUNs, but the commands that several LUNs need aren't declared",
+    )?;
+    let mut small = page_with(80, 0xff, [0x9a, 0x71])?;
+    small[81] = 1;
+    expect_page(
+        &rt,
+        &small,
+        "P6",
+        "a size is out of range: data bytes, spare bytes, pages or blocks",
+    )?;
+    Ok(())
+}
+
+// A page that is changed and one behind it that isn't: the second is read.
+#[test]
+fn a_second_copy(rt: HostRuntime) -> Result<(), Fail> {
+    let mut files = files_of(rt.alloc(), ONE_LUN, &ERASE_FILE)?;
+    let mut pages = page_with(80, 1, [0x11, 0x56])?.to_vec(rt.alloc())?;
+    pages.extend_from_slice(&Geometry::of(ONE_LUN)?.page())?;
+    files.put("die.page", pages.as_slice())?;
+    assert_eq!(rt; do_command(rt.alloc(), &mut files, VERIFY).exit, Exit::Done);
+    Ok(())
+}
+
+// Words behind `rows 1`, `buffer 0` and `budget 16` that are refused, with the reason, the word, and the word as assembly.
+const TEXTS: [(&str, &str, usize, &str); 15] = [
+    ("wait\n", "V5", 0, "wait"),
+    ("next\nend 0\n", "V2", 0, "next"),
+    (
+        "loop 2\nloop 2\nloop 2\nloop 2\nloop 2\nnext\nnext\nnext\nnext\nnext\nend 0\n",
+        "V3",
+        4,
+        "loop 2",
+    ),
+    ("L:\njmp L\nend 0\n", "V4", 0, "jmp L0"),
+    ("addr 0 1\nend 0\n", "V7", 0, "addr 0 1"),
+    ("cmd 60\naddr 1 3\nend 0\n", "V8", 1, "addr 1 3"),
+    ("cmd 60\nwait\nend 0\n", "V9", 1, "wait"),
+    ("stat\nget 1\nend 0\n", "V10", 1, "get 1"),
+    (
+        "rowadd 1\ncmd 60\naddr 2 3\ncmd d0\nwait\nend 0\n",
+        "V11",
+        2,
+        "addr 2 3",
+    ),
+    ("col 528\ncmd 00\naddr 0 5\nend 0\n", "V12", 2, "addr 0 5"),
+    ("brs 01 L\nL:\nend 0\n", "V13", 0, "brs 01 L1"),
+    ("cmd 60\naddr 2 3\ncmd d0\nend 0\n", "V14", 3, "end 0"),
+    (
+        "stat\nstat\nstat\nstat\nstat\nstat\nstat\nstat\nstat\nend 0\n",
+        "V15",
+        8,
+        "stat",
+    ),
+    ("cmd 42\nend 0\n", "V16", 0, "cmd 42"),
+    (
+        "cmd 60\naddr 2 3\ncmd d0\ncmd 60\naddr 2 3\ncmd d0\nwait\nend 0\n",
+        "V7",
+        3,
+        "cmd 60",
+    ),
+];
+
+// Assembles these words, and verifies them.
+fn verified(
+    rt: &(impl Abort + AllocGlobal),
+    parts: Parts,
+    header: &str,
+    words: &str,
+) -> Result<(Exit, Vec<u8>, Vec<u8>), Fail> {
+    let mut text = String::from_str(rt.alloc(), header)?;
+    text.push_str(words)?;
+    let mut files = files_of(rt.alloc(), parts, text.as_bytes())?;
+    assert_eq!(rt;
+        do_command(rt.alloc(), &mut files, ASSEMBLE).exit,
+        Exit::Done,
+        "{text}"
+    );
+    let command = Command::Verify {
+        page: "die.page",
+        input: "out",
+        counter: None,
+    };
+    let seen = do_command(rt.alloc(), &mut files, command);
+    Ok((seen.exit, seen.output, seen.errors))
+}
+
+#[test]
+fn texts(rt: HostRuntime) -> Result<(), Fail> {
+    for (words, code, word, shown) in TEXTS {
+        let (_, output, errors) = verified(&rt, ONE_LUN, "rows 1\nbuffer 0\nbudget 16\n", words)?;
+        let line = format!(in rt.alloc(); "refused {code} at {word}\n")?;
+        let begin = format!(in rt.alloc(); "out: word {word}, `{shown}`: ")?;
+        let end = format!(in rt.alloc(); " ({code})\n")?;
+        assert_eq!(rt; str::from_utf8(output.as_slice())?, line.as_str());
+        let errors = str::from_utf8(errors.as_slice())?;
+        assert!(rt;
+            errors.starts_with(begin.as_str()) && errors.ends_with(end.as_str()),
+            "{errors}"
+        );
+    }
+    Ok(())
+}
+
+#[test]
+fn no_words(rt: HostRuntime) -> Result<(), Fail> {
+    let (exit, _, errors) = verified(&rt, ONE_LUN, "rows 1\nbuffer 0\nbudget 0\n", "")?;
+    let refusal = Refusal::Text {
+        reason: Reason::NoWords,
+        word: 0,
+    };
+    assert_eq!(rt; exit, Exit::Refused(refusal));
+    assert_eq!(rt;
+        str::from_utf8(errors.as_slice())?,
+        "out: the program has no words (V1)\n"
+    );
+    Ok(())
+}
+
+const NOT_A_LINE: &str = "the line hasn't the shape of an item";
+
+const NOT_A_NUMBER: &str = "a field isn't a number of its form";
+
+// Texts that aren't traces, with the code, the line and what stands there.
+const TRACES: [(&str, &str, usize, &str, &str); 7] = [
+    ("x", "X1", 1, "x", NOT_A_LINE),
+    ("0 C 60", "X1", 1, "0 C 60", NOT_A_LINE),
+    ("0 X 60\n", "X1", 1, "0 X 60", NOT_A_LINE),
+    ("0 C 60\n\n", "X1", 2, "", NOT_A_LINE),
+    ("0 C D0\n", "X2", 1, "0 C D0", NOT_A_NUMBER),
+    ("0 C 6g\n", "X2", 1, "0 C 6g", NOT_A_NUMBER),
+    ("4 C 60\n", "X2", 1, "4 C 60", NOT_A_NUMBER),
+];
+
+#[test]
+fn traces(rt: HostRuntime) -> Result<(), Fail> {
+    for (text, code, number, shown, meaning) in TRACES {
+        let line = format!(in rt.alloc(); "refused {code} at {number}\n")?;
+        let words = format!(in rt.alloc(); "in: line {number}, `{shown}`: {meaning} ({code})\n")?;
+        expect(
+            &rt,
+            ONE_LUN,
+            text.as_bytes(),
+            CHECK,
+            line.as_str(),
+            words.as_str(),
+        )?;
+    }
+    Ok(())
+}
+
+// Traces of one LUN and of two, with the first rule that they break, the item, and its line.
+const ILLEGAL: [(&str, &str, usize, &str); 11] = [
+    ("1 C 60\n", "F1", 0, "1 C 60"),
+    ("0 C 42\n", "F2", 0, "0 C 42"),
+    ("0 C 60\n0 C 60\n", "F3", 1, "0 C 60"),
+    ("0 C 05\n", "F5", 0, "0 C 05"),
+    ("0 C 30\n", "F6", 0, "0 C 30"),
+    ("0 A 00\n", "F7", 0, "0 A 00"),
+    ("0 C 60\n0 A 20\n0 A 00\n0 A 00\n", "F8", 3, "0 A 00"),
+    ("0 I 00\n", "F11", 0, "0 I 00"),
+    ("0 O 00\n", "F12", 0, "0 O 00"),
+    (
+        "0 C 00\n0 A 00\n0 A 00\n0 A 00\n0 A 00\n0 A 00\n0 C 30\n0 O 00\n",
+        "F13",
+        7,
+        "0 O 00",
+    ),
+    ("0 C 00\n0 A 10\n0 A 02\n", "F14", 2, "0 A 02"),
+];
+
+// The same on two LUNs.
+const ILLEGAL_OF_TWO: [(&str, &str, usize, &str); 2] = [
+    ("0 C 70\n", "F4", 0, "0 C 70"),
+    (
+        "0 C 60\n0 A 00\n0 A 00\n0 A 00\n0 C d1\n0 R 0 0\n0 C 60\n0 A 00\n0 A 00\n0 A 00\n",
+        "F10",
+        9,
+        "0 A 00",
+    ),
+];
+
+fn expect_illegal(
+    rt: &(impl Abort + AllocGlobal),
+    parts: Parts,
+    row: (&str, &str, usize, &str),
+) -> Result<(), Fail> {
+    let (text, code, item, shown) = row;
+    let mut files = files_of(rt.alloc(), parts, text.as_bytes())?;
+    let seen = do_command(rt.alloc(), &mut files, CHECK);
+    let line = format!(in rt.alloc(); "refused {code} at {item}\n")?;
+    let begin = format!(in rt.alloc(); "in: item {item}, `{shown}`: ")?;
+    let end = format!(in rt.alloc(); " ({code})\n")?;
+    assert_eq!(rt; str::from_utf8(seen.output.as_slice())?, line.as_str());
+    let errors = str::from_utf8(seen.errors.as_slice())?;
+    assert!(rt;
+        errors.starts_with(begin.as_str()) && errors.ends_with(end.as_str()),
+        "{errors}"
+    );
+    Ok(())
+}
+
+#[test]
+fn illegal_traces(rt: HostRuntime) -> Result<(), Fail> {
+    for row in ILLEGAL {
+        expect_illegal(&rt, ONE_LUN, row)?;
+    }
+    for row in ILLEGAL_OF_TWO {
+        expect_illegal(&rt, TWO_LUNS, row)?;
+    }
+    let cache = Parts {
+        cache: true,
+        ..ONE_LUN
+    };
+    expect_illegal(&rt, cache, ("0 C 31\n", "F15", 0, "0 C 31"))
+}
+
+// What no file of a command is refused for.
+#[test]
+fn refusals_of_jobs(rt: HostRuntime) -> Result<(), Fail> {
+    let refusal = Refusal::Job {
+        fault: JobFault::NoSuchLun,
+    };
+    let explained = Explained {
+        path: "in",
+        refusal,
+        shown: None,
+    };
+    assert_eq!(rt;
+        format!(in rt.alloc(); "{explained}")?.as_str(),
+        "in: there is no such LUN (S2)"
+    );
+    assert_eq!(rt; refusal.line(rt.alloc())?.as_str(), "refused S2 at 0\n");
+    Ok(())
+}

@@ -1,0 +1,22 @@
+//! What a command asks of a file system.
+ghost use Rattle.std.specs.Prelude.{◌≡◌, Option, None, IfOk, OnOk, OnErr};
+ghost use Rattle.seq_files.specs.Store.{Store, Holds, with_file};
+
+use crate::error::FileError;
+use std::alloc::Allocator;
+
+/// Whole files, by their paths.
+pub trait Files {
+    /// What each path has, where that is known: the bytes of a file, or none.
+    ghost store: { Self → Option Store } = { λ _. None };
+
+    /// All bytes of a file.
+    fn read<A: Allocator>(&mut self, alloc: A, path: &str) -> Result<Vec<u8, A>, FileError>
+        ensures holds { IfOk result (λ bytes. Holds (store self.old) path.now bytes.items) }
+        ensures stays { store self.new ≡ store self.old };
+
+    /// Makes a file of these bytes, in place of one that has the path. What fails changes nothing.
+    fn write(&mut self, path: &str, bytes: &[u8]) -> Result<(), FileError>
+        ensures written { OnOk result (store self.new ≡ with_file (store self.old) path.now bytes.now) }
+        ensures stays { OnErr result (store self.new ≡ store self.old) };
+}

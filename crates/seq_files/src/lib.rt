@@ -1,0 +1,20 @@
+//! Files and streams as the program's commands use them.
+//!
+//! [`Files`] is what a command asks of a file system: whole files, read and written by their paths. [`MapFiles`] has them in memory, counts
+//! the calls and lets one of them fail, for tests. [`read_all`] reads an input to its end, and [`write_text`] writes a text.
+#![tactic(auto)]
+
+mod error;
+mod files;
+mod input;
+mod map_files;
+mod output;
+
+pub use error::FileError;
+pub use files::Files;
+pub use input::read_all;
+pub use map_files::MapFiles;
+pub use output::write_text;
+
+#[cfg(test)]
+mod tests;

@@ -1,0 +1,207 @@
+use crate::{FileError, Files, MapFiles, read_all, write_text};
+use std::alloc::Global;
+use std::io::{self, Read, Write};
+use std::process::Abort;
+use std::test::Fail;
+
+fn expect(
+    rt: &(impl Abort + AllocGlobal),
+    files: &mut MapFiles,
+    path: &str,
+    want: Result<&[u8], FileError>,
+) {
+    match files.read(rt.alloc(), path) {
+        Ok(bytes) => assert_eq!(rt; Ok(bytes.as_slice()), want),
+        Err(error) => assert_eq!(rt; Err(error), want),
+    }
+}
+
+#[test]
+fn files_in_memory(rt: HostRuntime) -> Result<(), Fail> {
+    let mut files = MapFiles::new(rt.alloc());
+    expect(&rt, &mut files, "a", Err(FileError::Fault));
+    files.put("a", b"one")?;
+    assert_eq!(rt; files.write("b", b"two"), Ok(()));
+    assert_eq!(rt; files.write("a", b"three"), Ok(()));
+    expect(&rt, &mut files, "a", Ok(b"three".as_slice()));
+    expect(&rt, &mut files, "b", Ok(b"two".as_slice()));
+    assert_eq!(rt; files.calls(), 5);
+    assert_eq!(rt; files.get("a"), Some(b"three".as_slice()));
+    assert_eq!(rt; files.get("c"), None);
+    Ok(())
+}
+
+#[test]
+fn calls_that_fail(rt: HostRuntime) -> Result<(), Fail> {
+    let mut files = MapFiles::new(rt.alloc());
+    files.put("a", b"one")?;
+    files.fail_at(1, FileError::OutOfMemory);
+    expect(&rt, &mut files, "a", Ok(b"one".as_slice()));
+    assert_eq!(rt; files.write("a", b"two"), Err(FileError::OutOfMemory));
+    expect(&rt, &mut files, "a", Ok(b"one".as_slice()));
+    files.fail_at(0, FileError::Fault);
+    assert_eq!(rt; files.write("b", b"two"), Err(FileError::Fault));
+    assert_eq!(rt; files.write("b", b"two"), Ok(()));
+    assert_eq!(rt; files.calls(), 2);
+    Ok(())
+}
+
+#[test]
+fn errors_are_told(rt: HostRuntime) -> Result<(), Fail> {
+    for (error, words) in [
+        (FileError::Fault, "it can't be read or written"),
+        (FileError::OutOfMemory, "out of memory"),
+    ] {
+        assert_eq!(rt; format!(in rt.alloc(); "{error}")?.as_str(), words);
+    }
+    Ok(())
+}
+
+const BYTES: [u8; 36] = [7; 36];
+
+// Gives a byte a call; the call numbered `bad` fails.
+#[derive(Drop)]
+struct SlowReader<'a> {
+    bytes: &'a [u8],
+    calls: usize,
+    bad: usize,
+    kind: io::ErrorKind,
+}
+
+impl<'a> Read for SlowReader<'a> {
+    fn read(&mut self, buf: &mut [u8]) -> io::Result<usize> {
+        let call = self.calls;
+        self.calls = call.saturating_add(1);
+        if call == self.bad {
+            return Err(io::Error::from(self.kind));
+        }
+        if self.bytes.is_empty() || buf.is_empty() {
+            return Ok(0);
+        }
+        buf[0] = self.bytes[0];
+        self.bytes = &self.bytes[1..];
+        Ok(1)
+    }
+}
+
+// Takes three bytes a call; the call numbered `bad` fails, and so does the flush if it has that number.
+#[derive(Drop)]
+struct SlowWriter {
+    bytes: Vec<u8>,
+    calls: usize,
+    bad: usize,
+    kind: io::ErrorKind,
+}
+
+impl SlowWriter {
+    fn call(&mut self) -> io::Result<()> {
+        let call = self.calls;
+        self.calls = call.saturating_add(1);
+        if call == self.bad {
+            return Err(io::Error::from(self.kind));
+        }
+        Ok(())
+    }
+}
+
+impl Write for SlowWriter {
+    fn write(&mut self, buf: &[u8]) -> io::Result<usize> {
+        self.call()?;
+        let most = buf.len().min(3);
+        self.bytes.extend_from_slice(&buf[..most])?;
+        Ok(most)
+    }
+
+    fn flush(&mut self) -> io::Result<()> {
+        self.call()
+    }
+}
+
+fn reader(bytes: &[u8], bad: usize, kind: io::ErrorKind) -> SlowReader<'_> {
+    SlowReader {
+        bytes,
+        calls: 0,
+        bad,
+        kind,
+    }
+}
+
+fn writer(alloc: Global, bad: usize, kind: io::ErrorKind) -> SlowWriter {
+    SlowWriter {
+        bytes: Vec::new(alloc),
+        calls: 0,
+        bad,
+        kind,
+    }
+}
+
+#[test]
+fn inputs_are_read_whole(rt: HostRuntime) -> Result<(), Fail> {
+    let long = vec![in rt.alloc(); 7u8; 10_000]?;
+    let mut input = long.as_slice();
+    let read = read_all(rt.alloc(), &mut input);
+    assert_eq!(rt; read.map(|bytes| bytes.len()), Ok(10_000));
+    let mut slow = reader(&BYTES, 5, io::ErrorKind::Interrupted);
+    let read = read_all(rt.alloc(), &mut slow);
+    assert!(rt; read.is_ok_and(|bytes| bytes.as_slice() == BYTES.as_slice()));
+    // 36 bytes, the call that was interrupted, and the end.
+    assert_eq!(rt; slow.calls, 38);
+    Ok(())
+}
+
+#[test]
+fn failed_reads(rt: HostRuntime) {
+    for bad in 0..37 {
+        for (kind, want) in [
+            (io::ErrorKind::Other, FileError::Fault),
+            (io::ErrorKind::OutOfMemory, FileError::OutOfMemory),
+        ] {
+            let mut slow = reader(&BYTES, bad, kind);
+            let read = read_all(rt.alloc(), &mut slow);
+            assert_eq!(rt; read.err(), Some(want), "call {bad}");
+        }
+    }
+}
+
+// Never at its end: it gives no bytes at all, and each read is interrupted.
+#[derive(Drop)]
+struct Endless {
+    calls: u32,
+}
+
+impl Read for Endless {
+    fn read(&mut self, _buf: &mut [u8]) -> io::Result<usize> {
+        self.calls = self.calls.saturating_add(1);
+        Err(io::Error::from(io::ErrorKind::Interrupted))
+    }
+}
+
+#[test]
+fn an_input_without_an_end(rt: HostRuntime) {
+    let mut endless = Endless { calls: 0 };
+    let read = read_all(rt.alloc(), &mut endless);
+    assert_eq!(rt; read.err(), Some(FileError::Fault));
+    assert_eq!(rt; endless.calls, 1_048_576);
+}
+
+#[test]
+fn failed_writes(rt: HostRuntime) {
+    // Four writes and the flush.
+    for bad in 0..5 {
+        let mut slow = writer(rt.alloc(), bad, io::ErrorKind::BrokenPipe);
+        assert_eq!(rt;
+            write_text(&mut slow, "ten bytes."),
+            Err(FileError::Fault),
+            "call {bad}"
+        );
+        let mut full = writer(rt.alloc(), bad, io::ErrorKind::OutOfMemory);
+        assert_eq!(rt;
+            write_text(&mut full, "ten bytes."),
+            Err(FileError::OutOfMemory),
+            "call {bad}"
+        );
+    }
+    let mut slow = writer(rt.alloc(), 2, io::ErrorKind::Interrupted);
+    assert_eq!(rt; write_text(&mut slow, "ten bytes."), Ok(()));
+    assert_eq!(rt; slow.bytes.as_slice(), b"ten bytes.".as_slice());
+}

@@ -1,0 +1,5 @@
+pub mod DiesFit
+pub mod Hosting
+pub mod JobLines
+pub mod Printing
+pub mod Resting

@@ -1,0 +1,42 @@
+-- Why a statement doesn't pass, and why a run isn't done.
+use Rattle.std.specs.Prelude.{◌≡◌, ℕ, ⊤, None}
+use Rattle.run_file.specs.declared.refusal.RunFault.{RunFault}
+use Rattle.seq_run.specs.declared.refusal.PlanFault.{PlanFault}
+use Rattle.seq_run.specs.declared.refusal.PlanFault.TheVariants.{Line}
+use Rattle.seq_run.specs.declared.failure.Failure.{Failure}
+use Rattle.seq_run.specs.declared.failure.Failure.TheVariants as failure
+use Rattle.seq_run.specs.declared.failure.NotRun.{NotRun}
+use Rattle.seq_run.specs.declared.failure.NotRun.TheVariants as not_run
+
+-- the line itself has this fault
+abbrev pub line_failure : RunFault → Failure
+line_failure fault = failure.Fault (Line fault) None
+
+-- a fault is one of these
+abbrev pub Says : (PlanFault → Type 0) → Failure → Type 0
+Says May (failure.Fault fault path) = May fault
+Says May (failure.FileFault path) = ⊤
+Says May failure.OutOfMemory = ⊤
+
+-- there is no fault
+abbrev pub SaysNothing : Failure → Type 0
+SaysNothing (failure.Fault fault path) = ⊥
+SaysNothing (failure.FileFault path) = ⊤
+SaysNothing failure.OutOfMemory = ⊤
+
+-- the same of the statement in this line
+abbrev pub IsAt : Failure → ℕ → NotRun → Type 0
+IsAt (failure.Fault fault path) line (not_run.Refused refusal p) = (refusal.fault ≡ fault) × (refusal.line ≡ line)
+IsAt (failure.FileFault path) line (not_run.FileFault p) = ⊤
+IsAt failure.OutOfMemory line not_run.OutOfMemory = ⊤
+IsAt _ line _ = ⊥
+
+-- the line itself is refused
+abbrev pub line_refused : RunFault → ℕ → NotRun
+line_refused fault line = not_run.Refused (record { fault = Line fault; line = line }) None
+
+-- a refusal is one of these
+abbrev pub Refuses : (PlanFault → ℕ → Type 0) → NotRun → Type 0
+Refuses May (not_run.Refused refusal path) = May refusal.fault refusal.line
+Refuses May (not_run.FileFault path) = ⊤
+Refuses May not_run.OutOfMemory = ⊤

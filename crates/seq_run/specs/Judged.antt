@@ -1,0 +1,177 @@
+-- What a run file and the files that it names are refused for: the first statement that doesn't pass, by its line.
+use Rattle.std.specs.Prelude.{◌≡◌, ℕ, ◌≤◌, ◌<◌, ◌&&◌, Bool, true, false, nat_lt, nat_le, if◌then◌else◌, drop, ⊤, ◌⊎◌, List, [], ◌∷◌, ◌++◌, length, Option, Some, None, Ok, Err, replicate, ◌-◌}
+use Rattle.seq_files.specs.Store.{Store, Holds}
+use Rattle.nand_geometry.specs.declared.Parts.{Parts}
+use Rattle.nand_geometry.specs.Reading.{read_of}
+use Rattle.onfi_cycle.specs.declared.item.Lun.{Lun}
+use Rattle.die_model.specs.Loading.{image_fault}
+use Rattle.micro_word.specs.Text.{Microprogram}
+use Rattle.micro_word.specs.Reading.{reading as file_reading}
+use Rattle.micro_word.specs.declared.refusal.WordRefusal.TheVariants.{Fault as WordFaultAt}
+use Rattle.micro_program.specs.Safe.{IsSafe}
+use Rattle.micro_walk.specs.Faults.{fault_of}
+use Rattle.micro_walk.specs.Verdicts.{MayBe}
+use Rattle.seq_core.specs.Job.{job_fault}
+use Rattle.seq_core.specs.declared.answers.JobFault.{JobFault}
+use Rattle.seq_commands.specs.Commands.{HasPage, HasFile}
+use Rattle.run_file.specs.declared.refusal.RunFault.TheVariants.{OutOfOrder, NoSuchLun, InputTooLong}
+use Rattle.run_file.specs.declared.refusal.RunRefusal.{RunRefusal}
+use Rattle.run_file.specs.Line.{Statement}
+use Rattle.run_file.specs.Line.{Page as PageLine, Targets as TargetsLine, Image as ImageLine, Job as JobLine, Polls as PollsLine, Fail as FailLine}
+use Rattle.run_file.specs.Told.{Told}
+use Rattle.seq_run.specs.declared.refusal.PlanFault.{PlanFault}
+use Rattle.seq_run.specs.declared.refusal.PlanFault.TheVariants.{Line, Page, Image, Words, Text, Job}
+
+-- ---- the files
+
+-- the page at a path has this fault
+abbrev pub PageIsRefused : Option Store → List ℕ → PlanFault → Type 0
+PageIsRefused files path (Page fault) = (page : List ℕ) × Holds files path page × (read_of page ≡ Err fault)
+PageIsRefused files path _ = ⊥
+
+-- the file at a path is an image of a die of this geometry
+abbrev pub HasImage : Option Store → Parts → List ℕ → Type 0
+HasImage files g path = (bytes : List ℕ) × Holds files path bytes × (image_fault g bytes ≡ None)
+
+-- the image at a path has this fault
+abbrev pub ImageIsRefused : Option Store → Parts → List ℕ → PlanFault → Type 0
+ImageIsRefused files g path (Image fault) = (bytes : List ℕ) × Holds files path bytes × (image_fault g bytes ≡ Some fault)
+ImageIsRefused files g path _ = ⊥
+
+-- the word file at a path is that of the microprogram, which is safe for the geometry, and against which there is nothing
+pub record HasText (files : Option Store) (g : Parts) (path : List ℕ) (x : Microprogram) : Type 0 where
+  pub has_file : HasFile files path x
+  pub safe : IsSafe x g
+  pub faultless : fault_of g x ≡ None
+
+-- the word file at a path has this fault, or there is this reason against its microprogram
+abbrev pub TextIsRefused : Option Store → Parts → List ℕ → PlanFault → Type 0
+TextIsRefused files g path (Words fault word) = (bytes : List ℕ) × Holds files path bytes × (file_reading bytes ≡ Err (WordFaultAt fault word))
+TextIsRefused files g path (Text reason word) = (x : Microprogram) × HasFile files path x × MayBe g x (record { word = word; reason = reason })
+TextIsRefused files g path _ = ⊥
+
+-- the buffer has this length, begins with the bytes of the input, if there is one, and is 00 beyond them
+abbrev pub HasInput : Option Store → Option (List ℕ) → ℕ → List ℕ → Type 0
+HasInput files None n buffer = buffer ≡ replicate n 0
+HasInput files (Some path) n buffer = (bytes : List ℕ) × Holds files path bytes × (length bytes ≤ n) × (buffer ≡ bytes ++ replicate (n - length bytes) 0)
+
+-- the input is longer than the buffer
+abbrev pub InputIsRefused : Option Store → Option (List ℕ) → ℕ → PlanFault → Type 0
+InputIsRefused files (Some path) n (Line InputTooLong) = (bytes : List ℕ) × Holds files path bytes × (n < length bytes)
+InputIsRefused files input n _ = ⊥
+
+-- ---- a statement, on a channel of so many targets of this geometry
+
+-- the channel has the LUN of these numbers
+abbrev pub has_lun : Parts → ℕ → ℕ → ℕ → Bool
+has_lun g targets target lun = nat_lt target targets && nat_lt lun g.luns
+
+abbrev pub lun_at : ℕ → ℕ → Lun
+lun_at target lun = record { ce = target; lun = lun }
+
+-- the channel hasn't
+abbrev pub LunIsRefused : Parts → ℕ → ℕ → ℕ → PlanFault → Type 0
+LunIsRefused g targets target lun (Line NoSuchLun) = has_lun g targets target lun ≡ false
+LunIsRefused g targets target lun _ = ⊥
+
+-- the first fault of a job
+abbrev pub fault_of_job : Parts → ℕ → Lun → ℕ → Microprogram → ℕ → Option JobFault
+fault_of_job g targets l base x n = job_fault g targets l base (record { text = x; geometry = g }) n
+
+-- the job of a microprogram has this fault
+abbrev pub JobIsRefused : Parts → ℕ → Lun → ℕ → Microprogram → ℕ → PlanFault → Type 0
+JobIsRefused g targets l base x n (Job fault) = fault_of_job g targets l base x n ≡ Some fault
+JobIsRefused g targets l base x n _ = ⊥
+
+-- what a job line names stands, and the job can be loaded
+pub record JobPasses (files : Option Store) (g : Parts) (targets : ℕ) (l : Lun) (base : ℕ) (text : List ℕ) (input : Option (List ℕ)) : Type 0 where
+  pub x : Microprogram
+  pub has_text : HasText files g text x
+  pub buffer : List ℕ
+  pub has_input : HasInput files input x.buffer buffer
+  pub faultless : fault_of_job g targets l base x x.buffer ≡ None
+
+-- its word file is judged first, then its input, and then the job
+abbrev pub InputRefuses : Option Store → Parts → List ℕ → Option (List ℕ) → PlanFault → Type 0
+InputRefuses files g text input fault = (x : Microprogram) × HasText files g text x × InputIsRefused files input x.buffer fault
+
+abbrev pub JobRefuses : Option Store → Parts → ℕ → Lun → ℕ → List ℕ → Option (List ℕ) → PlanFault → Type 0
+JobRefuses files g targets l base text input fault =
+    (x : Microprogram) × HasText files g text x × ((buffer : List ℕ) × HasInput files input x.buffer buffer) × JobIsRefused g targets l base x x.buffer fault
+
+abbrev pub JobLineIsRefused : Option Store → Parts → ℕ → Lun → ℕ → List ℕ → Option (List ℕ) → PlanFault → Type 0
+JobLineIsRefused files g targets l base text input fault =
+    TextIsRefused files g text fault ⊎ (InputRefuses files g text input fault ⊎ JobRefuses files g targets l base text input fault)
+
+-- the statement has no fault, and the files that it names have none; page and targets stand before all others
+abbrev pub Passes : Option Store → Parts → ℕ → Statement → Type 0
+Passes files g targets (ImageLine target lun path) = (has_lun g targets target lun ≡ true) × HasImage files g path
+Passes files g targets (JobLine target lun base text input output) = (has_lun g targets target lun ≡ true) × JobPasses files g targets (lun_at target lun) base text input
+Passes files g targets (PollsLine count) = ⊤
+Passes files g targets (FailLine target lun ready) = has_lun g targets target lun ≡ true
+Passes files g targets _ = ⊥
+
+-- the statement's first fault; the LUN is judged before a file is read
+abbrev pub IsRefused : Option Store → Parts → ℕ → Statement → PlanFault → Type 0
+IsRefused files g targets (ImageLine target lun path) fault =
+    LunIsRefused g targets target lun fault ⊎ ((has_lun g targets target lun ≡ true) × ImageIsRefused files g path fault)
+IsRefused files g targets (JobLine target lun base text input output) fault =
+    LunIsRefused g targets target lun fault ⊎ ((has_lun g targets target lun ≡ true) × JobLineIsRefused files g targets (lun_at target lun) base text input fault)
+IsRefused files g targets (PollsLine count) fault = ⊥
+IsRefused files g targets (FailLine target lun ready) fault = LunIsRefused g targets target lun fault
+IsRefused files g targets _ fault = fault ≡ Line OutOfOrder
+
+-- ---- all statements, and the fault of the text after them
+
+abbrev pub Numbered : Type 0
+Numbered = ℕ × Statement
+
+-- the statements from here on are refused with this fault at this line
+unfoldable pub RestIsRefused : Option Store → Parts → ℕ → List Numbered → Option RunRefusal → PlanFault → ℕ → Type 0
+RestIsRefused files g targets [] None fault line = ⊥
+RestIsRefused files g targets [] (Some r) fault line = (fault ≡ Line r.fault) × (line ≡ r.line)
+RestIsRefused files g targets (s ∷ rest) last fault line =
+    (IsRefused files g targets s.1 fault × (line ≡ s.0)) ⊎ (Passes files g targets s.1 × RestIsRefused files g targets rest last fault line)
+
+-- each statement from here on passes, and the text has no fault after them
+unfoldable pub RestPasses : Option Store → Parts → ℕ → List Numbered → Option RunRefusal → Type 0
+RestPasses files g targets [] last = last ≡ None
+RestPasses files g targets (s ∷ rest) last = Passes files g targets s.1 × RestPasses files g targets rest last
+
+-- the text ends before its page or its targets, with its fault
+abbrev pub EndIsRefused : Option RunRefusal → PlanFault → ℕ → Type 0
+EndIsRefused None fault line = (fault ≡ Line OutOfOrder) × (line ≡ 1)
+EndIsRefused (Some r) fault line = (fault ≡ Line r.fault) × (line ≡ r.line)
+
+-- the line and the path of the page, which stands first
+abbrev pub page_of : List Numbered → Option (ℕ × List ℕ)
+page_of ((line, PageLine path) ∷ rest) = Some (line, path)
+page_of _ = None
+
+-- the number of targets, which stands second
+abbrev pub targets_of : List Numbered → Option ℕ
+targets_of (first ∷ (line, TargetsLine count) ∷ rest) = if nat_le 1 count && nat_le count 4 then Some count else None
+targets_of _ = None
+
+-- after the page: the targets and the rest
+abbrev pub AfterPageIsRefused : Option Store → Parts → Option ℕ → Told → PlanFault → ℕ → Type 0
+AfterPageIsRefused files g None told fault line = EndIsRefused told.fault fault line
+AfterPageIsRefused files g (Some targets) told fault line = RestIsRefused files g targets (drop 2 told.statements) told.fault fault line
+
+abbrev pub PageStatementIsRefused : Option Store → Option (ℕ × List ℕ) → Told → PlanFault → ℕ → Type 0
+PageStatementIsRefused files None told fault line = EndIsRefused told.fault fault line
+PageStatementIsRefused files (Some page) told fault line =
+    (PageIsRefused files page.1 fault × (line ≡ page.0))
+    ⊎ ((g : Parts) × HasPage files page.1 g × AfterPageIsRefused files g (targets_of told.statements) told fault line)
+
+-- a run file that tells this is refused with this fault at this line: the first, in the order of the lines
+abbrev pub PlanIsRefused : Option Store → Told → PlanFault → ℕ → Type 0
+PlanIsRefused files told fault line = PageStatementIsRefused files (page_of told.statements) told fault line
+
+-- all that a run file tells passes, on a channel of so many targets of this geometry
+pub record PlanPasses (files : Option Store) (told : Told) (g : Parts) (targets : ℕ) : Type 0 where
+  pub page : ℕ × List ℕ
+  pub has_first : page_of told.statements ≡ Some page
+  pub has_page : HasPage files page.1 g
+  pub has_targets : targets_of told.statements ≡ Some targets
+  pub rest : RestPasses files g targets (drop 2 told.statements) told.fault

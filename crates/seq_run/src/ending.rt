@@ -1,0 +1,29 @@
+//! How a run ends.
+ghost use Rattle.std.specs.Prelude.{◌≡◌};
+
+use crate::refusal::PlanRefusal;
+
+/// How a run ends.
+#[derive(Clone, Copy, Debug, PartialEq, Eq)]
+pub enum RunEnd {
+    /// It is done.
+    Done,
+    /// The run file, or a file that it names, is refused: nothing was run.
+    Refused(PlanRefusal),
+    /// A file or the output couldn't be read or written.
+    FileFault,
+    /// Memory was refused, or a thread couldn't be started.
+    OutOfMemory,
+}
+
+impl RunEnd {
+    /// The status that the process ends with.
+    pub fn status(self) -> u8 {
+        match self {
+            RunEnd::Done => 0,
+            RunEnd::Refused(_) => 1,
+            RunEnd::FileFault => 2,
+            RunEnd::OutOfMemory => 4,
+        }
+    }
+}

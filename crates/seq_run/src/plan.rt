@@ -1,0 +1,99 @@
+//! What a run file comes to: the dies of the channel, the jobs of each target, and what is told of readies.
+
+ghost use Rattle.std.specs.Prelude.{◌≡◌, ◌≤◌, IfOk};
+
+use crate::dies::ChannelDies;
+use crate::gate::Failing;
+use nand_geometry::Geometry;
+use seq_core::{Done, Job};
+use std::alloc::{AllocError, Global};
+
+/// The image of a die, which is written after the run.
+#[derive(Clone, Copy, Debug)]
+pub struct PlannedImage<'a> {
+    /// The number of the die among those of the channel.
+    pub number: usize,
+    pub path: &'a str,
+}
+
+/// The jobs of a target in the order of the file, each with its place among all jobs.
+#[derive(Drop)]
+pub struct TargetJobs {
+    pub jobs: Vec<Job>,
+    pub places: Vec<usize>,
+}
+
+/// A job by its place among all jobs: where its buffer goes after the end, and the job once it has ended.
+#[derive(Drop)]
+pub struct PlannedJob<'a> {
+    pub output: Option<&'a str>,
+    pub done: Option<Done>,
+}
+
+/// The jobs of a run.
+#[derive(Drop)]
+pub struct PlannedJobs<'a> {
+    /// Those of each target.
+    pub by_target: Vec<TargetJobs>,
+    /// All of them.
+    pub all: Vec<PlannedJob<'a>>,
+}
+
+/// What a run file comes to.
+#[derive(Drop)]
+pub struct RunPlan<'a> {
+    pub dies: ChannelDies,
+    pub images: Vec<PlannedImage<'a>>,
+    pub jobs: PlannedJobs<'a>,
+    pub polls: u64,
+    pub fails: Vec<Failing>,
+}
+
+impl<'a> PlannedJobs<'a> {
+    /// No jobs yet, of so many targets.
+    fn new(alloc: Global, targets: u8) -> Result<PlannedJobs<'a>, AllocError> {
+        let mut by_target = Vec::new(alloc);
+        for _ in 0..targets {
+            by_target.push(TargetJobs {
+                jobs: Vec::new(alloc),
+                places: Vec::new(alloc),
+            })?;
+        }
+        Ok(PlannedJobs {
+            by_target,
+            all: Vec::new(alloc),
+        })
+    }
+
+    /// Adds a job after the others.
+    pub(crate) fn push(&mut self, job: Job, output: Option<&'a str>) -> Result<(), AllocError> {
+        let place = self.all.len();
+        let target = usize::from(job.lun().ce);
+        if let Some(of_target) = self.by_target.get_mut(target) {
+            of_target.jobs.push(job)?;
+            of_target.places.push(place)?;
+        }
+        self.all.push(PlannedJob { output, done: None })?;
+        Ok(())
+    }
+}
+
+impl<'a> RunPlan<'a> {
+    /// A run without jobs on a channel whose dies are erased.
+    pub(crate) fn new(
+        alloc: Global,
+        geometry: Geometry,
+        targets: u8,
+    ) -> Result<RunPlan<'a>, AllocError>
+        requires { (1 ≤ targets) × (targets ≤ 4) }
+        ensures { IfOk result (λ plan. (plan.dies.geometry ≡ geometry) × (plan.dies.targets ≡ targets)) }
+    {
+        Ok(RunPlan {
+            dies: ChannelDies::new(alloc, geometry, targets)?,
+            images: Vec::new(alloc),
+            jobs: PlannedJobs::new(alloc, targets)?,
+            polls: 1,
+            fails: Vec::new(alloc),
+        })
+    }
+}

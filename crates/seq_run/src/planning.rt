@@ -1,0 +1,255 @@
+//! Judging a run file: each statement in turn, with the files that it names, before the first cycle.
+ghost use Rattle.std.specs.Prelude.{◌≡◌, ◌≤◌, true, IfOk, IfErr, OnOk, drop};
+ghost use Rattle.std.specs.Option.{option_copied};
+ghost use Rattle.run_file.specs.Line.{Image as ImageLine};
+ghost use Rattle.run_file.specs.Shown.{shown_statement, shown_all, shown_text};
+ghost use Rattle.seq_run.specs.Failures.{Says, Refuses, line_refused};
+ghost use Rattle.seq_run.specs.Judged.{has_lun, lun_at, LunIsRefused, JobPasses, JobLineIsRefused, Passes, IsRefused, RestPasses, RestIsRefused, EndIsRefused, page_of, targets_of, PlanPasses, PlanIsRefused};
+
+use crate::failure::{Failure, NotRun};
+use crate::gate::Failing;
+use crate::given::{read_buffer, read_die, read_geometry, read_verified};
+use crate::plan::{PlannedImage, RunPlan};
+use crate::refusal::{PlanFault, PlanRefusal};
+use nand_geometry::Geometry;
+use onfi_cycle::Lun;
+use run_file::{Numbered, RunFault, RunRefusal, RunText, Statement};
+use seq_core::Job;
+use seq_files::Files;
+use std::alloc::Global;
+
+// The LUN of a channel that has these numbers.
+fn find_lun<'a>(geometry: &Geometry, targets: u8, target: u32, lun: u32) -> Result<Lun, Failure<'a>>
+    ensures ok { IfOk result (λ l. (has_lun geometry.now targets target lun ≡ true) × (l ≡ lun_at target lun)) }
+    ensures err { IfErr result (Says (LunIsRefused geometry.now targets target lun)) }
+{
+    if target >= u32::from(targets) || lun >= u32::from(geometry.parts().luns) {
+        return Err(Failure::of_line(RunFault::NoSuchLun));
+    }
+    Ok(Lun {
+        ce: target as u8,
+        lun: lun as u8,
+    })
+}
+
+// The job of a word file, with its buffer.
+#[tactic(auto, using(crate::proofs::JobLines::job_refused, crate::proofs::JobLines::job_passes))]
+fn read_job<'a, F: Files>(
+    alloc: Global,
+    files: &mut F,
+    geometry: Geometry,
+    targets: u8,
+    lun: Lun,
+    base: u32,
+    text: &'a str,
+    input: Option<&'a str>,
+) -> Result<Job, Failure<'a>>
+    ensures ok { OnOk result (JobPasses (F.store files.old) geometry targets lun base text.now (option_copied input.entry)) }
+    ensures err { IfErr result (Says (JobLineIsRefused (F.store files.old) geometry targets lun base text.now (option_copied input.entry))) }
+    ensures stays { F.store files.new ≡ F.store files.old }
+{
+    let verified = read_verified(alloc, files, geometry, text)?;
+    let length = verified.text().buffer() as usize;
+    let buffer = read_buffer(alloc, files, input, length)?;
+    match Job::new(geometry, targets, lun, base, verified, buffer) {
+        Ok(job) => Ok(job),
+        Err(refused) => Err(Failure::Fault {
+            fault: PlanFault::Job(refused.fault),
+            path: Some(text),
+        }),
+    }
+}
+
+impl<'a> RunPlan<'a> {
+    // Adds a statement after the page and the targets.
+    fn add<F: Files>(
+        &mut self,
+        alloc: Global,
+        files: &mut F,
+        statement: Statement<'a>,
+    ) -> Result<(), Failure<'a>>
+        ensures ok { OnOk result (Passes (F.store files.old) self.old.dies.geometry self.old.dies.targets (shown_statement statement.entry)) }
+        ensures err { IfErr result (Says (IsRefused (F.store files.old) self.old.dies.geometry self.old.dies.targets (shown_statement statement.entry))) }
+        ensures channel { (self.new.dies.geometry ≡ self.old.dies.geometry) × (self.new.dies.targets ≡ self.old.dies.targets) }
+        ensures stays { F.store files.new ≡ F.store files.old }
+    {
+        match statement {
+            Statement::Page { .. } | Statement::Targets { .. } => {
+                Err(Failure::of_line(RunFault::OutOfOrder))
+            }
+            Statement::Image { target, lun, path } => {
+                self.add_image(alloc, files, target, lun, path)
+            }
+            Statement::Job {
+                target,
+                lun,
+                base,
+                text,
+                input,
+                output,
+            } => {
+                let l = find_lun(&self.dies.geometry, self.dies.targets, target, lun)?;
+                self.add_job(alloc, files, l, base, text, input, output)
+            }
+            Statement::Polls { count } => {
+                self.polls = u64::from(count);
+                Ok(())
+            }
+            Statement::Fail { target, lun, ready } => self.add_failing(target, lun, ready),
+        }
+    }
+
+    // Adds the image of a die.
+    fn add_image<F: Files>(
+        &mut self,
+        alloc: Global,
+        files: &mut F,
+        target: u32,
+        lun: u32,
+        path: &'a str,
+    ) -> Result<(), Failure<'a>>
+        ensures ok { OnOk result (Passes (F.store files.old) self.old.dies.geometry self.old.dies.targets (ImageLine target lun path.now)) }
+        ensures err { IfErr result (Says (IsRefused (F.store files.old) self.old.dies.geometry self.old.dies.targets (ImageLine target lun path.now))) }
+        ensures channel { (self.new.dies.geometry ≡ self.old.dies.geometry) × (self.new.dies.targets ≡ self.old.dies.targets) }
+        ensures stays { F.store files.new ≡ F.store files.old }
+    {
+        let l = find_lun(&self.dies.geometry, self.dies.targets, target, lun)?;
+        let die = read_die(alloc, files, self.dies.geometry, path)?;
+        let number = self.dies.number(l);
+        self.dies.put(number, die);
+        self.images.push(PlannedImage { number, path })?;
+        Ok(())
+    }
+
+    // Adds a job on a LUN of the channel.
+    fn add_job<F: Files>(
+        &mut self,
+        alloc: Global,
+        files: &mut F,
+        l: Lun,
+        base: u32,
+        text: &'a str,
+        input: Option<&'a str>,
+        output: Option<&'a str>,
+    ) -> Result<(), Failure<'a>>
+        ensures ok { OnOk result (JobPasses (F.store files.old) self.old.dies.geometry self.old.dies.targets l base text.now (option_copied input.entry)) }
+        ensures err { IfErr result (Says (JobLineIsRefused (F.store files.old) self.old.dies.geometry self.old.dies.targets l base text.now (option_copied input.entry))) }
+        ensures channel { (self.new.dies.geometry ≡ self.old.dies.geometry) × (self.new.dies.targets ≡ self.old.dies.targets) }
+        ensures stays { F.store files.new ≡ F.store files.old }
+    {
+        let (geometry, targets) = (self.dies.geometry, self.dies.targets);
+        let job = read_job(alloc, files, geometry, targets, l, base, text, input)?;
+        self.jobs.push(job, output)?;
+        Ok(())
+    }
+
+    // Adds a ready that is with failure.
+    fn add_failing(&mut self, target: u32, lun: u32, ready: u32) -> Result<(), Failure<'a>>
+        ensures ok { OnOk result (has_lun self.old.dies.geometry self.old.dies.targets target lun ≡ true) }
+        ensures err { IfErr result (Says (LunIsRefused self.old.dies.geometry self.old.dies.targets target lun)) }
+        ensures channel { (self.new.dies.geometry ≡ self.old.dies.geometry) × (self.new.dies.targets ≡ self.old.dies.targets) }
+    {
+        let l = find_lun(&self.dies.geometry, self.dies.targets, target, lun)?;
+        self.fails.push(Failing {
+            target: l.ce,
+            lun: l.lun,
+            ready: u64::from(ready),
+        })?;
+        Ok(())
+    }
+
+    // Adds the statements after the page and the targets, in their order.
+    fn add_all<F: Files>(
+        &mut self,
+        alloc: Global,
+        files: &mut F,
+        rest: &[Numbered<'a>],
+        last: Option<RunRefusal>,
+    ) -> Result<(), NotRun<'a>>
+        ensures channel { (self.new.dies.geometry ≡ self.old.dies.geometry) × (self.new.dies.targets ≡ self.old.dies.targets) }
+        ensures stays { F.store files.new ≡ F.store files.old }
+    {
+        for k in 0..rest.len() {
+            let Numbered { line, statement } = rest[k];
+            if let Err(failure) = self.add(alloc, files, statement) {
+                return Err(failure.at(line));
+            }
+        }
+        match last {
+            Some(RunRefusal { fault, line }) => Err(refuse_line(fault, line)),
+            None => Ok(()),
+        }
+    }
+}
+
+// A line is refused.
+fn refuse_line<'a>(fault: RunFault, line: usize) -> NotRun<'a>
+    ensures { result ≡ line_refused fault line }
+{
+    NotRun::Refused {
+        refusal: PlanRefusal {
+            fault: PlanFault::Line(fault),
+            line,
+        },
+        path: None,
+    }
+}
+
+// A text ends before its page or its targets.
+fn refuse_end<'a>(last: Option<RunRefusal>) -> NotRun<'a>
+    ensures { Refuses (EndIsRefused last) result }
+{
+    match last {
+        Some(RunRefusal { fault, line }) => refuse_line(fault, line),
+        None => refuse_line(RunFault::OutOfOrder, 1),
+    }
+}
+
+// The page of a run file and its line, if it begins with it.
+fn find_page<'a>(statements: &[Numbered<'a>]) -> Option<(usize, &'a str)> {
+    match statements {
+        [] => None,
+        [first, ..] => match first.statement {
+            Statement::Page { path } => Some((first.line, path)),
+            _ => None,
+        },
+    }
+}
+
+// The number of targets, if the second statement is that.
+fn find_targets(statements: &[Numbered<'_>]) -> Option<u8>
+    ensures { result ≡ targets_of (shown_all statements.now) }
+{
+    match statements {
+        [_, second, ..] => match second.statement {
+            Statement::Targets { count } if 1 <= count && count <= 4 => Some(count),
+            _ => None,
+        },
+        _ => None,
+    }
+}
+
+/// Judges the statements of a run file in the order of their lines, each with the files that it names before the next, and then the fault of
+/// its text.
+pub fn plan_run<'a, F: Files>(
+    alloc: Global,
+    files: &mut F,
+    text: &RunText<'a, Global>,
+) -> Result<RunPlan<'a>, NotRun<'a>>
+    ensures stays { F.store files.new ≡ F.store files.old }
+{
+    let statements = text.statements.as_slice();
+    let Some((line, path)) = find_page(statements) else {
+        return Err(refuse_end(text.fault));
+    };
+    let geometry = match read_geometry(alloc, files, path) {
+        Ok(geometry) => geometry,
+        Err(failure) => return Err(failure.at(line)),
+    };
+    let Some(targets) = find_targets(statements) else {
+        return Err(refuse_end(text.fault));
+    };
+    let mut plan = RunPlan::new(alloc, geometry, targets)?;
+    plan.add_all(alloc, files, statements.split_at(2).1, text.fault)?;
+    Ok(plan)
+}

@@ -1,0 +1,66 @@
+//! What there was in a run, in numbers.
+
+use onfi_cycle::{Cycle, Item, Kind};
+use std::fmt;
+
+/// What there was in a run.
+#[derive(Clone, Copy, Debug, PartialEq, Eq)]
+pub(crate) struct Summary {
+    jobs: usize,
+    cycles: u64,
+    polls: u64,
+    inputs: u64,
+    outputs: u64,
+}
+
+impl Summary {
+    // One cycle more.
+    fn add_cycle(self, cycle: Cycle) -> Summary {
+        let mut sum = self;
+        sum.cycles = sum.cycles.saturating_add(1);
+        match cycle.kind {
+            Kind::Cmd if cycle.byte == 0x70 || cycle.byte == 0x78 => {
+                sum.polls = sum.polls.saturating_add(1);
+            }
+            Kind::Din => sum.inputs = sum.inputs.saturating_add(1),
+            Kind::Dout => sum.outputs = sum.outputs.saturating_add(1),
+            _ => {}
+        }
+        sum
+    }
+
+    /// What there was in so many jobs with this trace.
+    pub(crate) fn of(jobs: usize, trace: &[Item]) -> Summary {
+        let mut sum = Summary {
+            jobs,
+            cycles: 0,
+            polls: 0,
+            inputs: 0,
+            outputs: 0,
+        };
+        for item in trace {
+            if let Item::Cyc(cycle) = *item {
+                sum = sum.add_cycle(cycle);
+            }
+        }
+        sum
+    }
+}
+
+impl fmt::Display for Summary {
+    fn fmt<W: fmt::Write>(&self, f: &mut fmt::Formatter<W>) -> fmt::Result {
+        // Each poll has put out one byte, the status.
+        let read = self.outputs.saturating_sub(self.polls);
+        let Summary {
+            jobs,
+            cycles,
+            polls,
+            inputs,
+            outputs: _,
+        } = *self;
+        write!(
+            f,
+            "jobs {jobs}, cycles {cycles}, polls {polls}, bytes to the dies {inputs}, bytes from the dies {read}"
+        )
+    }
+}

@@ -1,0 +1,28 @@
+"""Passes on what the gate prints, and lists before its last line the minute at which each step ended.
+
+A step is a crate's proof or tests proved, its edits begun, or a program or tests run. docs/GATE.md says what the minutes are for.
+"""
+import re
+import sys
+import time
+
+STEP = re.compile(r"^rt: (\S+?):? (proved|NOT PROVED|its tests (are )?(proved|NOT PROVED|passed|FAILED)|trying its must-fail edits.*|ran\b.*)$")
+LAST = re.compile(r"^\d+ passed, \d+ failed$")
+
+
+def main():
+    begun, steps, last = time.monotonic(), [], None
+    for line in sys.stdin:
+        if LAST.match(line):
+            last = line
+            continue
+        if STEP.match(line):
+            steps.append(f"minute {(time.monotonic() - begun) / 60:5.1f}  {line[4:]}")
+        sys.stdout.write(line)
+        sys.stdout.flush()
+    sys.stdout.write("".join(steps))
+    if last:
+        sys.stdout.write(last)
+
+
+main()
