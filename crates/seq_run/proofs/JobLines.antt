@@ -2,7 +2,7 @@
 use Rattle.std.proofs.Common.{◌≡◌, ℕ, ◌+◌, ◌<◌, List, [], ◌++◌, length, drop, get_or, Option, Some, None, refl, sym, ap, ◌∙◌, subst, inl, inr}
 use Rattle.std.proofs.lemmas.List.{drop_more}
 use Rattle.seq_run.specs.declared.job_ends.EndedJob.{EndedJob}
-use Rattle.seq_run.specs.Ends.{codes_of}
+use Rattle.seq_run.specs.Written.{codes_of}
 use Rattle.seq_run.specs.Lines.{job_line, job_lines}
 use Rattle.seq_files.specs.Store.{Store}
 use Rattle.nand_geometry.specs.declared.Parts.{Parts}

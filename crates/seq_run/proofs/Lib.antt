@@ -3,3 +3,4 @@ pub mod Hosting
 pub mod JobLines
 pub mod Printing
 pub mod Resting
+pub mod FilesWritten

@@ -2,6 +2,7 @@
 use Rattle.std.specs.Prelude.{◌≡◌, ℕ, ⊤, None}
 use Rattle.run_file.specs.declared.refusal.RunFault.{RunFault}
 use Rattle.seq_run.specs.declared.refusal.PlanFault.{PlanFault}
+use Rattle.seq_run.specs.declared.refusal.PlanRefusal.{PlanRefusal}
 use Rattle.seq_run.specs.declared.refusal.PlanFault.TheVariants.{Line}
 use Rattle.seq_run.specs.declared.failure.Failure.{Failure}
 use Rattle.seq_run.specs.declared.failure.Failure.TheVariants as failure
@@ -40,3 +41,15 @@ abbrev pub Refuses : (PlanFault → ℕ → Type 0) → NotRun → Type 0
 Refuses May (not_run.Refused refusal path) = May refusal.fault refusal.line
 Refuses May (not_run.FileFault path) = ⊤
 Refuses May not_run.OutOfMemory = ⊤
+
+-- nothing is refused
+abbrev pub RefusesNothing : NotRun → Type 0
+RefusesNothing (not_run.Refused refusal path) = ⊥
+RefusesNothing (not_run.FileFault path) = ⊤
+RefusesNothing not_run.OutOfMemory = ⊤
+
+-- this is what is refused
+abbrev pub Tells : PlanRefusal → NotRun → Type 0
+Tells told (not_run.Refused refusal path) = told ≡ refusal
+Tells told (not_run.FileFault path) = ⊥
+Tells told not_run.OutOfMemory = ⊥

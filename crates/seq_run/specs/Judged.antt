@@ -126,12 +126,16 @@ IsRefused files g targets _ fault = fault ≡ Line OutOfOrder
 abbrev pub Numbered : Type 0
 Numbered = ℕ × Statement
 
+-- the statement of this line has this fault, which is told with its line
+abbrev pub IsRefusedAt : Option Store → Parts → ℕ → Numbered → PlanFault → ℕ → Type 0
+IsRefusedAt files g targets s fault line = IsRefused files g targets s.1 fault × (line ≡ s.0)
+
 -- the statements from here on are refused with this fault at this line
 unfoldable pub RestIsRefused : Option Store → Parts → ℕ → List Numbered → Option RunRefusal → PlanFault → ℕ → Type 0
 RestIsRefused files g targets [] None fault line = ⊥
 RestIsRefused files g targets [] (Some r) fault line = (fault ≡ Line r.fault) × (line ≡ r.line)
 RestIsRefused files g targets (s ∷ rest) last fault line =
-    (IsRefused files g targets s.1 fault × (line ≡ s.0)) ⊎ (Passes files g targets s.1 × RestIsRefused files g targets rest last fault line)
+    IsRefusedAt files g targets s fault line ⊎ (Passes files g targets s.1 × RestIsRefused files g targets rest last fault line)
 
 -- each statement from here on passes, and the text has no fault after them
 unfoldable pub RestPasses : Option Store → Parts → ℕ → List Numbered → Option RunRefusal → Type 0

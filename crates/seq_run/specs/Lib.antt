@@ -2,5 +2,5 @@ pub mod Lines
 pub mod Failures
 pub mod Judged
 pub mod Hosts
-pub mod Ends
-pub mod Printed
+pub mod Written
+pub mod Runs

@@ -1,7 +1,8 @@
 //! The jobs of a run after their end, in the order of the run file.
 ghost use Rattle.std.specs.Prelude.{◌≡◌, ◌++◌, OnOk};
 ghost use Rattle.std.specs.String.{string_bytes};
-ghost use Rattle.seq_run.specs.Lines.{job_line};
+ghost use Rattle.seq_run.specs.Lines.{job_line, job_lines};
+ghost use Rattle.seq_run.specs.Written.{codes_of};
 
 use crate::plan::PlannedJob;
 use channel_work::{Name, NamedDone};
@@ -64,7 +65,9 @@ fn push_job_line(text: &mut String, number: usize, code: u8) -> Result<(), Alloc
 }
 
 /// Adds a line `job K end CODE` for each job, K counted from 1.
-pub(crate) fn push_job_lines(text: &mut String, jobs: &[EndedJob<'_>]) -> Result<(), AllocError> {
+pub(crate) fn push_job_lines(text: &mut String, jobs: &[EndedJob<'_>]) -> Result<(), AllocError>
+    ensures { OnOk result (string_bytes text.new ≡ string_bytes text.old ++ job_lines 1 (codes_of jobs.now)) }
+{
     for k in 0..jobs.len() {
         push_job_line(text, k + 1, jobs[k].done.code)?;
     }

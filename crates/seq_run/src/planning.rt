@@ -1,10 +1,10 @@
 //! Judging a run file: each statement in turn, with the files that it names, before the first cycle.
 ghost use Rattle.std.specs.Prelude.{◌≡◌, ◌≤◌, true, IfOk, IfErr, OnOk, drop};
-ghost use Rattle.std.specs.Option.{option_copied};
+ghost use Rattle.std.specs.Option.{option_copied, option_map};
 ghost use Rattle.run_file.specs.Line.{Image as ImageLine};
-ghost use Rattle.run_file.specs.Shown.{shown_statement, shown_all, shown_text};
+ghost use Rattle.run_file.specs.Shown.{shown_statement, shown_numbered, shown_all, shown_text};
 ghost use Rattle.seq_run.specs.Failures.{Says, Refuses, line_refused};
-ghost use Rattle.seq_run.specs.Judged.{has_lun, lun_at, LunIsRefused, JobPasses, JobLineIsRefused, Passes, IsRefused, RestPasses, RestIsRefused, EndIsRefused, page_of, targets_of, PlanPasses, PlanIsRefused};
+ghost use Rattle.seq_run.specs.Judged.{has_lun, lun_at, LunIsRefused, JobPasses, JobLineIsRefused, Passes, IsRefused, IsRefusedAt, RestPasses, RestIsRefused, EndIsRefused, page_of, targets_of, PlanPasses, PlanIsRefused};
 
 use crate::failure::{Failure, NotRun};
 use crate::gate::Failing;
@@ -158,7 +158,28 @@ impl<'a> RunPlan<'a> {
         Ok(())
     }
 
-    // Adds the statements after the page and the targets, in their order.
+    // Adds the statement of a line.
+    #[tactic(auto, using(crate::proofs::Resting::refused_there))]
+    fn add_numbered<F: Files>(
+        &mut self,
+        alloc: Global,
+        files: &mut F,
+        numbered: Numbered<'a>,
+    ) -> Result<(), NotRun<'a>>
+        ensures ok { OnOk result (Passes (F.store files.old) self.old.dies.geometry self.old.dies.targets (shown_statement numbered.entry.statement)) }
+        ensures err { IfErr result (Refuses (IsRefusedAt (F.store files.old) self.old.dies.geometry self.old.dies.targets (shown_numbered numbered.entry))) }
+        ensures channel { (self.new.dies.geometry ≡ self.old.dies.geometry) × (self.new.dies.targets ≡ self.old.dies.targets) }
+        ensures stays { F.store files.new ≡ F.store files.old }
+    {
+        let Numbered { line, statement } = numbered;
+        match self.add(alloc, files, statement) {
+            Ok(()) => Ok(()),
+            Err(failure) => Err(failure.at(line)),
+        }
+    }
+
+    // Adds the statements after the page and the targets, in their order, and comes to the fault of the text last.
+    #[tactic(auto, using(crate::proofs::Resting::begins, crate::proofs::Resting::goes_on, crate::proofs::Resting::stops, crate::proofs::Resting::ends_well, crate::proofs::Resting::ends_refused))]
     fn add_all<F: Files>(
         &mut self,
         alloc: Global,
@@ -166,14 +187,13 @@ impl<'a> RunPlan<'a> {
         rest: &[Numbered<'a>],
         last: Option<RunRefusal>,
     ) -> Result<(), NotRun<'a>>
+        ensures ok { OnOk result (RestPasses (F.store files.old) self.old.dies.geometry self.old.dies.targets (shown_all rest.now) last) }
+        ensures err { IfErr result (Refuses (RestIsRefused (F.store files.old) self.old.dies.geometry self.old.dies.targets (shown_all rest.now) last)) }
         ensures channel { (self.new.dies.geometry ≡ self.old.dies.geometry) × (self.new.dies.targets ≡ self.old.dies.targets) }
         ensures stays { F.store files.new ≡ F.store files.old }
     {
-        for k in 0..rest.len() {
-            let Numbered { line, statement } = rest[k];
-            if let Err(failure) = self.add(alloc, files, statement) {
-                return Err(failure.at(line));
-            }
+        for &numbered in rest {
+            self.add_numbered(alloc, files, numbered)?;
         }
         match last {
             Some(RunRefusal { fault, line }) => Err(refuse_line(fault, line)),
@@ -206,7 +226,9 @@ fn refuse_end<'a>(last: Option<RunRefusal>) -> NotRun<'a>
 }
 
 // The page of a run file and its line, if it begins with it.
-fn find_page<'a>(statements: &[Numbered<'a>]) -> Option<(usize, &'a str)> {
+fn find_page<'a>(statements: &[Numbered<'a>]) -> Option<(usize, &'a str)>
+    ensures { page_of (shown_all statements.now) ≡ option_map (λ page. (page.0, page.1.now)) result }
+{
     match statements {
         [] => None,
         [first, ..] => match first.statement {
@@ -236,6 +258,8 @@ pub fn plan_run<'a, F: Files>(
     files: &mut F,
     text: &RunText<'a, Global>,
 ) -> Result<RunPlan<'a>, NotRun<'a>>
+    ensures ok { IfOk result (λ plan. PlanPasses (F.store files.old) (shown_text text.now) plan.dies.geometry plan.dies.targets) }
+    ensures err { IfErr result (Refuses (PlanIsRefused (F.store files.old) (shown_text text.now))) }
     ensures stays { F.store files.new ≡ F.store files.old }
 {
     let statements = text.statements.as_slice();

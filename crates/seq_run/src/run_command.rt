@@ -1,8 +1,20 @@
 //! The command that runs a channel.
+ghost use Rattle.std.specs.Prelude.{◌≡◌, ◌⊎◌, List, ℕ, IfOk, IfErr, OnOk, OnErr};
+ghost use Rattle.std.specs.Io.KnownBytes.{Appends};
+ghost use Rattle.run_file.specs.Told.{told};
+ghost use Rattle.seq_files.specs.Store.{Holds, with_file};
+ghost use Rattle.seq_run.specs.declared.refusal.PlanRefusal.{PlanRefusal};
+ghost use Rattle.seq_run.specs.Failures.{Refuses, RefusesNothing, Tells};
+ghost use Rattle.seq_run.specs.Runs.{EndsUnrefused};
+ghost use Rattle.seq_run.specs.Judged.{PlanPasses, PlanIsRefused};
+ghost use Rattle.seq_run.specs.Lines.{line_of};
+ghost use Rattle.seq_run.specs.Written.{with_all, IsCut};
+ghost use Rattle.seq_run.specs.Runs.{Outcome, writes_of, lines_of, IsRunDone, RunIsRefused, RunMayLeave};
 
 use crate::ending::RunEnd;
 use crate::explaining::Explained;
 use crate::failure::NotRun;
+use crate::plan::RunPlan;
 use crate::planning::plan_run;
 use crate::refusal::PlanRefusal;
 use crate::request::RunRequest;
@@ -16,25 +28,84 @@ use std::io::Write;
 use std::sync::Wait;
 use std::thread::Threads;
 
-// Runs the text of a run file.
-fn run_text<'a, R: Threads + Wait + Sync, F: Files, W: Write>(
+// Reads the text of a run file, and judges it with the files that it names.
+fn plan_text<'a, F: Files>(
+    alloc: Global,
+    files: &mut F,
+    text: &'a str,
+) -> Result<RunPlan<'a>, NotRun<'a>>
+    ensures ok { IfOk result (λ plan. PlanPasses (F.store files.old) (told text.entry.now) plan.dies.geometry plan.dies.targets) }
+    ensures err { IfErr result (Refuses (PlanIsRefused (F.store files.old) (told text.entry.now))) }
+    ensures stays { F.store files.new ≡ F.store files.old }
+{
+    let text = parse_run(text, alloc)?;
+    plan_run(alloc, files, &text)
+}
+
+// Runs what was planned, and writes what came of it.
+fn carry_out<'a, R: Threads + Wait + Sync, F: Files, W: Write>(
     rt: &R,
     alloc: Global,
     files: &mut F,
     output: &mut W,
     request: RunRequest<'a>,
-    text: &'a str,
-) -> Result<Summary, NotRun<'a>> {
-    let text = parse_run(text, alloc)?;
-    let plan = plan_run(alloc, files, &text)?;
+    plan: RunPlan<'a>,
+) -> Result<Summary, NotRun<'a>>
+    ensures ok { OnOk result ((o : Outcome) × (o.bus.geometry ≡ plan.entry.dies.geometry) × (o.bus.targets ≡ plan.entry.dies.targets)
+        × (F.store files.new ≡ with_all (writes_of request.entry o) (F.store files.old))
+        × Appends (W.contents output.old) (W.contents output.new) (lines_of request.entry o)) }
+    ensures err { OnErr result ((F.store files.new ≡ F.store files.old) ⊎ ((o : Outcome) × (o.bus.geometry ≡ plan.entry.dies.geometry)
+        × (o.bus.targets ≡ plan.entry.dies.targets) × IsCut (writes_of request.entry o) (F.store files.old) (F.store files.new))) }
+    ensures nothing { IfErr result RefusesNothing }
+{
     let ran = run_plan(rt, alloc, plan, request.workers)?;
     write_run(alloc, files, output, request, ran)
 }
 
 // Writes the line of a refusal.
-fn refuse<W: Write>(alloc: Global, output: &mut W, refusal: PlanRefusal) -> Result<(), FileError> {
+fn refuse<W: Write>(alloc: Global, output: &mut W, refusal: PlanRefusal) -> Result<(), FileError>
+    ensures { OnOk result (Appends (W.contents output.old) (W.contents output.new) (line_of refusal)) }
+{
     let text = refusal.text(alloc)?;
     write_text(output, text.as_str())
+}
+
+// Says why a line of a run file is refused.
+fn end_with_refusal<W: Write, E: Write>(
+    alloc: Global,
+    output: &mut W,
+    errors: &mut E,
+    run: &str,
+    refusal: PlanRefusal,
+    path: Option<&str>,
+) -> RunEnd
+    ensures done { result ≡ RunEnd.Done → ⊥ }
+    ensures refused { (other : PlanRefusal) → result ≡ RunEnd.Refused other → (other ≡ refusal) × Appends (W.contents output.old) (W.contents output.new) (line_of refusal) }
+{
+    match refuse(alloc, output, refusal) {
+        Ok(()) => {
+            let explained = Explained { run, refusal, path };
+            let _ = writeln!(errors, "{explained}");
+            RunEnd::Refused(refusal)
+        }
+        Err(error) => end_with_error(errors, "-", error),
+    }
+}
+
+// Says that the file of this path couldn't be read or written.
+fn end_with_error<E: Write>(errors: &mut E, path: &str, error: FileError) -> RunEnd
+    ensures { EndsUnrefused result }
+{
+    match error {
+        FileError::Fault => {
+            let _ = writeln!(errors, "file fault {path}");
+            RunEnd::FileFault
+        }
+        FileError::OutOfMemory => {
+            let _ = writeln!(errors, "out of memory");
+            RunEnd::OutOfMemory
+        }
+    }
 }
 
 // Says how a run of this file ended that isn't done.
@@ -44,52 +115,40 @@ fn end<W: Write, E: Write>(
     errors: &mut E,
     run: &str,
     not_run: NotRun<'_>,
-) -> RunEnd {
+) -> RunEnd
+    ensures done { result ≡ RunEnd.Done → ⊥ }
+    ensures refused { (refusal : PlanRefusal) → result ≡ RunEnd.Refused refusal → Tells refusal not_run.entry × Appends (W.contents output.old) (W.contents output.new) (line_of refusal) }
+{
     match not_run {
-        NotRun::Refused { refusal, path } => match refuse(alloc, output, refusal) {
-            Ok(()) => {
-                let explained = Explained { run, refusal, path };
-                let _ = writeln!(errors, "{explained}");
-                RunEnd::Refused(refusal)
-            }
-            Err(FileError::Fault) => end_with_fault(errors, "-"),
-            Err(FileError::OutOfMemory) => end_without_memory(errors),
-        },
-        NotRun::FileFault(path) => end_with_fault(errors, path),
-        NotRun::OutOfMemory => end_without_memory(errors),
+        NotRun::Refused { refusal, path } => {
+            end_with_refusal(alloc, output, errors, run, refusal, path)
+        }
+        NotRun::FileFault(path) => end_with_error(errors, path, FileError::Fault),
+        NotRun::OutOfMemory => end_with_error(errors, run, FileError::OutOfMemory),
     }
 }
 
-// Says that a file couldn't be read or written.
-fn end_with_fault<E: Write>(errors: &mut E, path: &str) -> RunEnd {
-    let _ = writeln!(errors, "file fault {path}");
-    RunEnd::FileFault
-}
-
-// Says that memory was refused.
-fn end_without_memory<E: Write>(errors: &mut E) -> RunEnd {
-    let _ = writeln!(errors, "out of memory");
-    RunEnd::OutOfMemory
-}
-
-/// Runs a channel as a run file says.
-pub fn run_on<R: Threads + Wait + Sync, F: Files, W: Write, E: Write>(
+// Runs the text of the run file.
+fn run_text<R: Threads + Wait + Sync, F: Files, W: Write, E: Write>(
     rt: &R,
     alloc: Global,
     files: &mut F,
     output: &mut W,
     errors: &mut E,
     request: RunRequest<'_>,
-) -> RunEnd {
-    let bytes = match files.read(alloc, request.path) {
-        Ok(bytes) => bytes,
-        Err(FileError::Fault) => return end_with_fault(errors, request.path),
-        Err(FileError::OutOfMemory) => return end_without_memory(errors),
+    text: &str,
+) -> RunEnd
+    requires { Holds (F.store files.old) request.path.now text.now }
+    ensures done { result ≡ RunEnd.Done → (printed : List ℕ) × IsRunDone (F.store files.old) (F.store files.new) request.entry printed × Appends (W.contents output.old) (W.contents output.new) printed }
+    ensures refused { (refusal : PlanRefusal) → result ≡ RunEnd.Refused refusal → RunIsRefused (F.store files.old) request.entry refusal
+        × (F.store files.new ≡ F.store files.old) × Appends (W.contents output.old) (W.contents output.new) (line_of refusal) }
+    ensures leaves { RunMayLeave (F.store files.old) (F.store files.new) request.entry }
+{
+    let plan = match plan_text(alloc, files, text) {
+        Ok(plan) => plan,
+        Err(not_run) => return end(alloc, output, errors, request.path, not_run),
     };
-    let Ok(text) = str::from_utf8(bytes.as_slice()) else {
-        return end_with_fault(errors, request.path);
-    };
-    match run_text(rt, alloc, files, output, request, text) {
+    match carry_out(rt, alloc, files, output, request, plan) {
         Ok(summary) => {
             if request.has_stats {
                 let _ = writeln!(errors, "{summary}");
@@ -97,5 +156,30 @@ pub fn run_on<R: Threads + Wait + Sync, F: Files, W: Write, E: Write>(
             RunEnd::Done
         }
         Err(not_run) => end(alloc, output, errors, request.path, not_run),
+    }
+}
+
+/// Runs a channel as a run file says. What is refused is also said in words on `errors`.
+pub fn run_on<R: Threads + Wait + Sync, F: Files, W: Write, E: Write>(
+    rt: &R,
+    alloc: Global,
+    files: &mut F,
+    output: &mut W,
+    errors: &mut E,
+    request: RunRequest<'_>,
+) -> RunEnd
+    // What the run file says passes, and what is printed and written is of one legal trace.
+    ensures done { result ≡ RunEnd.Done → (printed : List ℕ) × IsRunDone (F.store files.old) (F.store files.new) request.entry printed × Appends (W.contents output.old) (W.contents output.new) printed }
+    ensures refused { (refusal : PlanRefusal) → result ≡ RunEnd.Refused refusal → RunIsRefused (F.store files.old) request.entry refusal
+        × (F.store files.new ≡ F.store files.old) × Appends (W.contents output.old) (W.contents output.new) (line_of refusal) }
+    ensures leaves { RunMayLeave (F.store files.old) (F.store files.new) request.entry }
+{
+    let bytes = match files.read(alloc, request.path) {
+        Ok(bytes) => bytes,
+        Err(error) => return end_with_error(errors, request.path, error),
+    };
+    match str::from_utf8(bytes.as_slice()) {
+        Ok(text) => run_text(rt, alloc, files, output, errors, request, text),
+        Err(_) => end_with_error(errors, request.path, FileError::Fault),
     }
 }

@@ -1,10 +1,14 @@
 //! Writing what came of a run: the buffers of jobs, the images of dies, and the trace with the jobs' codes.
-ghost use Rattle.std.specs.Prelude.{◌≡◌, ◌++◌, IfOk, OnOk, reverse, map};
+ghost use Rattle.std.specs.Prelude.{◌≡◌, ◌++◌, [], ◌⊎◌, IfOk, IfErr, OnOk, OnErr, reverse, map};
 ghost use Rattle.std.specs.Io.KnownBytes.{Appends};
+ghost use Rattle.std.specs.Option.{option_copied};
 ghost use Rattle.std.specs.String.{string_bytes};
+ghost use Rattle.seq_files.specs.Store.{with_file};
 ghost use Rattle.trace_text.specs.Line.{text};
 ghost use Rattle.seq_run.specs.Lines.{job_lines};
-ghost use Rattle.seq_run.specs.Printed.{shown_trace, IsRunOf};
+ghost use Rattle.seq_run.specs.Failures.{RefusesNothing};
+ghost use Rattle.seq_run.specs.Written.{with_all, IsWritten, IsCut, buffers_of, images_of, trace_at, written_of, traces_of, shown_trace, codes_of};
+ghost use Rattle.seq_run.specs.Runs.{Outcome, writes_of, lines_of};
 
 use crate::failure::NotRun;
 use crate::job_ends::{EndedJob, push_job_lines};
@@ -27,7 +31,11 @@ struct Outgoing<'a> {
 }
 
 // Writes a file.
-fn write_file<'a, F: Files>(files: &mut F, path: &'a str, bytes: &[u8]) -> Result<(), NotRun<'a>> {
+fn write_file<'a, F: Files>(files: &mut F, path: &'a str, bytes: &[u8]) -> Result<(), NotRun<'a>>
+    ensures ok { OnOk result (F.store files.new ≡ with_file (F.store files.old) path.now bytes.now) }
+    ensures err { OnErr result (F.store files.new ≡ F.store files.old) }
+    ensures nothing { IfErr result RefusesNothing }
+{
     match files.write(path, bytes) {
         Ok(()) => Ok(()),
         Err(FileError::Fault) => Err(NotRun::FileFault(path)),
@@ -36,7 +44,12 @@ fn write_file<'a, F: Files>(files: &mut F, path: &'a str, bytes: &[u8]) -> Resul
 }
 
 // Writes the buffer of each job that has an output, in the order of the jobs.
-fn write_buffers<'a, F: Files>(files: &mut F, jobs: &[EndedJob<'a>]) -> Result<(), NotRun<'a>> {
+#[tactic(auto, using(crate::proofs::FilesWritten::begins, crate::proofs::FilesWritten::writes))]
+fn write_buffers<'a, F: Files>(files: &mut F, jobs: &[EndedJob<'a>]) -> Result<(), NotRun<'a>>
+    ensures ok { OnOk result (IsWritten (buffers_of jobs.now) [] (F.store files.old) (F.store files.new)) }
+    ensures err { OnErr result (IsCut (buffers_of jobs.now) (F.store files.old) (F.store files.new)) }
+    ensures nothing { IfErr result RefusesNothing }
+{
     for job in jobs {
         if let Some(path) = job.output {
             write_file(files, path, job.done.job.buffer())?;
@@ -46,7 +59,12 @@ fn write_buffers<'a, F: Files>(files: &mut F, jobs: &[EndedJob<'a>]) -> Result<(
 }
 
 // Writes files in their order.
-fn write_files<'a, F: Files>(files: &mut F, outgoing: &[Outgoing<'a>]) -> Result<(), NotRun<'a>> {
+#[tactic(auto, using(crate::proofs::FilesWritten::begins, crate::proofs::FilesWritten::writes))]
+fn write_files<'a, F: Files>(files: &mut F, outgoing: &[Outgoing<'a>]) -> Result<(), NotRun<'a>>
+    ensures ok { OnOk result (IsWritten (map written_of outgoing.now) [] (F.store files.old) (F.store files.new)) }
+    ensures err { OnErr result (IsCut (map written_of outgoing.now) (F.store files.old) (F.store files.new)) }
+    ensures nothing { IfErr result RefusesNothing }
+{
     for file in outgoing {
         write_file(files, file.path, file.bytes.as_slice())?;
     }
@@ -58,7 +76,9 @@ fn make_images<'a>(
     alloc: Global,
     dies: &[LunDie],
     images: &[PlannedImage<'a>],
-) -> Result<Vec<Outgoing<'a>>, AllocError> {
+) -> Result<Vec<Outgoing<'a>>, AllocError>
+    ensures { IfOk result (λ made. map written_of made.items ≡ images_of dies.now images.now) }
+{
     let mut made = Vec::new(alloc);
     for image in images {
         if let Some(die) = dies.get(image.number) {
@@ -86,7 +106,9 @@ fn make_lines(
     is_quiet: bool,
     bus: &Bus,
     jobs: &[EndedJob<'_>],
-) -> Result<String, AllocError> {
+) -> Result<String, AllocError>
+    ensures { IfOk result (λ lines. string_bytes lines ≡ shown_trace is_quiet (reverse bus.now.past) ++ job_lines 1 (codes_of jobs.now)) }
+{
     let mut lines = if is_quiet {
         String::new(alloc)
     } else {
@@ -101,7 +123,9 @@ fn make_trace<'a>(
     alloc: Global,
     bus: &Bus,
     path: Option<&'a str>,
-) -> Result<Option<Outgoing<'a>>, AllocError> {
+) -> Result<Option<Outgoing<'a>>, AllocError>
+    ensures { IfOk result (λ made. traces_of made ≡ trace_at (option_copied path.entry) (reverse bus.now.past)) }
+{
     match path {
         Some(path) => {
             let text = print_trace(alloc, bus)?;
@@ -114,9 +138,41 @@ fn make_trace<'a>(
     }
 }
 
+// The images, and then the file of the trace.
+fn make_outgoing<'a>(
+    alloc: Global,
+    dies: &[LunDie],
+    images: &[PlannedImage<'a>],
+    trace: Option<Outgoing<'a>>,
+) -> Result<Vec<Outgoing<'a>>, AllocError>
+    ensures { IfOk result (λ made. map written_of made.items ≡ images_of dies.now images.now ++ traces_of trace.entry) }
+{
+    let mut outgoing = make_images(alloc, dies, images)?;
+    if let Some(trace) = trace {
+        outgoing.push(trace)?;
+    }
+    Ok(outgoing)
+}
+
+// Writes the buffers, and then the other files.
+#[tactic(auto, using(crate::proofs::FilesWritten::cut_first, crate::proofs::FilesWritten::then))]
+fn write_all<'a, F: Files>(
+    files: &mut F,
+    jobs: &[EndedJob<'a>],
+    outgoing: &[Outgoing<'a>],
+) -> Result<(), NotRun<'a>>
+    ensures ok { OnOk result (IsWritten (buffers_of jobs.now ++ map written_of outgoing.now) [] (F.store files.old) (F.store files.new)) }
+    ensures err { OnErr result (IsCut (buffers_of jobs.now ++ map written_of outgoing.now) (F.store files.old) (F.store files.new)) }
+    ensures nothing { IfErr result RefusesNothing }
+{
+    write_buffers(files, jobs)?;
+    write_files(files, outgoing)
+}
+
 // Prints a text.
 fn print_lines<'a, W: Write>(output: &mut W, text: &str) -> Result<(), NotRun<'a>>
-    ensures { OnOk result (Appends (W.contents output.old) (W.contents output.new) text.now) }
+    ensures ok { OnOk result (Appends (W.contents output.old) (W.contents output.new) text.now) }
+    ensures nothing { IfErr result RefusesNothing }
 {
     match write_text(output, text) {
         Ok(()) => Ok(()),
@@ -127,24 +183,26 @@ fn print_lines<'a, W: Write>(output: &mut W, text: &str) -> Result<(), NotRun<'a
 
 /// Writes the buffers in the order of the jobs, the images in the order of their lines, the file of the trace if there is one, and then prints. It
 /// tells what there was. What takes memory comes before the first file is written.
+#[tactic(auto, using(crate::proofs::FilesWritten::ends))]
 pub(crate) fn write_run<'a, F: Files, W: Write>(
     alloc: Global,
     files: &mut F,
     output: &mut W,
     request: RunRequest<'a>,
     ran: Ran<'a>,
-) -> Result<Summary, NotRun<'a>> {
+) -> Result<Summary, NotRun<'a>>
+    ensures ok { OnOk result ((o : Outcome) × (o.bus ≡ ran.entry.bus) × (F.store files.new ≡ with_all (writes_of request.entry o) (F.store files.old))
+        × Appends (W.contents output.old) (W.contents output.new) (lines_of request.entry o)) }
+    ensures err { OnErr result ((F.store files.new ≡ F.store files.old) ⊎ ((o : Outcome) × (o.bus ≡ ran.entry.bus) × IsCut (writes_of request.entry o) (F.store files.old) (F.store files.new))) }
+    ensures nothing { IfErr result RefusesNothing }
+{
     let Ran { bus, images, jobs } = ran;
     let lines = make_lines(alloc, request.is_quiet, &bus, jobs.as_slice())?;
     let trace = make_trace(alloc, &bus, request.trace)?;
     let summary = Summary::of(jobs.len(), bus.trace());
     let dies = bus.into_dies();
-    let mut outgoing = make_images(alloc, dies.as_slice(), images.as_slice())?;
-    if let Some(trace) = trace {
-        outgoing.push(trace)?;
-    }
-    write_buffers(files, jobs.as_slice())?;
-    write_files(files, outgoing.as_slice())?;
+    let outgoing = make_outgoing(alloc, dies.as_slice(), images.as_slice(), trace)?;
+    write_all(files, jobs.as_slice(), outgoing.as_slice())?;
     print_lines(output, lines.as_str())?;
     Ok(summary)
 }

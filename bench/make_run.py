@@ -1,0 +1,51 @@
+"""Makes the files of a run for run.sh in the folder that is given: 1,000 jobs (or as many as are given) on 8 LUNs, each of which reads a whole page."""
+import sys
+from pathlib import Path
+
+PAGE_BYTES, SPARE_BYTES, PAGES, BLOCKS, LUNS, TARGETS = 4096, 256, 64, 1024, 2, 4
+
+
+def checksum(data):
+    """The checksum of a parameter page (docs/MODEL.md)."""
+    register = 0x4F4E
+    for byte in data:
+        register ^= byte << 8
+        for _ in range(8):
+            register = (register << 1) ^ (0x8005 if register & 0x8000 else 0)
+            register &= 0xFFFF
+    return register
+
+
+def parameter_page():
+    page = bytearray(256)
+    page[0:4] = b"ONFI"
+    page[6] = 0b10  # operations of several LUNs
+    page[8] = 0b1000  # Read Status Enhanced
+    page[80:84] = PAGE_BYTES.to_bytes(4, "little")
+    page[84:86] = SPARE_BYTES.to_bytes(2, "little")
+    page[92:96] = PAGES.to_bytes(4, "little")
+    page[96:100] = BLOCKS.to_bytes(4, "little")
+    page[100] = LUNS
+    page[101] = 0x23
+    page[254:256] = checksum(page[:254]).to_bytes(2, "little")
+    return bytes(page)
+
+
+def program():
+    length = PAGE_BYTES + SPARE_BYTES
+    return f"rows 1\nbuffer {length}\nbudget {length + 12}\n cmd 00\n addr 0 5\n cmd 30\n wait\n cmd 00\n get {length}\n end 0\n"
+
+
+def run_file(folder, jobs):
+    lines = [f"page {folder}/chip.page", f"targets {TARGETS}", "polls 2"]
+    for job in range(jobs):
+        lun = job % (TARGETS * LUNS)
+        lines.append(f"job {lun // LUNS} {lun % LUNS} {job % 4096} {folder}/read.nmp - -")
+    return "\n".join(lines) + "\n"
+
+
+folder, jobs = Path(sys.argv[1]), int(sys.argv[2]) if len(sys.argv) > 2 else 1000
+folder.mkdir(parents=True, exist_ok=True)
+(folder / "chip.page").write_bytes(parameter_page())
+(folder / "read.asm").write_text(program())
+(folder / "run").write_text(run_file(folder, jobs))

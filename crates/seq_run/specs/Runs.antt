@@ -1,0 +1,69 @@
+-- A run: what its files say, what happens on its channel, and what is written and printed of it.
+use Rattle.std.specs.Prelude.{◌≡◌, ◌⊎◌, ℕ, ⊤, true, List, ◌++◌, reverse, Option}
+use Rattle.std.specs.Option.{option_copied}
+use Rattle.seq_files.specs.Store.{Store, Holds}
+use Rattle.onfi_cycle.specs.Permitted.{is_legal}
+use Rattle.die_model.specs.Die.{Die}
+use Rattle.target_bus.specs.Bus.{Traced, channel_of, StandFor}
+use Rattle.run_file.specs.Told.{told}
+use Rattle.seq_run.specs.declared.request.RunRequest.{RunRequest}
+use Rattle.seq_run.specs.declared.plan.PlannedImage.{PlannedImage}
+use Rattle.seq_run.specs.declared.job_ends.EndedJob.{EndedJob}
+use Rattle.seq_run.specs.declared.refusal.PlanRefusal.{PlanRefusal}
+use Rattle.seq_run.specs.declared.ending.RunEnd.{RunEnd}
+use Rattle.seq_run.specs.declared.ending.RunEnd.TheVariants as RunEnd
+use Rattle.seq_run.specs.Judged.{PlanPasses, PlanIsRefused}
+use Rattle.seq_run.specs.Lines.{job_lines}
+use Rattle.seq_run.specs.Written.{Written, with_all, IsCut, buffers_of, images_of, trace_at, shown_trace, codes_of}
+
+-- what has come of a channel: what happened on its bus, which is legal, the dies as that left them, the jobs after their end, and the images to be written
+pub record Outcome : Type 0 where
+  pub bus : Traced
+  pub legal : is_legal bus.geometry bus.targets bus.past ≡ true
+  pub dies : List Die
+  pub stand : StandFor (channel_of bus) bus.past dies
+  pub jobs : List EndedJob
+  pub images : List PlannedImage
+
+-- the files that are written: the buffers, the images, and the trace where a path is given for it
+abbrev pub writes_of : RunRequest → Outcome → List Written
+writes_of request o = buffers_of o.jobs ++ (images_of o.dies o.images ++ trace_at (option_copied request.trace) (reverse o.bus.past))
+
+-- what is printed: the trace, unless it is kept quiet, and a line for each job
+abbrev pub lines_of : RunRequest → Outcome → List ℕ
+lines_of request o = shown_trace request.is_quiet (reverse o.bus.past) ++ job_lines 1 (codes_of o.jobs)
+
+-- the run file is there, and all that it says passes on the channel of this outcome
+pub record IsPlanned (files : Option Store) (request : RunRequest) (o : Outcome) : Type 0 where
+  pub text : List ℕ
+  pub is_there : Holds files request.path.now text
+  pub passes : PlanPasses files (told text) o.bus.geometry o.bus.targets
+
+-- the run is done: everything is written and printed
+pub record IsRunDone (files later : Option Store) (request : RunRequest) (printed : List ℕ) : Type 0 where
+  pub o : Outcome
+  pub planned : IsPlanned files request o
+  pub left : later ≡ with_all (writes_of request o) files
+  pub is_printed : printed ≡ lines_of request o
+
+-- the run file is there, and it is refused with this fault at this line
+pub record RunIsRefused (files : Option Store) (request : RunRequest) (refusal : PlanRefusal) : Type 0 where
+  pub text : List ℕ
+  pub is_there : Holds files request.path.now text
+  pub refused : PlanIsRefused files (told text) refusal.fault refusal.line
+
+-- the run was cut off while its files were written
+pub record IsRunCut (files later : Option Store) (request : RunRequest) : Type 0 where
+  pub o : Outcome
+  pub planned : IsPlanned files request o
+  pub cut : IsCut (writes_of request o) files later
+
+-- what a run may leave, however it ends
+abbrev pub RunMayLeave : (files later : Option Store) → RunRequest → Type 0
+RunMayLeave files later request = (later ≡ files) ⊎ IsRunCut files later request
+
+-- the run is neither done nor refused
+abbrev pub EndsUnrefused : RunEnd → Type 0
+EndsUnrefused RunEnd.Done = ⊥
+EndsUnrefused (RunEnd.Refused refusal) = ⊥
+EndsUnrefused _ = ⊤

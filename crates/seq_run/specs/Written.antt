@@ -1,0 +1,68 @@
+-- What a run writes: files in their order, and lines.
+use Rattle.std.specs.Prelude.{◌≡◌, ℕ, Bool, if◌then◌else◌, List, [], ◌∷◌, ◌++◌, map, Option, Some, None, slice_get}
+use Rattle.std.specs.List.{filter_map}
+use Rattle.std.specs.Option.{option_map}
+use Rattle.seq_files.specs.Store.{Store, with_file}
+use Rattle.onfi_cycle.specs.declared.item.Item.{Item}
+use Rattle.die_model.specs.Die.{Die}
+use Rattle.die_model.specs.Image.{image_of}
+use Rattle.trace_text.specs.Line.{text}
+use Rattle.seq_run.specs.declared.plan.PlannedImage.{PlannedImage}
+use Rattle.seq_run.specs.declared.job_ends.EndedJob.{EndedJob}
+use Rattle.seq_run.specs.declared.writing.Outgoing.{Outgoing}
+
+-- a file that is written: its path and its bytes
+abbrev pub Written : Type 0
+Written = List ℕ × List ℕ
+
+-- the files after these were written, one after the other
+unfoldable pub with_all : List Written → Option Store → Option Store
+with_all [] files = files
+with_all (w ∷ ws) files = with_all ws (with_file files w.0 w.1)
+
+-- of all files that are to be written the first are written, and these are left
+pub record IsWritten (all left : List Written) (files later : Option Store) : Type 0 where
+  pub first : List Written
+  pub both : all ≡ first ++ left
+  pub now : later ≡ with_all first files
+
+-- the writing was cut off, before the first or later
+abbrev pub IsCut : List Written → (files later : Option Store) → Type 0
+IsCut all files later = (left : List Written) × IsWritten all left files later
+
+-- the buffer of a job, if it has an output
+abbrev pub buffer_of : EndedJob → Option Written
+buffer_of job = option_map (λ path. (path.now, job.done.job.buffer)) job.output
+
+-- the buffers of the jobs that have an output, in the order of the jobs
+abbrev pub buffers_of : List EndedJob → List Written
+buffers_of jobs = filter_map buffer_of jobs
+
+-- the image of a die, at its path
+abbrev pub image_at : List Die → PlannedImage → Option Written
+image_at dies image = option_map (λ die. (image.path.now, image_of die)) (slice_get dies image.number)
+
+-- the images of dies, in the order of their lines
+abbrev pub images_of : List Die → List PlannedImage → List Written
+images_of dies images = filter_map (image_at dies) images
+
+-- the text of the trace, where a path is given for it
+abbrev pub trace_at : Option (List ℕ) → List Item → List Written
+trace_at None items = []
+trace_at (Some path) items = (path, text items) ∷ []
+
+-- what is written of a file in memory
+abbrev pub written_of : Outgoing → Written
+written_of file = (file.path.now, file.bytes.items)
+
+abbrev pub traces_of : Option Outgoing → List Written
+traces_of None = []
+traces_of (Some file) = written_of file ∷ []
+
+-- the text of a trace, unless it is kept quiet
+abbrev pub shown_trace : Bool → List Item → List ℕ
+shown_trace is_quiet items = if is_quiet then [] else text items
+
+-- the codes with which jobs have ended
+abbrev pub codes_of : List EndedJob → List ℕ
+codes_of jobs = map (λ (job : EndedJob). job.done.code) jobs
