@@ -4,3 +4,4 @@ pub mod Judged
 pub mod Hosts
 pub mod Written
 pub mod Runs
+pub mod Planned

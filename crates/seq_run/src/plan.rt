@@ -1,6 +1,8 @@
 //! What a run file comes to: the dies of the channel, the jobs of each target, and what is told of readies.
 
-ghost use Rattle.std.specs.Prelude.{◌≡◌, ◌≤◌, IfOk};
+ghost use Rattle.std.specs.Prelude.{◌≡◌, ◌≤◌, [], ◌∷◌, ◌++◌, IfOk, OnOk};
+ghost use Rattle.std.specs.Option.{option_copied};
+ghost use Rattle.seq_run.specs.Planned.{planned_outputs};
 
 use crate::dies::ChannelDies;
 use crate::gate::Failing;
@@ -51,7 +53,9 @@ pub struct RunPlan<'a> {
 
 impl<'a> PlannedJobs<'a> {
     /// No jobs yet, of so many targets.
-    fn new(alloc: Global, targets: u8) -> Result<PlannedJobs<'a>, AllocError> {
+    fn new(alloc: Global, targets: u8) -> Result<PlannedJobs<'a>, AllocError>
+        ensures { IfOk result (λ jobs. jobs.all.items ≡ []) }
+    {
         let mut by_target = Vec::new(alloc);
         for _ in 0..targets {
             by_target.push(TargetJobs {
@@ -66,7 +70,9 @@ impl<'a> PlannedJobs<'a> {
     }
 
     /// Adds a job after the others.
-    pub(crate) fn push(&mut self, job: Job, output: Option<&'a str>) -> Result<(), AllocError> {
+    pub(crate) fn push(&mut self, job: Job, output: Option<&'a str>) -> Result<(), AllocError>
+        ensures { OnOk result (planned_outputs self.new.all.items ≡ planned_outputs self.old.all.items ++ (option_copied output.entry ∷ [])) }
+    {
         let place = self.all.len();
         let target = usize::from(job.lun().ce);
         if let Some(of_target) = self.by_target.get_mut(target) {
@@ -86,7 +92,8 @@ impl<'a> RunPlan<'a> {
         targets: u8,
     ) -> Result<RunPlan<'a>, AllocError>
         requires { (1 ≤ targets) × (targets ≤ 4) }
-        ensures { IfOk result (λ plan. (plan.dies.geometry ≡ geometry) × (plan.dies.targets ≡ targets)) }
+        ensures channel { IfOk result (λ plan. (plan.dies.geometry ≡ geometry) × (plan.dies.targets ≡ targets)) }
+        ensures empty { IfOk result (λ plan. (plan.jobs.all.items ≡ []) × (plan.images.items ≡ [])) }
     {
         Ok(RunPlan {
             dies: ChannelDies::new(alloc, geometry, targets)?,

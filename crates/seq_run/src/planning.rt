@@ -1,8 +1,9 @@
 //! Judging a run file: each statement in turn, with the files that it names, before the first cycle.
-ghost use Rattle.std.specs.Prelude.{◌≡◌, ◌≤◌, true, IfOk, IfErr, OnOk, drop};
+ghost use Rattle.std.specs.Prelude.{◌≡◌, ◌≤◌, ◌+◌, ◌*◌, ◌∷◌, [], ◌++◌, true, IfOk, IfErr, OnOk, drop, filter_map};
 ghost use Rattle.std.specs.Option.{option_copied, option_map};
 ghost use Rattle.run_file.specs.Line.{Image as ImageLine};
 ghost use Rattle.run_file.specs.Shown.{shown_statement, shown_numbered, shown_all, shown_text};
+ghost use Rattle.seq_run.specs.Planned.{output_in, outputs_of, image_in, images_in, planned_outputs, planned_images};
 ghost use Rattle.seq_run.specs.Failures.{Says, Refuses, line_refused};
 ghost use Rattle.seq_run.specs.Judged.{has_lun, lun_at, LunIsRefused, JobPasses, JobLineIsRefused, Passes, IsRefused, IsRefusedAt, RestPasses, RestIsRefused, EndIsRefused, page_of, targets_of, PlanPasses, PlanIsRefused};
 
@@ -71,6 +72,8 @@ impl<'a> RunPlan<'a> {
         ensures ok { OnOk result (Passes (F.store files.old) self.old.dies.geometry self.old.dies.targets (shown_statement statement.entry)) }
         ensures err { IfErr result (Says (IsRefused (F.store files.old) self.old.dies.geometry self.old.dies.targets (shown_statement statement.entry))) }
         ensures channel { (self.new.dies.geometry ≡ self.old.dies.geometry) × (self.new.dies.targets ≡ self.old.dies.targets) }
+        ensures jobs { OnOk result (planned_outputs self.new.jobs.all.items ≡ planned_outputs self.old.jobs.all.items ++ filter_map output_in (shown_statement statement.entry ∷ [])) }
+        ensures images { OnOk result (planned_images self.new.images.items ≡ planned_images self.old.images.items ++ filter_map (image_in self.old.dies.geometry) (shown_statement statement.entry ∷ [])) }
         ensures stays { F.store files.new ≡ F.store files.old }
     {
         match statement {
@@ -111,6 +114,8 @@ impl<'a> RunPlan<'a> {
         ensures ok { OnOk result (Passes (F.store files.old) self.old.dies.geometry self.old.dies.targets (ImageLine target lun path.now)) }
         ensures err { IfErr result (Says (IsRefused (F.store files.old) self.old.dies.geometry self.old.dies.targets (ImageLine target lun path.now))) }
         ensures channel { (self.new.dies.geometry ≡ self.old.dies.geometry) × (self.new.dies.targets ≡ self.old.dies.targets) }
+        ensures jobs { self.new.jobs ≡ self.old.jobs }
+        ensures images { OnOk result (planned_images self.new.images.items ≡ planned_images self.old.images.items ++ ((target * self.old.dies.geometry.luns + lun, path.now) ∷ [])) }
         ensures stays { F.store files.new ≡ F.store files.old }
     {
         let l = find_lun(&self.dies.geometry, self.dies.targets, target, lun)?;
@@ -135,6 +140,8 @@ impl<'a> RunPlan<'a> {
         ensures ok { OnOk result (JobPasses (F.store files.old) self.old.dies.geometry self.old.dies.targets l base text.now (option_copied input.entry)) }
         ensures err { IfErr result (Says (JobLineIsRefused (F.store files.old) self.old.dies.geometry self.old.dies.targets l base text.now (option_copied input.entry))) }
         ensures channel { (self.new.dies.geometry ≡ self.old.dies.geometry) × (self.new.dies.targets ≡ self.old.dies.targets) }
+        ensures jobs { OnOk result (planned_outputs self.new.jobs.all.items ≡ planned_outputs self.old.jobs.all.items ++ (option_copied output.entry ∷ [])) }
+        ensures images { self.new.images ≡ self.old.images }
         ensures stays { F.store files.new ≡ F.store files.old }
     {
         let (geometry, targets) = (self.dies.geometry, self.dies.targets);
@@ -148,6 +155,8 @@ impl<'a> RunPlan<'a> {
         ensures ok { OnOk result (has_lun self.old.dies.geometry self.old.dies.targets target lun ≡ true) }
         ensures err { IfErr result (Says (LunIsRefused self.old.dies.geometry self.old.dies.targets target lun)) }
         ensures channel { (self.new.dies.geometry ≡ self.old.dies.geometry) × (self.new.dies.targets ≡ self.old.dies.targets) }
+        ensures jobs { self.new.jobs ≡ self.old.jobs }
+        ensures images { self.new.images ≡ self.old.images }
     {
         let l = find_lun(&self.dies.geometry, self.dies.targets, target, lun)?;
         self.fails.push(Failing {
@@ -169,6 +178,8 @@ impl<'a> RunPlan<'a> {
         ensures ok { OnOk result (Passes (F.store files.old) self.old.dies.geometry self.old.dies.targets (shown_statement numbered.entry.statement)) }
         ensures err { IfErr result (Refuses (IsRefusedAt (F.store files.old) self.old.dies.geometry self.old.dies.targets (shown_numbered numbered.entry))) }
         ensures channel { (self.new.dies.geometry ≡ self.old.dies.geometry) × (self.new.dies.targets ≡ self.old.dies.targets) }
+        ensures jobs { OnOk result (planned_outputs self.new.jobs.all.items ≡ planned_outputs self.old.jobs.all.items ++ outputs_of (shown_numbered numbered.entry ∷ [])) }
+        ensures images { OnOk result (planned_images self.new.images.items ≡ planned_images self.old.images.items ++ images_in self.old.dies.geometry (shown_numbered numbered.entry ∷ [])) }
         ensures stays { F.store files.new ≡ F.store files.old }
     {
         let Numbered { line, statement } = numbered;
@@ -190,6 +201,8 @@ impl<'a> RunPlan<'a> {
         ensures ok { OnOk result (RestPasses (F.store files.old) self.old.dies.geometry self.old.dies.targets (shown_all rest.now) last) }
         ensures err { IfErr result (Refuses (RestIsRefused (F.store files.old) self.old.dies.geometry self.old.dies.targets (shown_all rest.now) last)) }
         ensures channel { (self.new.dies.geometry ≡ self.old.dies.geometry) × (self.new.dies.targets ≡ self.old.dies.targets) }
+        ensures jobs { OnOk result (planned_outputs self.new.jobs.all.items ≡ planned_outputs self.old.jobs.all.items ++ outputs_of (shown_all rest.now)) }
+        ensures images { OnOk result (planned_images self.new.images.items ≡ planned_images self.old.images.items ++ images_in self.old.dies.geometry (shown_all rest.now)) }
         ensures stays { F.store files.new ≡ F.store files.old }
     {
         for &numbered in rest {
@@ -259,6 +272,8 @@ pub fn plan_run<'a, F: Files>(
     text: &RunText<'a, Global>,
 ) -> Result<RunPlan<'a>, NotRun<'a>>
     ensures ok { IfOk result (λ plan. PlanPasses (F.store files.old) (shown_text text.now) plan.dies.geometry plan.dies.targets) }
+    ensures jobs { IfOk result (λ plan. planned_outputs plan.jobs.all.items ≡ outputs_of (drop 2 (shown_text text.now).statements)) }
+    ensures images { IfOk result (λ plan. planned_images plan.images.items ≡ images_in plan.dies.geometry (drop 2 (shown_text text.now).statements)) }
     ensures err { IfErr result (Refuses (PlanIsRefused (F.store files.old) (shown_text text.now))) }
     ensures stays { F.store files.new ≡ F.store files.old }
 {

@@ -1,0 +1,40 @@
+-- What a run file says of the outputs of its jobs and of its images, and what is planned of them.
+use Rattle.std.specs.Prelude.{ℕ, ◌+◌, ◌*◌, List, Option, Some, None, map, filter_map}
+use Rattle.std.specs.Option.{option_copied}
+use Rattle.nand_geometry.specs.declared.Parts.{Parts}
+use Rattle.run_file.specs.Line.{Statement}
+use Rattle.run_file.specs.Line.{Image as ImageLine, Job as JobLine}
+use Rattle.seq_run.specs.Judged.{Numbered}
+use Rattle.seq_run.specs.declared.plan.PlannedImage.{PlannedImage}
+use Rattle.seq_run.specs.declared.plan.PlannedJob.{PlannedJob}
+use Rattle.seq_run.specs.declared.job_ends.EndedJob.{EndedJob}
+
+-- where the buffer of a job goes after the end, if anywhere
+abbrev pub output_in : Statement → Option (Option (List ℕ))
+output_in (JobLine target lun base text input output) = Some output
+output_in _ = None
+
+-- the same of each job, in the order of the lines
+abbrev pub outputs_of : List Numbered → List (Option (List ℕ))
+outputs_of statements = filter_map (λ (s : Numbered). output_in s.1) statements
+
+-- the number of a die, and the path of its image
+abbrev pub image_in : Parts → Statement → Option (ℕ × List ℕ)
+image_in g (ImageLine target lun path) = Some (target * g.luns + lun, path)
+image_in g _ = None
+
+-- the same of each image, in the order of the lines
+abbrev pub images_in : Parts → List Numbered → List (ℕ × List ℕ)
+images_in g statements = filter_map (λ (s : Numbered). image_in g s.1) statements
+
+-- where the buffers of planned jobs go
+abbrev pub planned_outputs : List PlannedJob → List (Option (List ℕ))
+planned_outputs jobs = map (λ (job : PlannedJob). option_copied job.output) jobs
+
+-- where the buffers of ended jobs go
+abbrev pub ended_outputs : List EndedJob → List (Option (List ℕ))
+ended_outputs jobs = map (λ (job : EndedJob). option_copied job.output) jobs
+
+-- the numbers and the paths of planned images
+abbrev pub planned_images : List PlannedImage → List (ℕ × List ℕ)
+planned_images images = map (λ (image : PlannedImage). (image.number, image.path.now)) images
