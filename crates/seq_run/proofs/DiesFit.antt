@@ -1,13 +1,12 @@
 -- New dies, one for each LUN, are a channel's.
-use Rattle.std.proofs.Common.{◌≡◌, ℕ, zero, suc, ◌+◌, ◌*◌, ◌==◌, ◌≤◌, ◌<◌, Bool, true, false, cond, ◌&&◌, ◌||◌, not, nat_eq, List, [], ◌∷◌, ◌++◌, length, set, Option, Some, None, refl, sym, ap, ◌∙◌, subst, arith, eq-eqb}
+use Rattle.std.proofs.Common.{◌≡◌, ℕ, zero, suc, ◌*◌, ◌==◌, ◌≤◌, Bool, true, false, cond, ◌||◌, not, List, [], ◌∷◌, ◌++◌, length, set, Option, Some, None, refl, sym, ap, ◌∙◌, subst, arith, eq-eqb}
 use Rattle.std.specs.Bool.{beq}
-use Rattle.std.proofs.lemmas.Bool.Decides.{nat_tests}
 use Rattle.nand_geometry.specs.declared.Parts.{Parts}
-use Rattle.die_model.specs.Die.{Die, new_die, is_new}
+use Rattle.die_model.specs.Die.{Die, new_die}
 use Rattle.die_model.specs.Loading.{IsLoaded}
 use Rattle.target_bus.specs.declared.refusal.BusFault.{BusFault}
 use Rattle.target_bus.specs.declared.refusal.BusFault.TheVariants.{DiesMissing, DieUnfit}
-use Rattle.target_bus.specs.Bus.{are_targets, same_sizes, same_features, same_parts, is_new_of, are_new, bus_fault}
+use Rattle.target_bus.specs.Bus.{are_targets, same_parts, is_new_of, are_new, bus_fault}
 use Rattle.micro_program.proofs.Basics.{and_parts, and_true}
 
 self : (n : ℕ) → (n == n) ≡ true

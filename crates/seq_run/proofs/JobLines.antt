@@ -1,7 +1,10 @@
 -- What a job line is refused for at last, and that it passes; and the lines of jobs that have ended.
-use Rattle.std.proofs.Common.{◌≡◌, ℕ, ◌+◌, ◌<◌, List, [], ◌++◌, length, drop, get_or, Option, Some, None, refl, sym, ap, ◌∙◌, subst, inl, inr}
-use Rattle.std.proofs.lemmas.List.{drop_more}
+use Rattle.std.proofs.Common.{◌≡◌, ℕ, zero, suc, ◌+◌, ◌<◌, ◌≤◌, List, [], ◌∷◌, ◌++◌, length, drop, get_or, set, arith, Option, Some, None, refl, sym, ap, ◌∙◌, subst, inr}
+use Rattle.std.proofs.lemmas.List.{append_assoc, append-nil, drop_more, drop_all}
+use Rattle.std.specs.Option.{option_copied}
 use Rattle.seq_run.specs.declared.job_ends.EndedJob.{EndedJob}
+use Rattle.seq_run.specs.declared.plan.PlannedJob.{PlannedJob}
+use Rattle.seq_run.specs.Planned.{planned_outputs}
 use Rattle.seq_run.specs.Written.{codes_of}
 use Rattle.seq_run.specs.Lines.{job_line, job_lines}
 use Rattle.seq_files.specs.Store.{Store}
@@ -30,16 +33,20 @@ pub job_passes : (files : Option Store) (g : Parts) (targets : ℕ) (l : Lun) (b
 job_passes files g targets l base text input v n buffer has_text same has_input fits is =
     record { x = v.text; has_text = has_text; buffer = buffer; has_input = has_input; faultless = same_fault g targets l base v n None same fits is }
 
--- the lines from a job on
-pub lines_go_on : (jobs : List EndedJob) (k : ℕ) (job : EndedJob) → k < length jobs → job ≡ get_or jobs k job → job_lines (k + 1) (codes_of (drop k jobs)) ≡ job_line (k + 1) job.done.code ++ job_lines (k + 1 + 1) (codes_of (drop (k + 1) jobs))
+-- the line of one job of a list
+pub line_more : (jobs : List EndedJob) (k : ℕ) (d : EndedJob) (old new whole : List ℕ) → k < length jobs → new ≡ old ++ job_line (k + 1) (get_or jobs k d).done.code → old ++ job_lines (k + 1) (codes_of (drop k jobs)) ≡ whole → new ++ job_lines (k + 1 + 1) (codes_of (drop (k + 1) jobs)) ≡ whole
 unfolding job_lines
-lines_go_on jobs k job inside is =
-    ap (λ (l : List EndedJob). job_lines (k + 1) (codes_of l)) (drop_more jobs k job inside)
-    ∙ ap (λ (j : EndedJob). job_line (k + 1) j.done.code ++ job_lines (k + 1 + 1) (codes_of (drop (k + 1) jobs))) (sym is)
+line_more jobs k d old new whole inside next before =
+    let here = ap (λ (l : List EndedJob). job_lines (k + 1) (codes_of l)) (drop_more jobs k d inside) in
+    ap (λ (l : List ℕ). l ++ job_lines (k + 1 + 1) (codes_of (drop (k + 1) jobs))) next
+    ∙ append_assoc old (job_line (k + 1) (get_or jobs k d).done.code) (job_lines (k + 1 + 1) (codes_of (drop (k + 1) jobs)))
+    ∙ ap (λ (l : List ℕ). old ++ l) (sym here)
+    ∙ before
 
-pub lines_end : (first : ℕ) → job_lines first [] ≡ []
+-- no job is left
+pub lines_done : (jobs : List EndedJob) (k : ℕ) (new whole : List ℕ) → length jobs ≤ k → new ++ job_lines (k + 1) (codes_of (drop k jobs)) ≡ whole → new ≡ whole
 unfolding job_lines
-lines_end first = refl
+lines_done jobs k new whole over before = sym (append-nil new) ∙ ap (λ (l : List EndedJob). new ++ job_lines (k + 1) (codes_of l)) (sym (drop_all k jobs over)) ∙ before
 
 -- a word file that was read and verified
 pub has_verified : (files : Option Store) (g : Parts) (path items bytes : List ℕ) (x : Microprogram) (v : VerifiedText) → Holds files path items → bytes ≡ items → IsFileOf bytes x → (v.text ≡ x) × (v.geometry ≡ g) × (fault_of g x ≡ None) → IsSafe v.text v.geometry → HasText files g path v.text × (v.geometry ≡ g)
@@ -51,3 +58,9 @@ has_verified files g path items bytes x v holds same is_file accepted safe = (
   },
   accepted.1,
 )
+
+-- another job in its place, whose buffer goes to the same path
+pub outputs_stay : (jobs : List PlannedJob) (k : ℕ) (job d : PlannedJob) → k < length jobs → job.output ≡ (get_or jobs k d).output → planned_outputs (set jobs k job) ≡ planned_outputs jobs
+outputs_stay [] k job d inside same = refl
+outputs_stay (x ∷ jobs) zero job d inside same = ap (λ o. option_copied o ∷ planned_outputs jobs) same
+outputs_stay (x ∷ jobs) (suc k) job d inside same = ap (λ (l : List (Option (List ℕ))). option_copied x.output ∷ l) (outputs_stay jobs k job d (omega arith) same)

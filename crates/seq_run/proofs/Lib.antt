@@ -4,3 +4,4 @@ pub mod JobLines
 pub mod Printing
 pub mod Resting
 pub mod FilesWritten
+pub mod Outcomes

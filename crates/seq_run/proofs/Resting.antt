@@ -1,16 +1,23 @@
 -- What the statements from a place on come to, the statements of the whole file come to.
-use Rattle.std.proofs.Common.{◌≡◌, ℕ, List, [], ◌∷◌, Option, Some, None, refl, sym, subst, inl, inr}
+use Rattle.std.proofs.Common.{◌≡◌, ℕ, ◌+◌, ◌<◌, ◌≤◌, List, [], ◌∷◌, ◌++◌, length, drop, get_or, Option, Some, None, refl, sym, ap, ◌∙◌, subst, inl, inr}
+use Rattle.std.specs.List.{cons_option, filter_map}
+use Rattle.std.proofs.lemmas.List.{append_assoc, append-nil, drop_more, drop_all, drop-map}
 use Rattle.seq_files.specs.Store.{Store}
 use Rattle.nand_geometry.specs.declared.Parts.{Parts}
 use Rattle.run_file.specs.declared.refusal.RunRefusal.{RunRefusal}
+use Rattle.run_file.specs.declared.statement.Numbered.{Numbered as Written}
+use Rattle.run_file.specs.Shown.{shown_statement, shown_numbered, shown_all}
 use Rattle.seq_run.specs.declared.refusal.PlanFault.{PlanFault}
 use Rattle.seq_run.specs.declared.refusal.PlanFault.TheVariants.{Line}
 use Rattle.seq_run.specs.declared.failure.Failure.{Failure}
 use Rattle.seq_run.specs.declared.failure.Failure.TheVariants as failure
 use Rattle.seq_run.specs.declared.failure.NotRun.{NotRun}
 use Rattle.seq_run.specs.declared.failure.NotRun.TheVariants as not_run
-use Rattle.seq_run.specs.Failures.{Says, Refuses, IsAt, line_refused}
-use Rattle.seq_run.specs.Judged.{Numbered, Passes, IsRefused, IsRefusedAt, RestIsRefused, RestPasses}
+use Rattle.seq_run.specs.Failures.{Says, Refuses, IsAt}
+use Rattle.seq_run.specs.Planned.{image_in, images_in}
+use Rattle.seq_run.specs.Judged.{Numbered, Passes, IsRefused, IsRefusedAt, RestIsRefused, RestPasses, page_of, targets_of, AfterPageIsRefused, PageStatementIsRefused, PlanPasses, PlanIsRefused}
+use Rattle.seq_commands.specs.Commands.{HasPage}
+use Rattle.run_file.specs.Told.{Told}
 
 -- where the statements that are left are refused or pass, so do all
 pub record LeadsTo (files : Option Store) (g : Parts) (targets : ℕ) (last : Option RunRefusal) (left whole : List Numbered) : Type 0 where
@@ -69,3 +76,89 @@ said_more P Q failure.OutOfMemory more says = tt
 pub refused_there : (files : Option Store) (g : Parts) (targets : ℕ) (s : Numbered) (e : Failure) (r : NotRun) → IsAt e s.0 r → Says (IsRefused files g targets s.1) e → Refuses (IsRefusedAt files g targets s) r
 refused_there files g targets s e r at says =
     said_at (IsRefusedAt files g targets s) e s.0 r at (said_more (IsRefused files g targets s.1) (λ fault. IsRefusedAt files g targets s fault s.0) e (λ fault is. (is, refl)) says)
+
+-- ---- a statement by its place
+
+-- what is left begins with it
+from_place : (xs : List Written) (k : ℕ) (d : Written) → k < length xs → shown_all (drop k xs) ≡ shown_numbered (get_or xs k d) ∷ shown_all (drop (k + 1) xs)
+from_place xs k d inside = ap shown_all (drop_more xs k d inside)
+
+pub passes_on : (files now : Option Store) (g h : Parts) (targets n : ℕ) (last : Option RunRefusal) (xs : List Written) (k : ℕ) (d : Written) → k < length xs → now ≡ files → h ≡ g → n ≡ targets → Passes now h n (shown_statement (get_or xs k d).statement) → LeadsTo files g targets last (shown_all (drop k xs)) (shown_all xs) → LeadsTo files g targets last (shown_all (drop (k + 1) xs)) (shown_all xs)
+passes_on files now g h targets n last xs k d inside same_files same_geometry same_targets passes leads =
+    goes_on files g targets last (shown_numbered (get_or xs k d)) (shown_all (drop (k + 1) xs)) (shown_all xs)
+    (subst (λ (m : ℕ). Passes files g m (shown_statement (get_or xs k d).statement)) same_targets
+    (subst (λ (p : Parts). Passes files p n (shown_statement (get_or xs k d).statement)) same_geometry
+    (subst (λ (s : Option Store). Passes s h n (shown_statement (get_or xs k d).statement)) same_files passes)))
+    (subst (λ (l : List Numbered). LeadsTo files g targets last l (shown_all xs)) (from_place xs k d inside) leads)
+
+pub stops_here : (files now : Option Store) (g h : Parts) (targets n : ℕ) (last : Option RunRefusal) (xs : List Written) (k : ℕ) (d : Written) (r : NotRun) → k < length xs → now ≡ files → h ≡ g → n ≡ targets → Refuses (IsRefusedAt now h n (shown_numbered (get_or xs k d))) r → LeadsTo files g targets last (shown_all (drop k xs)) (shown_all xs) → Refuses (RestIsRefused files g targets (shown_all xs) last) r
+stops_here files now g h targets n last xs k d r inside same_files same_geometry same_targets refused leads =
+    stops files g targets last (shown_numbered (get_or xs k d)) (shown_all (drop (k + 1) xs)) (shown_all xs) r
+    (subst (λ (l : List Numbered). LeadsTo files g targets last l (shown_all xs)) (from_place xs k d inside) leads)
+    (subst (λ (m : ℕ). Refuses (IsRefusedAt files g m (shown_numbered (get_or xs k d))) r) same_targets
+    (subst (λ (p : Parts). Refuses (IsRefusedAt files p n (shown_numbered (get_or xs k d))) r) same_geometry
+    (subst (λ (s : Option Store). Refuses (IsRefusedAt s h n (shown_numbered (get_or xs k d))) r) same_files refused)))
+
+-- nothing is left
+none_left : (xs : List Written) (k : ℕ) → length xs ≤ k → shown_all (drop k xs) ≡ []
+none_left xs k over = ap shown_all (drop_all k xs over)
+
+pub all_pass : (files : Option Store) (g : Parts) (targets : ℕ) (last : Option RunRefusal) (xs : List Written) (k : ℕ) → length xs ≤ k → last ≡ None → LeadsTo files g targets last (shown_all (drop k xs)) (shown_all xs) → RestPasses files g targets (shown_all xs) last
+all_pass files g targets last xs k over none leads =
+    ends_well files g targets last (shown_all xs) (subst (λ (l : List Numbered). LeadsTo files g targets last l (shown_all xs)) (none_left xs k over) leads) none
+
+pub text_stops : (files : Option Store) (g : Parts) (targets : ℕ) (last : Option RunRefusal) (r : RunRefusal) (xs : List Written) (k : ℕ) → length xs ≤ k → last ≡ Some r → LeadsTo files g targets last (shown_all (drop k xs)) (shown_all xs) → RestIsRefused files g targets (shown_all xs) last (Line r.fault) r.line
+text_stops files g targets last r xs k over some leads =
+    subst (λ (l : Option RunRefusal). RestIsRefused files g targets (shown_all xs) l (Line r.fault) r.line) (sym some)
+    (ends_refused files g targets r (shown_all xs)
+    (subst (λ (l : Option RunRefusal). LeadsTo files g targets l [] (shown_all xs)) some (subst (λ (l : List Numbered). LeadsTo files g targets last l (shown_all xs)) (none_left xs k over) leads)))
+
+-- ---- what is planned of the statements, in their order
+
+front_more : {X : Type 0} (o : Option X) (old rest : List X) → old ++ cons_option o [] ++ rest ≡ old ++ cons_option o rest
+front_more None old rest = ap (λ l. l ++ rest) (append-nil old)
+front_more (Some x) old rest = append_assoc old (x ∷ []) rest
+
+pub planned_more : {X : Type 0} (pick : Numbered → Option X) (xs : List Written) (k : ℕ) (d : Written) (old new whole : List X) → k < length xs → new ≡ old ++ cons_option (pick (shown_numbered (get_or xs k d))) [] → old ++ filter_map pick (shown_all (drop k xs)) ≡ whole → new ++ filter_map pick (shown_all (drop (k + 1) xs)) ≡ whole
+planned_more pick xs k d old new whole inside next before =
+    ap (λ l. l ++ filter_map pick (shown_all (drop (k + 1) xs))) next
+    ∙ front_more (pick (shown_numbered (get_or xs k d))) old (filter_map pick (shown_all (drop (k + 1) xs)))
+    ∙ ap (λ l. old ++ filter_map pick l) (sym (from_place xs k d inside))
+    ∙ before
+
+pub images_more : (g h : Parts) (xs : List Written) (k : ℕ) (d : Written) (old new whole : List (ℕ × List ℕ)) → k < length xs → h ≡ g → new ≡ old ++ images_in h (shown_numbered (get_or xs k d) ∷ []) → old ++ images_in g (shown_all (drop k xs)) ≡ whole → new ++ images_in g (shown_all (drop (k + 1) xs)) ≡ whole
+images_more g h xs k d old new whole inside same next before =
+    planned_more (λ (s : Numbered). image_in g s.1) xs k d old new whole inside
+    (next ∙ ap (λ (p : Parts). old ++ images_in p (shown_numbered (get_or xs k d) ∷ [])) same) before
+
+pub all_planned : {X : Type 0} (pick : Numbered → Option X) (xs : List Written) (k : ℕ) (new whole : List X) → length xs ≤ k → new ++ filter_map pick (shown_all (drop k xs)) ≡ whole → new ≡ whole
+all_planned pick xs k new whole over before = sym (append-nil new) ∙ ap (λ l. new ++ filter_map pick l) (sym (none_left xs k over)) ∙ before
+
+-- ---- the whole
+
+-- the statements after the first two
+pub rest_shown : (xs rest : List Written) → rest ≡ drop 2 xs → shown_all rest ≡ drop 2 (shown_all xs)
+rest_shown xs rest is = ap shown_all is ∙ sym (drop-map shown_numbered 2 xs)
+
+plan_passes : (files : Option Store) (told : Told) (page : ℕ × List ℕ) (g : Parts) (targets : ℕ) (rest : List Numbered) → page_of told.statements ≡ Some page → HasPage files page.1 g → targets_of told.statements ≡ Some targets → rest ≡ drop 2 told.statements → RestPasses files g targets rest told.fault → PlanPasses files told g targets
+plan_passes files told page g targets rest first has_page second is passes = record {
+  page = page;
+  has_first = first;
+  has_page = has_page;
+  has_targets = second;
+  rest = subst (λ (l : List Numbered). RestPasses files g targets l told.fault) is passes;
+}
+
+-- the same of the geometry and the targets that the plan has
+pub plan_passes_at : (files : Option Store) (told : Told) (page : ℕ × List ℕ) (g h : Parts) (targets n : ℕ) (rest : List Numbered) → h ≡ g → n ≡ targets → page_of told.statements ≡ Some page → HasPage files page.1 g → targets_of told.statements ≡ Some targets → rest ≡ drop 2 told.statements → RestPasses files g targets rest told.fault → PlanPasses files told h n
+plan_passes_at files told page g h targets n rest same_geometry same_targets first has_page second is passes =
+    subst (λ (p : Parts). PlanPasses files told p n) (sym same_geometry)
+    (subst (λ (m : ℕ). PlanPasses files told g m) (sym same_targets) (plan_passes files told page g targets rest first has_page second is passes))
+
+pub plan_refused : (files : Option Store) (told : Told) (page : ℕ × List ℕ) (g : Parts) (targets : ℕ) (rest : List Numbered) (r : NotRun) → page_of told.statements ≡ Some page → HasPage files page.1 g → targets_of told.statements ≡ Some targets → rest ≡ drop 2 told.statements → Refuses (RestIsRefused files g targets rest told.fault) r → Refuses (PlanIsRefused files told) r
+plan_refused files told page g targets rest r first has_page second is refused =
+    refused_more (RestIsRefused files g targets rest told.fault) (PlanIsRefused files told) r
+    (λ fault line h.
+    subst (λ (o : Option (ℕ × List ℕ)). PageStatementIsRefused files o told fault line) (sym first)
+    (inr (g, has_page, subst (λ (o : Option ℕ). AfterPageIsRefused files g o told fault line) (sym second) (subst (λ (l : List Numbered). RestIsRefused files g targets l told.fault fault line) is h))))
+    refused

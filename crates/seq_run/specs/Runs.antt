@@ -1,5 +1,5 @@
 -- A run: what its files say, what happens on its channel, and what is written and printed of it.
-use Rattle.std.specs.Prelude.{◌≡◌, ◌⊎◌, ℕ, ⊤, true, List, ◌++◌, reverse, Option}
+use Rattle.std.specs.Prelude.{◌≡◌, ◌⊎◌, ℕ, ⊤, true, List, ◌++◌, reverse, drop, Option}
 use Rattle.std.specs.Option.{option_copied}
 use Rattle.seq_files.specs.Store.{Store, Holds}
 use Rattle.onfi_cycle.specs.Permitted.{is_legal}
@@ -8,11 +8,13 @@ use Rattle.target_bus.specs.Bus.{Traced, channel_of, StandFor}
 use Rattle.run_file.specs.Told.{told}
 use Rattle.seq_run.specs.declared.request.RunRequest.{RunRequest}
 use Rattle.seq_run.specs.declared.plan.PlannedImage.{PlannedImage}
+use Rattle.seq_run.specs.declared.plan.RunPlan.{RunPlan}
+use Rattle.seq_run.specs.declared.running.Ran.{Ran}
 use Rattle.seq_run.specs.declared.job_ends.EndedJob.{EndedJob}
 use Rattle.seq_run.specs.declared.refusal.PlanRefusal.{PlanRefusal}
 use Rattle.seq_run.specs.declared.ending.RunEnd.{RunEnd}
-use Rattle.seq_run.specs.declared.ending.RunEnd.TheVariants as RunEnd
 use Rattle.seq_run.specs.Judged.{PlanPasses, PlanIsRefused}
+use Rattle.seq_run.specs.Planned.{outputs_of, images_in, planned_outputs, planned_images, ended_outputs}
 use Rattle.seq_run.specs.Lines.{job_lines}
 use Rattle.seq_run.specs.Written.{Written, with_all, IsCut, buffers_of, images_of, trace_at, shown_trace, codes_of}
 
@@ -33,11 +35,26 @@ writes_of request o = buffers_of o.jobs ++ (images_of o.dies o.images ++ trace_a
 abbrev pub lines_of : RunRequest → Outcome → List ℕ
 lines_of request o = shown_trace request.is_quiet (reverse o.bus.past) ++ job_lines 1 (codes_of o.jobs)
 
--- the run file is there, and all that it says passes on the channel of this outcome
+-- this has come of what was run
+pub record ShowsAll (ran : Ran) (o : Outcome) : Type 0 where
+  pub bus : o.bus ≡ ran.bus
+  pub jobs : o.jobs ≡ ran.jobs.items
+  pub images : o.images ≡ ran.images.items
+
+-- this has come of what was planned: each job has ended, and stands in its place
+pub record IsOutcomeOf (plan : RunPlan) (o : Outcome) : Type 0 where
+  pub geometry : o.bus.geometry ≡ plan.dies.geometry
+  pub targets : o.bus.targets ≡ plan.dies.targets
+  pub outputs : ended_outputs o.jobs ≡ planned_outputs plan.jobs.all.items
+  pub images : o.images ≡ plan.images.items
+
+-- the run file is there, and all that it says passes on the channel of this outcome; there are its jobs, with the outputs that it gives them, and its images
 pub record IsPlanned (files : Option Store) (request : RunRequest) (o : Outcome) : Type 0 where
   pub text : List ℕ
   pub is_there : Holds files request.path.now text
   pub passes : PlanPasses files (told text) o.bus.geometry o.bus.targets
+  pub outputs : ended_outputs o.jobs ≡ outputs_of (drop 2 (told text).statements)
+  pub images : planned_images o.images ≡ images_in o.bus.geometry (drop 2 (told text).statements)
 
 -- the run is done: everything is written and printed
 pub record IsRunDone (files later : Option Store) (request : RunRequest) (printed : List ℕ) : Type 0 where

@@ -20,6 +20,11 @@ unfoldable pub with_all : List Written → Option Store → Option Store
 with_all [] files = files
 with_all (w ∷ ws) files = with_all ws (with_file files w.0 w.1)
 
+-- the files after this one was written, if there is one
+abbrev pub with_one : Option Written → Option Store → Option Store
+with_one None files = files
+with_one (Some w) files = with_file files w.0 w.1
+
 -- of all files that are to be written the first are written, and these are left
 pub record IsWritten (all left : List Written) (files later : Option Store) : Type 0 where
   pub first : List Written

@@ -1,5 +1,5 @@
 //! The dies of a channel before a run.
-ghost use Rattle.std.specs.Prelude.{◌≡◌, ◌≤◌, ◌<◌, ◌*◌, IfOk, true, length};
+ghost use Rattle.std.specs.Prelude.{◌≡◌, ◌≤◌, ◌<◌, ◌+◌, ◌*◌, IfOk, true, length};
 ghost use Rattle.die_model.specs.Die.{is_new};
 ghost use Rattle.target_bus.specs.Bus.{are_new, is_new_of};
 ghost use Rattle.seq_core.specs.World.{fresh};
@@ -69,7 +69,9 @@ impl ChannelDies {
     }
 
     /// The number of a LUN's die.
-    pub(crate) fn number(&self, l: Lun) -> usize {
+    pub(crate) fn number(&self, l: Lun) -> usize
+        ensures { result ≡ l.ce * self.now.geometry.luns + l.lun }
+    {
         usize::from(l.ce) * usize::from(self.geometry.parts().luns) + usize::from(l.lun)
     }
 

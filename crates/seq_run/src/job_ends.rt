@@ -1,8 +1,9 @@
 //! The jobs of a run after their end, in the order of the run file.
-ghost use Rattle.std.specs.Prelude.{◌≡◌, ◌++◌, OnOk};
+ghost use Rattle.std.specs.Prelude.{◌≡◌, ◌++◌, IfOk, OnOk};
 ghost use Rattle.std.specs.String.{string_bytes};
 ghost use Rattle.seq_run.specs.Lines.{job_line, job_lines};
 ghost use Rattle.seq_run.specs.Written.{codes_of};
+ghost use Rattle.seq_run.specs.Planned.{planned_outputs, ended_outputs};
 
 use crate::plan::PlannedJob;
 use channel_work::{Name, NamedDone};
@@ -25,14 +26,28 @@ fn find_place(places: &[Vec<usize>], name: Name) -> Option<usize> {
         .copied()
 }
 
+// Puts a job that is done to the one planned in this place, if there is one.
+#[tactic(auto, using(crate::proofs::JobLines::outputs_stay))]
+fn put_one(planned: &mut [PlannedJob<'_>], place: usize, done: Done)
+    ensures { planned_outputs planned.new ≡ planned_outputs planned.old }
+{
+    if place < planned.len() {
+        let output = planned[place].output;
+        planned[place] = PlannedJob {
+            output,
+            done: Some(done),
+        };
+    }
+}
+
 // Puts the jobs that are done to those planned.
-fn put_done(planned: &mut [PlannedJob<'_>], places: &[Vec<usize>], done: Vec<NamedDone>) {
+fn put_done(planned: &mut [PlannedJob<'_>], places: &[Vec<usize>], done: Vec<NamedDone>)
+    ensures { planned_outputs planned.new ≡ planned_outputs planned.old }
+{
     for one in done {
         let NamedDone { name, done } = one;
         if let Some(place) = find_place(places, name) {
-            if let Some(job) = planned.get_mut(place) {
-                job.done = Some(done);
-            }
+            put_one(planned, place, done);
         }
     }
 }
@@ -43,7 +58,9 @@ pub(crate) fn end_jobs<'a>(
     planned: Vec<PlannedJob<'a>>,
     places: &[Vec<usize>],
     done: Vec<NamedDone>,
-) -> Result<Vec<EndedJob<'a>>, AllocError> {
+) -> Result<Vec<EndedJob<'a>>, AllocError>
+    ensures { IfOk result (λ ended. ended_outputs ended.items ≡ planned_outputs planned.entry.items) }
+{
     let mut planned = planned;
     put_done(planned.as_mut_slice(), places, done);
     let mut ended = Vec::with_capacity(alloc, planned.len())?;

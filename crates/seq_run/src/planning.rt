@@ -190,7 +190,7 @@ impl<'a> RunPlan<'a> {
     }
 
     // Adds the statements after the page and the targets, in their order, and comes to the fault of the text last.
-    #[tactic(auto, using(crate::proofs::Resting::begins, crate::proofs::Resting::goes_on, crate::proofs::Resting::stops, crate::proofs::Resting::ends_well, crate::proofs::Resting::ends_refused))]
+    #[tactic(auto, using(crate::proofs::Resting::begins, crate::proofs::Resting::all_planned))]
     fn add_all<F: Files>(
         &mut self,
         alloc: Global,
@@ -206,7 +206,9 @@ impl<'a> RunPlan<'a> {
         ensures stays { F.store files.new ≡ F.store files.old }
     {
         for &numbered in rest {
-            self.add_numbered(alloc, files, numbered)?;
+            if let Err(not_run) = self.add_numbered(alloc, files, numbered) {
+                return Err(not_run);
+            }
         }
         match last {
             Some(RunRefusal { fault, line }) => Err(refuse_line(fault, line)),
@@ -264,8 +266,33 @@ fn find_targets(statements: &[Numbered<'_>]) -> Option<u8>
     }
 }
 
+// The plan of the statements after the page and the targets, and then of the fault of the text.
+fn plan_rest<'a, F: Files>(
+    alloc: Global,
+    files: &mut F,
+    geometry: Geometry,
+    targets: u8,
+    rest: &[Numbered<'a>],
+    last: Option<RunRefusal>,
+) -> Result<RunPlan<'a>, NotRun<'a>>
+    requires { (1 ≤ targets) × (targets ≤ 4) }
+    ensures channel { IfOk result (λ plan. (plan.dies.geometry ≡ geometry) × (plan.dies.targets ≡ targets)) }
+    ensures ok { OnOk result (RestPasses (F.store files.old) geometry targets (shown_all rest.now) last) }
+    ensures jobs { IfOk result (λ plan. planned_outputs plan.jobs.all.items ≡ outputs_of (shown_all rest.now)) }
+    ensures images { IfOk result (λ plan. planned_images plan.images.items ≡ images_in geometry (shown_all rest.now)) }
+    ensures err { IfErr result (Refuses (RestIsRefused (F.store files.old) geometry targets (shown_all rest.now) last)) }
+    ensures stays { F.store files.new ≡ F.store files.old }
+{
+    let mut plan = RunPlan::new(alloc, geometry, targets)?;
+    match plan.add_all(alloc, files, rest, last) {
+        Ok(()) => Ok(plan),
+        Err(not_run) => Err(not_run),
+    }
+}
+
 /// Judges the statements of a run file in the order of their lines, each with the files that it names before the next, and then the fault of
 /// its text.
+#[tactic(auto, using(crate::proofs::Resting::plan_passes_at, crate::proofs::Resting::plan_refused, crate::proofs::Resting::rest_shown))]
 pub fn plan_run<'a, F: Files>(
     alloc: Global,
     files: &mut F,
@@ -288,7 +315,9 @@ pub fn plan_run<'a, F: Files>(
     let Some(targets) = find_targets(statements) else {
         return Err(refuse_end(text.fault));
     };
-    let mut plan = RunPlan::new(alloc, geometry, targets)?;
-    plan.add_all(alloc, files, statements.split_at(2).1, text.fault)?;
-    Ok(plan)
+    let rest = statements.split_at(2).1;
+    match plan_rest(alloc, files, geometry, targets, rest, text.fault) {
+        Ok(plan) => Ok(plan),
+        Err(not_run) => Err(not_run),
+    }
 }

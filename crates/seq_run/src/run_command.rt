@@ -1,5 +1,5 @@
 //! The command that runs a channel.
-ghost use Rattle.std.specs.Prelude.{◌≡◌, ◌⊎◌, List, ℕ, IfOk, IfErr, OnOk, OnErr};
+ghost use Rattle.std.specs.Prelude.{◌≡◌, ◌⊎◌, List, ℕ, drop, IfOk, IfErr, OnOk, OnErr};
 ghost use Rattle.std.specs.Io.KnownBytes.{Appends};
 ghost use Rattle.run_file.specs.Told.{told};
 ghost use Rattle.seq_files.specs.Store.{Holds, with_file};
@@ -8,8 +8,9 @@ ghost use Rattle.seq_run.specs.Failures.{Refuses, RefusesNothing, Tells};
 ghost use Rattle.seq_run.specs.Runs.{EndsUnrefused};
 ghost use Rattle.seq_run.specs.Judged.{PlanPasses, PlanIsRefused};
 ghost use Rattle.seq_run.specs.Lines.{line_of};
+ghost use Rattle.seq_run.specs.Planned.{outputs_of, images_in, planned_outputs, planned_images};
 ghost use Rattle.seq_run.specs.Written.{with_all, IsCut};
-ghost use Rattle.seq_run.specs.Runs.{Outcome, writes_of, lines_of, IsRunDone, RunIsRefused, RunMayLeave};
+ghost use Rattle.seq_run.specs.Runs.{Outcome, IsOutcomeOf, writes_of, lines_of, IsRunDone, RunIsRefused, RunMayLeave};
 
 use crate::ending::RunEnd;
 use crate::explaining::Explained;
@@ -35,6 +36,8 @@ fn plan_text<'a, F: Files>(
     text: &'a str,
 ) -> Result<RunPlan<'a>, NotRun<'a>>
     ensures ok { IfOk result (λ plan. PlanPasses (F.store files.old) (told text.entry.now) plan.dies.geometry plan.dies.targets) }
+    ensures jobs { IfOk result (λ plan. planned_outputs plan.jobs.all.items ≡ outputs_of (drop 2 (told text.entry.now).statements)) }
+    ensures images { IfOk result (λ plan. planned_images plan.images.items ≡ images_in plan.dies.geometry (drop 2 (told text.entry.now).statements)) }
     ensures err { IfErr result (Refuses (PlanIsRefused (F.store files.old) (told text.entry.now))) }
     ensures stays { F.store files.new ≡ F.store files.old }
 {
@@ -51,11 +54,11 @@ fn carry_out<'a, R: Threads + Wait + Sync, F: Files, W: Write>(
     request: RunRequest<'a>,
     plan: RunPlan<'a>,
 ) -> Result<Summary, NotRun<'a>>
-    ensures ok { OnOk result ((o : Outcome) × (o.bus.geometry ≡ plan.entry.dies.geometry) × (o.bus.targets ≡ plan.entry.dies.targets)
+    ensures ok { OnOk result ((o : Outcome) × IsOutcomeOf plan.entry o
         × (F.store files.new ≡ with_all (writes_of request.entry o) (F.store files.old))
         × Appends (W.contents output.old) (W.contents output.new) (lines_of request.entry o)) }
-    ensures err { OnErr result ((F.store files.new ≡ F.store files.old) ⊎ ((o : Outcome) × (o.bus.geometry ≡ plan.entry.dies.geometry)
-        × (o.bus.targets ≡ plan.entry.dies.targets) × IsCut (writes_of request.entry o) (F.store files.old) (F.store files.new))) }
+    ensures err { OnErr result ((F.store files.new ≡ F.store files.old) ⊎ ((o : Outcome) × IsOutcomeOf plan.entry o
+        × IsCut (writes_of request.entry o) (F.store files.old) (F.store files.new))) }
     ensures nothing { IfErr result RefusesNothing }
 {
     let ran = run_plan(rt, alloc, plan, request.workers)?;

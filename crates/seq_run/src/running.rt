@@ -3,6 +3,7 @@ ghost use Rattle.std.specs.Prelude.{◌≡◌, ◌≤◌, [], IfOk};
 ghost use Rattle.seq_core.specs.World.{fresh};
 ghost use Rattle.seq_core.specs.Shows.{IsAt, channel_in};
 ghost use Rattle.seq_run.specs.Hosts.{OwnsAll};
+ghost use Rattle.seq_run.specs.Planned.{planned_outputs, ended_outputs};
 
 use crate::gate::RunGate;
 use crate::hosts::{Host, run_hosts};
@@ -210,7 +211,9 @@ pub(crate) fn run_plan<'a, R: Threads + Wait + Sync>(
     plan: RunPlan<'a>,
     workers: u8,
 ) -> Result<Ran<'a>, AllocError>
-    ensures { IfOk result (λ ran. (ran.bus.geometry ≡ plan.entry.dies.geometry) × (ran.bus.targets ≡ plan.entry.dies.targets)) }
+    ensures channel { IfOk result (λ ran. (ran.bus.geometry ≡ plan.entry.dies.geometry) × (ran.bus.targets ≡ plan.entry.dies.targets)) }
+    ensures jobs { IfOk result (λ ran. ended_outputs ran.jobs.items ≡ planned_outputs plan.entry.jobs.all.items) }
+    ensures images { IfOk result (λ ran. ran.images ≡ plan.entry.images) }
 {
     let RunPlan {
         dies,

@@ -1,14 +1,16 @@
 //! Writing what came of a run: the buffers of jobs, the images of dies, and the trace with the jobs' codes.
 ghost use Rattle.std.specs.Prelude.{◌≡◌, ◌++◌, [], ◌⊎◌, IfOk, IfErr, OnOk, OnErr, reverse, map};
 ghost use Rattle.std.specs.Io.KnownBytes.{Appends};
+ghost use Rattle.std.specs.List.{cons_option};
 ghost use Rattle.std.specs.Option.{option_copied};
 ghost use Rattle.std.specs.String.{string_bytes};
 ghost use Rattle.seq_files.specs.Store.{with_file};
+ghost use Rattle.die_model.specs.Image.{image_of};
 ghost use Rattle.trace_text.specs.Line.{text};
 ghost use Rattle.seq_run.specs.Lines.{job_lines};
 ghost use Rattle.seq_run.specs.Failures.{RefusesNothing};
-ghost use Rattle.seq_run.specs.Written.{with_all, IsWritten, IsCut, buffers_of, images_of, trace_at, written_of, traces_of, shown_trace, codes_of};
-ghost use Rattle.seq_run.specs.Runs.{Outcome, writes_of, lines_of};
+ghost use Rattle.seq_run.specs.Written.{with_all, with_one, IsWritten, IsCut, buffer_of, buffers_of, image_at, images_of, trace_at, written_of, traces_of, shown_trace, codes_of};
+ghost use Rattle.seq_run.specs.Runs.{Outcome, ShowsAll, writes_of, lines_of};
 
 use crate::failure::NotRun;
 use crate::job_ends::{EndedJob, push_job_lines};
@@ -43,23 +45,33 @@ fn write_file<'a, F: Files>(files: &mut F, path: &'a str, bytes: &[u8]) -> Resul
     }
 }
 
+// Writes the buffer of a job, if it has an output.
+fn write_buffer<'a, F: Files>(files: &mut F, job: &EndedJob<'a>) -> Result<(), NotRun<'a>>
+    ensures ok { OnOk result (F.store files.new ≡ with_one (buffer_of job.now) (F.store files.old)) }
+    ensures err { OnErr result (F.store files.new ≡ F.store files.old) }
+    ensures nothing { IfErr result RefusesNothing }
+{
+    match job.output {
+        Some(path) => write_file(files, path, job.done.job.buffer()),
+        None => Ok(()),
+    }
+}
+
 // Writes the buffer of each job that has an output, in the order of the jobs.
-#[tactic(auto, using(crate::proofs::FilesWritten::begins, crate::proofs::FilesWritten::writes))]
+#[tactic(auto, using(crate::proofs::FilesWritten::begins, crate::proofs::FilesWritten::buffer_more))]
 fn write_buffers<'a, F: Files>(files: &mut F, jobs: &[EndedJob<'a>]) -> Result<(), NotRun<'a>>
     ensures ok { OnOk result (IsWritten (buffers_of jobs.now) [] (F.store files.old) (F.store files.new)) }
     ensures err { OnErr result (IsCut (buffers_of jobs.now) (F.store files.old) (F.store files.new)) }
     ensures nothing { IfErr result RefusesNothing }
 {
     for job in jobs {
-        if let Some(path) = job.output {
-            write_file(files, path, job.done.job.buffer())?;
-        }
+        write_buffer(files, job)?;
     }
     Ok(())
 }
 
 // Writes files in their order.
-#[tactic(auto, using(crate::proofs::FilesWritten::begins, crate::proofs::FilesWritten::writes))]
+#[tactic(auto, using(crate::proofs::FilesWritten::begins, crate::proofs::FilesWritten::file_more))]
 fn write_files<'a, F: Files>(files: &mut F, outgoing: &[Outgoing<'a>]) -> Result<(), NotRun<'a>>
     ensures ok { OnOk result (IsWritten (map written_of outgoing.now) [] (F.store files.old) (F.store files.new)) }
     ensures err { OnErr result (IsCut (map written_of outgoing.now) (F.store files.old) (F.store files.new)) }
@@ -71,7 +83,37 @@ fn write_files<'a, F: Files>(files: &mut F, outgoing: &[Outgoing<'a>]) -> Result
     Ok(())
 }
 
+// The image of a die, for this path.
+fn make_image<'a>(path: &'a str, die: &LunDie) -> Result<Outgoing<'a>, AllocError>
+    ensures { IfOk result (λ file. written_of file ≡ (path.now, image_of die.now)) }
+{
+    Ok(Outgoing {
+        path,
+        bytes: die.image()?,
+    })
+}
+
+// Adds the image of a die to the files that are to be written.
+#[tactic(auto, using(crate::proofs::FilesWritten::pushed, crate::proofs::FilesWritten::not_pushed))]
+fn push_image<'a>(
+    made: &mut Vec<Outgoing<'a>>,
+    dies: &[LunDie],
+    image: &PlannedImage<'a>,
+) -> Result<(), AllocError>
+    ensures { OnOk result (map written_of made.new.items ≡ map written_of made.old.items ++ cons_option (image_at dies.now image.now) []) }
+{
+    match dies.get(image.number) {
+        Some(die) => {
+            let file = make_image(image.path, die)?;
+            made.push(file)?;
+            Ok(())
+        }
+        None => Ok(()),
+    }
+}
+
 // The images of dies that are to be written.
+#[tactic(auto, using(crate::proofs::FilesWritten::image_more))]
 fn make_images<'a>(
     alloc: Global,
     dies: &[LunDie],
@@ -81,12 +123,7 @@ fn make_images<'a>(
 {
     let mut made = Vec::new(alloc);
     for image in images {
-        if let Some(die) = dies.get(image.number) {
-            made.push(Outgoing {
-                path: image.path,
-                bytes: die.image()?,
-            })?;
-        }
+        push_image(&mut made, dies, image)?;
     }
     Ok(made)
 }
@@ -155,7 +192,7 @@ fn make_outgoing<'a>(
 }
 
 // Writes the buffers, and then the other files.
-#[tactic(auto, using(crate::proofs::FilesWritten::cut_first, crate::proofs::FilesWritten::then))]
+#[tactic(auto, using(crate::proofs::FilesWritten::cut_first, crate::proofs::FilesWritten::cut_next, crate::proofs::FilesWritten::then))]
 fn write_all<'a, F: Files>(
     files: &mut F,
     jobs: &[EndedJob<'a>],
@@ -181,9 +218,28 @@ fn print_lines<'a, W: Write>(output: &mut W, text: &str) -> Result<(), NotRun<'a
     }
 }
 
+// Writes the files, and then prints.
+#[tactic(auto, using(crate::proofs::FilesWritten::ends, crate::proofs::FilesWritten::all_cut))]
+fn write_outcome<'a, F: Files, W: Write>(
+    files: &mut F,
+    output: &mut W,
+    jobs: &[EndedJob<'a>],
+    outgoing: &[Outgoing<'a>],
+    lines: &str,
+) -> Result<(), NotRun<'a>>
+    ensures files { OnOk result (F.store files.new ≡ with_all (buffers_of jobs.now ++ map written_of outgoing.now) (F.store files.old)) }
+    ensures printed { OnOk result (Appends (W.contents output.old) (W.contents output.new) lines.now) }
+    ensures err { OnErr result (IsCut (buffers_of jobs.now ++ map written_of outgoing.now) (F.store files.old) (F.store files.new)) }
+    ensures nothing { IfErr result RefusesNothing }
+{
+    match write_all(files, jobs, outgoing) {
+        Ok(()) => print_lines(output, lines),
+        Err(not_run) => Err(not_run),
+    }
+}
+
 /// Writes the buffers in the order of the jobs, the images in the order of their lines, the file of the trace if there is one, and then prints. It
 /// tells what there was. What takes memory comes before the first file is written.
-#[tactic(auto, using(crate::proofs::FilesWritten::ends))]
 pub(crate) fn write_run<'a, F: Files, W: Write>(
     alloc: Global,
     files: &mut F,
@@ -191,9 +247,9 @@ pub(crate) fn write_run<'a, F: Files, W: Write>(
     request: RunRequest<'a>,
     ran: Ran<'a>,
 ) -> Result<Summary, NotRun<'a>>
-    ensures ok { OnOk result ((o : Outcome) × (o.bus ≡ ran.entry.bus) × (F.store files.new ≡ with_all (writes_of request.entry o) (F.store files.old))
+    ensures ok { OnOk result ((o : Outcome) × ShowsAll ran.entry o × (F.store files.new ≡ with_all (writes_of request.entry o) (F.store files.old))
         × Appends (W.contents output.old) (W.contents output.new) (lines_of request.entry o)) }
-    ensures err { OnErr result ((F.store files.new ≡ F.store files.old) ⊎ ((o : Outcome) × (o.bus ≡ ran.entry.bus) × IsCut (writes_of request.entry o) (F.store files.old) (F.store files.new))) }
+    ensures err { OnErr result ((F.store files.new ≡ F.store files.old) ⊎ ((o : Outcome) × ShowsAll ran.entry o × IsCut (writes_of request.entry o) (F.store files.old) (F.store files.new))) }
     ensures nothing { IfErr result RefusesNothing }
 {
     let Ran { bus, images, jobs } = ran;
@@ -202,7 +258,14 @@ pub(crate) fn write_run<'a, F: Files, W: Write>(
     let summary = Summary::of(jobs.len(), bus.trace());
     let dies = bus.into_dies();
     let outgoing = make_outgoing(alloc, dies.as_slice(), images.as_slice(), trace)?;
-    write_all(files, jobs.as_slice(), outgoing.as_slice())?;
-    print_lines(output, lines.as_str())?;
-    Ok(summary)
+    match write_outcome(
+        files,
+        output,
+        jobs.as_slice(),
+        outgoing.as_slice(),
+        lines.as_str(),
+    ) {
+        Ok(()) => Ok(summary),
+        Err(not_run) => Err(not_run),
+    }
 }

@@ -1,4 +1,4 @@
-use Rattle.std.proofs.Common.{◌≡◌, drop}
+use Rattle.std.proofs.Common.{drop}
 use Rattle.seq_run.specs.Written.{IsWritten, buffers_of}
 use Rattle.seq_run.proofs.writing.write_buffers.Given as goal
 

@@ -1,4 +1,4 @@
-use Rattle.std.proofs.Common.{◌≡◌, drop, map}
+use Rattle.std.proofs.Common.{drop, map}
 use Rattle.seq_run.specs.Written.{IsWritten, written_of}
 use Rattle.seq_run.proofs.writing.write_files.Given as goal
 

@@ -1,0 +1,132 @@
+-- What has come of a plan has come of the run file that was planned.
+use Rattle.std.proofs.Common.{◌≡◌, ◌⊎◌, List, [], ◌++◌, ℕ, true, drop, reverse, Option, Result, Ok, Err, OnOk, OnErr, refl, sym, ap, ◌∙◌, subst, inl, inr}
+use Rattle.std.proofs.lemmas.List.{append-nil}
+use Rattle.std.specs.Option.{option_copied}
+use Rattle.seq_files.specs.Store.{Store, Holds}
+use Rattle.nand_geometry.specs.declared.Parts.{Parts}
+use Rattle.run_file.specs.Told.{told}
+use Rattle.seq_run.specs.declared.request.RunRequest.{RunRequest}
+use Rattle.seq_run.specs.declared.plan.RunPlan.{RunPlan}
+use Rattle.seq_run.specs.Judged.{PlanPasses}
+use Rattle.seq_run.specs.Planned.{outputs_of, images_in, planned_outputs, planned_images, ended_outputs}
+use Rattle.onfi_cycle.specs.Permitted.{is_legal}
+use Rattle.die_model.specs.Die.{Die}
+use Rattle.target_bus.specs.Bus.{Traced, channel_of, StandFor}
+use Rattle.seq_run.specs.declared.running.Ran.{Ran}
+use Rattle.seq_run.specs.Lines.{job_lines}
+use Rattle.seq_run.specs.Written.{Written, with_all, IsCut, buffers_of, images_of, trace_at, shown_trace, codes_of}
+use Rattle.seq_run.specs.Runs.{Outcome, ShowsAll, IsOutcomeOf, IsPlanned, IsRunDone, RunMayLeave, writes_of, lines_of}
+use Rattle.seq_run.specs.declared.refusal.PlanFault.{PlanFault}
+use Rattle.seq_run.specs.declared.refusal.PlanRefusal.{PlanRefusal}
+use Rattle.seq_run.specs.declared.failure.NotRun.{NotRun}
+use Rattle.seq_run.specs.declared.failure.NotRun.TheVariants as not_run
+use Rattle.seq_run.specs.Failures.{Refuses, RefusesNothing, Tells}
+
+pub is_planned : (files : Option Store) (request : RunRequest) (text : List ℕ) (plan : RunPlan) (o : Outcome) → Holds files request.path.now text → PlanPasses files (told text) plan.dies.geometry plan.dies.targets → planned_outputs plan.jobs.all.items ≡ outputs_of (drop 2 (told text).statements) → planned_images plan.images.items ≡ images_in plan.dies.geometry (drop 2 (told text).statements) → IsOutcomeOf plan o → IsPlanned files request o
+is_planned files request text plan o is_there passes outputs images is = record {
+  text = text;
+  is_there = is_there;
+  passes = subst (λ (g : Parts). PlanPasses files (told text) g o.bus.targets) (sym is.geometry) (subst (λ (n : ℕ). PlanPasses files (told text) plan.dies.geometry n) (sym is.targets) passes);
+  outputs = is.outputs ∙ outputs;
+  images = ap planned_images is.images ∙ images ∙ ap (λ (g : Parts). images_in g (drop 2 (told text).statements)) (sym is.geometry);
+}
+
+-- what has come of a channel: its bus, and the dies as that left them
+abbrev pub made : (ran : Ran) (dies : List Die) → is_legal ran.bus.geometry ran.bus.targets ran.bus.past ≡ true → StandFor (channel_of ran.bus) ran.bus.past dies → Outcome
+made ran dies legal stand = record { bus = ran.bus; legal = legal; dies = dies; stand = stand; jobs = ran.jobs.items; images = ran.images.items }
+
+pub is_done : (request : RunRequest) (ran : Ran) (dies : List Die) (outgoing : List Written) (files later : Option Store) (Prints : List ℕ → Type 0) (lines : List ℕ) → is_legal ran.bus.geometry ran.bus.targets ran.bus.past ≡ true → StandFor (channel_of ran.bus) ran.bus.past dies → outgoing ≡ images_of dies ran.images.items ++ trace_at (option_copied request.trace) (reverse ran.bus.past) → later ≡ with_all (buffers_of ran.jobs.items ++ outgoing) files → lines ≡ shown_trace request.is_quiet (reverse ran.bus.past) ++ job_lines 1 (codes_of ran.jobs.items) → Prints lines → (o : Outcome) × ShowsAll ran o × (later ≡ with_all (writes_of request o) files) × Prints (lines_of request o)
+is_done request ran dies outgoing files later Prints lines legal stand is_outgoing left is_lines prints = (
+  made ran dies legal stand,
+  record { bus = refl; jobs = refl; images = refl },
+  left ∙ ap (λ (l : List Written). with_all (buffers_of ran.jobs.items ++ l) files) is_outgoing,
+  subst Prints is_lines prints,
+)
+
+pub is_run_cut : (request : RunRequest) (ran : Ran) (dies : List Die) (outgoing : List Written) (files later : Option Store) → is_legal ran.bus.geometry ran.bus.targets ran.bus.past ≡ true → StandFor (channel_of ran.bus) ran.bus.past dies → outgoing ≡ images_of dies ran.images.items ++ trace_at (option_copied request.trace) (reverse ran.bus.past) → IsCut (buffers_of ran.jobs.items ++ outgoing) files later → (o : Outcome) × ShowsAll ran o × IsCut (writes_of request o) files later
+is_run_cut request ran dies outgoing files later legal stand is_outgoing cut = (
+  made ran dies legal stand,
+  record { bus = refl; jobs = refl; images = refl },
+  subst (λ (l : List Written). IsCut (buffers_of ran.jobs.items ++ l) files later) is_outgoing cut,
+)
+
+pub on_ok : {A E P Q : Type 0} (r : Result A E) → OnOk r P → (P → Q) → OnOk r Q
+on_ok (Ok x) h f = f h
+on_ok (Err e) h f = h
+
+pub on_err : {A E P Q : Type 0} (r : Result A E) → OnErr r P → (P → Q) → OnErr r Q
+on_err (Ok x) h f = h
+on_err (Err e) h f = f h
+
+-- ---- of a plan
+
+is_outcome : (plan : RunPlan) (ran : Ran) (o : Outcome) → (ran.bus.geometry ≡ plan.dies.geometry) × (ran.bus.targets ≡ plan.dies.targets) → ended_outputs ran.jobs.items ≡ planned_outputs plan.jobs.all.items → ran.images ≡ plan.images → ShowsAll ran o → IsOutcomeOf plan o
+is_outcome plan ran o channel outputs images shows = record {
+  geometry = ap (λ (b : Traced). b.geometry) shows.bus ∙ channel.0;
+  targets = ap (λ (b : Traced). b.targets) shows.bus ∙ channel.1;
+  outputs = ap ended_outputs shows.jobs ∙ outputs;
+  images = shows.images ∙ ap (λ v. v.items) images;
+}
+
+pub done_of_plan : (request : RunRequest) (plan : RunPlan) (ran : Ran) (files later : Option Store) (Prints : List ℕ → Type 0) → (ran.bus.geometry ≡ plan.dies.geometry) × (ran.bus.targets ≡ plan.dies.targets) → ended_outputs ran.jobs.items ≡ planned_outputs plan.jobs.all.items → ran.images ≡ plan.images → (o : Outcome) × ShowsAll ran o × (later ≡ with_all (writes_of request o) files) × Prints (lines_of request o) → (o : Outcome) × IsOutcomeOf plan o × (later ≡ with_all (writes_of request o) files) × Prints (lines_of request o)
+done_of_plan request plan ran files later Prints channel outputs images (o, shows, left, prints) = (o, is_outcome plan ran o channel outputs images shows, left, prints)
+
+pub cut_of_plan : (request : RunRequest) (plan : RunPlan) (ran : Ran) (files later : Option Store) → (ran.bus.geometry ≡ plan.dies.geometry) × (ran.bus.targets ≡ plan.dies.targets) → ended_outputs ran.jobs.items ≡ planned_outputs plan.jobs.all.items → ran.images ≡ plan.images → (later ≡ files) ⊎ ((o : Outcome) × ShowsAll ran o × IsCut (writes_of request o) files later) → (later ≡ files) ⊎ ((o : Outcome) × IsOutcomeOf plan o × IsCut (writes_of request o) files later)
+cut_of_plan request plan ran files later channel outputs images (inl same) = inl same
+cut_of_plan request plan ran files later channel outputs images (inr (o, shows, cut)) = inr (o, is_outcome plan ran o channel outputs images shows, cut)
+
+-- ---- of the text of a run file
+
+-- what is planned of the text
+pub record IsPlanOf (files : Option Store) (text : List ℕ) (plan : RunPlan) : Type 0 where
+  pub passes : PlanPasses files (told text) plan.dies.geometry plan.dies.targets
+  pub outputs : planned_outputs plan.jobs.all.items ≡ outputs_of (drop 2 (told text).statements)
+  pub images : planned_images plan.images.items ≡ images_in plan.dies.geometry (drop 2 (told text).statements)
+
+planned_of : (files : Option Store) (request : RunRequest) (text : List ℕ) (plan : RunPlan) (o : Outcome) → Holds files request.path.now text → IsPlanOf files text plan → IsOutcomeOf plan o → IsPlanned files request o
+planned_of files request text plan o is_there is of_plan = is_planned files request text plan o is_there is.passes is.outputs is.images of_plan
+
+pub run_is_done : (request : RunRequest) (text : List ℕ) (plan : RunPlan) (files now later : Option Store) (Prints : List ℕ → Type 0) → now ≡ files → Holds files request.path.now text → IsPlanOf files text plan → (o : Outcome) × IsOutcomeOf plan o × (later ≡ with_all (writes_of request o) now) × Prints (lines_of request o) → (printed : List ℕ) × IsRunDone files later request printed × Prints printed
+run_is_done request text plan files now later Prints same is_there is (o, of_plan, left, prints) = (
+  lines_of request o,
+  record {
+    o = o;
+    planned = planned_of files request text plan o is_there is of_plan;
+    left = left ∙ ap (λ (s : Option Store). with_all (writes_of request o) s) same;
+    is_printed = refl;
+  },
+  prints,
+)
+
+pub done_leaves : (request : RunRequest) (text : List ℕ) (plan : RunPlan) (files now later : Option Store) (Prints : List ℕ → Type 0) → now ≡ files → Holds files request.path.now text → IsPlanOf files text plan → (o : Outcome) × IsOutcomeOf plan o × (later ≡ with_all (writes_of request o) now) × Prints (lines_of request o) → RunMayLeave files later request
+done_leaves request text plan files now later Prints same is_there is (o, of_plan, left, prints) = inr (record {
+  o = o;
+  planned = planned_of files request text plan o is_there is of_plan;
+  cut = (
+    [],
+    record {
+      first = writes_of request o;
+      both = sym (append-nil (writes_of request o));
+      now = left ∙ ap (λ (s : Option Store). with_all (writes_of request o) s) same;
+    },
+  );
+})
+
+pub cut_leaves : (request : RunRequest) (text : List ℕ) (plan : RunPlan) (files now later : Option Store) → now ≡ files → Holds files request.path.now text → IsPlanOf files text plan → (later ≡ now) ⊎ ((o : Outcome) × IsOutcomeOf plan o × IsCut (writes_of request o) now later) → RunMayLeave files later request
+cut_leaves request text plan files now later same is_there is (inl none) = inl (none ∙ same)
+cut_leaves request text plan files now later same is_there is (inr (o, of_plan, cut)) = inr (record {
+  o = o;
+  planned = planned_of files request text plan o is_there is of_plan;
+  cut = subst (λ (s : Option Store). IsCut (writes_of request o) s later) same cut;
+})
+
+-- what is told is refused
+pub told_refused : (May : PlanFault → ℕ → Type 0) (refusal : PlanRefusal) (r : NotRun) → Tells refusal r → Refuses May r → May refusal.fault refusal.line
+told_refused May refusal (not_run.Refused other path) same h = subst (λ (p : PlanRefusal). May p.fault p.line) (sym same) h
+told_refused May refusal (not_run.FileFault path) same h = absurd same
+told_refused May refusal not_run.OutOfMemory same h = absurd same
+
+pub nothing_told : (refusal : PlanRefusal) (r : NotRun) → Tells refusal r → RefusesNothing r → ⊥
+nothing_told refusal (not_run.Refused other path) same h = h
+nothing_told refusal (not_run.FileFault path) same h = same
+nothing_told refusal not_run.OutOfMemory same h = same
