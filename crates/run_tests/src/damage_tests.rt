@@ -194,7 +194,7 @@ fn damage_file(alloc: Global, bytes: &[u8], damage: &Damage) -> Result<Vec<u8>, 
 // Files with the damaged one as `bad`, and a run file that names it.
 fn make_damaged(alloc: Global, run: &str, damage: &Damage) -> Result<MapFiles, Fail> {
     let mut files = make_files(alloc)?;
-    files.put("row", make_image(alloc, &[0xa5])?.as_slice())?;
+    files.put("row", make_image(alloc, 0, &[0xa5])?.as_slice())?;
     let good = files.get(damage.file).ok_or("the file is there")?;
     let bad = damage_file(alloc, good, damage)?;
     files.put("bad", bad.as_slice())?;

@@ -61,7 +61,7 @@ const WRITTEN: [Written; 5] = [
 // The files before the run, each of those that are written with bytes of its own.
 fn make_old(alloc: Global) -> Result<MapFiles, Fail> {
     let mut files = make_files(alloc)?;
-    let image = make_image(alloc, &[0xa5])?;
+    let image = make_image(alloc, 0, &[0xa5])?;
     files.put("run", RUN.as_bytes())?;
     files.put("die0", image.as_slice())?;
     files.put("die1", image.as_slice())?;

@@ -75,7 +75,7 @@ fn everything_in_one_file(rt: HostRuntime) -> Result<(), Fail> {
     let mut files = make_files(rt.alloc())?;
     files.put("run", EVERYTHING.as_bytes())?;
     files.put("first", &EMPTY)?;
-    files.put("second", make_image(rt.alloc(), &[0x77])?.as_slice())?;
+    files.put("second", make_image(rt.alloc(), 0, &[0x77])?.as_slice())?;
     files.put("in", &[0xa5, 0x3c])?;
     let played = play(&rt, &mut files, ask(1));
     assert_eq!(rt; str::from_utf8(played.output.as_slice())?, EVERY_LINE);
@@ -83,7 +83,7 @@ fn everything_in_one_file(rt: HostRuntime) -> Result<(), Fail> {
     expect_file(&rt, &files, "out", &[0xa5, 0x3c, 0xa5, 0x3c], 4)?;
     expect_file(&rt, &files, "out2", &[], 0)?;
     expect_file(&rt, &files, "first", &FIRST, 556)?;
-    let second = make_image(rt.alloc(), &[0x77])?;
+    let second = make_image(rt.alloc(), 0, &[0x77])?;
     assert_eq!(rt; files.get("second"), Some(second.as_slice()));
     Ok(())
 }

@@ -17,3 +17,5 @@ mod refusal_tests;
 mod tests;
 #[cfg(test)]
 mod thread_tests;
+#[cfg(test)]
+mod worked_tests;

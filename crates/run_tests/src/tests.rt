@@ -29,6 +29,12 @@ pub(crate) const TWO_LUNS: Parts = Parts {
     ..ONE_LUN
 };
 
+// One such LUN with the cache read.
+const CACHE: Parts = Parts {
+    cache: true,
+    ..ONE_LUN
+};
+
 // The erase of one block: cmd 60, addr 2 3, cmd d0, wait, end 0; rows 1, budget 5.
 pub(crate) const ERASE: [u8; 36] = [
     0x4e, 0x4d, 0x50, 0x31, 0x05, 0x00, 0x01, 0x00, 0x00, 0x00, 0x00, 0x00, 0x05, 0x00, 0x00, 0x00,
@@ -59,11 +65,12 @@ pub(crate) struct Played {
     pub errors: Vec<u8>,
 }
 
-// Files with the pages `one` and `two` of these LUNs, and the word file `erase`.
+// Files with the pages `one`, `two` and `cache` of these LUNs, the word files `erase` and `both`, and the image `empty`.
 pub(crate) fn make_files(alloc: Global) -> Result<MapFiles, Fail> {
     let mut files = MapFiles::new(alloc);
     files.put("one", &Geometry::of(ONE_LUN)?.page())?;
     files.put("two", &Geometry::of(TWO_LUNS)?.page())?;
+    files.put("cache", &Geometry::of(CACHE)?.page())?;
     files.put("erase", &ERASE)?;
     files.put("both", &BOTH)?;
     files.put("empty", &EMPTY)?;
@@ -97,11 +104,11 @@ pub(crate) fn play<R: Threads + Wait + Sync + AllocGlobal>(
     }
 }
 
-// The image of a die of the one LUN or of the two, whose row 0 begins with these bytes and is else erased.
-pub(crate) fn make_image(alloc: Global, first: &[u8]) -> Result<Vec<u8>, Fail> {
+// The image of a die of the one LUN or of the two, one row of which begins with these bytes and is else erased.
+pub(crate) fn make_image(alloc: Global, row: u8, first: &[u8]) -> Result<Vec<u8>, Fail> {
     let mut image = EMPTY.to_vec(alloc)?;
     image[20] = 1;
-    image.extend_from_slice(&[0, 0, 0, 0])?;
+    image.extend_from_slice(&[row, 0, 0, 0])?;
     image.extend_from_slice(first)?;
     image.resize(556, 0xff)?;
     Ok(image)
@@ -144,7 +151,7 @@ pub(crate) fn try_all<R: Threads + Wait + Sync + Abort + AllocGlobal>(
     Ok(())
 }
 
-const TWO_JOBS: [Tried; 6] = [
+const TWO_JOBS: [Tried; 7] = [
     Tried {
         run: "page two\ntargets 1\npolls 1\njob 0 0 0 erase - -\njob 0 1 0 erase - -\n",
         output: "0 C 60\n0 A 00\n0 A 00\n0 A 00\n0 C d0\n0 C 78\n0 A 00\n0 A 00\n0 A 00\n0 O 80\n0 R 0 0\n0 C 60\n0 A 20\n0 A 00\n0 A 00\n0 C d0\n0 C 78\n0 A 20\n0 A 00\n0 A 00\n0 O 80\n0 R 1 0\n0 C 78\n0 A 00\n0 A 00\n0 A 00\n0 O e0\n0 C 78\n0 A 20\n0 A 00\n0 A 00\n0 O e0\njob 1 end 0\njob 2 end 0\n",
@@ -158,6 +165,12 @@ const TWO_JOBS: [Tried; 6] = [
     Tried {
         run: "page two\ntargets 1\npolls 1\njob 0 0 15 erase - -\njob 0 1 0 erase - -\n",
         output: "0 C 60\n0 A 1b\n0 A 00\n0 A 00\n0 C d0\n0 C 78\n0 A 00\n0 A 00\n0 A 00\n0 O 80\n0 R 0 0\n0 C 60\n0 A 20\n0 A 00\n0 A 00\n0 C d0\n0 C 78\n0 A 20\n0 A 00\n0 A 00\n0 O 80\n0 R 1 0\n0 C 78\n0 A 00\n0 A 00\n0 A 00\n0 O e0\n0 C 78\n0 A 20\n0 A 00\n0 A 00\n0 O e0\njob 1 end 0\njob 2 end 0\n",
+        status: 0,
+    },
+    // The second of them alone.
+    Tried {
+        run: "page two\ntargets 1\njob 0 1 0 erase - -\n",
+        output: "0 C 60\n0 A 20\n0 A 00\n0 A 00\n0 C d0\n0 C 78\n0 A 20\n0 A 00\n0 A 00\n0 O 80\n0 R 1 0\n0 C 78\n0 A 20\n0 A 00\n0 A 00\n0 O e0\njob 1 end 0\n",
         status: 0,
     },
     Tried {
