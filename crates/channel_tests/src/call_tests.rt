@@ -208,6 +208,10 @@ const FIRST_POLL: Answer = Answer::Turned(Turn::NotReady { polls: 1, works: 0 })
 
 const SECOND_POLL: Answer = Answer::Turned(Turn::NotReady { polls: 2, works: 0 });
 
+const THIRD_POLL: Answer = Answer::Turned(Turn::NotReady { polls: 3, works: 0 });
+
+const FOURTH_POLL: Answer = Answer::Turned(Turn::NotReady { polls: 4, works: 0 });
+
 const ENDED: Answer = Answer::Turned(Turn::Ended);
 
 const YES: Answer = Answer::Became(Readied::Yes);
@@ -238,8 +242,9 @@ const WORKED: [Line; 18] = [
     (Call::Unpark, Answer::NoLease),
 ];
 
-// Calls that come too early or too often; LUN 0 is polled twice, and LUN 1 fails, overtakes it and still ends with 0.
-const UNTIMELY: [Line; 20] = [
+// Calls that come too early or too often; LUN 0 is polled four times, so that its ready is the ninth event and asks for memory; LUN 1
+// fails, overtakes it and still ends with 0.
+const UNTIMELY: [Line; 22] = [
     (Call::Turn, Answer::NoLease),
     (Call::Start, Answer::Holds(0)),
     (Call::Finish, Answer::NotEnded),
@@ -247,6 +252,8 @@ const UNTIMELY: [Line; 20] = [
     (Call::Turn, FIRST_POLL),
     (Call::Turn, SECOND_POLL),
     (Call::Finish, Answer::NotEnded),
+    (Call::Turn, THIRD_POLL),
+    (Call::Turn, FOURTH_POLL),
     (READY_ZERO, YES),
     (READY_ZERO, NOT_BUSY),
     (Call::Park, Answer::Parked),
@@ -264,6 +271,8 @@ const UNTIMELY: [Line; 20] = [
 
 // What the untimely calls put onto the bus.
 const UNTIMELY_TRACE: &str = "0 C 60\n0 A 00\n0 A 00\n0 A 00\n0 C d0\n\
+    0 C 78\n0 A 00\n0 A 00\n0 A 00\n0 O 80\n\
+    0 C 78\n0 A 00\n0 A 00\n0 A 00\n0 O 80\n\
     0 C 78\n0 A 00\n0 A 00\n0 A 00\n0 O 80\n\
     0 C 78\n0 A 00\n0 A 00\n0 A 00\n0 O 80\n0 R 0 0\n\
     0 C 60\n0 A 20\n0 A 00\n0 A 00\n0 C d0\n\
@@ -301,6 +310,6 @@ fn untimely_calls(rt: HostRuntime) -> Result<(), Fail> {
     let done = gathered.done.as_slice();
     assert_eq!(rt; tell_done(done, 0), Some((0, 1, ONE, 0)));
     assert_eq!(rt; tell_done(done, 1), Some((0, 0, ZERO, 0)));
-    assert!(rt; is_whole(&gathered, 6, refused));
+    assert!(rt; is_whole(&gathered, 8, refused));
     Ok(())
 }
