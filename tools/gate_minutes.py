@@ -1,4 +1,5 @@
-"""Passes on what the gate prints, and lists before its last line the minute at which each step ended.
+"""Passes on what the gate prints, and lists before its last line the minute at which each step ended. Where a file is named, the last
+line goes there.
 
 A step is a crate's proof or tests proved, its edits begun, or a program or tests run. docs/GATE.md says what the minutes are for.
 """
@@ -21,7 +22,10 @@ def main():
         sys.stdout.write(line)
         sys.stdout.flush()
     sys.stdout.write("".join(steps))
-    if last:
+    if last and len(sys.argv) > 1:
+        with open(sys.argv[1], "w", encoding="utf-8") as file:
+            file.write(last)
+    elif last:
         sys.stdout.write(last)
 
 

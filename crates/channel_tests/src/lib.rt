@@ -3,7 +3,11 @@
 #![tactic(auto)]
 
 #[cfg(test)]
+mod call_tests;
+#[cfg(test)]
 mod many_tests;
+#[cfg(test)]
+mod refusal_tests;
 #[cfg(test)]
 mod scenes;
 #[cfg(test)]

@@ -1,18 +1,18 @@
-//! Four workers on sixteen LUNs, and hosts that store jobs meanwhile.
-ghost use Rattle.std.specs.Prelude.{◌≡◌};
+//! Four workers on sixteen LUNs, and four hosts that store jobs meanwhile.
+ghost use Rattle.std.specs.Prelude.{◌≡◌, ◌<◌, ◌≤◌, [], IfOk, IfSome};
 ghost use Rattle.job_queue.specs.Passes.{owns};
+ghost use Rattle.channel_tests.specs.Hosts.{OwnsAll};
 
 use crate::scenes::{
-    Erase, FOUR_LUNS, end_two, gather, make_erase, make_queue, make_state, make_two_passes, submit,
-    work_by_two,
+    Erase, FOUR_LUNS, end_two, gather, make_erase, make_state, make_two_passes, submit, work_by_two,
 };
 use crate::thread_tests::Chance;
 use channel_work::{Channel, Gathered, NamedDone, Turns, WorkEnd, WorkerPass};
-use job_queue::{HostPass, JobQueue};
+use job_queue::{HostPass, JobQueue, Taker};
 use nand_geometry::Geometry;
 use onfi_cycle::{Item, Lun};
 use seq_core::Job;
-use std::alloc::Global;
+use std::alloc::{AllocError, Global};
 use std::marker::Brand;
 use std::process::Abort;
 use std::sync::Wait;
@@ -21,6 +21,58 @@ use std::test::*;
 use std::thread;
 use std::thread::Threads;
 use trace_text::check;
+
+// The passes of two hosts.
+type TwoHosts = (HostPass<Job>, HostPass<Job>);
+
+// A queue of four hosts with its passes.
+#[tactic(auto, using(crate::proofs::Hosting::new_owned))]
+fn open_queue(
+    alloc: Global,
+    capacity: usize,
+) -> Result<(JobQueue<Job>, Vec<HostPass<Job>>, Taker<Job>), AllocError>
+    requires { (0 < capacity) × (capacity ≤ 65536) }
+    ensures passes { IfOk result (λ r. OwnsAll r.0 r.1.items) }
+    ensures taker { IfOk result (λ r. r.2.taken ≡ []) }
+{
+    JobQueue::<Job>::new(alloc, capacity, 4)
+}
+
+// Takes the last of a queue's passes.
+#[tactic(auto, using(crate::proofs::Hosting::rest_owned))]
+fn take_pass(queue: &JobQueue<Job>, passes: &mut Vec<HostPass<Job>>) -> Option<HostPass<Job>>
+    requires { OwnsAll queue.now passes.old.items }
+    ensures { IfSome result (λ pass. OwnsAll queue.now passes.new.items × owns queue.now pass) }
+{
+    passes.pop()
+}
+
+// Takes the last two of a queue's passes.
+fn take_two(queue: &JobQueue<Job>, passes: &mut Vec<HostPass<Job>>) -> Option<TwoHosts>
+    requires { OwnsAll queue.now passes.old.items }
+    ensures rest { IfSome result (λ _. OwnsAll queue.now passes.new.items) }
+    ensures two { IfSome result (λ hosts. owns queue.now hosts.0 × owns queue.now hosts.1) }
+{
+    let second = take_pass(queue, passes)?;
+    let first = take_pass(queue, passes)?;
+    Some((first, second))
+}
+
+// A queue of four hosts: the passes of hosts 0 and 1, those of hosts 2 and 3, and the taker.
+fn make_wide_queue(
+    alloc: Global,
+    capacity: usize,
+) -> Result<(JobQueue<Job>, TwoHosts, TwoHosts, Taker<Job>), Fail>
+    requires { (0 < capacity) × (capacity ≤ 65536) }
+    ensures first { IfOk result (λ r. owns r.0 r.1.0 × owns r.0 r.1.1) }
+    ensures second { IfOk result (λ r. owns r.0 r.2.0 × owns r.0 r.2.1) }
+    ensures taker { IfOk result (λ r. r.3.taken ≡ []) }
+{
+    let (queue, mut passes, taker) = open_queue(alloc, capacity)?;
+    let second = take_two(&queue, &mut passes).ok_or("the passes of hosts 2 and 3")?;
+    let first = take_two(&queue, &mut passes).ok_or("the passes of hosts 0 and 1")?;
+    Ok((queue, first, second, taker))
+}
 
 // Stores so many erases, the LUNs in turn; false without memory.
 fn store_many<R: Wait + AllocGlobal>(
@@ -41,6 +93,7 @@ fn store_many<R: Wait + AllocGlobal>(
             parts: FOUR_LUNS,
             lun,
             base: (k % 13) as u32,
+            tells: true,
         };
         let Some(job) = make_erase(rt.alloc(), erase) else {
             return false;
@@ -54,12 +107,12 @@ fn store_many<R: Wait + AllocGlobal>(
 fn store_by_two<R: Threads + Wait + Sync + AllocGlobal>(
     rt: &R,
     queue: &JobQueue<Job>,
-    first: HostPass<Job>,
-    second: HostPass<Job>,
+    hosts: TwoHosts,
     count: u64,
 ) -> bool
-    requires { owns queue.now first × owns queue.now second }
+    requires { owns queue.now hosts.0 × owns queue.now hosts.1 }
 {
+    let (first, second) = hosts;
     let (one, two) = thread::join(
         rt,
         move || -> bool
@@ -72,18 +125,42 @@ fn store_by_two<R: Threads + Wait + Sync + AllocGlobal>(
     one && two
 }
 
-// Two hosts store so many erases each, and then the gate is closed.
+// Four hosts store so many erases each.
+fn store_by_four<R: Threads + Wait + Sync + AllocGlobal>(
+    rt: &R,
+    queue: &JobQueue<Job>,
+    first: TwoHosts,
+    second: TwoHosts,
+    count: u64,
+) -> bool
+    requires first { owns queue.now first.0 × owns queue.now first.1 }
+    requires second { owns queue.now second.0 × owns queue.now second.1 }
+{
+    let (one, two) = thread::join(
+        rt,
+        move || -> bool
+            requires { owns queue.now first.0 × owns queue.now first.1 }
+        { store_by_two(rt, queue, first, count) },
+        move || -> bool
+            requires { owns queue.now second.0 × owns queue.now second.1 }
+        { store_by_two(rt, queue, second, count) },
+    );
+    one && two
+}
+
+// Four hosts store so many erases each, and then the gate is closed.
 fn store_and_close<R: Threads + Wait + Sync + AllocGlobal>(
     rt: &R,
     queue: &JobQueue<Job>,
-    first: HostPass<Job>,
-    second: HostPass<Job>,
+    first: TwoHosts,
+    second: TwoHosts,
     gate: &Chance,
     count: u64,
 ) -> bool
-    requires { owns queue.now first × owns queue.now second }
+    requires first { owns queue.now first.0 × owns queue.now first.1 }
+    requires second { owns queue.now second.0 × owns queue.now second.1 }
 {
-    let stored = store_by_two(rt, queue, first, second, count);
+    let stored = store_by_four(rt, queue, first, second, count);
     gate.close();
     stored
 }
@@ -115,7 +192,7 @@ fn end_four<L: Turns>(alloc: Global, ends: FourEnds<L>) -> Result<Vec<WorkerPass
     Ok(passes)
 }
 
-// Two hosts store so many erases each into a queue of four places, and four workers do them, on sixteen LUNs.
+// Four hosts store so many erases each into a queue of four places, and four workers do them, on sixteen LUNs.
 fn erase_many<L: Turns + Sync, R: Threads + Wait + Sync + AllocGlobal>(
     rt: &R,
     blank: Blank,
@@ -125,7 +202,7 @@ fn erase_many<L: Turns + Sync, R: Threads + Wait + Sync + AllocGlobal>(
     requires name { blank.name ≡ L.name }
     requires parts { (blank.parts ≡ L.parts) × (L.all ≡ L.parts) × (L.parts ≡ 9) }
 {
-    let (queue, one, other, taker) = make_queue(rt.alloc(), 4)?;
+    let (queue, hosts, others, taker) = make_wide_queue(rt.alloc(), 4)?;
     let mut state = make_state::<L>(rt.alloc(), blank, FOUR_LUNS, 4, taker)?;
     let first = make_two_passes(&mut state)?;
     let second = make_two_passes(&mut state)?;
@@ -133,8 +210,8 @@ fn erase_many<L: Turns + Sync, R: Threads + Wait + Sync + AllocGlobal>(
     let (stored, ends) = thread::join(
         rt,
         || -> bool
-            requires { owns queue one × owns queue other }
-        { store_and_close(rt, &queue, one, other, gate, count) },
+            requires { (owns queue hosts.0 × owns queue hosts.1) × (owns queue others.0 × owns queue others.1) }
+        { store_and_close(rt, &queue, hosts, others, gate, count) },
         || work_by_four(rt, &channel, gate, first, second),
     );
     if !stored {
@@ -143,15 +220,15 @@ fn erase_many<L: Turns + Sync, R: Threads + Wait + Sync + AllocGlobal>(
     gather(channel.into_state(), end_four(rt.alloc(), ends)?)
 }
 
-// Each job of two hosts was done once, those of a host on a LUN in order.
+// Each job of four hosts was done once, those of a host on a LUN in order.
 fn are_in_order(done: &[NamedDone], count: u64) -> bool {
-    let mut next = [0u64; 32];
-    let mut seen = [0u64; 2];
+    let mut next = [0u64; 64];
+    let mut seen = [0u64; 4];
     for one in done {
         let (host, number) = (one.name.host, one.name.number);
         let l = one.done.job.lun();
         let n = number % 16;
-        if host >= 2 || number >= count || u64::from(l.ce) * 4 + u64::from(l.lun) != n {
+        if host >= 4 || number >= count || u64::from(l.ce) * 4 + u64::from(l.lun) != n {
             return false;
         }
         let place = host as usize * 16 + n as usize;
@@ -161,7 +238,7 @@ fn are_in_order(done: &[NamedDone], count: u64) -> bool {
         next[place] = number + 1;
         seen[host as usize] = seen[host as usize].saturating_add(1);
     }
-    seen == [count; 2]
+    seen == [count; 4]
 }
 
 // How many readies say failure.
@@ -201,7 +278,7 @@ fn is_done(gathered: &Gathered, count: u64) -> Result<bool, Fail> {
 }
 
 #[test]
-fn four_workers_and_two_hosts(rt: HostRuntime) -> Result<(), Fail> {
+fn four_workers_and_four_hosts(rt: HostRuntime) -> Result<(), Fail> {
     let gathered = erase_many::<Brand, _>(&rt, Blank::new(9), &Chance::new(0, 0), 200)?;
     assert!(rt; is_done(&gathered, 200)?);
     Ok(())

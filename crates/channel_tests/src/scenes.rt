@@ -5,7 +5,8 @@ ghost use Rattle.seq_core.specs.Shows.{IsAt, channel_in};
 ghost use Rattle.job_queue.specs.Passes.{owns};
 
 use channel_work::{
-    Cause, Channel, ChannelState, Gate, Gathered, Seats, Started, Turns, WorkEnd, WorkerPass, work,
+    Cause, Channel, ChannelState, Gate, Gathered, NamedDone, Seats, Started, Turns, WorkEnd,
+    WorkerPass, work,
 };
 use die_model::LunDie;
 use job_queue::{HostPass, JobQueue, Submitted, Taker};
@@ -13,15 +14,16 @@ use lun_lease::{Lease, LeaseTable, Loaded};
 use micro_verify::verify;
 use micro_word::{Text, Word};
 use nand_geometry::{Geometry, Parts};
-use onfi_cycle::Lun;
+use onfi_cycle::{Item, Lun};
 use seq_core::{Core, Job};
-use std::alloc::Global;
+use std::alloc::{AllocError, Global};
 use std::sync::Wait;
 use std::sync::ledger::Blank;
 use std::test::Fail;
 use std::thread;
 use std::thread::Threads;
 use target_bus::Bus;
+use trace_text::parse;
 
 /// One LUN of 8 blocks of 4 pages of 512 + 16 bytes, in one plane.
 pub(crate) const ONE_LUN: Parts = Parts {
@@ -51,8 +53,17 @@ pub(crate) const FOUR_LUNS: Parts = Parts {
     ..TWO_LUNS
 };
 
+// The erase of a block.
+const ERASE: [Word; 5] = [
+    Word::Command { byte: 0x60 },
+    Word::Address { from: 2, count: 3 },
+    Word::Command { byte: 0xd0 },
+    Word::Wait,
+    Word::End { code: 0 },
+];
+
 // The erase of a block, which ends with 1 where it fails.
-const ERASE: [Word; 7] = [
+const TELLING_ERASE: [Word; 7] = [
     Word::Command { byte: 0x60 },
     Word::Address { from: 2, count: 3 },
     Word::Command { byte: 0xd0 },
@@ -62,19 +73,34 @@ const ERASE: [Word; 7] = [
     Word::End { code: 1 },
 ];
 
-/// The erase of the block of an index on a LUN.
+/// The erase of the block of an index on a LUN, and whether it tells by its code that it failed.
 #[derive(Clone, Copy)]
 pub(crate) struct Erase {
     pub parts: Parts,
     pub lun: Lun,
     pub base: u32,
+    pub tells: bool,
+}
+
+// The words of an erase.
+fn list_words(alloc: Global, tells: bool) -> Result<Vec<Word>, AllocError> {
+    if tells {
+        TELLING_ERASE.to_vec(alloc)
+    } else {
+        ERASE.to_vec(alloc)
+    }
 }
 
 /// The job of an erase, for a channel of four targets; None where it isn't made.
 pub(crate) fn make_erase(alloc: Global, erase: Erase) -> Option<Job> {
-    let Erase { parts, lun, base } = erase;
+    let Erase {
+        parts,
+        lun,
+        base,
+        tells,
+    } = erase;
     let geometry = Geometry::of(parts).ok()?;
-    let text = Text::of(1, 0, 5, ERASE.to_vec(alloc).ok()?).ok()?;
+    let text = Text::of(1, 0, 5, list_words(alloc, tells).ok()?).ok()?;
     let verified = verify(text, geometry).ok()?;
     Job::new(geometry, 4, lun, base, verified, Vec::new(alloc)).ok()
 }
@@ -165,7 +191,7 @@ pub(crate) fn submit_erases<R: Wait + AllocGlobal>(
 {
     let mut pass = pass;
     for erase in erases {
-        let job = make_erase(rt.alloc(), *erase).ok_or("the erase isn't made")?;
+        let job = make_erase(rt.alloc(), *erase).ok_or("out of memory")?;
         pass = submit(rt, queue, pass, job);
     }
     Ok(pass)
@@ -275,4 +301,23 @@ pub(crate) fn end_two<L: Turns>(
     let first = ended(one)?;
     let second = ended(two)?;
     Ok(vec![in alloc; first, second]?)
+}
+
+/// The items of a text.
+pub(crate) fn read_trace(alloc: Global, text: &str) -> Result<Vec<Item>, Fail> {
+    Ok(parse(alloc, text)?)
+}
+
+/// A job that is done: its host, its number, its LUN and its code.
+pub(crate) type Told = (u32, u64, Lun, u8);
+
+/// What is told of the job that was done in this place.
+pub(crate) fn tell_done(done: &[NamedDone], k: usize) -> Option<Told> {
+    let one = done.get(k)?;
+    Some((
+        one.name.host,
+        one.name.number,
+        one.done.job.lun(),
+        one.done.code,
+    ))
 }

@@ -2,20 +2,20 @@
 ghost use Rattle.std.specs.Prelude.{◌≡◌};
 
 use crate::scenes::{
-    Erase, FOUR_LUNS, ONE_LUN, TWO_LUNS, gather, make_erasing, make_two_passes, run_alone, start,
+    Erase, FOUR_LUNS, ONE_LUN, TWO_LUNS, gather, make_erasing, make_two_passes, read_trace,
+    run_alone, start, tell_done,
 };
-use channel_work::{ChannelState, Gate, Gathered, NamedDone, Turns, WorkerPass};
-use onfi_cycle::{Item, Lun};
+use channel_work::{ChannelState, Gate, Gathered, Turns, WorkerPass};
+use onfi_cycle::Lun;
 use std::alloc::Global;
 use std::marker::Brand;
 use std::process::Abort;
 use std::sync::Wait;
 use std::sync::ledger::Blank;
 use std::test::*;
-use trace_text::parse;
 
-// A gate that gives every turn, and lets each LUN be ready after a busy poll.
-struct Open;
+/// A gate that gives every turn, and lets each LUN be ready after a busy poll.
+pub(crate) struct Open;
 
 impl Gate for Open {
     fn may_turn(&self, _worker: u32) -> bool {
@@ -35,17 +35,18 @@ impl Gate for Open {
     }
 }
 
-const ZERO: Lun = Lun { ce: 0, lun: 0 };
+pub(crate) const ZERO: Lun = Lun { ce: 0, lun: 0 };
 
-const ONE: Lun = Lun { ce: 0, lun: 1 };
+pub(crate) const ONE: Lun = Lun { ce: 0, lun: 1 };
 
-const ON_ZERO: Erase = Erase {
+pub(crate) const ON_ZERO: Erase = Erase {
     parts: TWO_LUNS,
     lun: ZERO,
     base: 0,
+    tells: false,
 };
 
-const ON_ONE: Erase = Erase {
+pub(crate) const ON_ONE: Erase = Erase {
     lun: ONE,
     ..ON_ZERO
 };
@@ -56,8 +57,8 @@ const ELSEWHERE: Erase = Erase {
     ..ON_ZERO
 };
 
-// What two erases on two LUNs of a target put onto the bus, by one worker.
-const TWO_ERASES: &str = "0 C 60\n0 A 00\n0 A 00\n0 A 00\n0 C d0\n\
+/// What two erases on two LUNs of a target put onto the bus, by one worker.
+pub(crate) const TWO_ERASES: &str = "0 C 60\n0 A 00\n0 A 00\n0 A 00\n0 C d0\n\
     0 C 78\n0 A 00\n0 A 00\n0 A 00\n0 O 80\n0 R 0 0\n\
     0 C 60\n0 A 20\n0 A 00\n0 A 00\n0 C d0\n\
     0 C 78\n0 A 20\n0 A 00\n0 A 00\n0 O 80\n0 R 1 0\n\
@@ -68,27 +69,6 @@ const TWO_ERASES: &str = "0 C 60\n0 A 00\n0 A 00\n0 A 00\n0 C d0\n\
 const ERASE_OF_ONE: &str = "0 C 60\n0 A 20\n0 A 00\n0 A 00\n0 C d0\n\
     0 C 78\n0 A 20\n0 A 00\n0 A 00\n0 O 80\n0 R 1 0\n\
     0 C 78\n0 A 20\n0 A 00\n0 A 00\n0 O e0\n";
-
-// The trace is this text.
-fn is_trace(alloc: Global, trace: &[Item], text: &str) -> Result<bool, Fail> {
-    match parse(alloc, text) {
-        Ok(items) => Ok(items.as_slice() == trace),
-        Err(_) => Err(Fail::from("no trace")),
-    }
-}
-
-// A job that is done: its host, its number, its LUN and its code.
-type Told = (u32, u64, Lun, u8);
-
-fn tell_done(done: &[NamedDone], k: usize) -> Option<Told> {
-    let one = done.get(k)?;
-    Some((
-        one.name.host,
-        one.name.number,
-        one.done.job.lun(),
-        one.done.code,
-    ))
-}
 
 // These erases, by one worker on a target of two LUNs.
 fn erase_alone<L: Turns, R: Wait + AllocGlobal>(
@@ -106,7 +86,7 @@ fn erase_alone<L: Turns, R: Wait + AllocGlobal>(
 #[test]
 fn two_jobs_of_one_worker(rt: HostRuntime) -> Result<(), Fail> {
     let gathered = erase_alone::<Brand, _>(&rt, Blank::new(9), &[ON_ZERO, ON_ONE])?;
-    assert!(rt; is_trace(rt.alloc(), gathered.core.trace(), TWO_ERASES)?);
+    assert!(rt; read_trace(rt.alloc(), TWO_ERASES)?.as_slice() == gathered.core.trace());
     let done = gathered.done.as_slice();
     assert_eq!(rt; tell_done(done, 0), Some((0, 0, ZERO, 0)));
     assert_eq!(rt; tell_done(done, 1), Some((0, 1, ONE, 0)));
@@ -120,7 +100,7 @@ fn two_jobs_of_one_worker(rt: HostRuntime) -> Result<(), Fail> {
 #[test]
 fn a_job_of_another_geometry_stays(rt: HostRuntime) -> Result<(), Fail> {
     let gathered = erase_alone::<Brand, _>(&rt, Blank::new(9), &[ELSEWHERE, ON_ONE])?;
-    assert!(rt; is_trace(rt.alloc(), gathered.core.trace(), ERASE_OF_ONE)?);
+    assert!(rt; read_trace(rt.alloc(), ERASE_OF_ONE)?.as_slice() == gathered.core.trace());
     let done = gathered.done.as_slice();
     assert_eq!(rt; tell_done(done, 0), Some((0, 1, ONE, 0)));
     assert_eq!(rt; (done.len(), gathered.backlog.len()), (1, 1));

@@ -21,6 +21,7 @@ const ON_ZERO: Erase = Erase {
     parts: TWO_LUNS,
     lun: Lun { ce: 0, lun: 0 },
     base: 0,
+    tells: false,
 };
 
 const ON_ONE: Erase = Erase {

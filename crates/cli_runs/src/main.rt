@@ -62,9 +62,57 @@ const PAGE: [(usize, u8); 12] = [
     (255, 0x56),
 ];
 
-fn page() -> [u8; 256] {
+// The same of the example of a run, whose chip has two such LUNs of two planes.
+const TWO_LUNS: [(usize, u8); 15] = [
+    (0, 0x4f),
+    (1, 0x4e),
+    (2, 0x46),
+    (3, 0x49),
+    (6, 0x0a),
+    (8, 0x08),
+    (81, 2),
+    (84, 16),
+    (92, 4),
+    (96, 8),
+    (100, 2),
+    (101, 0x23),
+    (113, 1),
+    (254, 0x43),
+    (255, 0x4f),
+];
+
+// The example of a run: one LUN erases a block while the other programs a page.
+const RUN: &str =
+    "; Two LUNs of one target share a bus: while LUN 0 erases a block, LUN 1 programs a page.
+; Run it at the top of the repository: bin/onfiseq run examples/two_luns.run
+
+page examples/two_luns/chip.page
+targets 1
+polls 2         ; a LUN is ready after two polls that say busy
+
+;   target, LUN, first row, program, what its buffer holds first, where the buffer goes after the end
+job 0 0 4 examples/two_luns/erase_block.nmp - -
+job 0 1 0 examples/two_luns/program_page.nmp examples/two_luns/data -
+";
+
+// Its programs: cmd 60, addr 2 3, cmd d0, wait, brs 01 6, end 0, end 1; rows 1, budget 5.
+const ERASE_BLOCK: [u8; 44] = [
+    0x4e, 0x4d, 0x50, 0x32, 0x07, 0x00, 0x01, 0x00, 0x00, 0x00, 0x00, 0x00, 0x05, 0x00, 0x00, 0x00,
+    0x01, 0x60, 0x00, 0x00, 0x02, 0x02, 0x03, 0x00, 0x01, 0xd0, 0x00, 0x00, 0x0a, 0x00, 0x00, 0x00,
+    0x0d, 0x01, 0x06, 0x00, 0x00, 0x00, 0x00, 0x00, 0x00, 0x01, 0x00, 0x00,
+];
+
+// And cmd 80, addr 0 5, put 4, cmd 10, wait, brs 01 7, end 0, end 1; rows 1, buffer 4, budget 11.
+const PROGRAM_PAGE: [u8; 48] = [
+    0x4e, 0x4d, 0x50, 0x32, 0x08, 0x00, 0x01, 0x00, 0x04, 0x00, 0x00, 0x00, 0x0b, 0x00, 0x00, 0x00,
+    0x01, 0x80, 0x00, 0x00, 0x02, 0x00, 0x05, 0x00, 0x04, 0x00, 0x04, 0x00, 0x01, 0x10, 0x00, 0x00,
+    0x0a, 0x00, 0x00, 0x00, 0x0d, 0x01, 0x07, 0x00, 0x00, 0x00, 0x00, 0x00, 0x00, 0x01, 0x00, 0x00,
+];
+
+// A page with these bytes at their places, and else 0.
+fn page(bytes: &[(usize, u8)]) -> [u8; 256] {
     let mut page = [0u8; 256];
-    for (place, byte) in PAGE {
+    for &(place, byte) in bytes {
         if place < 256 {
             page[place] = byte;
         }
@@ -84,7 +132,7 @@ fn words_of(alloc: Global, line: &str) -> Result<Vec<String>, AllocError> {
 // The files that the commands are run on.
 fn files(alloc: Global) -> Result<MapFiles, AllocError> {
     let mut files = MapFiles::new(alloc);
-    files.put("die.page", &page())?;
+    files.put("die.page", &page(&PAGE))?;
     files.put("erase.asm", SOURCE.as_bytes())?;
     files.put("no_wait.asm", NO_WAIT.as_bytes())?;
     files.put("bad.asm", b"rows 1\nbuffer 0\nbudget 5\naddr 3 3\n")?;
@@ -92,6 +140,17 @@ fn files(alloc: Global) -> Result<MapFiles, AllocError> {
     files.put("erase.trace", TRACE.as_bytes())?;
     files.put("too_soon.trace", TOO_SOON.as_bytes())?;
     files.put("bad.trace", b"0 C 60\n0 C D0\n")?;
+    Ok(files)
+}
+
+// The files of the example of a run.
+fn run_files(alloc: Global) -> Result<MapFiles, AllocError> {
+    let mut files = MapFiles::new(alloc);
+    files.put("examples/two_luns.run", RUN.as_bytes())?;
+    files.put("examples/two_luns/chip.page", &page(&TWO_LUNS))?;
+    files.put("examples/two_luns/erase_block.nmp", &ERASE_BLOCK)?;
+    files.put("examples/two_luns/program_page.nmp", &PROGRAM_PAGE)?;
+    files.put("examples/two_luns/data", b"onfi")?;
     Ok(files)
 }
 
@@ -165,6 +224,14 @@ fn commands<R: Print + AllocGlobal + Threads + Wait + Sync>(rt: &R) -> io::Resul
     println!(rt; "the assembled file and the upgraded one are the same: {same}")
 }
 
+// What the example of a run comes to.
+fn channel<R: Print + AllocGlobal + Threads + Wait + Sync>(rt: &R) -> io::Result<()> {
+    let mut files = run_files(rt.alloc())?;
+    println!(rt; "onfiseq run examples/two_luns.run")?;
+    let words = words_of(rt.alloc(), "onfiseq run examples/two_luns.run")?;
+    show(rt, &mut files, Ok(words), &[])
+}
+
 fn main(rt: HostRuntime) -> io::Result<()> {
     once(&rt, "4", &ERASE)?;
     once(&rt, "31", &END)?;
@@ -177,5 +244,6 @@ fn main(rt: HostRuntime) -> io::Result<()> {
     show(&rt, &mut files, utf8, &[])?;
     let memory = Err(io::Error::from(io::ErrorKind::OutOfMemory));
     show(&rt, &mut files, memory, &[])?;
-    commands(&rt)
+    commands(&rt)?;
+    channel(&rt)
 }

@@ -29,6 +29,12 @@ pub(crate) const TWO_LUNS: Parts = Parts {
     ..ONE_LUN
 };
 
+// One such LUN with the cache read.
+const CACHE: Parts = Parts {
+    cache: true,
+    ..ONE_LUN
+};
+
 // The erase of one block: cmd 60, addr 2 3, cmd d0, wait, end 0; rows 1, budget 5.
 pub(crate) const ERASE: [u8; 36] = [
     0x4e, 0x4d, 0x50, 0x31, 0x05, 0x00, 0x01, 0x00, 0x00, 0x00, 0x00, 0x00, 0x05, 0x00, 0x00, 0x00,
@@ -59,11 +65,12 @@ pub(crate) struct Played {
     pub errors: Vec<u8>,
 }
 
-// Files with the pages `one` and `two` of these LUNs, and the word file `erase`.
+// Files with the pages `one`, `two` and `cache` of these LUNs, the word files `erase` and `both`, and the image `empty`.
 pub(crate) fn make_files(alloc: Global) -> Result<MapFiles, Fail> {
     let mut files = MapFiles::new(alloc);
     files.put("one", &Geometry::of(ONE_LUN)?.page())?;
     files.put("two", &Geometry::of(TWO_LUNS)?.page())?;
+    files.put("cache", &Geometry::of(CACHE)?.page())?;
     files.put("erase", &ERASE)?;
     files.put("both", &BOTH)?;
     files.put("empty", &EMPTY)?;
@@ -97,15 +104,39 @@ pub(crate) fn play<R: Threads + Wait + Sync + AllocGlobal>(
     }
 }
 
+// The image of a die of the one LUN or of the two, one row of which begins with these bytes and is else erased.
+pub(crate) fn make_image(alloc: Global, row: u8, first: &[u8]) -> Result<Vec<u8>, Fail> {
+    let mut image = EMPTY.to_vec(alloc)?;
+    image[20] = 1;
+    image.extend_from_slice(&[row, 0, 0, 0])?;
+    image.extend_from_slice(first)?;
+    image.resize(556, 0xff)?;
+    Ok(image)
+}
+
+// A file must have these bytes first, and this length.
+pub(crate) fn expect_file(
+    rt: &impl Abort,
+    files: &MapFiles,
+    path: &str,
+    first: &[u8],
+    length: usize,
+) -> Result<(), Fail> {
+    let bytes = files.get(path).ok_or("the file is there")?;
+    assert!(rt; bytes.starts_with(first), "of {path}");
+    assert_eq!(rt; bytes.len(), length, "of {path}");
+    Ok(())
+}
+
 // A run file with one worker, with what must be printed and the status.
-struct Tried {
-    run: &'static str,
-    output: &'static str,
-    status: u8,
+pub(crate) struct Tried {
+    pub run: &'static str,
+    pub output: &'static str,
+    pub status: u8,
 }
 
 // Runs each of them on files of its own.
-fn try_all<R: Threads + Wait + Sync + Abort + AllocGlobal>(
+pub(crate) fn try_all<R: Threads + Wait + Sync + Abort + AllocGlobal>(
     rt: &R,
     all: &[Tried],
 ) -> Result<(), Fail> {
@@ -120,7 +151,7 @@ fn try_all<R: Threads + Wait + Sync + Abort + AllocGlobal>(
     Ok(())
 }
 
-const TWO_JOBS: [Tried; 6] = [
+const TWO_JOBS: [Tried; 7] = [
     Tried {
         run: "page two\ntargets 1\npolls 1\njob 0 0 0 erase - -\njob 0 1 0 erase - -\n",
         output: "0 C 60\n0 A 00\n0 A 00\n0 A 00\n0 C d0\n0 C 78\n0 A 00\n0 A 00\n0 A 00\n0 O 80\n0 R 0 0\n0 C 60\n0 A 20\n0 A 00\n0 A 00\n0 C d0\n0 C 78\n0 A 20\n0 A 00\n0 A 00\n0 O 80\n0 R 1 0\n0 C 78\n0 A 00\n0 A 00\n0 A 00\n0 O e0\n0 C 78\n0 A 20\n0 A 00\n0 A 00\n0 O e0\njob 1 end 0\njob 2 end 0\n",
@@ -132,8 +163,14 @@ const TWO_JOBS: [Tried; 6] = [
         status: 0,
     },
     Tried {
-        run: "page two\ntargets 1\npolls 1\njob 0 0 15 erase - -\n",
-        output: "0 C 60\n0 A 1b\n0 A 00\n0 A 00\n0 C d0\n0 C 78\n0 A 00\n0 A 00\n0 A 00\n0 O 80\n0 R 0 0\n0 C 78\n0 A 00\n0 A 00\n0 A 00\n0 O e0\njob 1 end 0\n",
+        run: "page two\ntargets 1\npolls 1\njob 0 0 15 erase - -\njob 0 1 0 erase - -\n",
+        output: "0 C 60\n0 A 1b\n0 A 00\n0 A 00\n0 C d0\n0 C 78\n0 A 00\n0 A 00\n0 A 00\n0 O 80\n0 R 0 0\n0 C 60\n0 A 20\n0 A 00\n0 A 00\n0 C d0\n0 C 78\n0 A 20\n0 A 00\n0 A 00\n0 O 80\n0 R 1 0\n0 C 78\n0 A 00\n0 A 00\n0 A 00\n0 O e0\n0 C 78\n0 A 20\n0 A 00\n0 A 00\n0 O e0\njob 1 end 0\njob 2 end 0\n",
+        status: 0,
+    },
+    // The second of them alone.
+    Tried {
+        run: "page two\ntargets 1\njob 0 1 0 erase - -\n",
+        output: "0 C 60\n0 A 20\n0 A 00\n0 A 00\n0 C d0\n0 C 78\n0 A 20\n0 A 00\n0 A 00\n0 O 80\n0 R 1 0\n0 C 78\n0 A 20\n0 A 00\n0 A 00\n0 O e0\njob 1 end 0\n",
         status: 0,
     },
     Tried {
@@ -156,128 +193,4 @@ const TWO_JOBS: [Tried; 6] = [
 #[test]
 fn two_jobs_of_one_worker(rt: HostRuntime) -> Result<(), Fail> {
     try_all(&rt, &TWO_JOBS)
-}
-
-// A run file that is refused or has a fault, with what must be printed on standard output and on standard error.
-const REFUSED: [Tried; 14] = [
-    Tried {
-        run: "pages two\n",
-        output: "refused J1 at 1\n",
-        status: 1,
-    },
-    Tried {
-        run: "page two\ntargets 5\n",
-        output: "refused J2 at 2\n",
-        status: 1,
-    },
-    Tried {
-        run: "",
-        output: "refused J3 at 1\n",
-        status: 1,
-    },
-    Tried {
-        run: "page two\ntargets 1\nfail 1 0 1\n",
-        output: "refused J4 at 3\n",
-        status: 1,
-    },
-    Tried {
-        run: "page two\ntargets 1\njob 0 0 0 erase one -\n",
-        output: "refused J5 at 3\n",
-        status: 1,
-    },
-    Tried {
-        run: "page erase\nbad\n",
-        output: "refused P1 at 1\n",
-        status: 1,
-    },
-    Tried {
-        run: "page two\n; a comment\ntargets 1\nimage 0 1 erase\n",
-        output: "refused I2 at 4\n",
-        status: 1,
-    },
-    Tried {
-        run: "page two\ntargets 1\nimage 0 2 nothing\n",
-        output: "refused J4 at 3\n",
-        status: 1,
-    },
-    Tried {
-        run: "page two\ntargets 1\njob 0 0 16 one nothing -\n",
-        output: "refused M2 at 3\n",
-        status: 1,
-    },
-    Tried {
-        run: "page one\ntargets 1\njob 0 0 0 both one -\nbad\n",
-        output: "refused J5 at 3\n",
-        status: 1,
-    },
-    Tried {
-        run: "page one\ntargets 1\njob 0 0 32 both empty -\n",
-        output: "refused J5 at 3\n",
-        status: 1,
-    },
-    Tried {
-        run: "page one\ntargets 1\njob 0 0 32 both - -\nbad\n",
-        output: "refused S3 at 3\n",
-        status: 1,
-    },
-    Tried {
-        run: "page one\ntargets 1\njob 0 0 31 both - -\nbad\n",
-        output: "refused J1 at 4\n",
-        status: 1,
-    },
-    Tried {
-        run: "page one\ntargets 1\njob 0 0 0 nothing - -\nbad\n",
-        output: "",
-        status: 2,
-    },
-];
-
-#[test]
-fn refused_runs(rt: HostRuntime) -> Result<(), Fail> {
-    try_all(&rt, &REFUSED)
-}
-
-// A file must have these bytes first, and this length.
-fn expect_file(
-    rt: &impl Abort,
-    files: &MapFiles,
-    path: &str,
-    first: &[u8],
-    length: usize,
-) -> Result<(), Fail> {
-    let bytes = files.get(path).ok_or("the file is there")?;
-    assert!(rt; bytes.starts_with(first), "of {path}");
-    assert_eq!(rt; bytes.len(), length, "of {path}");
-    Ok(())
-}
-
-const BEHIND: &str = "page one\ntargets 1\nimage 0 0 die\njob 0 0 0 both in out\n";
-
-// The image of a die after two runs, each of which begins with the image of the one before.
-#[test]
-fn a_program_then_a_read(rt: HostRuntime) -> Result<(), Fail> {
-    let mut files = make_files(rt.alloc())?;
-    files.put("run", BEHIND.as_bytes())?;
-    files.put("die", &EMPTY)?;
-    files.put("in", &[0xa5, 0x3c])?;
-    assert_eq!(rt; play(&rt, &mut files, ask(1)).end, RunEnd::Done);
-    expect_file(&rt, &files, "out", &[0xa5, 0x3c, 0xa5, 0x3c], 4)?;
-    expect_file(
-        &rt,
-        &files,
-        "die",
-        &[0x4e, 0x44, 0x49, 0x31, 0, 2, 0, 0, 16],
-        556,
-    )?;
-    files.put("in", &[0x0f, 0x0f])?;
-    assert_eq!(rt; play(&rt, &mut files, ask(2)).end, RunEnd::Done);
-    expect_file(&rt, &files, "out", &[0x0f, 0x0f, 0x05, 0x0c], 4)?;
-    expect_file(
-        &rt,
-        &files,
-        "die",
-        &[0x4e, 0x44, 0x49, 0x31, 0, 2, 0, 0, 16],
-        556,
-    )?;
-    Ok(())
 }

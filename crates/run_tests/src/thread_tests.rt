@@ -1,4 +1,4 @@
-// Runs by several workers, and runs whose files fail.
+// Runs by several workers.
 use crate::tests::{TWO_LUNS, ask, make_files, play};
 use nand_geometry::Geometry;
 use seq_run::{RunEnd, RunRequest};
@@ -29,14 +29,15 @@ fn write_ends(alloc: Global, count: u32) -> Result<String, AllocError> {
     Ok(lines)
 }
 
-// So many jobs done by so many workers: whether all have ended with 0, on a legal trace.
+// The jobs of a run file done by so many workers: whether so many have ended with 0, on a legal trace.
 fn are_done<R: Threads + Wait + Sync + AllocGlobal>(
     rt: &R,
+    run: &str,
     jobs: u32,
     workers: u8,
 ) -> Result<bool, Fail> {
     let mut files = make_files(rt.alloc())?;
-    files.put("run", write_jobs(rt.alloc(), jobs)?.as_str().as_bytes())?;
+    files.put("run", run.as_bytes())?;
     let request = RunRequest {
         is_quiet: true,
         trace: Some("trace"),
@@ -54,20 +55,66 @@ fn are_done<R: Threads + Wait + Sync + AllocGlobal>(
     )
 }
 
+// Five times two jobs, on the LUNs of one target.
+const FIVE_TIMES: &str = "page two\ntargets 1\npolls 1\n\
+    job 0 0 0 erase - -\njob 0 1 0 erase - -\njob 0 0 0 erase - -\njob 0 1 0 erase - -\n\
+    job 0 0 0 erase - -\njob 0 1 0 erase - -\njob 0 0 0 erase - -\njob 0 1 0 erase - -\n\
+    job 0 0 0 erase - -\njob 0 1 0 erase - -\n";
+
 #[test]
-fn ten_jobs_by_two_workers(rt: HostRuntime) -> Result<(), Fail> {
-    assert!(rt; are_done(&rt, 10, 2)?);
+fn ten_jobs_by_several_workers(rt: HostRuntime) -> Result<(), Fail> {
+    for workers in [2, 8] {
+        assert!(rt; are_done(&rt, FIVE_TIMES, 10, workers)?, "{workers}");
+    }
     Ok(())
 }
 
 #[test]
-fn many_jobs_by_eight_workers(rt: HostRuntime) -> Result<(), Fail> {
-    assert!(rt; are_done(&rt, 200, 8)?);
+fn ten_jobs_on_two_targets(rt: HostRuntime) -> Result<(), Fail> {
+    let run = write_jobs(rt.alloc(), 10)?;
+    assert!(rt; are_done(&rt, run.as_str(), 10, 2)?);
     Ok(())
 }
 
 #[test]
-fn many_jobs_by_one_worker(rt: HostRuntime) -> Result<(), Fail> {
-    assert!(rt; are_done(&rt, 200, 1)?);
+fn many_jobs(rt: HostRuntime) -> Result<(), Fail> {
+    let run = write_jobs(rt.alloc(), 200)?;
+    for workers in [1, 2, 8] {
+        assert!(rt; are_done(&rt, run.as_str(), 200, workers)?, "{workers}");
+    }
+    Ok(())
+}
+
+// Three erases on each of two targets, in turn.
+const TWO_HOSTS: &str = "page one\ntargets 2\n\
+    job 0 0 0 erase - -\njob 1 0 4 erase - -\njob 0 0 8 erase - -\n\
+    job 1 0 12 erase - -\njob 0 0 16 erase - -\njob 1 0 20 erase - -\n";
+
+// What stands behind this beginning in the lines of a text that have it.
+fn join_ends(alloc: Global, text: &str, beginning: &str) -> Result<String, Fail> {
+    let mut joined = String::new(alloc);
+    for line in text.lines() {
+        if let Some(end) = line.strip_prefix(beginning) {
+            joined.push_str(end)?;
+        }
+    }
+    Ok(joined)
+}
+
+// The erases of each target come in the order of the file.
+#[test]
+fn hosts_keep_their_order(rt: HostRuntime) -> Result<(), Fail> {
+    for workers in [1, 3] {
+        let mut files = make_files(rt.alloc())?;
+        files.put("run", TWO_HOSTS.as_bytes())?;
+        let played = play(&rt, &mut files, ask(workers));
+        let text = str::from_utf8(played.output.as_slice())?;
+        let first = join_ends(rt.alloc(), text, "0 A ")?;
+        assert_eq!(rt; first.as_str(), "000000080000100000");
+        let second = join_ends(rt.alloc(), text, "1 A ")?;
+        assert_eq!(rt; second.as_str(), "0400000c0000140000");
+        let ends = join_ends(rt.alloc(), text, "job ")?;
+        assert_eq!(rt; ends.as_str(), "1 end 02 end 03 end 04 end 05 end 06 end 0");
+    }
     Ok(())
 }

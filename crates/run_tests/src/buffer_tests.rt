@@ -1,0 +1,45 @@
+// Jobs with the longest buffer, a byte short of 16 MiB.
+use crate::tests::{ask, make_files, play};
+use seq_files::MapFiles;
+use seq_run::RunEnd;
+use std::alloc::Global;
+use std::test::Fail;
+
+// How many bytes the longest buffer has.
+const LONGEST: usize = 16_777_215;
+
+// Reads the identifier to the end of the longest buffer: col 32, cmd 90, addr 0 1, seek 16777211, get 4, end 0; rows 1, budget 6.
+const IDENTIFY: [u8; 40] = [
+    0x4e, 0x4d, 0x50, 0x32, 6, 0, 1, 0, 0xff, 0xff, 0xff, 0, 6, 0, 0, 0, // the header
+    6, 0, 0x20, 0, 1, 0x90, 0, 0, 2, 0, 1, 0, 5, 0xff, 0xfb, 0xff, 3, 0, 4, 0, 0, 0, 0, 0,
+];
+
+// Files with a job of the longest buffer that begins with so many bytes.
+fn make_long(alloc: Global, length: usize) -> Result<MapFiles, Fail> {
+    let mut files = make_files(alloc)?;
+    files.put("identify", &IDENTIFY)?;
+    files.put("in", vec![in alloc; 7u8; length]?.as_slice())?;
+    files.put("run", b"page one\ntargets 1\njob 0 0 0 identify in out\n")?;
+    Ok(files)
+}
+
+// The buffer has all bytes of the file, and the identifier over the last four.
+#[test]
+fn the_longest_buffer(rt: HostRuntime) -> Result<(), Fail> {
+    let mut files = make_long(rt.alloc(), LONGEST)?;
+    assert_eq!(rt; play(&rt, &mut files, ask(1)).end, RunEnd::Done);
+    let bytes = files.get("out").ok_or("a buffer")?;
+    assert_eq!(rt; bytes.len(), LONGEST);
+    assert!(rt; bytes.starts_with(&[7, 7, 7, 7]));
+    assert!(rt; bytes.ends_with(&[7, 7, 0x4f, 0x4e, 0x46, 0x49]));
+    Ok(())
+}
+
+#[test]
+fn one_byte_more(rt: HostRuntime) -> Result<(), Fail> {
+    let mut files = make_long(rt.alloc(), LONGEST + 1)?;
+    let played = play(&rt, &mut files, ask(1));
+    assert_eq!(rt; played.output.as_slice(), b"refused J5 at 3\n".as_slice());
+    assert_eq!(rt; files.get("out"), None);
+    Ok(())
+}

@@ -1,0 +1,216 @@
+// Runs of which a call, or a write to an output, fails.
+use crate::tests::{Played, ask, make_files, make_image, play};
+use seq_files::{FileError, MapFiles};
+use seq_run::{RunEnd, RunRequest, run_on};
+use std::alloc::Global;
+use std::io::{self, Write};
+use std::process::Abort;
+use std::sync::Wait;
+use std::test::Fail;
+use std::thread::Threads;
+
+// Two erases with a file for the buffer of each, and an image for each LUN.
+const RUN: &str = "page two\ntargets 1\npolls 1\nimage 0 0 die0\nimage 0 1 die1\n\
+    job 0 0 0 erase - out0\njob 0 1 0 erase - out1\n";
+
+// What is read and then written, call by call.
+const CALLS: [&str; 11] = [
+    "run", "two", "die0", "die1", "erase", "erase", "out0", "out1", "die0", "die1", "trace",
+];
+
+// So many of the calls read.
+const READS: usize = 6;
+
+// A file that is written, with its length before the run and after it.
+struct Written {
+    path: &'static str,
+    before: usize,
+    after: usize,
+}
+
+// In the order in which they are written. Each erase leaves an empty buffer and an empty die.
+const WRITTEN: [Written; 5] = [
+    Written {
+        path: "out0",
+        before: 3,
+        after: 0,
+    },
+    Written {
+        path: "out1",
+        before: 3,
+        after: 0,
+    },
+    Written {
+        path: "die0",
+        before: 556,
+        after: 24,
+    },
+    Written {
+        path: "die1",
+        before: 556,
+        after: 24,
+    },
+    // 30 cycles and two readies.
+    Written {
+        path: "trace",
+        before: 3,
+        after: 226,
+    },
+];
+
+// The files before the run, each of those that are written with bytes of its own.
+fn make_old(alloc: Global) -> Result<MapFiles, Fail> {
+    let mut files = make_files(alloc)?;
+    let image = make_image(alloc, 0, &[0xa5])?;
+    files.put("run", RUN.as_bytes())?;
+    files.put("die0", image.as_slice())?;
+    files.put("die1", image.as_slice())?;
+    files.put("out0", b"old")?;
+    files.put("out1", b"old")?;
+    files.put("trace", b"old")?;
+    Ok(files)
+}
+
+// A run by one worker which writes the trace too.
+fn ask_trace() -> RunRequest<'static> {
+    RunRequest {
+        trace: Some("trace"),
+        ..ask(1)
+    }
+}
+
+// So many files are written, the first ones, and the others are as they were.
+fn expect_written(rt: &impl Abort, files: &MapFiles, count: usize) {
+    let mut place: usize = 0;
+    for file in &WRITTEN {
+        let length = if place < count {
+            file.after
+        } else {
+            file.before
+        };
+        let found = files.get(file.path).map(|bytes| bytes.len());
+        assert_eq!(rt; found, Some(length), "{} of {count}", file.path);
+        place = place.saturating_add(1);
+    }
+}
+
+// A run in which this call fails so: it is the last, and nothing is printed.
+fn play_failing<R: Threads + Wait + Sync + Abort + AllocGlobal>(
+    rt: &R,
+    call: usize,
+    error: FileError,
+) -> Result<Played, Fail> {
+    let mut files = make_old(rt.alloc())?;
+    files.fail_at(call, error);
+    let played = play(rt, &mut files, ask_trace());
+    assert!(rt; played.output.is_empty(), "call {call}");
+    assert_eq!(rt; files.calls(), call.saturating_add(1));
+    expect_written(rt, &files, call.saturating_sub(READS));
+    Ok(played)
+}
+
+#[test]
+fn each_call_fails(rt: HostRuntime) -> Result<(), Fail> {
+    for call in 0..CALLS.len() {
+        let played = play_failing(&rt, call, FileError::Fault)?;
+        assert_eq!(rt; played.end, RunEnd::FileFault, "call {call}");
+        let want = format!(in rt.alloc(); "file fault {}\n", CALLS[call])?;
+        assert_eq!(rt; played.errors.as_slice(), want.as_str().as_bytes());
+    }
+    Ok(())
+}
+
+#[test]
+fn each_call_is_refused_memory(rt: HostRuntime) -> Result<(), Fail> {
+    for call in 0..CALLS.len() {
+        let played = play_failing(&rt, call, FileError::OutOfMemory)?;
+        assert_eq!(rt; played.end, RunEnd::OutOfMemory, "call {call}");
+        assert_eq!(rt; played.errors.as_slice(), b"out of memory\n".as_slice());
+    }
+    Ok(())
+}
+
+#[test]
+fn no_call_fails(rt: HostRuntime) -> Result<(), Fail> {
+    let mut files = make_old(rt.alloc())?;
+    files.fail_at(CALLS.len(), FileError::Fault);
+    let played = play(&rt, &mut files, ask_trace());
+    assert_eq!(rt; played.end, RunEnd::Done);
+    assert_eq!(rt; files.calls(), CALLS.len());
+    expect_written(&rt, &files, 5);
+    assert_eq!(rt; played.output.len(), 226 + 24);
+    Ok(())
+}
+
+// Takes so many bytes, and then nothing.
+#[derive(Drop)]
+struct Full {
+    room: usize,
+    kind: io::ErrorKind,
+}
+
+impl Write for Full {
+    fn write(&mut self, buf: &[u8]) -> io::Result<usize> {
+        let taken = buf.len().min(self.room);
+        if taken == 0 {
+            return Err(io::Error::from(self.kind));
+        }
+        self.room = self.room.saturating_sub(taken);
+        Ok(taken)
+    }
+
+    fn flush(&mut self) -> io::Result<()> {
+        Ok(())
+    }
+}
+
+// How a run ends whose standard output is full, and what standard error says.
+fn play_full<R: Threads + Wait + Sync + AllocGlobal>(
+    rt: &R,
+    files: &mut MapFiles,
+    kind: io::ErrorKind,
+) -> Played {
+    let mut output = Full { room: 9, kind };
+    let mut errors = Vec::new(rt.alloc());
+    let end = run_on(rt, rt.alloc(), files, &mut output, &mut errors, ask_trace());
+    Played {
+        end,
+        output: Vec::new(rt.alloc()),
+        errors,
+    }
+}
+
+// The files are written before anything is printed.
+#[test]
+fn outputs_that_are_full(rt: HostRuntime) -> Result<(), Fail> {
+    for (kind, end, errors) in [
+        (
+            io::ErrorKind::BrokenPipe,
+            RunEnd::FileFault,
+            "file fault -\n",
+        ),
+        (
+            io::ErrorKind::OutOfMemory,
+            RunEnd::OutOfMemory,
+            "out of memory\n",
+        ),
+    ] {
+        let mut files = make_old(rt.alloc())?;
+        let played = play_full(&rt, &mut files, kind);
+        assert_eq!(rt; played.end, end);
+        assert_eq!(rt; played.errors.as_slice(), errors.as_bytes());
+        expect_written(&rt, &files, 5);
+    }
+    Ok(())
+}
+
+// A refusal for whose line there is no room.
+#[test]
+fn refusals_that_are_not_printed(rt: HostRuntime) -> Result<(), Fail> {
+    let mut files = make_files(rt.alloc())?;
+    files.put("run", b"bad\n")?;
+    let played = play_full(&rt, &mut files, io::ErrorKind::Other);
+    assert_eq!(rt; played.end, RunEnd::FileFault);
+    assert_eq!(rt; played.errors.as_slice(), b"file fault -\n".as_slice());
+    Ok(())
+}

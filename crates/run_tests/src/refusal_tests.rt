@@ -1,0 +1,206 @@
+// Run files that are refused: what is wrong with a line, and what standard error says of it.
+use crate::tests::{Tried, ask, make_files, play, try_all};
+use std::test::Fail;
+
+// The smallest run file of each fault of a line.
+const SMALLEST: [Tried; 13] = [
+    Tried {
+        run: "x",
+        output: "refused J1 at 1\n",
+        status: 1,
+    },
+    Tried {
+        run: "page",
+        output: "refused J1 at 1\n",
+        status: 1,
+    },
+    Tried {
+        run: "polls 0",
+        output: "refused J2 at 1\n",
+        status: 1,
+    },
+    Tried {
+        run: "page one\ntargets 5",
+        output: "refused J2 at 2\n",
+        status: 1,
+    },
+    Tried {
+        run: "page one\ntargets 1\npolls 1001",
+        output: "refused J2 at 3\n",
+        status: 1,
+    },
+    Tried {
+        run: "page one\ntargets 1\nfail 0 0 0",
+        output: "refused J2 at 3\n",
+        status: 1,
+    },
+    Tried {
+        run: "",
+        output: "refused J3 at 1\n",
+        status: 1,
+    },
+    Tried {
+        run: "page one\n; no more",
+        output: "refused J3 at 3\n",
+        status: 1,
+    },
+    Tried {
+        run: "page one\ntargets 1\npage one",
+        output: "refused J3 at 3\n",
+        status: 1,
+    },
+    Tried {
+        run: "page one\ntargets 1\npolls 1\npolls 1",
+        output: "refused J3 at 4\n",
+        status: 1,
+    },
+    Tried {
+        run: "page one\ntargets 1\nimage 0 0 empty\nimage 0 0 empty",
+        output: "refused J3 at 4\n",
+        status: 1,
+    },
+    Tried {
+        run: "page one\ntargets 1\nfail 0 1 1",
+        output: "refused J4 at 3\n",
+        status: 1,
+    },
+    Tried {
+        run: "page one\ntargets 1\njob 0 0 0 erase one -",
+        output: "refused J5 at 3\n",
+        status: 1,
+    },
+];
+
+#[test]
+fn each_fault_of_a_line(rt: HostRuntime) -> Result<(), Fail> {
+    try_all(&rt, &SMALLEST)
+}
+
+// Lines with several faults, and files with several such lines: which of them is told.
+const FIRST_FAULTS: [Tried; 10] = [
+    Tried {
+        run: "page erase\nbad\n",
+        output: "refused P1 at 1\n",
+        status: 1,
+    },
+    Tried {
+        run: "page two\n; a comment\ntargets 1\nimage 0 1 erase\n",
+        output: "refused I2 at 4\n",
+        status: 1,
+    },
+    Tried {
+        run: "page two\ntargets 1\nimage 0 2 nothing\n",
+        output: "refused J4 at 3\n",
+        status: 1,
+    },
+    Tried {
+        run: "page two\ntargets 1\njob 1 0 0 nothing nothing -\n",
+        output: "refused J4 at 3\n",
+        status: 1,
+    },
+    Tried {
+        run: "page two\ntargets 1\njob 0 0 16 one nothing -\n",
+        output: "refused M2 at 3\n",
+        status: 1,
+    },
+    Tried {
+        run: "page one\ntargets 1\njob 0 0 0 both one -\nbad\n",
+        output: "refused J5 at 3\n",
+        status: 1,
+    },
+    Tried {
+        run: "page one\ntargets 1\njob 0 0 32 both empty -\n",
+        output: "refused J5 at 3\n",
+        status: 1,
+    },
+    Tried {
+        run: "page one\ntargets 1\njob 0 0 32 both - -\nbad\n",
+        output: "refused S3 at 3\n",
+        status: 1,
+    },
+    Tried {
+        run: "page one\ntargets 1\njob 0 0 31 both - -\nbad\n",
+        output: "refused J1 at 4\n",
+        status: 1,
+    },
+    Tried {
+        run: "page one\ntargets 1\njob 0 0 0 nothing - -\nbad\n",
+        output: "",
+        status: 2,
+    },
+];
+
+#[test]
+fn the_first_fault_is_told(rt: HostRuntime) -> Result<(), Fail> {
+    try_all(&rt, &FIRST_FAULTS)
+}
+
+// A run file that isn't run, with the beginning and the end of what standard error says.
+struct Told {
+    run: &'static str,
+    first: &'static str,
+    last: &'static str,
+}
+
+const TOLD: [Told; 6] = [
+    Told {
+        run: "page one\nbad\n",
+        first: "run: line 2: ",
+        last: " (J1)\n",
+    },
+    Told {
+        run: "page erase\n",
+        first: "run: line 1, erase: ",
+        last: " (P1)\n",
+    },
+    Told {
+        run: "page one\ntargets 1\nimage 0 0 erase\n",
+        first: "run: line 3, erase: ",
+        last: " (I2)\n",
+    },
+    Told {
+        run: "page one\ntargets 1\njob 0 0 0 erase one -\n",
+        first: "run: line 3, one: ",
+        last: " (J5)\n",
+    },
+    Told {
+        run: "page one\ntargets 1\njob 0 0 32 erase - -\n",
+        first: "run: line 3, erase: ",
+        last: " (S3)\n",
+    },
+    Told {
+        run: "page nothing\n",
+        first: "file fault ",
+        last: "nothing\n",
+    },
+];
+
+#[test]
+fn what_standard_error_says(rt: HostRuntime) -> Result<(), Fail> {
+    for told in &TOLD {
+        let mut files = make_files(rt.alloc())?;
+        files.put("run", told.run.as_bytes())?;
+        let played = play(&rt, &mut files, ask(1));
+        let errors = str::from_utf8(played.errors.as_slice())?;
+        assert!(rt; errors.starts_with(told.first), "{errors}");
+        assert!(rt; errors.ends_with(told.last), "{errors}");
+        assert_eq!(rt; errors.lines().count(), 1, "{errors}");
+    }
+    Ok(())
+}
+
+// A run file that isn't there or isn't UTF-8.
+#[test]
+fn run_files_that_cannot_be_read(rt: HostRuntime) -> Result<(), Fail> {
+    for run in [None, Some(&[0x70, 0xff, 0x0a])] {
+        let mut files = make_files(rt.alloc())?;
+        if let Some(bytes) = run {
+            files.put("run", bytes)?;
+        }
+        let played = play(&rt, &mut files, ask(1));
+        assert_eq!(rt; played.end.status(), 2);
+        assert!(rt; played.output.is_empty());
+        assert_eq!(rt; played.errors.as_slice(), b"file fault run\n".as_slice());
+    }
+    Ok(())
+}
