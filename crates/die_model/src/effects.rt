@@ -136,7 +136,8 @@ fn take_one<A: Allocator + Copy>(
     requires rows { HasRows parts pages.old planes.now }
     requires limits { InLimits parts }
     requires there { AreKept pages.old (row ∷ []) }
-    ensures pages { (p : At) → page_in (page_len parts) pages.new p ≡ left_by (page_len parts) (work_of parts planes.now row) p (page_in (page_len parts) pages.old p) }
+    ensures pages { (p : At) → page_in (page_len parts) pages.new p
+        ≡ left_by (page_len parts) (work_of parts planes.now row) p (page_in (page_len parts) pages.old p) }
     ensures rows { HasRows parts pages.new planes.now }
     ensures still { is_erase row ≡ false → (queue : List Row) → AreKept pages.old queue → AreKept pages.new queue }
 {
@@ -160,7 +161,8 @@ pub fn take_effect<A: Allocator + Copy>(
     requires limits { InLimits parts }
     requires there { AreKept pages.old rows.now }
     requires alike { are_erases rows.now || are_programs rows.now ≡ true }
-    ensures pages { (p : At) → page_in (page_len parts) pages.new p ≡ left_by_all (page_len parts) (works_of parts planes.now rows.now) p (page_in (page_len parts) pages.old p) }
+    ensures pages { (p : At) → page_in (page_len parts) pages.new p
+        ≡ left_by_all (page_len parts) (works_of parts planes.now rows.now) p (page_in (page_len parts) pages.old p) }
     ensures rows { HasRows parts pages.new planes.now }
     ensures still { are_programs rows.now ≡ true → (queue : List Row) → AreKept pages.old queue → AreKept pages.new queue }
 {
@@ -185,7 +187,9 @@ pub fn end_works<A: Allocator + Copy>(
     requires limits { InLimits parts }
     requires there { AreKept pages.old rows.now }
     requires alike { are_erases rows.now || are_programs rows.now ≡ true }
-    ensures pages { (p : At) → page_in (page_len parts) pages.new p ≡ (if failed then page_in (page_len parts) pages.old p else left_by_all (page_len parts) (works_of parts planes.now rows.now) p (page_in (page_len parts) pages.old p)) }
+    ensures pages { (p : At) → page_in (page_len parts) pages.new p
+        ≡ (if failed then page_in (page_len parts) pages.old p
+        else left_by_all (page_len parts) (works_of parts planes.now rows.now) p (page_in (page_len parts) pages.old p)) }
     ensures rows { HasRows parts pages.new planes.now }
 {
     if !failed {

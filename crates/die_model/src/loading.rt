@@ -112,7 +112,8 @@ fn keep_entries<A: Allocator + Copy>(
     requires empty { pages.old ≡ [] }
     requires length { length entries.now ≡ count * entry_len geometry.now }
     requires inside { are_pages geometry.now count entries.now ≡ true }
-    ensures told { IfOk result (λ _. (p : At) → page_in (page_len geometry.now) pages.new p ≡ told geometry.now count entries.now p (replicate (page_len geometry.now) 0xff)) }
+    ensures told { IfOk result (λ _. (p : At) → page_in (page_len geometry.now) pages.new p
+        ≡ told geometry.now count entries.now p (replicate (page_len geometry.now) 0xff)) }
     ensures inside { IfOk result (λ _. ArePages geometry.now pages.new) }
 {
     let len = entry_len(geometry);

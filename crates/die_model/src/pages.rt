@@ -66,7 +66,8 @@ impl<A: Allocator + Copy> Pages<A> {
 
     /// Keeps a page, FF if it wasn't kept before. Without memory for that all stays as it was.
     pub fn keep(&mut self, at: PageAddress, len: usize) -> Result<(), AllocError>
-        ensures kept { IfOk result (λ _. (p : At) → kept self.new p ≡ (if same_page p at then Some (page_in len self.old p) else kept self.old p)) }
+        ensures kept { IfOk result (λ _. (p : At) → kept self.new p
+            ≡ (if same_page p at then Some (page_in len self.old p) else kept self.old p)) }
         ensures err { OnErr result (self.new ≡ self.old) }
     {
         if self.map.contains_key(&(at.block, at.page)) {
@@ -88,7 +89,8 @@ impl<A: Allocator + Copy> Pages<A> {
 
     /// Keeps a page, if one is given.
     pub fn keep_some(&mut self, at: Option<PageAddress>, len: usize) -> Result<(), AllocError>
-        ensures kept { IfOk result (λ _. (p : At) → kept self.new p ≡ (if is_given p at then Some (page_in len self.old p) else kept self.old p)) }
+        ensures kept { IfOk result (λ _. (p : At) → kept self.new p
+            ≡ (if is_given p at then Some (page_in len self.old p) else kept self.old p)) }
         ensures err { OnErr result (self.new ≡ self.old) }
         ensures none { at ≡ None → IsOk result }
     {
@@ -141,7 +143,8 @@ impl<A: Allocator + Copy> Pages<A> {
 
     /// The image of a die that keeps these pages.
     pub fn image(&self, geometry: &Geometry) -> Result<Vec<u8, A>, AllocError>
-        ensures value { IfOk result (λ v. v.items ≡ header geometry.now (count_of geometry.now self.now) ++ entries_of geometry.now self.now) }
+        ensures value { IfOk result (λ v. v.items ≡ header geometry.now (count_of geometry.now self.now)
+            ++ entries_of geometry.now self.now) }
         ensures order { IfOk result (λ _. AreInOrder self.now) }
     {
         let mut out = begin_image(self.alloc, geometry.parts(), self.count_entries(geometry))?;

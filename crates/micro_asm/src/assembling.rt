@@ -55,7 +55,8 @@ fn led<A: Allocator>(survey: &Survey<'_, A>, entry: Entry<'_>) -> Option<Word>
 #[tactic(auto, unfolding(crate::specs::Reading::words_of))]
 fn words_of<A: Allocator>(alloc: A, survey: &Survey<'_, A>) -> Result<Vec<Word, A>, AsmRefusal>
     requires { SeenFits (seen survey.now) }
-    ensures ok { IfOk result (λ v. words_of (length (seen survey.now).entries) (seen survey.now).labels (seen survey.now).entries ≡ Ok v.items) }
+    ensures ok { IfOk result (λ v. words_of (length (seen survey.now).entries) (seen survey.now).labels (seen survey.now).entries
+        ≡ Ok v.items) }
     ensures fits { IfOk result (λ v. AllByRecursion (IsInRange Two (length (seen survey.now).entries)) v.items) }
     ensures count { IfOk result (λ v. length v.items ≡ length (seen survey.now).entries) }
     ensures err { IfErr result (λ e. IsRefusalOf e (words_of (length (seen survey.now).entries) (seen survey.now).labels (seen survey.now).entries)) }

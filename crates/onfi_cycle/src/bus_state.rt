@@ -442,7 +442,8 @@ fn judge_on(geometry: &Geometry, targets: &[TargetState], item: Item) -> Option<
 
 // What an item of this target does to the LUN of number n, if that is there.
 fn effect_at(geometry: &Geometry, target: &TargetState, item: Item, n: u8) -> Effect
-    ensures { (v : LunView) → slice_get target.now.luns n ≡ Some v → result ≡ effect_alone geometry.now target.now.tail (has_driver target.now.luns) item n v }
+    ensures { (v : LunView) → slice_get target.now.luns n ≡ Some v
+        → result ≡ effect_alone geometry.now target.now.tail (has_driver target.now.luns) item n v }
 {
     let luns = target.luns.as_slice();
     let latch_alone = match lun_at(luns, n) {
@@ -561,7 +562,8 @@ impl BusState {
 
     /// What an item does to a LUN that is there.
     pub fn effect(&self, item: Item, l: Lun) -> Effect
-        ensures past { (g : Parts) (n : ℕ) (past : List Item) → Follows g n self.now past → l.ce < n → l.lun < g.luns → result ≡ effect_on g past item l }
+        ensures past { (g : Parts) (n : ℕ) (past : List Item) → Follows g n self.now past → l.ce < n → l.lun < g.luns
+            → result ≡ effect_on g past item l }
     {
         if item.target() != l.ce {
             return Effect::Unaffected;
@@ -575,7 +577,8 @@ impl BusState {
     /// What an item does to the page registers of a LUN that is there.
     #[inline(always)]
     pub fn filling(&self, item: Item, l: Lun) -> Filling
-        ensures past { (g : Parts) (n : ℕ) (past : List Item) → Follows g n self.now past → l.ce < n → result ≡ filling g (facts_of (tail past l.ce)) item l }
+        ensures past { (g : Parts) (n : ℕ) (past : List Item) → Follows g n self.now past → l.ce < n
+            → result ≡ filling g (facts_of (tail past l.ce)) item l }
     {
         match target_at(self.targets.as_slice(), l.ce) {
             None => Filling::Leaves,
@@ -585,7 +588,8 @@ impl BusState {
 
     /// The facts of the tail of a target, None where it isn't there.
     pub fn tail(&self, ce: u8) -> Option<TailFacts>
-        ensures past { (g : Parts) (n : ℕ) (past : List Item) → Follows g n self.now past → ce < n → result ≡ Some (facts_of (tail past ce)) }
+        ensures past { (g : Parts) (n : ℕ) (past : List Item) → Follows g n self.now past → ce < n
+            → result ≡ Some (facts_of (tail past ce)) }
     {
         let _ = &self.geometry;
         match target_at(self.targets.as_slice(), ce) {

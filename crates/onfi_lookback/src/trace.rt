@@ -47,7 +47,8 @@ pub fn check(
     targets: u8,
     items: &[Item],
 ) -> Result<Option<(usize, Forbidden)>, AllocError>
-    ensures { IfOk result (λ r. MatchOption r (is_legal geometry.now targets (reverse items.now) ≡ true) (λ p. IsFirstBroken geometry.now targets items.now p.0 p.1)) }
+    ensures { IfOk result (λ r. MatchOption r (is_legal geometry.now targets (reverse items.now) ≡ true)
+        (λ p. IsFirstBroken geometry.now targets items.now p.0 p.1)) }
 {
     let mut past: Vec<Item> = Vec::new(alloc);
     for (i, item) in items.iter().enumerate() {

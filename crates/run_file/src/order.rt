@@ -98,7 +98,8 @@ pub(crate) fn place(
     statement: Statement<'_>,
 ) -> Result<(), RunFault>
     requires { jobs ≡ jobs_in (shown_all before.now) }
-    ensures ok { IfOk result (λ _. placed (shown_all before.now) (Some (shown_statement statement.entry)) ≡ Ok (Some (shown_statement statement.entry))) }
+    ensures ok { IfOk result (λ _. placed (shown_all before.now) (Some (shown_statement statement.entry))
+        ≡ Ok (Some (shown_statement statement.entry))) }
     ensures err { IfErr result (λ e. placed (shown_all before.now) (Some (shown_statement statement.entry)) ≡ Err e) }
 {
     if statement.is_job() && jobs >= MAX_JOBS {

@@ -103,7 +103,8 @@ impl<A: Allocator> Job<A> {
     ) -> Result<Job<A>, JobRefused<A>>
         ensures accepted { IsOk result ↔ (job_fault geometry targets lun base verified (length buffer.items) ≡ None) }
         ensures value { IfOk result (λ j. j ≡ job_of lun base verified buffer.items) }
-        ensures refused { IfErr result (λ e. (job_fault geometry targets lun base verified (length buffer.items) ≡ Some e.fault) × (e.verified ≡ verified) × (e.buffer ≡ buffer)) }
+        ensures refused { IfErr result (λ e. (job_fault geometry targets lun base verified (length buffer.items) ≡ Some e.fault)
+            × (e.verified ≡ verified) × (e.buffer ≡ buffer)) }
     {
         match job_fault(&geometry, targets, lun, base, &verified, buffer.len()) {
             Some(fault) => Err(JobRefused {

@@ -88,7 +88,8 @@ fn take_all<A: Allocator + Copy>(
     requires inside { place + len ≤ length buffer.old }
     requires room { len ≤ bus.old.room }
     requires own { MovesAreOwn (channel_of bus.old) lun (replicate len Take) bus.old.past }
-    ensures { (bytes : List ℕ) × HasPlayed bus.old bus.new lun.ce (replicate len Take) bytes len × (buffer.new ≡ written bytes place buffer.old) }
+    ensures { (bytes : List ℕ) × HasPlayed bus.old bus.new lun.ce (replicate len Take) bytes len
+        × (buffer.new ≡ written bytes place buffer.old) }
 {
     for k in 0..len {
         buffer[place + k] = take(bus, lun);
@@ -121,7 +122,8 @@ fn poll_row<A: Allocator + Copy>(bus: &mut Bus<A>, lun: Lun, row: [u8; 3]) -> Re
 // Asks a LUN for its status.
 fn poll<A: Allocator + Copy>(bus: &mut Bus<A>, lun: Lun) -> Result<u8, AllocError>
     requires { CanPoll bus.old lun }
-    ensures ok { IfOk result (λ status. (moved : List Move) × (poll_at bus.old.geometry lun.lun ≡ Some moved) × HasPolled bus.old bus.new lun.ce moved status) }
+    ensures ok { IfOk result (λ status. (moved : List Move) × (poll_at bus.old.geometry lun.lun ≡ Some moved)
+        × HasPolled bus.old bus.new lun.ce moved status) }
     ensures err { OnErr result (IsUntouched bus.old bus.new) }
 {
     let geometry = bus.geometry();
@@ -192,7 +194,9 @@ fn get<A: Allocator + Copy>(
 ) -> Result<(), AllocError>
     requires inside { place + len ≤ length buffer.old }
     requires own { MovesAreOwn (channel_of bus.old) lun (replicate len Take) bus.old.past }
-    ensures ok { IfOk result (λ _. (bytes : List ℕ) × IsSame bus.old bus.new × Plays (channel_of bus.old) lun.ce (replicate len Take) bus.old.past bus.new.past bytes × (buffer.new ≡ written bytes place buffer.old)) }
+    ensures ok { IfOk result (λ _. (bytes : List ℕ) × IsSame bus.old bus.new
+        × Plays (channel_of bus.old) lun.ce (replicate len Take) bus.old.past bus.new.past bytes
+        × (buffer.new ≡ written bytes place buffer.old)) }
     ensures err { OnErr result (IsUntouched bus.old bus.new × (buffer.new ≡ buffer.old)) }
 {
     bus.reserve(len)?;

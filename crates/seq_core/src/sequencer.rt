@@ -103,7 +103,8 @@ fn step_in<A: Allocator + Copy>(
     requires inside { k < length slots.old }
     requires can { (v : Progress) × (get_or slots.old k None ≡ Some v) × CanStep (channel_of bus.old) bus.old.past v }
     ensures same { IsSame bus.old bus.new }
-    ensures ok { IfOk result (λ answer. (v : Progress) × (u : Progress) × (get_or slots.old k None ≡ Some v) × Steps (channel_of bus.old) bus.old.past v answer bus.new.past u × (slots.new ≡ set slots.old k (Some u))) }
+    ensures ok { IfOk result (λ answer. (v : Progress) × (u : Progress) × (get_or slots.old k None ≡ Some v)
+        × Steps (channel_of bus.old) bus.old.past v answer bus.new.past u × (slots.new ≡ set slots.old k (Some u))) }
     ensures err { OnErr result (IsUntouched bus.old bus.new × (slots.new ≡ slots.old)) }
 {
     match &mut slots[k] {
@@ -331,7 +332,8 @@ impl<A: Allocator + Copy> Core<A> {
     /// has a job; `S2` the LUN isn't there, or isn't the job's; `S5` the job is of another geometry. Takes no memory.
     pub fn load(&mut self, l: Lun, job: Job<A>) -> Result<(), (LoadFault, Job<A>)>
         ensures ok { IfOk result (λ _. IsEvent self.old (Load l job) (ToLoad Loaded) self.new) }
-        ensures err { IfErr result (λ e. (e.1 ≡ job) × (self.new ≡ self.old) × IsEvent self.old (Load l job) (ToLoad (NotLoaded e.0 job)) self.new) }
+        ensures err { IfErr result (λ e. (e.1 ≡ job) × (self.new ≡ self.old)
+            × IsEvent self.old (Load l job) (ToLoad (NotLoaded e.0 job)) self.new) }
         ensures refused { IfErr result (λ e. load_fault_at self.old l job ≡ Some e.0) }
     {
         match self.admits(l, &job) {
@@ -403,7 +405,8 @@ impl<A: Allocator + Copy> Core<A> {
 
     /// The bus, as the trace has left it.
     pub fn into_bus(self) -> Bus<A>
-        ensures { (result.geometry ≡ self.geometry) × (result.targets ≡ self.targets) × (result.opened ≡ self.opened) × (result.past ≡ self.past) }
+        ensures { (result.geometry ≡ self.geometry) × (result.targets ≡ self.targets) × (result.opened ≡ self.opened)
+            × (result.past ≡ self.past) }
     {
         self.bus
     }

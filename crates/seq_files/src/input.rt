@@ -29,7 +29,8 @@ fn read_piece<A: Allocator, R: Read>(
     bytes: &mut Vec<u8, A>,
     input: &mut R,
 ) -> Result<bool, FileError>
-    ensures more { OnOk result ((piece : List ℕ) × (bytes.new.items ≡ bytes.old.items ++ piece) × Consumes (R.remaining input.old) (R.remaining input.new) piece) }
+    ensures more { OnOk result ((piece : List ℕ) × (bytes.new.items ≡ bytes.old.items ++ piece)
+        × Consumes (R.remaining input.old) (R.remaining input.new) piece) }
     ensures end { result ≡ Ok true → IsAtEnd (R.remaining input.new) }
 {
     let mut piece = [0; PIECE];

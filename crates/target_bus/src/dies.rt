@@ -164,7 +164,8 @@ fn may_fill(kind: Kind) -> bool
 
 // What a cycle does to the page registers of a LUN that is there.
 fn filling_by(state: &BusState, cycle: Cycle, l: Lun) -> Filling
-    ensures { (g : Parts) (n : ℕ) (past : List Item) → Follows g n state.now past → l.ce < n → result ≡ filling g (facts_of (tail past l.ce)) (Cyc cycle) l }
+    ensures { (g : Parts) (n : ℕ) (past : List Item) → Follows g n state.now past → l.ce < n
+        → result ≡ filling g (facts_of (tail past l.ce)) (Cyc cycle) l }
 {
     if may_fill(cycle.kind) {
         state.filling(Item::Cyc(cycle), l)
@@ -182,7 +183,8 @@ fn is_input(kind: Kind) -> bool
 
 // What a cycle does to a LUN that is there: an input does nothing.
 fn effect_by(state: &BusState, cycle: Cycle, l: Lun) -> Effect
-    ensures { (g : Parts) (n : ℕ) (past : List Item) → Follows g n state.now past → l.ce < n → l.lun < g.luns → result ≡ effect_on g past (Cyc cycle) l }
+    ensures { (g : Parts) (n : ℕ) (past : List Item) → Follows g n state.now past → l.ce < n → l.lun < g.luns
+        → result ≡ effect_on g past (Cyc cycle) l }
 {
     if is_input(cycle.kind) {
         Effect::Unaffected
@@ -203,7 +205,8 @@ pub struct Worked {
 fn find_work(state: &BusState, cycle: Cycle, luns: u8, n: u8) -> Option<Worked>
     requires { n ≤ luns }
     ensures there { IfSome result (λ w. w.lun < luns) }
-    ensures past { (g : Parts) (targets : ℕ) (past : List Item) → Follows g targets state.now past → cycle.ce < targets → g.luns ≡ luns → FindsWork g past (Cyc cycle) cycle.ce n result }
+    ensures past { (g : Parts) (targets : ℕ) (past : List Item) → Follows g targets state.now past → cycle.ce < targets → g.luns ≡ luns
+        → FindsWork g past (Cyc cycle) cycle.ce n result }
 {
     if n == luns {
         return None;
@@ -234,7 +237,8 @@ fn work_in<A: Allocator + Copy>(
 ) -> Result<(), AllocError>
     requires inside { k < length dies.old }
     requires can { (d : Die) → slice_get dies.old k ≡ Some d → CanWork filling effect d }
-    ensures ok { IfOk result (λ _. (old : Die) × (new : Die) × (slice_get dies.old k ≡ Some old) × WorkedBy old.geometry filling effect old new × (dies.new ≡ slice_set dies.old k new)) }
+    ensures ok { IfOk result (λ _. (old : Die) × (new : Die) × (slice_get dies.old k ≡ Some old)
+        × WorkedBy old.geometry filling effect old new × (dies.new ≡ slice_set dies.old k new)) }
     ensures err { OnErr result (dies.new ≡ dies.old) }
     ensures memory { is_program effect ≡ false → IsOk result }
 {
@@ -244,7 +248,8 @@ fn work_in<A: Allocator + Copy>(
 // Ends the work of the die of a number.
 fn finish_in<A: Allocator + Copy>(dies: &mut [LunDie<A>], k: usize, fail: bool)
     requires inside { k < length dies.old }
-    ensures { (old : Die) × (new : Die) × (slice_get dies.old k ≡ Some old) × IsAfter (BecameReady fail) old new × (dies.new ≡ slice_set dies.old k new) }
+    ensures { (old : Die) × (new : Die) × (slice_get dies.old k ≡ Some old) × IsAfter (BecameReady fail) old new
+        × (dies.new ≡ slice_set dies.old k new) }
 {
     dies[k].finish(fail);
 }
@@ -252,7 +257,8 @@ fn finish_in<A: Allocator + Copy>(dies: &mut [LunDie<A>], k: usize, fail: bool)
 // Ends the work of the array of the die of a number.
 fn finish_array_in<A: Allocator + Copy>(dies: &mut [LunDie<A>], k: usize)
     requires inside { k < length dies.old }
-    ensures { (old : Die) × (new : Die) × (slice_get dies.old k ≡ Some old) × IsAfter ArrayBecameReady old new × (dies.new ≡ slice_set dies.old k new) }
+    ensures { (old : Die) × (new : Die) × (slice_get dies.old k ≡ Some old) × IsAfter ArrayBecameReady old new
+        × (dies.new ≡ slice_set dies.old k new) }
 {
     dies[k].array_ready();
 }
@@ -284,7 +290,9 @@ fn work_input<A: Allocator + Copy>(
     requires few { length dies.old ≤ 16 }
     requires permitted { Permits state.now dies.old (Cyc cycle) }
     requires input { is_input cycle.kind ≡ true }
-    ensures ok { IfOk result (λ _. (opened : List Entries) (past : List Item) → IsStanding state.now opened dies.old past → broken state.now.geometry (length state.now.targets) past (Cyc cycle) ≡ None → StandFor (channel_on state.now.geometry (length state.now.targets) opened) (Cyc cycle ∷ past) dies.new) }
+    ensures ok { IfOk result (λ _. (opened : List Entries) (past : List Item) → IsStanding state.now opened dies.old past
+        → broken state.now.geometry (length state.now.targets) past (Cyc cycle) ≡ None
+        → StandFor (channel_on state.now.geometry (length state.now.targets) opened) (Cyc cycle ∷ past) dies.new) }
     ensures err { OnErr result (dies.new ≡ dies.old) }
     ensures memory { starts_work (Cyc cycle) ≡ false → IsOk result }
 {
@@ -312,7 +320,9 @@ fn work_found<A: Allocator + Copy>(
 ) -> Result<(), AllocError>
     requires few { length dies.old ≤ 16 }
     requires permitted { Permits state.now dies.old (Cyc cycle) }
-    ensures ok { IfOk result (λ _. (opened : List Entries) (past : List Item) → IsStanding state.now opened dies.old past → broken state.now.geometry (length state.now.targets) past (Cyc cycle) ≡ None → StandFor (channel_on state.now.geometry (length state.now.targets) opened) (Cyc cycle ∷ past) dies.new) }
+    ensures ok { IfOk result (λ _. (opened : List Entries) (past : List Item) → IsStanding state.now opened dies.old past
+        → broken state.now.geometry (length state.now.targets) past (Cyc cycle) ≡ None
+        → StandFor (channel_on state.now.geometry (length state.now.targets) opened) (Cyc cycle ∷ past) dies.new) }
     ensures err { OnErr result (dies.new ≡ dies.old) }
     ensures memory { starts_work (Cyc cycle) ≡ false → IsOk result }
 {
@@ -335,7 +345,9 @@ pub fn work<A: Allocator + Copy>(
 ) -> Result<(), AllocError>
     requires few { length dies.old ≤ 16 }
     requires permitted { Permits state.now dies.old (Cyc cycle) }
-    ensures ok { IfOk result (λ _. (opened : List Entries) (past : List Item) → IsStanding state.now opened dies.old past → broken state.now.geometry (length state.now.targets) past (Cyc cycle) ≡ None → StandFor (channel_on state.now.geometry (length state.now.targets) opened) (Cyc cycle ∷ past) dies.new) }
+    ensures ok { IfOk result (λ _. (opened : List Entries) (past : List Item) → IsStanding state.now opened dies.old past
+        → broken state.now.geometry (length state.now.targets) past (Cyc cycle) ≡ None
+        → StandFor (channel_on state.now.geometry (length state.now.targets) opened) (Cyc cycle ∷ past) dies.new) }
     ensures err { OnErr result (dies.new ≡ dies.old) }
     ensures memory { starts_work (Cyc cycle) ≡ false → IsOk result }
 {
@@ -350,7 +362,9 @@ pub fn work<A: Allocator + Copy>(
 pub fn end_work<A: Allocator + Copy>(state: &BusState, dies: &mut [LunDie<A>], l: Lun, fail: bool)
     requires few { length dies.old ≤ 16 }
     requires permitted { Permits state.now dies.old (Rdy l.ce l.lun fail) }
-    ensures { (opened : List Entries) (past : List Item) → IsStanding state.now opened dies.old past → broken state.now.geometry (length state.now.targets) past (Rdy l.ce l.lun fail) ≡ None → StandFor (channel_on state.now.geometry (length state.now.targets) opened) (Rdy l.ce l.lun fail ∷ past) dies.new }
+    ensures { (opened : List Entries) (past : List Item) → IsStanding state.now opened dies.old past
+        → broken state.now.geometry (length state.now.targets) past (Rdy l.ce l.lun fail) ≡ None
+        → StandFor (channel_on state.now.geometry (length state.now.targets) opened) (Rdy l.ce l.lun fail ∷ past) dies.new }
 {
     state.facts_fit();
     let luns = state.geometry().parts().luns;
@@ -362,7 +376,9 @@ pub fn end_work<A: Allocator + Copy>(state: &BusState, dies: &mut [LunDie<A>], l
 pub fn end_array_work<A: Allocator + Copy>(state: &BusState, dies: &mut [LunDie<A>], l: Lun)
     requires few { length dies.old ≤ 16 }
     requires permitted { Permits state.now dies.old (Ard l.ce l.lun) }
-    ensures { (opened : List Entries) (past : List Item) → IsStanding state.now opened dies.old past → broken state.now.geometry (length state.now.targets) past (Ard l.ce l.lun) ≡ None → StandFor (channel_on state.now.geometry (length state.now.targets) opened) (Ard l.ce l.lun ∷ past) dies.new }
+    ensures { (opened : List Entries) (past : List Item) → IsStanding state.now opened dies.old past
+        → broken state.now.geometry (length state.now.targets) past (Ard l.ce l.lun) ≡ None
+        → StandFor (channel_on state.now.geometry (length state.now.targets) opened) (Ard l.ce l.lun ∷ past) dies.new }
 {
     state.facts_fit();
     let luns = state.geometry().parts().luns;
@@ -372,7 +388,8 @@ pub fn end_array_work<A: Allocator + Copy>(state: &BusState, dies: &mut [LunDie<
 
 // A LUN drives nothing.
 fn is_off_at(state: &BusState, l: Lun) -> bool
-    ensures { (g : Parts) (n : ℕ) (past : List Item) → Follows g n state.now past → l.ce < n → l.lun < g.luns → result ≡ is_off (latch g past l) }
+    ensures { (g : Parts) (n : ℕ) (past : List Item) → Follows g n state.now past → l.ce < n → l.lun < g.luns
+        → result ≡ is_off (latch g past l) }
 {
     match state.lun_state(l) {
         None => true,
@@ -384,7 +401,8 @@ fn is_off_at(state: &BusState, l: Lun) -> bool
 fn first_driver(state: &BusState, ce: u8, luns: u8, n: u8) -> Option<u8>
     requires { n ≤ luns }
     ensures there { IfSome result (λ lun. lun < luns) }
-    ensures past { (g : Parts) (targets : ℕ) (past : List Item) (count : ℕ) → Follows g targets state.now past → ce < targets → g.luns ≡ luns → n + count ≡ luns → result ≡ first_of (drivers_from (λ m. latch g past (record { ce = ce; lun = m })) count n) }
+    ensures past { (g : Parts) (targets : ℕ) (past : List Item) (count : ℕ) → Follows g targets state.now past → ce < targets
+        → g.luns ≡ luns → n + count ≡ luns → result ≡ first_of (drivers_from (λ m. latch g past (record { ce = ce; lun = m })) count n) }
 {
     if n == luns {
         return None;
@@ -421,7 +439,9 @@ fn shown_as<A: Allocator + Copy>(die: &LunDie<A>, look: LunState) -> u8
 
 // The byte that a LUN shows, where it shows one.
 fn byte_of<A: Allocator + Copy>(state: &BusState, die: &LunDie<A>, l: Lun) -> u8
-    ensures { (s : Channel) (past : List Item) (byte : ℕ) → Follows s.geometry s.targets state.now past → l.ce < s.targets → l.lun < s.geometry.luns → IsDieOf s past l die.now → parameter_bytes s.geometry ≡ s.parameters → shown s.geometry s.parameters s.opening past l ≡ Some byte → result ≡ byte }
+    ensures { (s : Channel) (past : List Item) (byte : ℕ) → Follows s.geometry s.targets state.now past → l.ce < s.targets
+        → l.lun < s.geometry.luns → IsDieOf s past l die.now → parameter_bytes s.geometry ≡ s.parameters
+        → shown s.geometry s.parameters s.opening past l ≡ Some byte → result ≡ byte }
 {
     match state.lun_state(l) {
         None => 0,
@@ -432,7 +452,9 @@ fn byte_of<A: Allocator + Copy>(state: &BusState, die: &LunDie<A>, l: Lun) -> u8
 /// The byte that the one driver of a target shows, where an output of it is permitted.
 pub fn shown_byte<A: Allocator + Copy>(state: &BusState, dies: &[LunDie<A>], ce: u8) -> u8
     requires { length dies.now ≤ 16 }
-    ensures { (opened : List Entries) (past : List Item) → IsStanding state.now opened dies.now past → broken state.now.geometry (length state.now.targets) past (cycle ce Dout 0) ≡ None → bus_byte (channel_on state.now.geometry (length state.now.targets) opened) past ce ≡ Some result }
+    ensures { (opened : List Entries) (past : List Item) → IsStanding state.now opened dies.now past
+        → broken state.now.geometry (length state.now.targets) past (cycle ce Dout 0) ≡ None
+        → bus_byte (channel_on state.now.geometry (length state.now.targets) opened) past ce ≡ Some result }
 {
     let luns = state.geometry().parts().luns;
     match first_driver(state, ce, luns, 0) {
@@ -468,7 +490,8 @@ pub fn output(ce: u8, byte: u8) -> Cycle
 #[inline(always)]
 pub fn judge_output(state: &BusState, ce: u8) -> Option<Forbidden>
     ensures state { (byte : ℕ) → result ≡ judged state.now (cycle ce Dout byte) }
-    ensures past { (g : Parts) (n : ℕ) (past : List Item) (byte : ℕ) → Follows g n state.now past → result ≡ broken g n past (cycle ce Dout byte) }
+    ensures past { (g : Parts) (n : ℕ) (past : List Item) (byte : ℕ) → Follows g n state.now past
+        → result ≡ broken g n past (cycle ce Dout byte) }
 {
     state.judge(Item::Cyc(output(ce, 0)))
 }

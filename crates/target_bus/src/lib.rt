@@ -71,7 +71,8 @@ impl<A: Allocator + Copy> Bus<A> {
         ensures ok { IfOk result (λ b. bus_fault geometry dies.items ≡ None) }
         ensures value { IfOk result (λ b. (b.past ≡ []) × (b.geometry ≡ geometry) × (b.targets * geometry.luns ≡ length dies.items)) }
         ensures opened { IfOk result (λ b. b.opened ≡ map (λ (d : Die). d.pages) dies.items) }
-        ensures opening { IfOk result (λ b. (l : Lun) (p : PageAddress) (d : Die) → slice_get dies.items (number_of geometry l) ≡ Some d → (channel_of b).opening l p ≡ page_of d p) }
+        ensures opening { IfOk result (λ b. (l : Lun) (p : PageAddress) (d : Die) → slice_get dies.items (number_of geometry l) ≡ Some d
+            → (channel_of b).opening l p ≡ page_of d p) }
         ensures err { IfErr result (λ e. RefusesDies e.0 (bus_fault geometry dies.items) × (e.1 ≡ dies)) }
     {
         let luns = geometry.parts().luns;
@@ -150,8 +151,10 @@ impl<A: Allocator + Copy> Bus<A> {
     /// Errors, with all as it was: the first rule that the cycle breaks; and where it breaks none, want of memory.
     pub fn put(&mut self, cycle: Cycle) -> Result<(), BusRefusal>
         requires { is_output cycle.kind ≡ false }
-        ensures ok { IfOk result (λ _. (broken self.old.geometry self.old.targets self.old.past (Cyc cycle) ≡ None) × IsNext self.old self.new (Cyc cycle)) }
-        ensures err { IfErr result (λ e. Refuses e (broken self.old.geometry self.old.targets self.old.past (Cyc cycle)) × (self.new ≡ self.old)) }
+        ensures ok { IfOk result (λ _. (broken self.old.geometry self.old.targets self.old.past (Cyc cycle) ≡ None)
+            × IsNext self.old self.new (Cyc cycle)) }
+        ensures err { IfErr result (λ e. Refuses e (broken self.old.geometry self.old.targets self.old.past (Cyc cycle))
+            × (self.new ≡ self.old)) }
         ensures memory { 0 < self.old.room → starts_work (Cyc cycle) ≡ false → IfErr result (λ e. e ≢ BusRefusal.OutOfMemory) }
     {
         let item = Item::Cyc(cycle);
@@ -180,7 +183,8 @@ impl<A: Allocator + Copy> Bus<A> {
     ///
     /// Errors, with all as it was: the first rule that the output breaks; and where it breaks none, want of memory.
     pub fn take(&mut self, ce: u8) -> Result<u8, BusRefusal>
-        ensures ok { IfOk result (λ byte. (broken self.old.geometry self.old.targets self.old.past (cycle ce Dout byte) ≡ None) × (bus_byte (channel_of self.old) self.old.past ce ≡ Some byte) × IsNext self.old self.new (cycle ce Dout byte)) }
+        ensures ok { IfOk result (λ byte. (broken self.old.geometry self.old.targets self.old.past (cycle ce Dout byte) ≡ None)
+            × (bus_byte (channel_of self.old) self.old.past ce ≡ Some byte) × IsNext self.old self.new (cycle ce Dout byte)) }
         ensures err { IfErr result (λ e. ((byte : ℕ) → Refuses e (broken self.old.geometry self.old.targets self.old.past (cycle ce Dout byte))) × (self.new ≡ self.old)) }
         ensures memory { 0 < self.old.room → IfErr result (λ e. e ≢ BusRefusal.OutOfMemory) }
     {
@@ -245,7 +249,8 @@ impl<A: Allocator + Copy> Bus<A> {
     /// Keeps places for so many cycles to come: the next `n` that start no work meet no want of memory, whatever cycles that start
     /// work come between. Places that were kept before stay. Without memory for that all stays as it was.
     pub fn reserve(&mut self, n: usize) -> Result<(), AllocError>
-        ensures ok { IfOk result (λ _. (channel_of self.new ≡ channel_of self.old) × (self.new.past ≡ self.old.past) × (n ≤ self.new.room) × (self.old.room ≤ self.new.room)) }
+        ensures ok { IfOk result (λ _. (channel_of self.new ≡ channel_of self.old) × (self.new.past ≡ self.old.past) × (n ≤ self.new.room)
+            × (self.old.room ≤ self.new.room)) }
         ensures err { IfErr result (λ _. self.new ≡ self.old) }
     {
         let room = self.room.max(n);

@@ -130,7 +130,8 @@ impl<'a> Fields<'a> {
     // The fields of a line that has three or four.
     #[tactic(auto, using(crate::proofs::Fields::one_field, crate::proofs::Fields::two_fields, crate::proofs::Fields::five_fields))]
     fn of(line: &'a str) -> Option<Fields<'a>>
-        ensures some { IfSome result (λ f. fields line.entry.now ≡ f.ce.now ∷ f.letter.now ∷ f.third.now ∷ option_to_list (option_copied f.fourth)) }
+        ensures some { IfSome result (λ f. fields line.entry.now
+            ≡ f.ce.now ∷ f.letter.now ∷ f.third.now ∷ option_to_list (option_copied f.fourth)) }
         ensures none { IfNone result (line_item line.entry.now ≡ Err BadShape) }
     {
         let (ce, rest) = first_field(line)?;

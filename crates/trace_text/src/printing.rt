@@ -30,7 +30,8 @@ fn push_cycle<A: Allocator>(
     byte: u8,
 ) -> Result<(), AllocError>
     requires { ce ≤ 3 }
-    ensures value { OnOk result (string_bytes text.new ≡ string_bytes text.old ++ line (Cyc (record { ce = ce; kind = kind; byte = byte }))) }
+    ensures value { OnOk result (string_bytes text.new ≡ string_bytes text.old
+        ++ line (Cyc (record { ce = ce; kind = kind; byte = byte }))) }
     ensures byte { byte < 256 }
 {
     let letter = kind_letter(kind);

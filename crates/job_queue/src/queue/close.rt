@@ -25,7 +25,8 @@ impl<J: Drop, A: Allocator> JobQueue<J, A> {
     ) -> Result<Tally<A>, (JobQueue<J, A>, Vec<HostPass<J>, A>, Taker<J, A>)>
         requires passes { All (λ p. owns self p) passes.items }
         requires taker { owns_taker self taker }
-        ensures ok { IfOk result (λ t. HasEachPass passes.items self.hosts × IsTally t.put.items t.taken.items passes.items taker.taken self.hosts) }
+        ensures ok { IfOk result (λ t. HasEachPass passes.items self.hosts
+            × IsTally t.put.items t.taken.items passes.items taker.taken self.hosts) }
         ensures err { IfErr result (λ r. MissesPass passes.items self.hosts × (r.0 ≡ self) × (r.1.items ≡ passes.items) × (r.2 ≡ taker)) }
     {
         if !has_each_pass(passes.as_slice(), self.hosts) {
