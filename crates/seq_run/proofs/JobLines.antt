@@ -1,10 +1,7 @@
 -- What a job line is refused for at last, and that it passes; and the lines of jobs that have ended.
-use Rattle.std.proofs.Common.{◌≡◌, ℕ, zero, suc, ◌+◌, ◌<◌, ◌≤◌, List, [], ◌∷◌, ◌++◌, length, drop, get_or, set, arith, Option, Some, None, refl, sym, ap, ◌∙◌, subst, inr}
+use Rattle.std.proofs.Common.{◌≡◌, ℕ, ◌+◌, ◌<◌, ◌≤◌, List, [], ◌∷◌, ◌++◌, length, drop, get_or, Option, Some, None, refl, sym, ap, ◌∙◌, subst, inr}
 use Rattle.std.proofs.lemmas.List.{append_assoc, append-nil, drop_more, drop_all}
-use Rattle.std.specs.Option.{option_copied}
 use Rattle.seq_run.specs.declared.job_ends.EndedJob.{EndedJob}
-use Rattle.seq_run.specs.declared.plan.PlannedJob.{PlannedJob}
-use Rattle.seq_run.specs.Planned.{planned_outputs}
 use Rattle.seq_run.specs.Written.{codes_of}
 use Rattle.seq_run.specs.Lines.{job_line, job_lines}
 use Rattle.seq_files.specs.Store.{Store}
@@ -58,9 +55,3 @@ has_verified files g path items bytes x v holds same is_file accepted safe = (
   },
   accepted.1,
 )
-
--- another job in its place, whose buffer goes to the same path
-pub outputs_stay : (jobs : List PlannedJob) (k : ℕ) (job d : PlannedJob) → k < length jobs → job.output ≡ (get_or jobs k d).output → planned_outputs (set jobs k job) ≡ planned_outputs jobs
-outputs_stay [] k job d inside same = refl
-outputs_stay (x ∷ jobs) zero job d inside same = ap (λ o. option_copied o ∷ planned_outputs jobs) same
-outputs_stay (x ∷ jobs) (suc k) job d inside same = ap (λ (l : List (Option (List ℕ))). option_copied x.output ∷ l) (outputs_stay jobs k job d (omega arith) same)

@@ -1,6 +1,9 @@
+pub mod Lists
 pub mod DiesFit
 pub mod Hosting
 pub mod JobLines
+pub mod Endings
+pub mod Happening
 pub mod Printing
 pub mod Resting
 pub mod FilesWritten
