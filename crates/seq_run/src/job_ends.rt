@@ -54,9 +54,9 @@ fn open_endings<'a>(
 
 // Puts its end to the job in this place, if there is one.
 #[tactic(auto, using(crate::proofs::Endings::outputs_stay, crate::proofs::Endings::one_given))]
-fn put_ending(endings: &mut [Ending<'_>], place: usize, done: Done)
-    ensures outputs { ending_outputs endings.new ≡ ending_outputs endings.old }
-    ensures given { PutsGiven (given_as done) endings.old endings.new }
+fn put_ending(endings: &mut Vec<Ending<'_>>, place: usize, done: Done)
+    ensures outputs { ending_outputs endings.new.items ≡ ending_outputs endings.old.items }
+    ensures given { PutsGiven (given_as done) endings.old.items endings.new.items }
 {
     if place < endings.len() {
         let output = endings[place].output;
@@ -68,9 +68,9 @@ fn put_ending(endings: &mut [Ending<'_>], place: usize, done: Done)
 }
 
 // Puts its end to the job of this name.
-fn put_named(endings: &mut [Ending<'_>], places: &[Vec<usize>], named: NamedDone)
-    ensures outputs { ending_outputs endings.new ≡ ending_outputs endings.old }
-    ensures given { PutsGiven (given_back (ended_of named.entry)) endings.old endings.new }
+fn put_named(endings: &mut Vec<Ending<'_>>, places: &[Vec<usize>], named: NamedDone)
+    ensures outputs { ending_outputs endings.new.items ≡ ending_outputs endings.old.items }
+    ensures given { PutsGiven (given_back (ended_of named)) endings.old.items endings.new.items }
 {
     let NamedDone { name, done } = named;
     if let Some(place) = find_place(places, name) {
@@ -79,10 +79,10 @@ fn put_named(endings: &mut [Ending<'_>], places: &[Vec<usize>], named: NamedDone
 }
 
 // Puts their ends to the jobs.
-#[tactic(auto, using(crate::proofs::Endings::all_given, crate::proofs::Endings::none_put))]
-fn put_all(endings: &mut [Ending<'_>], places: &[Vec<usize>], done: Vec<NamedDone>)
-    ensures outputs { ending_outputs endings.new ≡ ending_outputs endings.old }
-    ensures given { PutsAllGiven (map given_back (map ended_of done.entry.items)) endings.old endings.new }
+#[tactic(auto, using(crate::proofs::Endings::all_given, crate::proofs::Endings::puts_first))]
+fn put_all(endings: &mut Vec<Ending<'_>>, places: &[Vec<usize>], done: Vec<NamedDone>)
+    ensures outputs { ending_outputs endings.new.items ≡ ending_outputs endings.old.items }
+    ensures given { PutsAllGiven (map given_back (map ended_of done.items)) endings.old.items endings.new.items }
 {
     let mut done = done;
     while let Some(named) = done.pop() {
@@ -110,7 +110,6 @@ fn close_endings<'a>(
 }
 
 /// The jobs that were planned, each after its end, where each host's jobs have these places; none where a job hasn't ended.
-#[tactic(auto, using(crate::proofs::Endings::outputs_of_opened, crate::proofs::Endings::were_given))]
 pub(crate) fn end_jobs<'a>(
     alloc: Global,
     planned: &[PlannedJob<'a>],
@@ -118,10 +117,10 @@ pub(crate) fn end_jobs<'a>(
     done: Vec<NamedDone>,
 ) -> Result<Vec<EndedJob<'a>>, AllocError>
     ensures outputs { IfOk result (λ ended. ended_outputs ended.items ≡ planned_outputs planned.now) }
-    ensures given { IfOk result (λ ended. WereGivenBack (map ended_of done.entry.items) ended.items) }
+    ensures given { IfOk result (λ ended. WereGivenBack (map ended_of done.items) ended.items) }
 {
     let mut endings = open_endings(alloc, planned)?;
-    put_all(endings.as_mut_slice(), places, done);
+    put_all(&mut endings, places, done);
     match close_endings(alloc, endings) {
         Ok(ended) => Ok(ended),
         Err(error) => Err(error),
