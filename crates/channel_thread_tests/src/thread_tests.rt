@@ -1,9 +1,9 @@
 //! Workers in threads of their own.
 ghost use Rattle.std.specs.Prelude.{◌≡◌};
 
-use crate::scenes::{
-    Erase, ONE_LUN, TWO_LUNS, end_two, ended, gather, make_erasing, make_queue, make_state,
-    make_two_passes, submit_erases, work_by_two,
+use channel_scenes::{
+    Erase, ON_ONE, ON_ZERO, ONE_LUN, TWO_LUNS, end_two, ended, gather, make_erasing, make_queue,
+    make_state, make_two_passes, submit_erases, work_by_two,
 };
 use channel_work::{Channel, ChannelState, Gate, Gathered, NamedDone, Turns, work};
 use onfi_cycle::{Cycle, Item, Kind, Lun};
@@ -16,18 +16,6 @@ use std::sync::ledger::Blank;
 use std::test::*;
 use std::thread;
 use std::thread::Threads;
-
-const ON_ZERO: Erase = Erase {
-    parts: TWO_LUNS,
-    lun: Lun { ce: 0, lun: 0 },
-    base: 0,
-    tells: false,
-};
-
-const ON_ONE: Erase = Erase {
-    lun: Lun { ce: 0, lun: 1 },
-    ..ON_ZERO
-};
 
 const BLOCK_0: Erase = Erase {
     parts: ONE_LUN,

@@ -3,7 +3,7 @@ use Rattle.std.proofs.Common.{◌≡◌, ℕ, zero, suc, ◌<◌, List, [], ◌�
 use Rattle.std.proofs.lemmas.Option.{slice_get_within}
 use Rattle.atomic_table.specs.Seated.{TableId}
 use Rattle.job_queue.specs.Passes.{Queue, Storing, owns, AreNew}
-use Rattle.channel_tests.specs.Hosts.{OwnsAll}
+use Rattle.channel_scenes.specs.Hosts.{OwnsAll}
 
 module _ {J : Type 0} where
   get_front : (xs ys : List (Storing J)) (k : ℕ) (x : Storing J) → slice_get xs k ≡ Some x → slice_get (xs ++ ys) k ≡ Some x

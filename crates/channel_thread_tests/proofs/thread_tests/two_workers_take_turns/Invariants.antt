@@ -1,4 +1,4 @@
-use Rattle.channel_tests.proofs.thread_tests.two_workers_take_turns.Given as goal
+use Rattle.channel_thread_tests.proofs.thread_tests.two_workers_take_turns.Given as goal
 
 abbrev pub ghosts-erase_by_two-L-Ledger : goal.ghosts-erase_by_two-L-Ledger
 ghosts-erase_by_two-L-Ledger g a = record { name = a.blank.name; parts = a.blank.parts }

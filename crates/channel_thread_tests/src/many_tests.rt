@@ -1,18 +1,18 @@
 //! Four workers on sixteen LUNs, and four hosts that store jobs meanwhile.
-ghost use Rattle.std.specs.Prelude.{◌≡◌, ◌<◌, ◌≤◌, [], IfOk, IfSome};
+ghost use Rattle.std.specs.Prelude.{◌≡◌};
 ghost use Rattle.job_queue.specs.Passes.{owns};
-ghost use Rattle.channel_tests.specs.Hosts.{OwnsAll};
 
-use crate::scenes::{
-    Erase, FOUR_LUNS, end_two, gather, make_erase, make_state, make_two_passes, submit, work_by_two,
-};
 use crate::thread_tests::Chance;
+use channel_scenes::{
+    Erase, FOUR_LUNS, TwoHosts, end_two, gather, make_erase, make_state, make_two_passes,
+    make_wide_queue, submit, work_by_two,
+};
 use channel_work::{Channel, Gathered, NamedDone, Turns, WorkEnd, WorkerPass};
-use job_queue::{HostPass, JobQueue, Taker};
+use job_queue::{HostPass, JobQueue};
 use nand_geometry::Geometry;
 use onfi_cycle::{Item, Lun};
 use seq_core::Job;
-use std::alloc::{AllocError, Global};
+use std::alloc::Global;
 use std::marker::Brand;
 use std::process::Abort;
 use std::sync::Wait;
@@ -21,58 +21,6 @@ use std::test::*;
 use std::thread;
 use std::thread::Threads;
 use trace_text::check;
-
-// The passes of two hosts.
-type TwoHosts = (HostPass<Job>, HostPass<Job>);
-
-// A queue of four hosts with its passes.
-#[tactic(auto, using(crate::proofs::Hosting::new_owned))]
-fn open_queue(
-    alloc: Global,
-    capacity: usize,
-) -> Result<(JobQueue<Job>, Vec<HostPass<Job>>, Taker<Job>), AllocError>
-    requires { (0 < capacity) × (capacity ≤ 65536) }
-    ensures passes { IfOk result (λ r. OwnsAll r.0 r.1.items) }
-    ensures taker { IfOk result (λ r. r.2.taken ≡ []) }
-{
-    JobQueue::<Job>::new(alloc, capacity, 4)
-}
-
-// Takes the last of a queue's passes.
-#[tactic(auto, using(crate::proofs::Hosting::rest_owned))]
-fn take_pass(queue: &JobQueue<Job>, passes: &mut Vec<HostPass<Job>>) -> Option<HostPass<Job>>
-    requires { OwnsAll queue.now passes.old.items }
-    ensures { IfSome result (λ pass. OwnsAll queue.now passes.new.items × owns queue.now pass) }
-{
-    passes.pop()
-}
-
-// Takes the last two of a queue's passes.
-fn take_two(queue: &JobQueue<Job>, passes: &mut Vec<HostPass<Job>>) -> Option<TwoHosts>
-    requires { OwnsAll queue.now passes.old.items }
-    ensures rest { IfSome result (λ _. OwnsAll queue.now passes.new.items) }
-    ensures two { IfSome result (λ hosts. owns queue.now hosts.0 × owns queue.now hosts.1) }
-{
-    let second = take_pass(queue, passes)?;
-    let first = take_pass(queue, passes)?;
-    Some((first, second))
-}
-
-// A queue of four hosts: the passes of hosts 0 and 1, those of hosts 2 and 3, and the taker.
-fn make_wide_queue(
-    alloc: Global,
-    capacity: usize,
-) -> Result<(JobQueue<Job>, TwoHosts, TwoHosts, Taker<Job>), Fail>
-    requires { (0 < capacity) × (capacity ≤ 65536) }
-    ensures first { IfOk result (λ r. owns r.0 r.1.0 × owns r.0 r.1.1) }
-    ensures second { IfOk result (λ r. owns r.0 r.2.0 × owns r.0 r.2.1) }
-    ensures taker { IfOk result (λ r. r.3.taken ≡ []) }
-{
-    let (queue, mut passes, taker) = open_queue(alloc, capacity)?;
-    let second = take_two(&queue, &mut passes).ok_or("the passes of hosts 2 and 3")?;
-    let first = take_two(&queue, &mut passes).ok_or("the passes of hosts 0 and 1")?;
-    Ok((queue, first, second, taker))
-}
 
 // Stores so many erases, the LUNs in turn; false without memory.
 fn store_many<R: Wait + AllocGlobal>(

@@ -1,4 +1,4 @@
-use Rattle.channel_tests.proofs.many_tests.four_workers_and_four_hosts.Given as goal
+use Rattle.channel_thread_tests.proofs.many_tests.four_workers_by_chance.Given as goal
 
 abbrev pub ghosts-erase_many-L-Ledger : goal.ghosts-erase_many-L-Ledger
 ghosts-erase_many-L-Ledger g a = record { name = a.blank.name; parts = a.blank.parts }
