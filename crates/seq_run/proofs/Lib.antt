@@ -5,3 +5,4 @@ pub mod Printing
 pub mod Resting
 pub mod FilesWritten
 pub mod Outcomes
+pub mod OfFiles

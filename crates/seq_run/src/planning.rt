@@ -7,6 +7,7 @@ ghost use Rattle.seq_run.specs.Planned.{output_in, outputs_of, image_in, images_
 ghost use Rattle.seq_run.specs.Failures.{Says, Refuses, line_refused};
 ghost use Rattle.seq_run.specs.Judged.{has_lun, lun_at, LunIsRefused, JobPasses, JobLineIsRefused, Passes, IsRefused, IsRefusedAt, RestPasses, RestIsRefused, EndIsRefused, page_of, targets_of, PlanPasses, PlanIsRefused};
 
+use crate::explaining::words_of;
 use crate::failure::{Failure, NotRun};
 use crate::gate::Failing;
 use crate::given::{read_buffer, read_die, read_geometry, read_verified};
@@ -15,6 +16,7 @@ use crate::refusal::{PlanFault, PlanRefusal};
 use nand_geometry::Geometry;
 use onfi_cycle::Lun;
 use run_file::{Numbered, RunFault, RunRefusal, RunText, Statement};
+use seq_commands::Refusal;
 use seq_core::Job;
 use seq_files::Files;
 use std::alloc::Global;
@@ -54,10 +56,15 @@ fn read_job<'a, F: Files>(
     let buffer = read_buffer(alloc, files, input, length)?;
     match Job::new(geometry, targets, lun, base, verified, buffer) {
         Ok(job) => Ok(job),
-        Err(refused) => Err(Failure::Fault {
-            fault: PlanFault::Job(refused.fault),
-            path: Some(text),
-        }),
+        Err(refused) => {
+            let fault = PlanFault::File(Refusal::Job {
+                fault: refused.fault,
+            });
+            Err(Failure::Fault {
+                fault,
+                words: words_of(alloc, text, fault),
+            })
+        }
     }
 }
 
@@ -226,7 +233,7 @@ fn refuse_line<'a>(fault: RunFault, line: usize) -> NotRun<'a>
             fault: PlanFault::Line(fault),
             line,
         },
-        path: None,
+        words: None,
     }
 }
 

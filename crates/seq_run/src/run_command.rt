@@ -80,14 +80,19 @@ fn end_with_refusal<W: Write, E: Write>(
     errors: &mut E,
     run: &str,
     refusal: PlanRefusal,
-    path: Option<&str>,
+    words: Option<String>,
 ) -> RunEnd
     ensures done { result ≡ RunEnd.Done → ⊥ }
     ensures refused { (other : PlanRefusal) → result ≡ RunEnd.Refused other → (other ≡ refusal) × Appends (W.contents output.old) (W.contents output.new) (line_of refusal) }
 {
     match refuse(alloc, output, refusal) {
         Ok(()) => {
-            let explained = Explained { run, refusal, path };
+            let words = words.as_ref().map(|words| words.as_str());
+            let explained = Explained {
+                run,
+                refusal,
+                words,
+            };
             let _ = writeln!(errors, "{explained}");
             RunEnd::Refused(refusal)
         }
@@ -123,8 +128,8 @@ fn end<W: Write, E: Write>(
     ensures refused { (refusal : PlanRefusal) → result ≡ RunEnd.Refused refusal → Tells refusal not_run.entry × Appends (W.contents output.old) (W.contents output.new) (line_of refusal) }
 {
     match not_run {
-        NotRun::Refused { refusal, path } => {
-            end_with_refusal(alloc, output, errors, run, refusal, path)
+        NotRun::Refused { refusal, words } => {
+            end_with_refusal(alloc, output, errors, run, refusal, words)
         }
         NotRun::FileFault(path) => end_with_error(errors, path, FileError::Fault),
         NotRun::OutOfMemory => end_with_error(errors, run, FileError::OutOfMemory),
