@@ -22,7 +22,7 @@ mod verifying;
 pub use assembling::assemble_file;
 pub use checking::check_trace;
 pub use command::{Command, Medium, Targets};
-pub use commanding::{command_on, command_told};
+pub use commanding::{command_on, command_told, command_watched};
 pub use disassembling::disassemble_file;
 pub use ending::refuse;
 pub use exit::Exit;
