@@ -4,6 +4,7 @@ use crate::refusal::{PlanFault, PlanRefusal};
 use seq_commands::{BaseGiver, Meaning};
 use std::alloc::Global;
 use std::fmt;
+use std::io::Write;
 
 impl fmt::Display for PlanFault {
     fn fmt<W: fmt::Write>(&self, f: &mut fmt::Formatter<W>) -> fmt::Result {
@@ -24,21 +25,17 @@ pub(crate) fn words_of(alloc: Global, path: &str, fault: PlanFault) -> Option<St
     format!(in alloc; "{path}: {fault} ({})", fault.code()).ok()
 }
 
-/// A refusal of a run file; of a file that the line names with these words, if there are some.
-#[derive(Clone, Copy)]
-pub(crate) struct Explained<'a> {
-    pub run: &'a str,
-    pub refusal: PlanRefusal,
-    pub words: Option<&'a str>,
-}
-
-impl fmt::Display for Explained<'_> {
-    fn fmt<W: fmt::Write>(&self, f: &mut fmt::Formatter<W>) -> fmt::Result {
-        let PlanRefusal { fault, line } = self.refusal;
-        write!(f, "{}: line {line}: ", self.run)?;
-        match self.words {
-            Some(words) => f.write_str(words),
-            None => write!(f, "{fault} ({})", fault.code()),
-        }
-    }
+/// Says why a line of a run file is refused: of a file that it names with these words, if there are some. Where standard error takes nothing,
+/// standard output alone says it.
+pub(crate) fn explain<E: Write>(
+    errors: &mut E,
+    run: &str,
+    refusal: PlanRefusal,
+    words: Option<String>,
+) {
+    let PlanRefusal { fault, line } = refusal;
+    let _ = match words {
+        Some(words) => writeln!(errors, "{run}: line {line}: {words}"),
+        None => writeln!(errors, "{run}: line {line}: {fault} ({})", fault.code()),
+    };
 }

@@ -46,7 +46,7 @@ impl<'a> Failure<'a> {
 
     /// What the failure of a command comes to that reads the file of this path.
     pub(crate) fn of_named(path: &'a str, failure: NamedFailure) -> Failure<'a>
-        ensures { IsNamed failure.entry result }
+        ensures { IsNamed failure result }
     {
         match failure {
             NamedFailure::Refused { refusal, words } => Failure::Fault {

@@ -13,7 +13,7 @@ ghost use Rattle.seq_run.specs.Written.{with_all, IsCut};
 ghost use Rattle.seq_run.specs.Runs.{Outcome, IsOutcomeOf, writes_of, lines_of, IsRunDone, RunIsRefused, RunMayLeave};
 
 use crate::ending::RunEnd;
-use crate::explaining::Explained;
+use crate::explaining::explain;
 use crate::failure::NotRun;
 use crate::phases::{NoClock, Phase, RunProgress, Timed};
 use crate::plan::RunPlan;
@@ -95,13 +95,7 @@ fn end_with_refusal<W: Write, E: Write>(
 {
     match refuse(alloc, output, refusal) {
         Ok(()) => {
-            let words = words.as_ref().map(|words| words.as_str());
-            let explained = Explained {
-                run,
-                refusal,
-                words,
-            };
-            let _ = writeln!(errors, "{explained}");
+            explain(errors, run, refusal, words);
             RunEnd::Refused(refusal)
         }
         Err(error) => end_with_error(errors, "-", error),
