@@ -73,6 +73,27 @@ pub record FileIsRefused (files : Option Store) (path : List ℕ) (refusal : Ref
   pub is_bytes : Holds files path bytes
   pub refuses : RefusesFile bytes refusal
 
+-- the word file at this path is that of a microprogram which is safe for the geometry, and against which there is nothing
+pub record HasText (files : Option Store) (g : Parts) (path : List ℕ) (x : Microprogram) : Type 0 where
+  pub has_file : HasFile files path x
+  pub safe : IsSafe x g
+  pub faultless : fault_of g x ≡ None
+
+-- a reason against a microprogram, for this geometry
+abbrev pub RefusesReason : Parts → Microprogram → Refusal → Type 0
+RefusesReason g x (Text reason word) = MayBe g x (record { word = word; reason = reason })
+RefusesReason g x _ = ⊥
+
+-- the same of the microprogram of the word file at this path
+pub record ReasonIsAgainst (files : Option Store) (g : Parts) (path : List ℕ) (refusal : Refusal) : Type 0 where
+  pub x : Microprogram
+  pub has_file : HasFile files path x
+  pub refuses : RefusesReason g x refusal
+
+-- the word file at this path has this fault, or there is this reason against its microprogram
+abbrev pub FileOrTextIsRefused : Option Store → Parts → List ℕ → Refusal → Type 0
+FileOrTextIsRefused files g path refusal = FileIsRefused files path refusal ⊎ ReasonIsAgainst files g path refusal
+
 -- ---- asm
 
 -- the bytes are the word file, in format 2, of the microprogram that the lines of the text spell

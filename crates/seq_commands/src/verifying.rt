@@ -77,7 +77,8 @@ fn leave_run<A: Allocator, F: Files>(
     run: Option<Counter<A>>,
 ) -> Result<(), Failure<A>>
     requires { CanBePrinted run }
-    ensures ok { OnOk result ((c : Option RunValue) → Shown run c → F.store files.new ≡ with_run (option_map (λ path. path.now) path.entry) c (F.store files.old)) }
+    ensures ok { OnOk result ((c : Option RunValue) → Shown run c
+        → F.store files.new ≡ with_run (option_map (λ path. path.now) path.entry) c (F.store files.old)) }
     ensures nothing { IfErr result (λ e. RefusesNothing e) }
     ensures stays { OnErr result (F.store files.new ≡ F.store files.old) }
 {
@@ -99,7 +100,8 @@ fn accept<A: Allocator + Clone, F: Files>(
     ensures safe { OnOk result (IsSafe text geometry) }
     ensures faultless { OnOk result (fault_of geometry text ≡ None) }
     ensures stays { OnOk result (F.store files.new ≡ F.store files.old) }
-    ensures err { IfErr result (SaysElse (RefusesText geometry text (option_map (λ path. path.now) counter.entry) (F.store files.old) (F.store files.new)) (F.store files.new ≡ F.store files.old)) }
+    ensures err { IfErr result (SaysElse (RefusesText geometry text (option_map
+        (λ path. path.now) counter.entry) (F.store files.old) (F.store files.new)) (F.store files.new ≡ F.store files.old)) }
 {
     let (refusal, text) = match verify(text, geometry) {
         Ok(verified) => {
@@ -135,7 +137,8 @@ fn verify_at<A: Allocator + Clone, F: Files>(
 ) -> Result<(), Failure<A>>
     ensures ok { OnOk result (IsAccepted (F.store files.old) page.now input.now) }
     ensures stays { OnOk result (F.store files.new ≡ F.store files.old) }
-    ensures err { IfErr result (SaysElse (VerifyRefuses (F.store files.old) (F.store files.new) page.now input.now (option_map (λ path. path.now) counter.entry)) (F.store files.new ≡ F.store files.old)) }
+    ensures err { IfErr result (SaysElse (VerifyRefuses (F.store files.old) (F.store files.new) page.now input.now (option_map
+        (λ path. path.now) counter.entry)) (F.store files.new ≡ F.store files.old)) }
 {
     let geometry = geometry_at(alloc.clone()?, files, page)?;
     let text = text_at(alloc.clone()?, files, input)?;

@@ -8,3 +8,4 @@ pub mod Printing
 pub mod Resting
 pub mod FilesWritten
 pub mod Outcomes
+pub mod OfFiles

@@ -70,7 +70,8 @@ impl<'a> PlannedJobs<'a> {
 
     /// Adds a job after the others.
     pub(crate) fn push(&mut self, job: Job, output: Option<&'a str>) -> Result<(), AllocError>
-        ensures { OnOk result (planned_outputs self.new.all.items ≡ planned_outputs self.old.all.items ++ (option_copied output.entry ∷ [])) }
+        ensures { OnOk result (planned_outputs self.new.all.items ≡ planned_outputs self.old.all.items
+            ++ (option_copied output.entry ∷ [])) }
     {
         let place = self.all.len();
         let target = usize::from(job.lun().ce);

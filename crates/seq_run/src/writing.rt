@@ -249,9 +249,11 @@ pub(crate) fn write_run<'a, F: Files, W: Write>(
     ran: Ran<'a>,
 ) -> Result<Summary, NotRun<'a>>
     requires { HasHappened ran.bus ran.jobs.items }
-    ensures ok { OnOk result ((o : Outcome) × ShowsAll ran.entry o × (F.store files.new ≡ with_all (writes_of request.entry o) (F.store files.old))
+    ensures ok { OnOk result ((o : Outcome) × ShowsAll ran.entry o
+        × (F.store files.new ≡ with_all (writes_of request.entry o) (F.store files.old))
         × Appends (W.contents output.old) (W.contents output.new) (lines_of request.entry o)) }
-    ensures err { OnErr result ((F.store files.new ≡ F.store files.old) ⊎ ((o : Outcome) × ShowsAll ran.entry o × IsCut (writes_of request.entry o) (F.store files.old) (F.store files.new))) }
+    ensures err { OnErr result ((F.store files.new ≡ F.store files.old)
+        ⊎ ((o : Outcome) × ShowsAll ran.entry o × IsCut (writes_of request.entry o) (F.store files.old) (F.store files.new))) }
     ensures nothing { IfErr result RefusesNothing }
 {
     let Ran { bus, images, jobs } = ran;

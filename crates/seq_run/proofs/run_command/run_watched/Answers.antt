@@ -1,7 +1,7 @@
 use Rattle.std.proofs.Common.{◌∙◌, subst, Option}
 use Rattle.seq_files.specs.Store.{Store}
 use Rattle.seq_run.specs.Runs.{RunIsRefused}
-use Rattle.seq_run.proofs.run_command.run_on.Goals as goal
+use Rattle.seq_run.proofs.run_command.run_watched.Goals as goal
 
 pub returns-in-Ok-from_utf8-clause-refused : goal.returns-in-Ok-from_utf8-clause-refused
 returns-in-Ok-from_utf8-clause-refused g c refusal is =

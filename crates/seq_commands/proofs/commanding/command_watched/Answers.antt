@@ -1,7 +1,7 @@
 use Rattle.std.proofs.Common.{sym, subst}
 use Rattle.seq_commands.specs.declared.command.Command.{Command}
 use Rattle.seq_commands.specs.Commands.{MayRefuse}
-use Rattle.seq_commands.proofs.commanding.command_told.Goals as goal
+use Rattle.seq_commands.proofs.commanding.command_watched.Goals as goal
 
 pub returns-in-Assemble-clause-refused : goal.returns-in-Assemble-clause-refused
 returns-in-Assemble-clause-refused g c = λ refusal is.
