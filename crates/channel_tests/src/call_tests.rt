@@ -1,8 +1,10 @@
 //! One worker's calls on a channel, call by call, and what each answers. A call to which memory is refused is made again.
 ghost use Rattle.std.specs.Prelude.{◌≡◌};
 
-use crate::scenes::{TWO_LUNS, gather, make_erasing, read_trace, tell_done};
-use crate::tests::{ON_ONE, ON_ZERO, ONE, TWO_ERASES, ZERO};
+use crate::tests::TWO_ERASES;
+use channel_scenes::{
+    ON_ONE, ON_ZERO, ONE, TWO_LUNS, ZERO, gather, make_erasing, read_trace, tell_done,
+};
 use channel_work::{ChannelState, Finished, Gathered, Readied, Started, Turn, Turns, WorkerPass};
 use lun_lease::{Lease, Loaded};
 use onfi_cycle::Lun;

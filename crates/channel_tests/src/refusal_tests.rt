@@ -2,10 +2,11 @@
 //! none is.
 ghost use Rattle.std.specs.Prelude.{◌≡◌};
 
-use crate::scenes::{
-    Erase, TWO_LUNS, ended, gather, make_erasing, make_two_passes, tell_done, work_by_two,
+use crate::tests::Open;
+use channel_scenes::{
+    Erase, ON_ONE, ON_ZERO, TWO_LUNS, ZERO, ended, gather, make_erasing, make_two_passes,
+    tell_done, work_by_two,
 };
-use crate::tests::{ON_ONE, ON_ZERO, Open, ZERO};
 use channel_work::{
     Cause, Channel, ChannelState, Gate, Gathered, Turns, WorkEnd, WorkerPass, work,
 };

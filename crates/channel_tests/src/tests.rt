@@ -1,9 +1,9 @@
 //! One worker on a channel, leases, and passes.
 ghost use Rattle.std.specs.Prelude.{◌≡◌};
 
-use crate::scenes::{
-    Erase, FOUR_LUNS, ONE_LUN, TWO_LUNS, gather, make_erasing, make_two_passes, read_trace,
-    run_alone, start, tell_done,
+use channel_scenes::{
+    Erase, FOUR_LUNS, ON_ONE, ON_ZERO, ONE, ONE_LUN, TWO_LUNS, ZERO, gather, make_erasing,
+    make_two_passes, read_trace, run_alone, start, tell_done,
 };
 use channel_work::{ChannelState, Gate, Gathered, Turns, WorkerPass};
 use onfi_cycle::Lun;
@@ -34,22 +34,6 @@ impl Gate for Open {
         true
     }
 }
-
-pub(crate) const ZERO: Lun = Lun { ce: 0, lun: 0 };
-
-pub(crate) const ONE: Lun = Lun { ce: 0, lun: 1 };
-
-pub(crate) const ON_ZERO: Erase = Erase {
-    parts: TWO_LUNS,
-    lun: ZERO,
-    base: 0,
-    tells: false,
-};
-
-pub(crate) const ON_ONE: Erase = Erase {
-    lun: ONE,
-    ..ON_ZERO
-};
 
 // An erase of LUN 0 that is verified for another geometry.
 const ELSEWHERE: Erase = Erase {

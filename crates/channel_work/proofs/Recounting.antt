@@ -1,57 +1,128 @@
--- The counts of the LUNs, one after another.
-use Rattle.std.proofs.Common.{◌≡◌, ◌≢◌, ◌⊎◌, inl, inr, ℕ, zero, suc, ◌+◌, ◌<◌, ◌≤◌, true, false, List, [], ◌∷◌, Some, refl, sym, ap, ◌∙◌, subst, arith, length, set, reverse, take, eqb}
+-- The counts of the LUNs, one item more: those on its target one after another, and the others as they were.
+use Rattle.std.proofs.Common.{◌≡◌, ◌≢◌, ◌⊎◌, inl, inr, ℕ, zero, suc, ◌+◌, ◌*◌, ◌/◌, ◌%◌, ◌<◌, ◌≤◌, ◌==◌, ◌&&◌, true, false, Bool, cond, List, [], ◌∷◌, Some, refl, sym, ap, ◌∙◌, subst, arith, length, reverse, take, get_or, eqb}
 use Rattle.std.specs.List.{slice_get}
-use Rattle.std.proofs.Math.ListN.{length-set}
+use Rattle.std.proofs.Math.Seq.{take-suc}
+use Rattle.std.proofs.lemmas.List.{reverse-append}
+use Rattle.std.proofs.Math.Nat.{mod-lt, mul-le-mul_right}
+use Rattle.std.proofs.lemmas.Nat.{div-mul-add, mod-mul-add, div-add-mod'}
+use Rattle.std.proofs.lemmas.Bool.{ne_eqb}
 use Rattle.std.proofs.lemmas.Bool.Decides.{eqb_tells}
 use Rattle.nand_geometry.specs.declared.Parts.{Parts}
+use Rattle.onfi_cycle.specs.declared.item.Lun.{Lun}
 use Rattle.onfi_cycle.specs.declared.item.Item.{Item}
+use Rattle.onfi_cycle.specs.declared.item.Item.TheVariants.{Cyc, Rdy, Ard}
+use Rattle.onfi_cycle.specs.Sequence.{target_of}
+use Rattle.target_bus.specs.Bus.{numbered}
 use Rattle.channel_work.specs.declared.tally.LunCount.{LunCount}
-use Rattle.channel_work.specs.Counts.{count_of, AreCounts}
+use Rattle.channel_work.specs.Counts.{stands_after, polls_after, count_after, count_of, AreCounts, IsFewAt, counted_at, HaveCounted, HasCounted}
+use Rattle.channel_work.proofs.Bounds.{few_at}
 
--- the first so many LUNs are counted in the whole trace, the others in its first items
-pub record IsCounting (g : Parts) (trace : List Item) (from : ℕ) (counted : List LunCount) (n : ℕ) : Type 0 where
-  pub size : length counted ≡ 16
-  pub done : (m : ℕ) → m < n → m < 16 → slice_get counted m ≡ Some (count_of g m (reverse trace))
-  pub rest : (m : ℕ) → n ≤ m → m < 16 → slice_get counted m ≡ Some (count_of g m (reverse (take from trace)))
-
-get_set_same : {X : Type 0} (xs : List X) (k : ℕ) (x : X) → k < length xs → slice_get (set xs k x) k ≡ Some x
-get_set_same [] k x low = absurd (omega (arith, low))
-get_set_same (y ∷ xs) zero x low = refl
-get_set_same (y ∷ xs) (suc k) x low = get_set_same xs k x (omega (arith, low))
-
-get_set_other : {X : Type 0} (xs : List X) (k m : ℕ) (x : X) → m ≢ k → slice_get (set xs k x) m ≡ slice_get xs m
-get_set_other [] k m x ne = refl
-get_set_other (y ∷ xs) zero zero x ne = absurd (ne refl)
-get_set_other (y ∷ xs) zero (suc m) x ne = refl
-get_set_other (y ∷ xs) (suc k) zero x ne = refl
-get_set_other (y ∷ xs) (suc k) (suc m) x ne = get_set_other xs k m x (λ e. ne (ap suc e))
-
-pub counting_first : (g : Parts) (trace : List Item) (from : ℕ) (counts : List LunCount) → length counts ≡ 16 → AreCounts g counts (reverse (take from trace)) → IsCounting g trace from counts 0
-counting_first g trace from counts size are = record { size = size; done = λ m low small. absurd (omega (arith, low)); rest = λ m low small. are m small }
-
-pub counting_more : (g : Parts) (trace : List Item) (from : ℕ) (counted : List LunCount) (n : ℕ) (count : LunCount) → IsCounting g trace from counted n → n < 16 → count ≡ count_of g n (reverse trace) → IsCounting g trace from (set counted n count) (n + 1)
-counting_more g trace from counted n count h low is =
-    let size = h.size in
-    let inside : n < length counted = omega (arith, low, size) in
-    record {
-      size = length-set counted n count ∙ h.size;
-      done = λ m below small. at m below small inside (eqb_tells m n);
-      rest = λ m above small. get_set_other counted n m count (λ e. omega (arith, e, above)) ∙ h.rest m (omega (arith, above)) small;
-    }
+-- an item on another target changes nothing
+pub other_target : (many : Bool) (row : List ℕ) (l : Lun) (k : LunCount) (i : Item) → target_of i ≢ l.ce → count_after many row l k i ≡ k
+other_target many row l k (Cyc c) ne = at (c.ce == l.ce) (ne_eqb c.ce l.ce ne)
   where
-    at : (m : ℕ) → m < n + 1 → m < 16 → n < length counted → ((eqb m n ≡ true) × (m ≡ n)) ⊎ ((eqb m n ≡ false) × (m ≢ n)) → slice_get (set counted n count) m ≡ Some (count_of g m (reverse trace))
-    at m below small inside (inl e) =
-        subst (λ (i : ℕ). slice_get (set counted n count) i ≡ Some (count_of g i (reverse trace))) (sym e.1) (get_set_same counted n count inside ∙ ap (λ (c : LunCount). Some c) is)
-    at m below small inside (inr e) = let ne = e.1 in get_set_other counted n m count ne ∙ h.done m (less m n below ne) small
+    at : (b : Bool) → b ≡ false → cond b (record { stands = stands_after many row k.stands c.kind c.byte; polls = polls_after many k.stands k.polls c.kind c.byte; works = k.works }) k ≡ k
+    at true e = cc
+    at false e = refl
+other_target many row l k (Rdy ce lun fail) ne = at (ce == l.ce) (ne_eqb ce l.ce ne)
+  where
+    at : (b : Bool) → b ≡ false → cond (b && lun == l.lun) (record { stands = k.stands; polls = 0; works = k.works + 1 }) k ≡ k
+    at true e = cc
+    at false e = refl
+other_target many row l k (Ard ce lun) ne = refl
+
+-- the LUN at a place of a target
+pub number_is : (g : Parts) (ce lun : ℕ) → lun < g.luns → record { ce = ce; lun = lun } ≡ numbered g (ce * g.luns + lun)
+number_is g ce lun low = λ j. record { ce = sym (div-mul-add ce g.luns lun low) j; lun = sym (mod-mul-add ce g.luns lun low) j }
+
+pub first_counted : (g : Parts) (i : Item) (counts : List LunCount) (first : ℕ) → HaveCounted g i counts counts first (first + 0)
+first_counted g i counts first = ((λ n k above below here. absurd (omega (arith, above, below))), (λ n out. refl))
+
+pub more_counted : (g : Parts) (i : Item) (before middle later : List LunCount) (first lun : ℕ) → HaveCounted g i before middle first (first + lun) → HaveCounted g i middle later (first + lun) (first + lun + 1) → HaveCounted g i before later first (first + (lun + 1))
+more_counted g i before middle later first lun h one =
+    ((λ n k above below here. done n k above below here (eqb_tells n (first + lun))), (λ n out. one.1 n (past n out) ∙ h.1 n (outside n out)))
+  where
+    past : (n : ℕ) → (n < first) ⊎ (first + (lun + 1) ≤ n) → (n < first + lun) ⊎ (first + lun + 1 ≤ n)
+    past n (inl low) = inl (omega (arith, low))
+    past n (inr high) = inr (omega (arith, high))
+
+    outside : (n : ℕ) → (n < first) ⊎ (first + (lun + 1) ≤ n) → (n < first) ⊎ (first + lun ≤ n)
+    outside n (inl low) = inl low
+    outside n (inr high) = inr (omega (arith, high))
+
+    done : (n : ℕ) (k : LunCount) → first ≤ n → n < first + (lun + 1) → slice_get before n ≡ Some k → ((eqb n (first + lun) ≡ true) × (n ≡ first + lun)) ⊎ ((eqb n (first + lun) ≡ false) × (n ≢ first + lun)) → slice_get later n ≡ Some (counted_at g i n k)
+    done n k above below here (inl e) =
+        let is = e.1 in
+        one.0 n k (omega (arith, is)) (omega (arith, is)) (h.1 n (inr (omega (arith, is))) ∙ here)
+    done n k above below here (inr e) =
+        let less = smaller n (first + lun) (omega (arith, below)) e.1 in
+        one.1 n (inl less) ∙ h.0 n k above less here
       where
-        less : (a b : ℕ) → a < b + 1 → a ≢ b → a < b
-        less a b lt ne = omega (arith, lt, ne)
+        smaller : (a b : ℕ) → a < b + 1 → a ≢ b → a < b
+        smaller a b lt ne = omega (arith, lt, ne)
 
-some_is : {X : Type 0} (x y : X) → Some x ≡ Some y → x ≡ y
-some_is x y e = cc
+low_of : (n w : ℕ) → 0 < w → n % w < w
+low_of n w some = mod-lt n some
 
-pub count_here : (g : Parts) (trace : List Item) (from : ℕ) (counted : List LunCount) (n : ℕ) (count : LunCount) → IsCounting g trace from counted n → n < 16 → slice_get counted n ≡ Some count → count ≡ count_of g n (reverse (take from trace))
-count_here g trace from counted n count h low here = some_is count (count_of g n (reverse (take from trace))) (sym here ∙ h.rest n (omega arith) low)
+times_le : (a b w : ℕ) → a ≤ b → a * w ≤ b * w
+times_le a b w le = mul-le-mul_right w le
 
-pub counted_all : (g : Parts) (trace : List Item) (from : ℕ) (counted : List LunCount) (n : ℕ) → IsCounting g trace from counted n → 16 ≤ n → AreCounts g counted (reverse trace)
-counted_all g trace from counted n h all m low = h.done m (omega (arith, all, low)) low
+-- a number that is on another target is outside of the numbers of this one
+out : (n t q r w : ℕ) → q * w + r ≡ n → r < w → t ≢ q → (n < t * w) ⊎ (t * w + w ≤ n)
+out n t q r w is low ne = side (tells t q)
+  where
+    tells : (a b : ℕ) → (a < b) ⊎ ((a ≡ b) ⊎ (b < a))
+    tells zero zero = inr (inl refl)
+    tells zero (suc b) = inl (omega arith)
+    tells (suc a) zero = inr (inr (omega arith))
+    tells (suc a) (suc b) = again (tells a b)
+      where
+        again : (a < b) ⊎ ((a ≡ b) ⊎ (b < a)) → (suc a < suc b) ⊎ ((suc a ≡ suc b) ⊎ (suc b < suc a))
+        again (inl lt) = inl (omega (arith, lt))
+        again (inr (inl e)) = inr (inl (ap suc e))
+        again (inr (inr gt)) = inr (inr (omega (arith, gt)))
+
+    side : (t < q) ⊎ ((t ≡ q) ⊎ (q < t)) → (n < t * w) ⊎ (t * w + w ≤ n)
+    side (inl lt) = let m = times_le (t + 1) q w (omega (arith, lt)) in inr (omega (arith, m, is))
+    side (inr (inl e)) = absurd (ne e)
+    side (inr (inr gt)) = let m = times_le (q + 1) t w (omega (arith, gt)) in inl (omega (arith, m, is, low))
+
+-- once the LUNs of its target have counted an item, all have
+pub target_counted : (g : Parts) (i : Item) (before later : List LunCount) → 0 < g.luns → HaveCounted g i before later (target_of i * g.luns) (target_of i * g.luns + g.luns) → HasCounted g i before later
+target_counted g i before later some h n k here = at (eqb_tells (target_of i) (n / g.luns))
+  where
+    parts : n / g.luns * g.luns + n % g.luns ≡ n
+    parts = div-add-mod' n g.luns
+
+    at : ((eqb (target_of i) (n / g.luns) ≡ true) × (target_of i ≡ n / g.luns)) ⊎ ((eqb (target_of i) (n / g.luns) ≡ false) × (target_of i ≢ n / g.luns)) → slice_get later n ≡ Some (counted_at g i n k)
+    at (inl e) =
+        let low = low_of n g.luns some in
+        let first : target_of i * g.luns + n % g.luns ≡ n = ap (λ (t : ℕ). t * g.luns + n % g.luns) e.1 ∙ parts in
+        h.0 n k (omega (arith, first)) (omega (arith, first, low)) here
+    at (inr e) =
+        h.1 n (out n (target_of i) (n / g.luns) (n % g.luns) g.luns parts (low_of n g.luns some) e.1) ∙ here ∙ ap (λ (c : LunCount). Some c) (sym (other_target _ _ (numbered g n) k i e.1))
+
+-- each count can grow where there are items left
+pub counts_few : (g : Parts) (trace : List Item) (counts : List LunCount) (at : ℕ) → AreCounts g counts (reverse (take at trace)) → at < length trace → length trace < 18446744073709551616 → (n : ℕ) → n < 16 → IsFewAt counts n
+counts_few g trace counts at are low fits n small k here =
+    let f = few_at _ _ (numbered g n) trace at k (some_is k _ (sym here ∙ are n small)) low fits in
+    let p = f.polls in
+    let w = f.works in
+    (omega (arith, p), omega (arith, w))
+  where
+    some_is : (x y : LunCount) → Some x ≡ Some y → x ≡ y
+    some_is x y e = cc
+
+-- each LUN is counted in one item more of a trace
+pub item_counted : (g : Parts) (trace : List Item) (at : ℕ) (d : Item) (before later : List LunCount) → at < length trace → AreCounts g before (reverse (take at trace)) → HasCounted g (get_or trace at d) before later → AreCounts g later (reverse (take (at + 1) trace))
+item_counted g trace at d before later low are has =
+    subst (λ (past : List Item). AreCounts g later past) (sym turned) (λ n small. has n (count_of g n (reverse (take at trace))) (are n small))
+  where
+    turned : reverse (take (at + 1) trace) ≡ get_or trace at d ∷ reverse (take at trace)
+    turned =
+        let next : at + 1 ≡ suc at = omega arith in
+        ap (λ (n : ℕ). reverse (take n trace)) next ∙ ap reverse (take-suc trace at d low) ∙ reverse-append (take at trace) (get_or trace at d ∷ [])
+
+-- a count that isn't reached yet can still grow
+pub still_few : (g : Parts) (i : Item) (before middle : List LunCount) (first lun : ℕ) → HaveCounted g i before middle first (first + lun) → ((n : ℕ) → n < 16 → IsFewAt before n) → first + lun < 16 → IsFewAt middle (first + lun)
+still_few g i before middle first lun h few small k here = few (first + lun) small k (sym (h.1 (first + lun) (inr (omega arith))) ∙ here)

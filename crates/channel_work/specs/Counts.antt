@@ -1,5 +1,5 @@
 -- The busy polls and the readies of a LUN, counted in a trace item by item; the newest item comes first.
-use Rattle.std.specs.Prelude.{◌≡◌, ℕ, ◌+◌, ◌-◌, ◌<◌, ◌==◌, ◌&&◌, Bool, not, if◌then◌else◌, List, [], ◌∷◌, Option, Some, None, nat_le, nat_lt, slice_index}
+use Rattle.std.specs.Prelude.{◌≡◌, ◌⊎◌, ℕ, ◌+◌, ◌-◌, ◌^◌, ◌<◌, ◌≤◌, ◌==◌, ◌&&◌, Bool, not, if◌then◌else◌, List, [], ◌∷◌, Option, Some, None, nat_le, nat_lt, slice_index}
 use Rattle.std.specs.List.{slice_get}
 use Rattle.nand_geometry.specs.declared.Parts.{Parts}
 use Rattle.nand_geometry.specs.Row.{row_bytes_of}
@@ -54,3 +54,21 @@ count_of g n past = count_in (nat_lt 1 g.luns) (poll_row g (numbered g n)) (numb
 -- each LUN is counted, by its number
 abbrev pub AreCounts : Parts → List LunCount → List Item → Type 0
 AreCounts g counts past = (n : ℕ) → n < 16 → slice_get counts n ≡ Some (count_of g n past)
+
+-- the count of a number can grow by one
+abbrev pub IsFewAt : List LunCount → ℕ → Type 0
+IsFewAt counts n = (k : LunCount) → slice_get counts n ≡ Some k → (k.polls < 2 ^ 64 - 1) × (k.works < 2 ^ 64 - 1)
+
+-- what is counted of the LUN of a number after one item more
+abbrev pub counted_at : Parts → Item → ℕ → LunCount → LunCount
+counted_at g i n k = count_after (nat_lt 1 g.luns) (poll_row g (numbered g n)) (numbered g n) k i
+
+-- of the LUNs from one number to another one item more is counted, and the other counts are as they were
+abbrev pub HaveCounted : Parts → Item → List LunCount → List LunCount → ℕ → ℕ → Type 0
+HaveCounted g i before later first last =
+    ((n : ℕ) (k : LunCount) → first ≤ n → n < last → slice_get before n ≡ Some k → slice_get later n ≡ Some (counted_at g i n k))
+    × ((n : ℕ) → (n < first) ⊎ (last ≤ n) → slice_get later n ≡ slice_get before n)
+
+-- of each LUN one item more is counted
+abbrev pub HasCounted : Parts → Item → List LunCount → List LunCount → Type 0
+HasCounted g i before later = (n : ℕ) (k : LunCount) → slice_get before n ≡ Some k → slice_get later n ≡ Some (counted_at g i n k)

@@ -1,7 +1,7 @@
 //! The busy polls and the readies of each LUN, counted item by item.
-ghost use Rattle.std.specs.Prelude.{◌≡◌, ◌-◌, ◌^◌, ◌<◌, ◌≤◌, length, reverse, take};
+ghost use Rattle.std.specs.Prelude.{◌≡◌, ℕ, ◌-◌, ◌+◌, ◌^◌, ◌<◌, ◌≤◌, length, reverse, take, nat_lt};
 ghost use Rattle.target_bus.specs.Bus.{numbered};
-ghost use Rattle.channel_work.specs.Counts.{stands_after, polls_after, count_after, count_in, poll_row, count_of, AreCounts};
+ghost use Rattle.channel_work.specs.Counts.{stands_after, polls_after, count_after, poll_row, AreCounts, IsFewAt, HaveCounted, HasCounted};
 
 use nand_geometry::Geometry;
 use onfi_cycle::{Item, Kind, Lun};
@@ -38,17 +38,25 @@ fn find_poll_row(geometry: &Geometry, l: Lun) -> [u8; 3]
     }
 }
 
-// How many cycles of a poll stand at the end after a cycle.
-fn count_stands(many: bool, row: [u8; 3], stands: u8, kind: Kind, byte: u8) -> u8
-    ensures { result ≡ stands_after many row stands kind byte }
+// Whether there are several LUNs on a target, so that a poll names its LUN.
+fn has_many(geometry: &Geometry) -> bool
+    ensures { result ≡ nat_lt 1 geometry.now.luns }
+{
+    geometry.parts().luns > 1
+}
+
+// How many cycles of a poll of a LUN stand at the end after a cycle.
+fn count_stands(geometry: &Geometry, l: Lun, stands: u8, kind: Kind, byte: u8) -> u8
+    ensures { result ≡ stands_after (nat_lt 1 geometry.now.luns) (poll_row geometry.now l) stands kind byte }
 {
     match kind {
         Kind::Cmd => {
-            let opener: u8 = if many { 0x78 } else { 0x70 };
+            let opener: u8 = if has_many(geometry) { 0x78 } else { 0x70 };
             if byte == opener { 1 } else { 0 }
         }
         Kind::Adr => {
-            if many && 1 <= stands && stands <= 3 && byte == row[stands as usize - 1] {
+            let goes_on = 1 <= stands && stands <= 3 && has_many(geometry);
+            if goes_on && byte == find_poll_row(geometry, l)[stands as usize - 1] {
                 stands + 1
             } else {
                 0
@@ -59,13 +67,13 @@ fn count_stands(many: bool, row: [u8; 3], stands: u8, kind: Kind, byte: u8) -> u
 }
 
 // How many polls have said busy after a cycle.
-fn count_polls(many: bool, stands: u8, polls: u64, kind: Kind, byte: u8) -> u64
+fn count_polls(geometry: &Geometry, stands: u8, polls: u64, kind: Kind, byte: u8) -> u64
     requires { polls < 2 ^ 64 - 1 }
-    ensures { result ≡ polls_after many stands polls kind byte }
+    ensures { result ≡ polls_after (nat_lt 1 geometry.now.luns) stands polls kind byte }
 {
     match kind {
         Kind::Dout => {
-            let whole: u8 = if many { 4 } else { 1 };
+            let whole: u8 = if has_many(geometry) { 4 } else { 1 };
             if stands == whole && byte & 0x40 == 0 {
                 polls + 1
             } else {
@@ -77,20 +85,33 @@ fn count_polls(many: bool, stands: u8, polls: u64, kind: Kind, byte: u8) -> u64
 }
 
 impl LunCount {
+    // One cycle more on the LUN's target. Where no poll stands, data changes nothing.
+    fn count_cycle(self, geometry: &Geometry, l: Lun, kind: Kind, byte: u8) -> LunCount
+        requires { self.polls < 2 ^ 64 - 1 }
+        ensures stands { result.stands ≡ stands_after (nat_lt 1 geometry.now.luns) (poll_row geometry.now l) self.stands kind byte }
+        ensures polls { result.polls ≡ polls_after (nat_lt 1 geometry.now.luns) self.stands self.polls kind byte }
+        ensures works { result.works ≡ self.works }
+    {
+        if self.stands == 0 && matches!(kind, Kind::Din | Kind::Dout) {
+            return self;
+        }
+        LunCount {
+            stands: count_stands(geometry, l, self.stands, kind, byte),
+            polls: count_polls(geometry, self.stands, self.polls, kind, byte),
+            works: self.works,
+        }
+    }
+
     // One item more.
-    fn count_item(self, many: bool, row: [u8; 3], l: Lun, item: Item) -> LunCount
+    fn count_item(self, geometry: &Geometry, l: Lun, item: Item) -> LunCount
         requires polls { self.polls < 2 ^ 64 - 1 }
         requires works { self.works < 2 ^ 64 - 1 }
-        ensures { result ≡ count_after many row l self item }
+        ensures { result ≡ count_after (nat_lt 1 geometry.now.luns) (poll_row geometry.now l) l self item }
     {
         match item {
             Item::Cyc(c) => {
                 if c.ce == l.ce {
-                    LunCount {
-                        stands: count_stands(many, row, self.stands, c.kind, c.byte),
-                        polls: count_polls(many, self.stands, self.polls, c.kind, c.byte),
-                        works: self.works,
-                    }
+                    self.count_cycle(geometry, l, c.kind, c.byte)
                 } else {
                     self
                 }
@@ -109,33 +130,31 @@ impl LunCount {
             Item::Ard { .. } => self,
         }
     }
+}
 
-    // The items of a trace from a place on, where those before it are counted.
-    fn count_items(self, many: bool, row: [u8; 3], l: Lun, trace: &[Item], from: usize) -> LunCount
-        requires from { from ≤ length trace.now }
-        requires fits { length trace.now < 2 ^ 64 }
-        requires counts { self ≡ count_in many row l (reverse (take from trace.now)) }
-        ensures { result ≡ count_in many row l (reverse trace.now) }
-    {
-        let mut count = self;
-        for k in from..trace.len() {
-            count = count.count_item(many, row, l, trace[k]);
-        }
-        count
+// One item more of the LUN of a number, if that is below 16.
+fn count_at(counts: &mut [LunCount; 16], geometry: &Geometry, n: u32, l: Lun, item: Item)
+    requires lun { l ≡ numbered geometry.now n }
+    requires few { n < 16 → IsFewAt counts.old n }
+    ensures { HaveCounted geometry.now item counts.old counts.new n (n + 1) }
+{
+    if n < 16 {
+        counts[n as usize] = counts[n as usize].count_item(geometry, l, item);
     }
 }
 
-// What is counted of the LUN of a number, with the items of a trace from a place on.
-fn count_lun(count: LunCount, geometry: &Geometry, n: u32, trace: &[Item], from: usize) -> LunCount
-    requires small { n < 16 }
-    requires from { from ≤ length trace.now }
-    requires fits { length trace.now < 2 ^ 64 }
-    requires counts { count ≡ count_of geometry.now n (reverse (take from trace.now)) }
-    ensures { result ≡ count_of geometry.now n (reverse trace.now) }
+// One item more, which changes what is counted of the LUNs of its own target alone.
+#[tactic(auto, using(crate::proofs::Recounting::number_is, crate::proofs::Recounting::still_few, crate::proofs::Recounting::more_counted, crate::proofs::Recounting::target_counted, crate::proofs::Recounting::first_counted))]
+fn count_on_target(counts: &mut [LunCount; 16], geometry: &Geometry, item: Item)
+    requires { (n : ℕ) → n < 16 → IsFewAt counts.old n }
+    ensures { HasCounted geometry.now item counts.old counts.new }
 {
-    let l = find_lun(geometry, n);
-    let many = geometry.parts().luns > 1;
-    count.count_items(many, find_poll_row(geometry, l), l, trace, from)
+    let luns = geometry.parts().luns;
+    let ce = item.target();
+    let first = ce as u32 * luns as u32;
+    for lun in 0..luns {
+        count_at(counts, geometry, first + lun as u32, Lun { ce, lun }, item);
+    }
 }
 
 /// What is counted of each LUN, with the items of the trace from a place on.
@@ -148,8 +167,8 @@ pub(crate) fn count_luns(counts: [LunCount; 16], core: &Core, from: usize) -> [L
     let geometry = core.geometry();
     let trace = core.trace();
     let mut counted = counts;
-    for n in 0..16u32 {
-        counted[n as usize] = count_lun(counted[n as usize], &geometry, n, trace, from);
+    for k in from..trace.len() {
+        count_on_target(&mut counted, &geometry, trace[k]);
     }
     counted
 }

@@ -1,7 +1,7 @@
-//! The program `onfiseq`: its words, its files and its streams are handed to [`seq_cli::answer`], which does the rest.
+//! The program `onfiseq`: its words, its files, its clock and its streams are handed to [`seq_cli::answer_watched`], which does the rest.
 #![tactic(auto)]
 
-use seq_cli::{RealFiles, answer};
+use seq_cli::{RealFiles, TerminalProgress, answer_watched};
 use std::env;
 use std::io::{self, Input};
 use std::process::ExitCode;
@@ -12,7 +12,8 @@ fn words_given(rt: &HostRuntime) -> io::Result<Vec<String>> {
 }
 
 fn main(rt: HostRuntime) -> ExitCode {
-    ExitCode::from(answer(
+    ExitCode::from(answer_watched(
+        &rt,
         &rt,
         rt.alloc(),
         words_given(&rt),
@@ -20,5 +21,6 @@ fn main(rt: HostRuntime) -> ExitCode {
         &mut rt.reader(),
         &mut rt.stdout(),
         &mut rt.stderr(),
+        &mut TerminalProgress::new(rt.stderr()),
     ))
 }

@@ -1,11 +1,15 @@
 // What a run is asked for beside its file: no trace on standard output, the trace in a file, and what there was.
 use crate::tests::{Played, ask, make_files, play};
 use seq_files::MapFiles;
-use seq_run::RunRequest;
+use seq_run::{Phase, RunProgress, RunRequest, run_watched};
+use std::io;
 use std::process::Abort;
 use std::sync::Wait;
+use std::sync::atomic::{AtomicU64, Ordering};
 use std::test::Fail;
 use std::thread::Threads;
+use std::time::{Clock, Duration};
+use trace_text::NoProgress;
 
 // An erase at the first row.
 const RUN: &str = "page one\ntargets 1\njob 0 0 0 erase - -\n";
@@ -52,18 +56,121 @@ fn no_trace_on_standard_output(rt: HostRuntime) -> Result<(), Fail> {
     Ok(())
 }
 
-// One job, nine cycles without its ready, and two polls.
-#[test]
-fn what_there_was(rt: HostRuntime) -> Result<(), Fail> {
-    let request = RunRequest {
+// A run of the erase that tells what there was.
+fn ask_stats() -> RunRequest<'static> {
+    RunRequest {
         is_quiet: true,
         has_stats: true,
         ..ask(1)
-    };
-    let played = expect(&rt, request, "job 1 end 0\n", None)?;
+    }
+}
+
+// One job, nine cycles without its ready, and two polls.
+const WHAT_THERE_WAS: &str =
+    "jobs 1, cycles 9, polls 2, bytes to the dies 0, bytes from the dies 0";
+
+// No seconds are told without a clock.
+#[test]
+fn what_there_was(rt: HostRuntime) -> Result<(), Fail> {
+    let played = expect(&rt, ask_stats(), "job 1 end 0\n", None)?;
     let told = str::from_utf8(played.errors.as_slice())?;
-    for part in ["jobs 1,", "cycles 9,", "polls 2,"] {
-        assert!(rt; told.contains(part), "{told}");
+    assert_eq!(rt; told.trim_end(), WHAT_THERE_WAS);
+    Ok(())
+}
+
+// A clock that goes on by so many nanoseconds from one reading to the next.
+#[derive(Drop)]
+struct MadeClock {
+    step: u64,
+    now: AtomicU64,
+}
+
+fn made_clock(step: u64) -> MadeClock {
+    MadeClock {
+        step,
+        now: AtomicU64::new(0),
+    }
+}
+
+impl Clock for MadeClock {
+    fn monotonic(&self) -> io::Result<Duration> {
+        let now = self.now.fetch_add(self.step, Ordering::SeqCst);
+        Ok(Duration::from_nanos(now))
+    }
+
+    fn since_1970(&self) -> io::Result<Duration> {
+        Ok(Duration::from_nanos(0))
+    }
+}
+
+// What standard error says of a run with this clock, of which this is told what it does.
+fn watch<R: Threads + Wait + Sync + Abort + AllocGlobal, C: Clock, P: RunProgress>(
+    rt: &R,
+    clock: &C,
+    progress: &mut P,
+    run: &str,
+) -> Result<Vec<u8>, Fail> {
+    let mut files = make_files(rt.alloc())?;
+    files.put("run", run.as_bytes())?;
+    let mut output = Vec::new(rt.alloc());
+    let mut errors = Vec::new(rt.alloc());
+    run_watched(
+        rt,
+        clock,
+        rt.alloc(),
+        &mut files,
+        &mut output,
+        &mut errors,
+        progress,
+        ask_stats(),
+    );
+    Ok(errors)
+}
+
+// How long the jobs take, and what is told of it.
+const TIMES: [(u64, &str); 4] = [
+    (12_000_000, "seconds 0.012, cycles a second 750"),
+    (1_999_999_999, "seconds 1.999, cycles a second 4"),
+    (1, "seconds 0.000, cycles a second 9000000000"),
+    (0, "seconds 0.000, cycles a second -"),
+];
+
+#[test]
+fn how_long_it_took(rt: HostRuntime) -> Result<(), Fail> {
+    for (step, told) in TIMES {
+        let errors = watch(&rt, &made_clock(step), &mut NoProgress, RUN)?;
+        let want = format!(in rt.alloc(); "{WHAT_THERE_WAS}, {told}\n")?;
+        assert_eq!(rt; str::from_utf8(errors.as_slice())?, want.as_str());
+    }
+    Ok(())
+}
+
+// Keeps what it is told.
+#[derive(Drop)]
+struct Kept {
+    told: Vec<Phase>,
+}
+
+impl RunProgress for Kept {
+    fn begin(&mut self, phase: Phase) {
+        let _ = self.told.push(phase);
+    }
+}
+
+#[test]
+fn what_a_run_does(rt: HostRuntime) -> Result<(), Fail> {
+    for (run, phases) in [
+        (
+            RUN,
+            [Phase::Reading, Phase::Running { jobs: 1 }, Phase::Writing].as_slice(),
+        ),
+        ("page one\nbad\n", [Phase::Reading].as_slice()),
+    ] {
+        let mut kept = Kept {
+            told: Vec::new(rt.alloc()),
+        };
+        watch(&rt, &made_clock(1), &mut kept, run)?;
+        assert_eq!(rt; kept.told.as_slice(), phases);
     }
     Ok(())
 }

@@ -135,43 +135,69 @@ fn the_first_fault_is_told(rt: HostRuntime) -> Result<(), Fail> {
     try_all(&rt, &FIRST_FAULTS)
 }
 
-// A run file that isn't run, with the beginning and the end of what standard error says.
+// An erase with a code that no word has, and one that branches on a status before it has read any, with a budget of 100.
+const UNKNOWN: [u8; 36] = [
+    0x4e, 0x4d, 0x50, 0x31, 0x05, 0x00, 0x01, 0x00, 0x00, 0x00, 0x00, 0x00, 0x05, 0x00, 0x00, 0x00,
+    0x01, 0x60, 0x00, 0x00, 0x02, 0x02, 0x03, 0x00, 0x11, 0xd0, 0x00, 0x00, 0x0a, 0x00, 0x00, 0x00,
+    0x00, 0x00, 0x00, 0x00,
+];
+
+const BRANCH: [u8; 36] = [
+    0x4e, 0x4d, 0x50, 0x31, 0x05, 0x00, 0x01, 0x00, 0x00, 0x00, 0x00, 0x00, 0x64, 0x00, 0x00, 0x00,
+    0x01, 0x60, 0x00, 0x00, 0x02, 0x02, 0x03, 0x00, 0x01, 0xd0, 0x00, 0x00, 0x0d, 0x01, 0x04, 0x00,
+    0x00, 0x00, 0x00, 0x00,
+];
+
+// A run file that isn't run, with what standard error says.
 struct Told {
     run: &'static str,
-    first: &'static str,
-    last: &'static str,
+    errors: &'static str,
 }
 
-const TOLD: [Told; 6] = [
+const TOLD: [Told; 11] = [
     Told {
         run: "page one\nbad\n",
-        first: "run: line 2: ",
-        last: " (J1)\n",
+        errors: "run: line 2: unknown line, or a field is missing or one too many (J1)\n",
     },
     Told {
         run: "page erase\n",
-        first: "run: line 1, erase: ",
-        last: " (P1)\n",
+        errors: "run: line 1: erase: fewer than the 256 bytes of a parameter page (P1)\n",
     },
     Told {
         run: "page one\ntargets 1\nimage 0 0 erase\n",
-        first: "run: line 3, erase: ",
-        last: " (I2)\n",
+        errors: "run: line 3: erase: the image doesn't begin with NDI1 (I2)\n",
+    },
+    Told {
+        run: "page one\ntargets 1\nimage 0 1 erase\n",
+        errors: "run: line 3: no such LUN (J4)\n",
+    },
+    Told {
+        run: "page one\ntargets 1\njob 0 0 0 one - -\n",
+        errors: "run: line 3: one: the file begins with neither NMP1 nor NMP2 (M2)\n",
+    },
+    Told {
+        run: "page one\ntargets 1\njob 0 0 0 unknown - -\n",
+        errors: "run: line 3: unknown: word 2: no word has this code (M4)\n",
+    },
+    Told {
+        run: "page one\ntargets 1\npolls 2\njob 0 0 0 branch - -\n",
+        errors: "run: line 4: branch: word 3, `brs 01 L4`: no status may have been read before this branch (V13)\n",
     },
     Told {
         run: "page one\ntargets 1\njob 0 0 0 erase one -\n",
-        first: "run: line 3, one: ",
-        last: " (J5)\n",
+        errors: "run: line 3: one: the input is longer than the buffer (J5)\n",
     },
     Told {
         run: "page one\ntargets 1\njob 0 0 32 erase - -\n",
-        first: "run: line 3, erase: ",
-        last: " (S3)\n",
+        errors: "run: line 3: erase: the rows are outside the die: BASE and the rows in the header come to more than the rows of a plane (S3)\n",
     },
     Told {
         run: "page nothing\n",
-        first: "file fault ",
-        last: "nothing\n",
+        errors: "file fault nothing\n",
+    },
+    Told {
+        run: "page one\ntargets 1\njob 0 0 0 nothing - -\n",
+        errors: "file fault nothing\n",
     },
 ];
 
@@ -179,12 +205,11 @@ const TOLD: [Told; 6] = [
 fn what_standard_error_says(rt: HostRuntime) -> Result<(), Fail> {
     for told in &TOLD {
         let mut files = make_files(rt.alloc())?;
+        files.put("unknown", &UNKNOWN)?;
+        files.put("branch", &BRANCH)?;
         files.put("run", told.run.as_bytes())?;
         let played = play(&rt, &mut files, ask(1));
-        let errors = str::from_utf8(played.errors.as_slice())?;
-        assert!(rt; errors.starts_with(told.first), "{errors}");
-        assert!(rt; errors.ends_with(told.last), "{errors}");
-        assert_eq!(rt; errors.lines().count(), 1, "{errors}");
+        assert_eq!(rt; str::from_utf8(played.errors.as_slice())?, told.errors);
     }
     Ok(())
 }

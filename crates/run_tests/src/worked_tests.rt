@@ -243,5 +243,9 @@ fn a_cache_read_within_a_block(rt: HostRuntime) -> Result<(), Fail> {
     let mut files = make_worked(rt.alloc(), &READ_CACHE, run, 0)?;
     let played = play(&rt, &mut files, ask(1));
     assert_eq!(rt; played.output.as_slice(), b"refused S6 at 3\n".as_slice());
+    let errors = str::from_utf8(played.errors.as_slice())?;
+    let words =
+        "run: line 3: words: the program continues a cache read, and BASE isn't the first row of a block (S6)\n";
+    assert_eq!(rt; errors, words);
     Ok(())
 }

@@ -11,13 +11,15 @@ use crate::command_line::{self, Asked};
 use crate::once::once_on;
 use clap::Error;
 use clap::error::ErrorKind;
-use seq_commands::{Command, Exit, command_told};
+use seq_commands::{Command, Exit, command_watched};
 use seq_files::{FileError, Files};
-use seq_run::run_on;
+use seq_run::{NoClock, RunProgress, run_watched};
 use std::alloc::{Allocator, Global};
 use std::io::{self, Read, Write};
 use std::sync::Wait;
 use std::thread::Threads;
+use std::time::Clock;
+use trace_text::{CheckProgress, NoProgress};
 
 // Says in words how a run ended, where standard output doesn't say it all.
 fn tell<E: Write>(errors: &mut E, exit: Exit) -> io::Result<()> {
@@ -76,13 +78,14 @@ fn end_command<E: Write>(errors: &mut E, exit: Exit, command: Command<'_>) -> u8
     exit.status()
 }
 
-/// Does a command on files, as [`command_told`] does, and gives the status. What is wrong with a file is said in words on `errors`, and so
+/// Does a command on files, as [`command_watched`] does, and gives the status. What is wrong with a file is said in words on `errors`, and so
 /// is a fault of a file or a stream, with its path, or that there is no memory.
-pub fn run_command<A: Allocator + Clone, F: Files, W: Write, E: Write>(
+pub fn run_command<A: Allocator + Clone, F: Files, W: Write, E: Write, P: CheckProgress>(
     alloc: A,
     files: &mut F,
     output: &mut W,
     errors: &mut E,
+    progress: &mut P,
     command: Command<'_>,
 ) -> u8
     ensures done { result ≡ 0 → (printed : List ℕ) × IsDone command.entry (F.store files.old) (F.store files.new) printed
@@ -91,7 +94,7 @@ pub fn run_command<A: Allocator + Clone, F: Files, W: Write, E: Write>(
         × Appends (W.contents output.old) (W.contents output.new) (line_of refusal) }
     ensures files { MayLeave command.entry (F.store files.old) (F.store files.new) }
 {
-    let exit = command_told(alloc, files, output, errors, command);
+    let exit = command_watched(alloc, files, output, errors, progress, command);
     end_command(errors, exit, command)
 }
 
@@ -120,15 +123,25 @@ fn without_words<E: Write>(errors: &mut E, error: &io::Error) -> Exit {
 }
 
 /// Does what the words ask for, the first of which is the name of the program, and gives the status to end with. A run starts threads by
-/// the handle.
-pub fn answer<T: Threads + Wait + Sync, F: Files, R: Read, W: Write, E: Write>(
+/// the handle and takes the time by the clock; `progress` is told how far a check or a run has come.
+pub fn answer_watched<
+    T: Threads + Wait + Sync,
+    C: Clock,
+    F: Files,
+    R: Read,
+    W: Write,
+    E: Write,
+    P: CheckProgress + RunProgress,
+>(
     rt: &T,
+    clock: &C,
     alloc: Global,
     words: io::Result<Vec<String>>,
     files: &mut F,
     input: &mut R,
     output: &mut W,
     errors: &mut E,
+    progress: &mut P,
 ) -> u8 {
     let words = match words {
         Ok(words) => words,
@@ -139,11 +152,36 @@ pub fn answer<T: Threads + Wait + Sync, F: Files, R: Read, W: Write, E: Write>(
     };
     match command_line::parse(alloc, words.as_slice()) {
         Ok(Asked::Once { base }) => run_file(&alloc, base, input, output, errors),
-        Ok(Asked::Files(command)) => run_command(alloc, files, output, errors, command),
-        Ok(Asked::Run(request)) => run_on(rt, alloc, files, output, errors, request).status(),
+        Ok(Asked::Files(command)) => run_command(alloc, files, output, errors, progress, command),
+        Ok(Asked::Run(request)) => {
+            run_watched(rt, clock, alloc, files, output, errors, progress, request).status()
+        }
         Err(error) => {
             let exit = show(output, errors, error);
             end(errors, exit)
         }
     }
+}
+
+/// The same without a clock, where nobody is told how far it has come.
+pub fn answer<T: Threads + Wait + Sync, F: Files, R: Read, W: Write, E: Write>(
+    rt: &T,
+    alloc: Global,
+    words: io::Result<Vec<String>>,
+    files: &mut F,
+    input: &mut R,
+    output: &mut W,
+    errors: &mut E,
+) -> u8 {
+    answer_watched(
+        rt,
+        &NoClock,
+        alloc,
+        words,
+        files,
+        input,
+        output,
+        errors,
+        &mut NoProgress,
+    )
 }

@@ -87,7 +87,9 @@ fn run<'a>(alloc: Global) -> Result<clap::Command<'a>, Error> {
     let stats = Arg::new(alloc, "stats")
         .long("stats")
         .action(ArgAction::SetTrue)
-        .help("Says on standard error how many jobs, cycles, polls and bytes there were");
+        .help(
+            "Says on standard error how many jobs, cycles, polls and bytes there were, the seconds that the jobs took, and the cycles a second",
+        );
     let command = clap::Command::new(alloc, "run")
         .about("Runs a channel as a run file says, and prints the trace and each job's code")
         .after_help("Example: onfiseq run examples/two_luns.run --workers 2")

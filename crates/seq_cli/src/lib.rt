@@ -9,14 +9,18 @@ mod answering;
 mod command_line;
 mod not_run;
 mod once;
+mod progress;
 mod real_files;
 
-pub use answering::{answer, run_command, run_file};
+pub use answering::{answer, answer_watched, run_command, run_file};
 pub use once::once_on;
+pub use progress::TerminalProgress;
 pub use real_files::RealFiles;
 pub use seq_commands::{Exit, Refusal};
 
 #[cfg(test)]
 mod answer_tests;
+#[cfg(test)]
+mod progress_tests;
 #[cfg(test)]
 mod tests;

@@ -1,2 +1,3 @@
 pub mod Said
-pub mod Printables
+pub mod CountersPrinted
+pub mod Verifieds

@@ -1,11 +1,12 @@
 -- What the commands come to: what was read, what is printed or written of it, and what it may be refused for.
-use Rattle.std.specs.Prelude.{◌≡◌, ◌⊎◌, ◌++◌, ◌∷◌, [], ℕ, true, if◌then◌else◌, List, Option, Ok, Err, Some, None, reverse, codes}
-use Rattle.std.specs.List.{list_all}
+use Rattle.std.specs.Prelude.{◌≡◌, ◌⊎◌, ◌++◌, ◌∷◌, [], ℕ, true, ⊤, List, Option, Ok, Err, Some, None, reverse, codes}
+use Rattle.std.specs.List.{All}
 use Rattle.std.specs.Option.{option_map}
 use Rattle.seq_files.specs.Store.{Store, Holds, with_file}
 use Rattle.nand_geometry.specs.declared.Parts.{Parts}
 use Rattle.nand_geometry.specs.Reading.{read_of}
 use Rattle.onfi_cycle.specs.declared.item.Item.{Item}
+use Rattle.onfi_cycle.specs.declared.item.Item.TheVariants.{Cyc}
 use Rattle.onfi_cycle.specs.Permitted.{is_legal, IsFirstBroken}
 use Rattle.micro_word.specs.declared.refusal.WordRefusal.TheVariants.{Fault as WordFaultAt}
 use Rattle.micro_word.specs.Text.{Microprogram, IsFileOf, file2}
@@ -17,9 +18,10 @@ use Rattle.micro_program.specs.Safe.{IsSafe}
 use Rattle.micro_walk.specs.Faults.{fault_of}
 use Rattle.micro_walk.specs.Verdicts.{MayBe}
 use Rattle.trace_text.specs.declared.refusal.TraceRefusal.TheVariants.{Fault as TraceFaultAt}
+use Rattle.micro_verify.specs.declared.showing.Counter.{Counter as Counted}
 use Rattle.micro_verify.specs.Lazy.{Counter}
 use Rattle.micro_verify.specs.Calm.{counter_of}
-use Rattle.trace_text.specs.Line.{text, is_printable_item}
+use Rattle.trace_text.specs.Line.{text, IsPrintable}
 use Rattle.trace_text.specs.Trace.{IsTextOf}
 use Rattle.trace_text.specs.Reading.{reading as trace_reading}
 use Rattle.seq_commands.specs.declared.command.Targets.{Targets}
@@ -70,6 +72,27 @@ pub record FileIsRefused (files : Option Store) (path : List ℕ) (refusal : Ref
   pub bytes : List ℕ
   pub is_bytes : Holds files path bytes
   pub refuses : RefusesFile bytes refusal
+
+-- the word file at this path is that of a microprogram which is safe for the geometry, and against which there is nothing
+pub record HasText (files : Option Store) (g : Parts) (path : List ℕ) (x : Microprogram) : Type 0 where
+  pub has_file : HasFile files path x
+  pub safe : IsSafe x g
+  pub faultless : fault_of g x ≡ None
+
+-- a reason against a microprogram, for this geometry
+abbrev pub RefusesReason : Parts → Microprogram → Refusal → Type 0
+RefusesReason g x (Text reason word) = MayBe g x (record { word = word; reason = reason })
+RefusesReason g x _ = ⊥
+
+-- the same of the microprogram of the word file at this path
+pub record ReasonIsAgainst (files : Option Store) (g : Parts) (path : List ℕ) (refusal : Refusal) : Type 0 where
+  pub x : Microprogram
+  pub has_file : HasFile files path x
+  pub refuses : RefusesReason g x refusal
+
+-- the word file at this path has this fault, or there is this reason against its microprogram
+abbrev pub FileOrTextIsRefused : Option Store → Parts → List ℕ → Refusal → Type 0
+FileOrTextIsRefused files g path refusal = FileIsRefused files path refusal ⊎ ReasonIsAgainst files g path refusal
 
 -- ---- asm
 
@@ -123,15 +146,20 @@ pub record IsAccepted (files : Option Store) (page input : List ℕ) : Type 0 wh
   pub safe : IsSafe x g
   pub faultless : fault_of g x ≡ None
 
--- what is left at a path of the items of a run, which are all printable: their text
-abbrev pub with_items : List ℕ → List Item → Option Store → Option Store
-with_items path items files = if list_all is_printable_item items then with_file files path (text items) else files
+-- a run and the cycle after it can be printed
+abbrev pub RunCanBePrinted : Counter → Type 0
+RunCanBePrinted c = All IsPrintable (c.items ++ (c.cycle ∷ []))
 
--- what is left of the run of a refusal and the cycle behind it that isn't permitted, where a path is given and the refusal has its run
+-- the same of what the code shows, if anything
+abbrev pub CanBePrinted : {A : Type 0} → Option (Counted A) → Type 0
+CanBePrinted None = ⊤
+CanBePrinted (Some c) = All IsPrintable (c.items.items ++ (Cyc c.cycle ∷ []))
+
+-- what is left of the run of a refusal and the cycle after it that isn't permitted, where a path is given and the refusal has its run: their text
 abbrev pub with_run : Option (List ℕ) → Option Counter → Option Store → Option Store
 with_run None c files = files
 with_run (Some path) None files = files
-with_run (Some path) (Some c) files = with_items path (c.items ++ (c.cycle ∷ [])) files
+with_run (Some path) (Some c) files = with_file files path (text (c.items ++ (c.cycle ∷ [])))
 
 -- a reason against the microprogram, for this geometry, with the run that is left of it
 abbrev pub RefusesText : Parts → Microprogram → Option (List ℕ) → (files later : Option Store) → Refusal → Type 0

@@ -20,11 +20,12 @@ use nand_geometry::Geometry;
 use seq_files::Files;
 use std::alloc::Allocator;
 use std::io::Write;
-use trace_text::{CheckRefusal, TraceRefusal, check, parse};
+use trace_text::{CheckProgress, CheckRefusal, TraceRefusal, check_watched, parse};
 
 // Whether the trace of a text is legal.
-fn legal<A: Allocator + Clone>(
+fn legal<A: Allocator + Clone, P: CheckProgress>(
     alloc: A,
+    progress: &mut P,
     path: &str,
     geometry: &Geometry,
     targets: Targets,
@@ -44,7 +45,7 @@ fn legal<A: Allocator + Clone>(
         }
         Err(TraceRefusal::OutOfMemory) => return Err(Failure::OutOfMemory),
     };
-    match check(geometry, targets.count(), items.as_slice()) {
+    match check_watched(geometry, targets.count(), items.as_slice(), progress) {
         Ok(()) => Ok(()),
         Err(CheckRefusal::At(item, rule)) => {
             let refusal = Refusal::Item { rule, item };
@@ -63,9 +64,10 @@ fn legal<A: Allocator + Clone>(
 }
 
 // Reads a page and the text of a trace, and checks.
-fn check_at<A: Allocator + Clone, F: Files>(
+fn check_at<A: Allocator + Clone, F: Files, P: CheckProgress>(
     alloc: A,
     files: &mut F,
+    progress: &mut P,
     page: &str,
     targets: Targets,
     input: &str,
@@ -77,7 +79,7 @@ fn check_at<A: Allocator + Clone, F: Files>(
     let geometry = geometry_at(alloc.clone()?, files, page)?;
     let bytes = file_of(alloc.clone()?, files, Medium::Input, input)?;
     let text = str_of(bytes.as_slice())?;
-    legal(alloc, input, &geometry, targets, text)
+    legal(alloc, progress, input, &geometry, targets, text)
 }
 
 /// Checks whether the trace of a text is legal on a channel of so many targets of the geometry of a parameter page.
@@ -85,19 +87,21 @@ fn check_at<A: Allocator + Clone, F: Files>(
 /// `Done`: it is, and `legal` is printed. `Refused`: the line `refused NAME at N` is printed: a P fault of the page; or an X fault of the
 /// text with its line; or the first item that isn't permitted after those before it, with the first rule that it breaks. The text is read
 /// after the page, if that has no fault. `FileFault`: a file couldn't be read, the text isn't UTF-8, or the output couldn't be
-/// written. No file is written.
-pub fn check_trace<A: Allocator + Clone, F: Files, W: Write, E: Write>(
+/// written. No file is written. `progress` is told at each million of items that are permitted.
+pub fn check_trace<A: Allocator + Clone, F: Files, W: Write, E: Write, P: CheckProgress>(
     alloc: A,
     files: &mut F,
     output: &mut W,
     errors: &mut E,
+    progress: &mut P,
     page: &str,
     targets: Targets,
     input: &str,
 ) -> Exit
     ensures done { result ≡ Exit.Done → IsLegalTrace (F.store files.old) page.now (count_of targets) input.now
         × Appends (W.contents output.old) (W.contents output.new) (codes "legal\n") }
-    ensures refused { (refusal : Refusal) → result ≡ Exit.Refused refusal → CheckRefuses (F.store files.old) page.now (count_of targets) input.now refusal
+    ensures refused { (refusal : Refusal) → result ≡ Exit.Refused refusal
+        → CheckRefuses (F.store files.old) page.now (count_of targets) input.now refusal
         × Appends (W.contents output.old) (W.contents output.new) (line_of refusal) }
     ensures stays { F.store files.new ≡ F.store files.old }
 {
@@ -105,7 +109,7 @@ pub fn check_trace<A: Allocator + Clone, F: Files, W: Write, E: Write>(
         Ok(alloc) => alloc,
         Err(_) => return Exit::OutOfMemory,
     };
-    match check_at(alloc, files, page, targets, input) {
+    match check_at(alloc, files, progress, page, targets, input) {
         Ok(()) => finish(output, "legal\n"),
         Err(failure) => fail(alloc_of_lines, output, errors, failure),
     }

@@ -15,19 +15,22 @@ use crate::verifying::verify_file;
 use seq_files::Files;
 use std::alloc::Allocator;
 use std::io::{Write, sink};
+use trace_text::{CheckProgress, NoProgress};
 
 /// Does a command, as its own function says. What is refused is also said in words on `errors`: the file, its line, word or item, and
-/// what the code means.
-pub fn command_told<A: Allocator + Clone, F: Files, W: Write, E: Write>(
+/// what the code means. `progress` is told how far a check has come.
+pub fn command_watched<A: Allocator + Clone, F: Files, W: Write, E: Write, P: CheckProgress>(
     alloc: A,
     files: &mut F,
     output: &mut W,
     errors: &mut E,
+    progress: &mut P,
     command: Command<'_>,
 ) -> Exit
     ensures done { result ≡ Exit.Done → (printed : List ℕ) × IsDone command.entry (F.store files.old) (F.store files.new) printed
         × Appends (W.contents output.old) (W.contents output.new) printed }
-    ensures refused { (refusal : Refusal) → result ≡ Exit.Refused refusal → MayRefuse command.entry (F.store files.old) (F.store files.new) refusal
+    ensures refused { (refusal : Refusal) → result ≡ Exit.Refused refusal
+        → MayRefuse command.entry (F.store files.old) (F.store files.new) refusal
         × Appends (W.contents output.old) (W.contents output.new) (line_of refusal) }
     ensures files { MayLeave command.entry (F.store files.old) (F.store files.new) }
 {
@@ -48,8 +51,26 @@ pub fn command_told<A: Allocator + Clone, F: Files, W: Write, E: Write>(
             page,
             targets,
             input,
-        } => check_trace(alloc, files, output, errors, page, targets, input),
+        } => check_trace(alloc, files, output, errors, progress, page, targets, input),
     }
+}
+
+/// The same, where nobody is told how far it has come.
+pub fn command_told<A: Allocator + Clone, F: Files, W: Write, E: Write>(
+    alloc: A,
+    files: &mut F,
+    output: &mut W,
+    errors: &mut E,
+    command: Command<'_>,
+) -> Exit
+    ensures done { result ≡ Exit.Done → (printed : List ℕ) × IsDone command.entry (F.store files.old) (F.store files.new) printed
+        × Appends (W.contents output.old) (W.contents output.new) printed }
+    ensures refused { (refusal : Refusal) → result ≡ Exit.Refused refusal
+        → MayRefuse command.entry (F.store files.old) (F.store files.new) refusal
+        × Appends (W.contents output.old) (W.contents output.new) (line_of refusal) }
+    ensures files { MayLeave command.entry (F.store files.old) (F.store files.new) }
+{
+    command_watched(alloc, files, output, errors, &mut NoProgress, command)
 }
 
 /// Does a command, as its own function says.
@@ -61,7 +82,8 @@ pub fn command_on<A: Allocator + Clone, F: Files, W: Write>(
 ) -> Exit
     ensures done { result ≡ Exit.Done → (printed : List ℕ) × IsDone command.entry (F.store files.old) (F.store files.new) printed
         × Appends (W.contents output.old) (W.contents output.new) printed }
-    ensures refused { (refusal : Refusal) → result ≡ Exit.Refused refusal → MayRefuse command.entry (F.store files.old) (F.store files.new) refusal
+    ensures refused { (refusal : Refusal) → result ≡ Exit.Refused refusal
+        → MayRefuse command.entry (F.store files.old) (F.store files.new) refusal
         × Appends (W.contents output.old) (W.contents output.new) (line_of refusal) }
     ensures files { MayLeave command.entry (F.store files.old) (F.store files.new) }
 {

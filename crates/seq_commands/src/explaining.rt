@@ -48,15 +48,28 @@ fn reason_text(reason: Reason) -> &'static str {
     }
 }
 
+/// Who gives the row from which a job is counted: an option of `once`, on a die of 32 rows, or a line of a run file.
+#[derive(Clone, Copy, Debug, PartialEq, Eq)]
+pub enum BaseGiver {
+    CommandLine,
+    RunFile,
+}
+
 // What is wrong with a job.
-fn job_fault_text(fault: JobFault) -> &'static str {
+fn job_fault_text(fault: JobFault, giver: BaseGiver) -> &'static str {
     match fault {
         JobFault::NoSuchLun => "there is no such LUN",
+        JobFault::RowsOutside if giver == BaseGiver::RunFile => {
+            "the rows are outside the die: BASE and the rows in the header come to more than the rows of a plane"
+        }
         JobFault::RowsOutside => {
             "the rows are outside the die: --base and the rows in the header come to more than 32"
         }
         JobFault::BufferLength => "the buffer isn't as long as the header says",
         JobFault::OtherGeometry => "the program was checked for another die",
+        JobFault::NotAtBlock if giver == BaseGiver::RunFile => {
+            "the program continues a cache read, and BASE isn't the first row of a block"
+        }
         JobFault::NotAtBlock =>
             "the program continues a cache read, and --base isn't the first row of a block",
     }
@@ -86,25 +99,46 @@ fn place_text(refusal: Refusal) -> Option<&'static str> {
 }
 
 // Writes what a refusal means.
-fn write_meaning<W: fmt::Write>(f: &mut fmt::Formatter<W>, refusal: Refusal) -> fmt::Result {
+fn write_meaning<W: fmt::Write>(
+    f: &mut fmt::Formatter<W>,
+    refusal: Refusal,
+    giver: BaseGiver,
+) -> fmt::Result {
     match refusal {
         Refusal::Page { fault } => write!(f, "{fault}"),
         Refusal::Source { fault, .. } => write!(f, "{fault}"),
         Refusal::File { fault, .. } => f.write_str(word_fault_text(fault)),
         Refusal::Text { reason, .. } => f.write_str(reason_text(reason)),
-        Refusal::Job { fault } => f.write_str(job_fault_text(fault)),
+        Refusal::Job { fault } => f.write_str(job_fault_text(fault, giver)),
         Refusal::Trace { fault, .. } => write!(f, "{fault}"),
         Refusal::Item { rule, .. } => write!(f, "{rule}"),
     }
 }
 
-impl fmt::Display for Refusal {
+/// What a refusal means, with the number that it names, if it names one.
+#[derive(Clone, Copy)]
+pub struct Meaning {
+    pub refusal: Refusal,
+    pub giver: BaseGiver,
+}
+
+impl fmt::Display for Meaning {
     fn fmt<W: fmt::Write>(&self, f: &mut fmt::Formatter<W>) -> fmt::Result {
-        let refusal = *self;
+        let Meaning { refusal, giver } = *self;
         if let Some(place) = place_text(refusal) {
             write!(f, "{place} {}: ", refusal.number())?;
         }
-        write_meaning(f, refusal)
+        write_meaning(f, refusal, giver)
+    }
+}
+
+impl fmt::Display for Refusal {
+    fn fmt<W: fmt::Write>(&self, f: &mut fmt::Formatter<W>) -> fmt::Result {
+        let meaning = Meaning {
+            refusal: *self,
+            giver: BaseGiver::CommandLine,
+        };
+        write!(f, "{meaning}")
     }
 }
 
@@ -127,7 +161,7 @@ impl fmt::Display for Explained<'_> {
             }
             f.write_str(": ")?;
         }
-        write_meaning(f, refusal)?;
+        write_meaning(f, refusal, BaseGiver::CommandLine)?;
         write!(f, " ({})", refusal.code())
     }
 }

@@ -1,15 +1,19 @@
 //! What a command is given: the files that it reads, and what they are.
-ghost use Rattle.std.specs.Prelude.{◌≡◌, IfOk, IfErr, OnOk, OnErr, Ok};
+ghost use Rattle.std.specs.Prelude.{◌≡◌, IfOk, IfErr, OnOk, OnErr, Ok, None};
 ghost use Rattle.nand_geometry.specs.Reading.{read_of};
 ghost use Rattle.micro_word.specs.Text.{IsFileOf};
+ghost use Rattle.micro_program.specs.Safe.{IsSafe};
+ghost use Rattle.micro_walk.specs.Faults.{fault_of};
 ghost use Rattle.seq_files.specs.Store.{Holds, with_file};
-ghost use Rattle.seq_commands.specs.Commands.{HasPage, PageIsRefused, RefusesPage, HasFile, FileIsRefused, RefusesFile};
+ghost use Rattle.seq_commands.specs.Commands.{HasPage, PageIsRefused, RefusesPage, HasFile, FileIsRefused, RefusesFile, HasText, RefusesReason, FileOrTextIsRefused};
 ghost use Rattle.seq_commands.specs.Failures.{Says, RefusesNothing};
 
 use crate::command::Medium;
-use crate::explaining::words_of;
+use crate::explaining::{words_of, words_of_word};
 use crate::failure::Failure;
 use crate::refusal::Refusal;
+use micro_program::Verified;
+use micro_verify::{VerifyRefusal, verify};
 use micro_word::{Text, WordRefusal, read};
 use nand_geometry::Geometry;
 use seq_files::Files;
@@ -77,7 +81,7 @@ fn geometry_in<A: Allocator>(alloc: A, path: &str, bytes: &[u8]) -> Result<Geome
 }
 
 /// The geometry of the page at a path.
-pub(crate) fn geometry_at<A: Allocator + Clone, F: Files>(
+pub fn geometry_at<A: Allocator + Clone, F: Files>(
     alloc: A,
     files: &mut F,
     path: &str,
@@ -120,4 +124,57 @@ pub(crate) fn text_at<A: Allocator + Clone, F: Files>(
 {
     let bytes = file_of(alloc.clone()?, files, Medium::Input, path)?;
     text_in(alloc, path, bytes.as_slice())
+}
+
+// Verifies a text for a geometry.
+fn verified_in<A: Allocator + Clone>(
+    alloc: A,
+    path: &str,
+    text: Text<A>,
+    geometry: Geometry,
+) -> Result<Verified<A>, Failure<A>>
+    ensures same { IfOk result (λ v. (v.text ≡ text) × (v.geometry ≡ geometry)) }
+    ensures safe { OnOk result (IsSafe text geometry) }
+    ensures faultless { OnOk result (fault_of geometry text ≡ None) }
+    ensures err { IfErr result (Says (RefusesReason geometry text)) }
+{
+    let (refusal, text) = match verify(text, geometry) {
+        Ok(verified) => {
+            let _safe = verified.text();
+            return Ok(verified);
+        }
+        Err(refused) => refused,
+    };
+    match refusal {
+        VerifyRefusal::Refusal { word, reason, .. } => {
+            let refusal = Refusal::Text { reason, word };
+            Err(Failure::Refused {
+                refusal,
+                words: words_of_word(alloc, path, refusal, &text),
+            })
+        }
+        VerifyRefusal::OutOfMemory => Err(Failure::OutOfMemory),
+    }
+}
+
+/// The microprogram of the word file at a path, verified for a geometry.
+#[tactic(auto, using(crate::proofs::Verifieds::has_text, crate::proofs::Verifieds::file_said, crate::proofs::Verifieds::reason_said))]
+pub fn verified_at<A: Allocator + Clone, F: Files>(
+    alloc: A,
+    files: &mut F,
+    path: &str,
+    geometry: Geometry,
+) -> Result<Verified<A>, Failure<A>>
+    ensures ok { IfOk result (λ v. HasText (F.store files.old) geometry path.now v.text × (v.geometry ≡ geometry)) }
+    ensures err { IfErr result (Says (FileOrTextIsRefused (F.store files.old) geometry path.now)) }
+    ensures stays { F.store files.new ≡ F.store files.old }
+{
+    let text = match text_at(alloc.clone()?, files, path) {
+        Ok(text) => text,
+        Err(failure) => return Err(failure),
+    };
+    match verified_in(alloc, path, text, geometry) {
+        Ok(verified) => Ok(verified),
+        Err(failure) => Err(failure),
+    }
 }

@@ -1,14 +1,17 @@
 //! The command that verifies a word file.
 ghost use Rattle.std.specs.Prelude.{◌≡◌, ◌++◌, ◌∷◌, [], Some, codes, IfErr, OnOk, OnErr, Option};
+ghost use Rattle.std.specs.List.{All};
 ghost use Rattle.std.specs.Option.{option_map};
 ghost use Rattle.std.specs.Io.KnownBytes.{Appends};
 ghost use Rattle.onfi_cycle.specs.declared.item.Item.TheVariants.{Cyc};
 ghost use Rattle.micro_program.specs.Safe.{IsSafe};
+ghost use Rattle.seq_files.specs.Store.{with_file};
+ghost use Rattle.trace_text.specs.Line.{text, IsPrintable};
 ghost use Rattle.micro_walk.specs.Faults.{fault_of};
 ghost use Rattle.seq_commands.specs.declared.refusal.Refusal.{Refusal};
 ghost use Rattle.micro_verify.specs.Lazy.{Counter as RunValue};
 ghost use Rattle.micro_verify.specs.Playing.{Shown};
-ghost use Rattle.seq_commands.specs.Commands.{IsAccepted, VerifyRefuses, VerifyLeaves, RefusesText, with_items, with_run};
+ghost use Rattle.seq_commands.specs.Commands.{IsAccepted, VerifyRefuses, VerifyLeaves, RefusesText, CanBePrinted, with_run};
 ghost use Rattle.seq_commands.specs.Failures.{SaysElse, RefusesNothing};
 ghost use Rattle.seq_commands.specs.Refusals.{line_of};
 
@@ -25,22 +28,20 @@ use onfi_cycle::Item;
 use seq_files::Files;
 use std::alloc::Allocator;
 use std::io::Write;
-use trace_text::{is_printable, print};
+use trace_text::print;
 
-// Writes items as the text of a trace, if they can be printed.
+// Writes items as the text of a trace.
 fn put_items<A: Allocator, F: Files>(
     alloc: A,
     files: &mut F,
     path: &str,
     items: &[Item],
 ) -> Result<(), Failure<A>>
-    ensures ok { OnOk result (F.store files.new ≡ with_items path.now items.now (F.store files.old)) }
+    requires { All IsPrintable items.now }
+    ensures ok { OnOk result (F.store files.new ≡ with_file (F.store files.old) path.now (text items.now)) }
     ensures nothing { IfErr result (λ e. RefusesNothing e) }
     ensures stays { OnErr result (F.store files.new ≡ F.store files.old) }
 {
-    if !is_printable(items) {
-        return Ok(());
-    }
     let text = print(alloc, items)?;
     put_file(files, path, text.as_str().as_bytes())
 }
@@ -52,7 +53,8 @@ fn write_run<A: Allocator, F: Files>(
     path: &str,
     run: Counter<A>,
 ) -> Result<(), Failure<A>>
-    ensures ok { OnOk result (F.store files.new ≡ with_items path.now (run.items.items ++ (Cyc run.cycle ∷ [])) (F.store files.old)) }
+    requires { All IsPrintable (run.items.items ++ (Cyc run.cycle ∷ [])) }
+    ensures ok { OnOk result (F.store files.new ≡ with_file (F.store files.old) path.now (text (run.items.items ++ (Cyc run.cycle ∷ [])))) }
     ensures nothing { IfErr result (λ e. RefusesNothing e) }
     ensures stays { OnErr result (F.store files.new ≡ F.store files.old) }
 {
@@ -74,7 +76,9 @@ fn leave_run<A: Allocator, F: Files>(
     path: Option<&str>,
     run: Option<Counter<A>>,
 ) -> Result<(), Failure<A>>
-    ensures ok { OnOk result ((c : Option RunValue) → Shown run c → F.store files.new ≡ with_run (option_map (λ path. path.now) path.entry) c (F.store files.old)) }
+    requires { CanBePrinted run }
+    ensures ok { OnOk result ((c : Option RunValue) → Shown run c
+        → F.store files.new ≡ with_run (option_map (λ path. path.now) path.entry) c (F.store files.old)) }
     ensures nothing { IfErr result (λ e. RefusesNothing e) }
     ensures stays { OnErr result (F.store files.new ≡ F.store files.old) }
 {
@@ -96,7 +100,8 @@ fn accept<A: Allocator + Clone, F: Files>(
     ensures safe { OnOk result (IsSafe text geometry) }
     ensures faultless { OnOk result (fault_of geometry text ≡ None) }
     ensures stays { OnOk result (F.store files.new ≡ F.store files.old) }
-    ensures err { IfErr result (SaysElse (RefusesText geometry text (option_map (λ path. path.now) counter.entry) (F.store files.old) (F.store files.new)) (F.store files.new ≡ F.store files.old)) }
+    ensures err { IfErr result (SaysElse (RefusesText geometry text (option_map
+        (λ path. path.now) counter.entry) (F.store files.old) (F.store files.new)) (F.store files.new ≡ F.store files.old)) }
 {
     let (refusal, text) = match verify(text, geometry) {
         Ok(verified) => {
@@ -132,7 +137,8 @@ fn verify_at<A: Allocator + Clone, F: Files>(
 ) -> Result<(), Failure<A>>
     ensures ok { OnOk result (IsAccepted (F.store files.old) page.now input.now) }
     ensures stays { OnOk result (F.store files.new ≡ F.store files.old) }
-    ensures err { IfErr result (SaysElse (VerifyRefuses (F.store files.old) (F.store files.new) page.now input.now (option_map (λ path. path.now) counter.entry)) (F.store files.new ≡ F.store files.old)) }
+    ensures err { IfErr result (SaysElse (VerifyRefuses (F.store files.old) (F.store files.new) page.now input.now (option_map
+        (λ path. path.now) counter.entry)) (F.store files.new ≡ F.store files.old)) }
 {
     let geometry = geometry_at(alloc.clone()?, files, page)?;
     let text = text_at(alloc.clone()?, files, input)?;

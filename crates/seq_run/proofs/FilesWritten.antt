@@ -3,6 +3,7 @@ use Rattle.std.proofs.Common.{◌≡◌, ℕ, zero, suc, ◌+◌, ◌<◌, ◌�
 use Rattle.std.specs.List.{cons_option}
 use Rattle.std.proofs.lemmas.Option.{slice_get-get_or}
 use Rattle.std.proofs.lemmas.List.{append_assoc, append-nil, drop_more}
+use Rattle.seq_run.proofs.Lists.{front_more}
 use Rattle.seq_files.specs.Store.{Store, with_file}
 use Rattle.die_model.specs.Die.{Die}
 use Rattle.die_model.specs.Image.{image_of}
@@ -11,7 +12,7 @@ use Rattle.seq_run.specs.declared.failure.NotRun.{NotRun}
 use Rattle.seq_run.specs.declared.job_ends.EndedJob.{EndedJob}
 use Rattle.seq_run.specs.declared.plan.PlannedImage.{PlannedImage}
 use Rattle.seq_run.specs.declared.writing.Outgoing.{Outgoing}
-use Rattle.seq_run.specs.Written.{Written, with_all, with_one, IsWritten, IsCut, buffer_of, buffers_of, image_at, images_of, written_of}
+use Rattle.seq_run.specs.Written.{Written, with_all, with_optional, IsWritten, IsCut, buffer_of, buffers_of, image_at, images_of, written_of}
 
 with_more : (xs ys : List Written) (files : Option Store) → with_all (xs ++ ys) files ≡ with_all ys (with_all xs files)
 unfolding with_all
@@ -41,12 +42,12 @@ file_more outgoing k x files now later inside is before next =
     let here = ap (map written_of) (drop_more outgoing k x inside) ∙ ap (λ (y : Outgoing). written_of y ∷ map written_of (drop (k + 1) outgoing)) (sym is) in
     writes (map written_of outgoing) (map written_of (drop (k + 1) outgoing)) (written_of x) files now later (subst (λ (l : List Written). IsWritten (map written_of outgoing) l files now) here before) next
 
-one_more : (o : Option Written) (all rest : List Written) (files now later : Option Store) → IsWritten all (cons_option o rest) files now → later ≡ with_one o now → IsWritten all rest files later
+one_more : (o : Option Written) (all rest : List Written) (files now later : Option Store) → IsWritten all (cons_option o rest) files now → later ≡ with_optional o now → IsWritten all rest files later
 one_more None all rest files now later before next = subst (λ (s : Option Store). IsWritten all rest files s) (sym next) before
 one_more (Some w) all rest files now later before next = writes all rest w files now later before next
 
 -- the buffer of one job of a list
-pub buffer_more : (jobs : List EndedJob) (k : ℕ) (x : EndedJob) (files now later : Option Store) → k < length jobs → x ≡ get_or jobs k x → IsWritten (buffers_of jobs) (buffers_of (drop k jobs)) files now → later ≡ with_one (buffer_of x) now → IsWritten (buffers_of jobs) (buffers_of (drop (k + 1) jobs)) files later
+pub buffer_more : (jobs : List EndedJob) (k : ℕ) (x : EndedJob) (files now later : Option Store) → k < length jobs → x ≡ get_or jobs k x → IsWritten (buffers_of jobs) (buffers_of (drop k jobs)) files now → later ≡ with_optional (buffer_of x) now → IsWritten (buffers_of jobs) (buffers_of (drop (k + 1) jobs)) files later
 buffer_more jobs k x files now later inside is before next =
     let here = ap buffers_of (drop_more jobs k x inside) ∙ ap (λ (y : EndedJob). cons_option (buffer_of y) (buffers_of (drop (k + 1) jobs))) (sym is) in
     one_more (buffer_of x) (buffers_of jobs) (buffers_of (drop (k + 1) jobs)) files now later (subst (λ (l : List Written). IsWritten (buffers_of jobs) l files now) here before) next
@@ -63,8 +64,8 @@ cut_first xs ys files later (left, is) = (
 )
 
 -- the first of two lists is written, and then the second begun
-pub then : (xs ys left : List Written) (files now later : Option Store) → IsWritten xs [] files now → IsWritten ys left now later → IsWritten (xs ++ ys) left files later
-then xs ys left files now later one other = record {
+pub written_next : (xs ys left : List Written) (files now later : Option Store) → IsWritten xs [] files now → IsWritten ys left now later → IsWritten (xs ++ ys) left files later
+written_next xs ys left files now later one other = record {
   first = xs ++ other.first;
   both = ap (λ (l : List Written). xs ++ l) other.both ∙ sym (append_assoc xs other.first left);
   now = other.now ∙ ap (λ (s : Option Store). with_all other.first s) (ends xs files now one) ∙ sym (with_more xs other.first files);
@@ -73,11 +74,7 @@ then xs ys left files now later one other = record {
 -- the first of two lists is written, and the second cut off
 pub cut_next : (r : Result (Unit {0}) NotRun) (xs ys : List Written) (files now later : Option Store) → IsWritten xs [] files now → OnErr r (IsCut ys now later) → OnErr r (IsCut (xs ++ ys) files later)
 cut_next (Ok x) xs ys files now later one h = h
-cut_next (Err e) xs ys files now later one (left, is) = (left, then xs ys left files now later one is)
-
-front_more : (o : Option Written) (old rest : List Written) → old ++ cons_option o [] ++ rest ≡ old ++ cons_option o rest
-front_more None old rest = ap (λ (l : List Written). l ++ rest) (append-nil old)
-front_more (Some w) old rest = append_assoc old (w ∷ []) rest
+cut_next (Err e) xs ys files now later one (left, is) = (left, written_next xs ys left files now later one is)
 
 -- one image of a list
 pub image_more : (dies : List Die) (images : List PlannedImage) (k : ℕ) (x : PlannedImage) (old new whole : List Written) → k < length images → x ≡ get_or images k x → new ≡ old ++ cons_option (image_at dies x) [] → old ++ images_of dies (drop k images) ≡ whole → new ++ images_of dies (drop (k + 1) images) ≡ whole
@@ -111,8 +108,8 @@ past_end [] k over = refl
 past_end (d ∷ dies) zero over = absurd (omega (arith, over))
 past_end (d ∷ dies) (suc k) over = past_end dies k (omega (arith, over))
 
-pub there : (dies : List Die) (k : ℕ) (die : Die) → k < length dies → die ≡ get_or dies k die → slice_get dies k ≡ Some die
-there dies k die inside is = slice_get-get_or dies k die inside ∙ ap Some (sym is)
+pub die_is_there : (dies : List Die) (k : ℕ) (die : Die) → k < length dies → die ≡ get_or dies k die → slice_get dies k ≡ Some die
+die_is_there dies k die inside is = slice_get-get_or dies k die inside ∙ ap Some (sym is)
 
 pub not_pushed : (dies : List Die) (image : PlannedImage) (made : List Outgoing) → length dies ≤ image.number → map written_of made ≡ map written_of made ++ cons_option (image_at dies image) []
 not_pushed dies image made over =

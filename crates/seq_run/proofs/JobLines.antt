@@ -1,10 +1,7 @@
 -- What a job line is refused for at last, and that it passes; and the lines of jobs that have ended.
-use Rattle.std.proofs.Common.{◌≡◌, ℕ, zero, suc, ◌+◌, ◌<◌, ◌≤◌, List, [], ◌∷◌, ◌++◌, length, drop, get_or, set, arith, Option, Some, None, refl, sym, ap, ◌∙◌, subst, inr}
+use Rattle.std.proofs.Common.{◌≡◌, ℕ, ◌+◌, ◌<◌, ◌≤◌, List, [], ◌∷◌, ◌++◌, length, drop, get_or, Option, Some, None, refl, sym, ap, ◌∙◌, subst, inr}
 use Rattle.std.proofs.lemmas.List.{append_assoc, append-nil, drop_more, drop_all}
-use Rattle.std.specs.Option.{option_copied}
 use Rattle.seq_run.specs.declared.job_ends.EndedJob.{EndedJob}
-use Rattle.seq_run.specs.declared.plan.PlannedJob.{PlannedJob}
-use Rattle.seq_run.specs.Planned.{planned_outputs}
 use Rattle.seq_run.specs.Written.{codes_of}
 use Rattle.seq_run.specs.Lines.{job_line, job_lines}
 use Rattle.seq_files.specs.Store.{Store}
@@ -13,19 +10,17 @@ use Rattle.onfi_cycle.specs.declared.item.Lun.{Lun}
 use Rattle.micro_program.specs.Verified.{VerifiedText}
 use Rattle.seq_core.specs.Job.{job_fault}
 use Rattle.seq_core.specs.declared.answers.JobFault.{JobFault}
-use Rattle.seq_run.specs.declared.refusal.PlanFault.TheVariants.{Job}
-use Rattle.seq_files.specs.Store.{Holds}
-use Rattle.micro_word.specs.Text.{Microprogram, IsFileOf}
-use Rattle.micro_program.specs.Safe.{IsSafe}
-use Rattle.micro_walk.specs.Faults.{fault_of}
-use Rattle.seq_run.specs.Judged.{HasText, HasInput, JobPasses, JobLineIsRefused, fault_of_job}
+use Rattle.seq_run.specs.declared.refusal.PlanFault.TheVariants.{File}
+use Rattle.seq_commands.specs.declared.refusal.Refusal.TheVariants.{Job}
+use Rattle.seq_commands.specs.Commands.{HasText}
+use Rattle.seq_run.specs.Judged.{HasInput, JobPasses, JobLineIsRefused, fault_of_job}
 
 same_fault : (g : Parts) (targets : ℕ) (l : Lun) (base : ℕ) (v : VerifiedText) (n : ℕ) (o : Option JobFault) → v.geometry ≡ g → n ≡ v.text.buffer → job_fault g targets l base v n ≡ o → fault_of_job g targets l base v.text v.text.buffer ≡ o
 same_fault g targets l base v n o same fits is =
     subst (λ (h : Parts). job_fault g targets l base (record { text = v.text; geometry = h }) v.text.buffer ≡ o) same
     (subst (λ (m : ℕ). job_fault g targets l base v m ≡ o) fits is)
 
-pub job_refused : (files : Option Store) (g : Parts) (targets : ℕ) (l : Lun) (base : ℕ) (text : List ℕ) (input : Option (List ℕ)) (v : VerifiedText) (n : ℕ) (buffer : List ℕ) (fault : JobFault) → HasText files g text v.text → v.geometry ≡ g → HasInput files input v.text.buffer buffer → n ≡ v.text.buffer → job_fault g targets l base v n ≡ Some fault → JobLineIsRefused files g targets l base text input (Job fault)
+pub job_refused : (files : Option Store) (g : Parts) (targets : ℕ) (l : Lun) (base : ℕ) (text : List ℕ) (input : Option (List ℕ)) (v : VerifiedText) (n : ℕ) (buffer : List ℕ) (fault : JobFault) → HasText files g text v.text → v.geometry ≡ g → HasInput files input v.text.buffer buffer → n ≡ v.text.buffer → job_fault g targets l base v n ≡ Some fault → JobLineIsRefused files g targets l base text input (File (Job fault))
 job_refused files g targets l base text input v n buffer fault has_text same has_input fits is =
     inr (inr (v.text, has_text, (buffer, has_input), same_fault g targets l base v n (Some fault) same fits is))
 
@@ -47,20 +42,3 @@ line_more jobs k d old new whole inside next before =
 pub lines_done : (jobs : List EndedJob) (k : ℕ) (new whole : List ℕ) → length jobs ≤ k → new ++ job_lines (k + 1) (codes_of (drop k jobs)) ≡ whole → new ≡ whole
 unfolding job_lines
 lines_done jobs k new whole over before = sym (append-nil new) ∙ ap (λ (l : List EndedJob). new ++ job_lines (k + 1) (codes_of l)) (sym (drop_all k jobs over)) ∙ before
-
--- a word file that was read and verified
-pub has_verified : (files : Option Store) (g : Parts) (path items bytes : List ℕ) (x : Microprogram) (v : VerifiedText) → Holds files path items → bytes ≡ items → IsFileOf bytes x → (v.text ≡ x) × (v.geometry ≡ g) × (fault_of g x ≡ None) → IsSafe v.text v.geometry → HasText files g path v.text × (v.geometry ≡ g)
-has_verified files g path items bytes x v holds same is_file accepted safe = (
-  record {
-    has_file = record { bytes = items; is_bytes = holds; is_file = subst (λ (y : Microprogram). IsFileOf items y) (sym accepted.0) (subst (λ (l : List ℕ). IsFileOf l x) same is_file) };
-    safe = subst (λ (h : Parts). IsSafe v.text h) accepted.1 safe;
-    faultless = subst (λ (y : Microprogram). fault_of g y ≡ None) (sym accepted.0) accepted.2;
-  },
-  accepted.1,
-)
-
--- another job in its place, whose buffer goes to the same path
-pub outputs_stay : (jobs : List PlannedJob) (k : ℕ) (job d : PlannedJob) → k < length jobs → job.output ≡ (get_or jobs k d).output → planned_outputs (set jobs k job) ≡ planned_outputs jobs
-outputs_stay [] k job d inside same = refl
-outputs_stay (x ∷ jobs) zero job d inside same = ap (λ o. option_copied o ∷ planned_outputs jobs) same
-outputs_stay (x ∷ jobs) (suc k) job d inside same = ap (λ (l : List (Option (List ℕ))). option_copied x.output ∷ l) (outputs_stay jobs k job d (omega arith) same)

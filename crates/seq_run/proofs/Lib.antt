@@ -1,7 +1,11 @@
+pub mod Lists
 pub mod DiesFit
 pub mod Hosting
 pub mod JobLines
+pub mod Endings
+pub mod Happening
 pub mod Printing
 pub mod Resting
 pub mod FilesWritten
 pub mod Outcomes
+pub mod OfFiles

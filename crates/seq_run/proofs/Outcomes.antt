@@ -1,5 +1,5 @@
 -- What has come of a plan has come of the run file that was planned.
-use Rattle.std.proofs.Common.{◌≡◌, ◌⊎◌, List, [], ◌++◌, ℕ, true, drop, reverse, Option, Result, Ok, Err, OnOk, OnErr, refl, sym, ap, ◌∙◌, subst, inl, inr}
+use Rattle.std.proofs.Common.{◌≡◌, ◌⊎◌, List, [], ◌++◌, ℕ, ◌*◌, true, length, drop, reverse, Option, Result, Ok, Err, OnOk, OnErr, refl, sym, ap, ◌∙◌, subst, inl, inr}
 use Rattle.std.proofs.lemmas.List.{append-nil}
 use Rattle.std.specs.Option.{option_copied}
 use Rattle.seq_files.specs.Store.{Store, Holds}
@@ -14,7 +14,8 @@ use Rattle.die_model.specs.Die.{Die}
 use Rattle.target_bus.specs.Bus.{Traced, channel_of, StandFor}
 use Rattle.seq_run.specs.declared.running.Ran.{Ran}
 use Rattle.seq_run.specs.Lines.{job_lines}
-use Rattle.seq_run.specs.Written.{Written, with_all, IsCut, buffers_of, images_of, trace_at, shown_trace, codes_of}
+use Rattle.seq_run.specs.Happened.{HasHappened}
+use Rattle.seq_run.specs.Written.{Written, with_all, IsCut, buffers_of, images_of, trace_at, printed_trace, codes_of}
 use Rattle.seq_run.specs.Runs.{Outcome, ShowsAll, IsOutcomeOf, IsPlanned, IsRunDone, RunMayLeave, writes_of, lines_of}
 use Rattle.seq_run.specs.declared.refusal.PlanFault.{PlanFault}
 use Rattle.seq_run.specs.declared.refusal.PlanRefusal.{PlanRefusal}
@@ -31,21 +32,36 @@ is_planned files request text plan o is_there passes outputs images is = record 
   images = ap planned_images is.images ∙ images ∙ ap (λ (g : Parts). images_in g (drop 2 (told text).statements)) (sym is.geometry);
 }
 
--- what has come of a channel: its bus, and the dies as that left them
-abbrev pub made : (ran : Ran) (dies : List Die) → is_legal ran.bus.geometry ran.bus.targets ran.bus.past ≡ true → StandFor (channel_of ran.bus) ran.bus.past dies → Outcome
-made ran dies legal stand = record { bus = ran.bus; legal = legal; dies = dies; stand = stand; jobs = ran.jobs.items; images = ran.images.items }
+-- the dies of a bus, as what happened on it left them
+pub record AreLeft (bus : Traced) (dies : List Die) : Type 0 where
+  pub legal : is_legal bus.geometry bus.targets bus.past ≡ true
+  pub count : length dies ≡ bus.targets * bus.geometry.luns
+  pub stand : StandFor (channel_of bus) bus.past dies
 
-pub is_done : (request : RunRequest) (ran : Ran) (dies : List Die) (outgoing : List Written) (files later : Option Store) (Prints : List ℕ → Type 0) (lines : List ℕ) → is_legal ran.bus.geometry ran.bus.targets ran.bus.past ≡ true → StandFor (channel_of ran.bus) ran.bus.past dies → outgoing ≡ images_of dies ran.images.items ++ trace_at (option_copied request.trace) (reverse ran.bus.past) → later ≡ with_all (buffers_of ran.jobs.items ++ outgoing) files → lines ≡ shown_trace request.is_quiet (reverse ran.bus.past) ++ job_lines 1 (codes_of ran.jobs.items) → Prints lines → (o : Outcome) × ShowsAll ran o × (later ≡ with_all (writes_of request o) files) × Prints (lines_of request o)
-is_done request ran dies outgoing files later Prints lines legal stand is_outgoing left is_lines prints = (
-  made ran dies legal stand,
+-- what has come of a channel: its bus, the dies as that left them, and the jobs
+abbrev pub outcome_of : (ran : Ran) (dies : List Die) → AreLeft ran.bus dies → HasHappened ran.bus ran.jobs.items → Outcome
+outcome_of ran dies left happened = record {
+  bus = ran.bus;
+  legal = left.legal;
+  dies = dies;
+  count = left.count;
+  stand = left.stand;
+  jobs = ran.jobs.items;
+  happened = happened;
+  images = ran.images.items;
+}
+
+pub is_done : (request : RunRequest) (ran : Ran) (dies : List Die) (outgoing : List Written) (files later : Option Store) (Prints : List ℕ → Type 0) (lines : List ℕ) → AreLeft ran.bus dies → HasHappened ran.bus ran.jobs.items → outgoing ≡ images_of dies ran.images.items ++ trace_at (option_copied request.trace) (reverse ran.bus.past) → later ≡ with_all (buffers_of ran.jobs.items ++ outgoing) files → lines ≡ printed_trace request.is_quiet (reverse ran.bus.past) ++ job_lines 1 (codes_of ran.jobs.items) → Prints lines → (o : Outcome) × ShowsAll ran o × (later ≡ with_all (writes_of request o) files) × Prints (lines_of request o)
+is_done request ran dies outgoing files later Prints lines dies_left happened is_outgoing left is_lines prints = (
+  outcome_of ran dies dies_left happened,
   record { bus = refl; jobs = refl; images = refl },
   left ∙ ap (λ (l : List Written). with_all (buffers_of ran.jobs.items ++ l) files) is_outgoing,
   subst Prints is_lines prints,
 )
 
-pub is_run_cut : (request : RunRequest) (ran : Ran) (dies : List Die) (outgoing : List Written) (files later : Option Store) → is_legal ran.bus.geometry ran.bus.targets ran.bus.past ≡ true → StandFor (channel_of ran.bus) ran.bus.past dies → outgoing ≡ images_of dies ran.images.items ++ trace_at (option_copied request.trace) (reverse ran.bus.past) → IsCut (buffers_of ran.jobs.items ++ outgoing) files later → (o : Outcome) × ShowsAll ran o × IsCut (writes_of request o) files later
-is_run_cut request ran dies outgoing files later legal stand is_outgoing cut = (
-  made ran dies legal stand,
+pub is_run_cut : (request : RunRequest) (ran : Ran) (dies : List Die) (outgoing : List Written) (files later : Option Store) → AreLeft ran.bus dies → HasHappened ran.bus ran.jobs.items → outgoing ≡ images_of dies ran.images.items ++ trace_at (option_copied request.trace) (reverse ran.bus.past) → IsCut (buffers_of ran.jobs.items ++ outgoing) files later → (o : Outcome) × ShowsAll ran o × IsCut (writes_of request o) files later
+is_run_cut request ran dies outgoing files later dies_left happened is_outgoing cut = (
+  outcome_of ran dies dies_left happened,
   record { bus = refl; jobs = refl; images = refl },
   subst (λ (l : List Written). IsCut (buffers_of ran.jobs.items ++ l) files later) is_outgoing cut,
 )

@@ -1,7 +1,7 @@
 -- What the statements from a place on come to, the statements of the whole file come to.
 use Rattle.std.proofs.Common.{◌≡◌, ℕ, ◌+◌, ◌<◌, ◌≤◌, List, [], ◌∷◌, ◌++◌, length, drop, get_or, Option, Some, None, refl, sym, ap, ◌∙◌, subst, inl, inr}
 use Rattle.std.specs.List.{cons_option, filter_map}
-use Rattle.std.proofs.lemmas.List.{append_assoc, append-nil, drop_more, drop_all, drop-map}
+use Rattle.std.proofs.lemmas.List.{append-nil, drop_more, drop_all, drop-map}
 use Rattle.seq_files.specs.Store.{Store}
 use Rattle.nand_geometry.specs.declared.Parts.{Parts}
 use Rattle.run_file.specs.declared.refusal.RunRefusal.{RunRefusal}
@@ -17,6 +17,7 @@ use Rattle.seq_run.specs.Failures.{Says, Refuses, IsAt}
 use Rattle.seq_run.specs.Planned.{image_in, images_in}
 use Rattle.seq_run.specs.Judged.{Numbered, Passes, IsRefused, IsRefusedAt, RestIsRefused, RestPasses, page_of, targets_of, AfterPageIsRefused, PageStatementIsRefused, PlanPasses, PlanIsRefused}
 use Rattle.seq_commands.specs.Commands.{HasPage}
+use Rattle.seq_run.proofs.Lists.{front_more}
 use Rattle.run_file.specs.Told.{Told}
 
 -- where the statements that are left are refused or pass, so do all
@@ -114,10 +115,6 @@ text_stops files g targets last r xs k over some leads =
     (subst (λ (l : Option RunRefusal). LeadsTo files g targets l [] (shown_all xs)) some (subst (λ (l : List Numbered). LeadsTo files g targets last l (shown_all xs)) (none_left xs k over) leads)))
 
 -- ---- what is planned of the statements, in their order
-
-front_more : {X : Type 0} (o : Option X) (old rest : List X) → old ++ cons_option o [] ++ rest ≡ old ++ cons_option o rest
-front_more None old rest = ap (λ l. l ++ rest) (append-nil old)
-front_more (Some x) old rest = append_assoc old (x ∷ []) rest
 
 pub planned_more : {X : Type 0} (pick : Numbered → Option X) (xs : List Written) (k : ℕ) (d : Written) (old new whole : List X) → k < length xs → new ≡ old ++ cons_option (pick (shown_numbered (get_or xs k d))) [] → old ++ filter_map pick (shown_all (drop k xs)) ≡ whole → new ++ filter_map pick (shown_all (drop (k + 1) xs)) ≡ whole
 planned_more pick xs k d old new whole inside next before =

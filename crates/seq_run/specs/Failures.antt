@@ -1,9 +1,12 @@
 -- Why a statement doesn't pass, and why a run isn't done.
 use Rattle.std.specs.Prelude.{◌≡◌, ℕ, ⊤, None}
+use Rattle.seq_commands.specs.declared.refusal.Refusal.{Refusal}
+use Rattle.seq_commands.specs.declared.failure.Failure.{Failure as NamedFailure}
+use Rattle.seq_commands.specs.declared.failure.Failure.TheVariants as named
 use Rattle.run_file.specs.declared.refusal.RunFault.{RunFault}
 use Rattle.seq_run.specs.declared.refusal.PlanFault.{PlanFault}
 use Rattle.seq_run.specs.declared.refusal.PlanRefusal.{PlanRefusal}
-use Rattle.seq_run.specs.declared.refusal.PlanFault.TheVariants.{Line}
+use Rattle.seq_run.specs.declared.refusal.PlanFault.TheVariants.{Line, File}
 use Rattle.seq_run.specs.declared.failure.Failure.{Failure}
 use Rattle.seq_run.specs.declared.failure.Failure.TheVariants as failure
 use Rattle.seq_run.specs.declared.failure.NotRun.{NotRun}
@@ -15,19 +18,31 @@ line_failure fault = failure.Fault (Line fault) None
 
 -- a fault is one of these
 abbrev pub Says : (PlanFault → Type 0) → Failure → Type 0
-Says May (failure.Fault fault path) = May fault
+Says May (failure.Fault fault words) = May fault
 Says May (failure.FileFault path) = ⊤
 Says May failure.OutOfMemory = ⊤
 
 -- there is no fault
 abbrev pub SaysNothing : Failure → Type 0
-SaysNothing (failure.Fault fault path) = ⊥
+SaysNothing (failure.Fault fault words) = ⊥
 SaysNothing (failure.FileFault path) = ⊤
 SaysNothing failure.OutOfMemory = ⊤
 
+-- a file that the line names is refused for one of these
+abbrev pub OfFile : (Refusal → Type 0) → PlanFault → Type 0
+OfFile May (File refusal) = May refusal
+OfFile May _ = ⊥
+
+-- the same of a file that the line names
+abbrev pub IsNamed : {A : Type 0} → NamedFailure A → Failure → Type 0
+IsNamed (named.Refused refusal told) (failure.Fault fault words) = fault ≡ File refusal
+IsNamed (named.FileFault medium) (failure.FileFault path) = ⊤
+IsNamed named.OutOfMemory failure.OutOfMemory = ⊤
+IsNamed _ _ = ⊥
+
 -- the same of the statement in this line
 abbrev pub IsAt : Failure → ℕ → NotRun → Type 0
-IsAt (failure.Fault fault path) line (not_run.Refused refusal p) = (refusal.fault ≡ fault) × (refusal.line ≡ line)
+IsAt (failure.Fault fault words) line (not_run.Refused refusal told) = (refusal.fault ≡ fault) × (refusal.line ≡ line)
 IsAt (failure.FileFault path) line (not_run.FileFault p) = ⊤
 IsAt failure.OutOfMemory line not_run.OutOfMemory = ⊤
 IsAt _ line _ = ⊥
@@ -38,18 +53,18 @@ line_refused fault line = not_run.Refused (record { fault = Line fault; line = l
 
 -- a refusal is one of these
 abbrev pub Refuses : (PlanFault → ℕ → Type 0) → NotRun → Type 0
-Refuses May (not_run.Refused refusal path) = May refusal.fault refusal.line
+Refuses May (not_run.Refused refusal words) = May refusal.fault refusal.line
 Refuses May (not_run.FileFault path) = ⊤
 Refuses May not_run.OutOfMemory = ⊤
 
 -- nothing is refused
 abbrev pub RefusesNothing : NotRun → Type 0
-RefusesNothing (not_run.Refused refusal path) = ⊥
+RefusesNothing (not_run.Refused refusal words) = ⊥
 RefusesNothing (not_run.FileFault path) = ⊤
 RefusesNothing not_run.OutOfMemory = ⊤
 
 -- this is what is refused
 abbrev pub Tells : PlanRefusal → NotRun → Type 0
-Tells told (not_run.Refused refusal path) = told ≡ refusal
+Tells told (not_run.Refused refusal words) = told ≡ refusal
 Tells told (not_run.FileFault path) = ⊥
 Tells told not_run.OutOfMemory = ⊥

@@ -1,33 +1,24 @@
 -- What a run file and the files that it names are refused for: the first statement that doesn't pass, by its line.
-use Rattle.std.specs.Prelude.{◌≡◌, ℕ, ◌≤◌, ◌<◌, ◌&&◌, Bool, true, false, nat_lt, nat_le, if◌then◌else◌, drop, ⊤, ◌⊎◌, List, [], ◌∷◌, ◌++◌, length, Option, Some, None, Err, replicate, ◌-◌}
+use Rattle.std.specs.Prelude.{◌≡◌, ℕ, ◌≤◌, ◌<◌, ◌&&◌, Bool, true, false, nat_lt, nat_le, if◌then◌else◌, drop, ⊤, ◌⊎◌, List, [], ◌∷◌, ◌++◌, length, Option, Some, None, replicate, ◌-◌}
 use Rattle.seq_files.specs.Store.{Store, Holds}
 use Rattle.nand_geometry.specs.declared.Parts.{Parts}
-use Rattle.nand_geometry.specs.Reading.{read_of}
 use Rattle.onfi_cycle.specs.declared.item.Lun.{Lun}
 use Rattle.die_model.specs.Loading.{image_fault}
 use Rattle.micro_word.specs.Text.{Microprogram}
-use Rattle.micro_word.specs.Reading.{reading as file_reading}
-use Rattle.micro_word.specs.declared.refusal.WordRefusal.TheVariants.{Fault as WordFaultAt}
-use Rattle.micro_program.specs.Safe.{IsSafe}
-use Rattle.micro_walk.specs.Faults.{fault_of}
-use Rattle.micro_walk.specs.Verdicts.{MayBe}
 use Rattle.seq_core.specs.Job.{job_fault}
 use Rattle.seq_core.specs.declared.answers.JobFault.{JobFault}
-use Rattle.seq_commands.specs.Commands.{HasPage, HasFile}
+use Rattle.seq_commands.specs.declared.refusal.Refusal.TheVariants.{Job as JobRefusal}
+use Rattle.seq_commands.specs.Commands.{HasPage, PageIsRefused, HasText, FileOrTextIsRefused}
 use Rattle.run_file.specs.declared.refusal.RunFault.TheVariants.{OutOfOrder, NoSuchLun, InputTooLong}
 use Rattle.run_file.specs.declared.refusal.RunRefusal.{RunRefusal}
 use Rattle.run_file.specs.Line.{Statement}
 use Rattle.run_file.specs.Line.{Page as PageLine, Targets as TargetsLine, Image as ImageLine, Job as JobLine, Polls as PollsLine, Fail as FailLine}
 use Rattle.run_file.specs.Told.{Told}
 use Rattle.seq_run.specs.declared.refusal.PlanFault.{PlanFault}
-use Rattle.seq_run.specs.declared.refusal.PlanFault.TheVariants.{Line, Page, Image, Words, Text, Job}
+use Rattle.seq_run.specs.declared.refusal.PlanFault.TheVariants.{Line, Image, File}
+use Rattle.seq_run.specs.Failures.{OfFile}
 
 -- ---- the files
-
--- the page at a path has this fault
-abbrev pub PageIsRefused : Option Store → List ℕ → PlanFault → Type 0
-PageIsRefused files path (Page fault) = (page : List ℕ) × Holds files path page × (read_of page ≡ Err fault)
-PageIsRefused files path _ = ⊥
 
 -- the file at a path is an image of a die of this geometry
 abbrev pub HasImage : Option Store → Parts → List ℕ → Type 0
@@ -37,18 +28,6 @@ HasImage files g path = (bytes : List ℕ) × Holds files path bytes × (image_f
 abbrev pub ImageIsRefused : Option Store → Parts → List ℕ → PlanFault → Type 0
 ImageIsRefused files g path (Image fault) = (bytes : List ℕ) × Holds files path bytes × (image_fault g bytes ≡ Some fault)
 ImageIsRefused files g path _ = ⊥
-
--- the word file at a path is that of the microprogram, which is safe for the geometry, and against which there is nothing
-pub record HasText (files : Option Store) (g : Parts) (path : List ℕ) (x : Microprogram) : Type 0 where
-  pub has_file : HasFile files path x
-  pub safe : IsSafe x g
-  pub faultless : fault_of g x ≡ None
-
--- the word file at a path has this fault, or there is this reason against its microprogram
-abbrev pub TextIsRefused : Option Store → Parts → List ℕ → PlanFault → Type 0
-TextIsRefused files g path (Words fault word) = (bytes : List ℕ) × Holds files path bytes × (file_reading bytes ≡ Err (WordFaultAt fault word))
-TextIsRefused files g path (Text reason word) = (x : Microprogram) × HasFile files path x × MayBe g x (record { word = word; reason = reason })
-TextIsRefused files g path _ = ⊥
 
 -- the buffer has this length, begins with the bytes of the input, if there is one, and is 00 beyond them
 abbrev pub HasInput : Option Store → Option (List ℕ) → ℕ → List ℕ → Type 0
@@ -80,7 +59,7 @@ fault_of_job g targets l base x n = job_fault g targets l base (record { text = 
 
 -- the job of a microprogram has this fault
 abbrev pub JobIsRefused : Parts → ℕ → Lun → ℕ → Microprogram → ℕ → PlanFault → Type 0
-JobIsRefused g targets l base x n (Job fault) = fault_of_job g targets l base x n ≡ Some fault
+JobIsRefused g targets l base x n (File (JobRefusal fault)) = fault_of_job g targets l base x n ≡ Some fault
 JobIsRefused g targets l base x n _ = ⊥
 
 -- what a job line names stands, and the job can be loaded
@@ -101,7 +80,7 @@ JobRefuses files g targets l base text input fault =
 
 abbrev pub JobLineIsRefused : Option Store → Parts → ℕ → Lun → ℕ → List ℕ → Option (List ℕ) → PlanFault → Type 0
 JobLineIsRefused files g targets l base text input fault =
-    TextIsRefused files g text fault ⊎ (InputRefuses files g text input fault ⊎ JobRefuses files g targets l base text input fault)
+    OfFile (FileOrTextIsRefused files g text) fault ⊎ (InputRefuses files g text input fault ⊎ JobRefuses files g targets l base text input fault)
 
 -- the statement has no fault, and the files that it names have none; page and targets stand before all others
 abbrev pub Passes : Option Store → Parts → ℕ → Statement → Type 0
@@ -165,7 +144,7 @@ AfterPageIsRefused files g (Some targets) told fault line = RestIsRefused files 
 abbrev pub PageStatementIsRefused : Option Store → Option (ℕ × List ℕ) → Told → PlanFault → ℕ → Type 0
 PageStatementIsRefused files None told fault line = EndIsRefused told.fault fault line
 PageStatementIsRefused files (Some page) told fault line =
-    (PageIsRefused files page.1 fault × (line ≡ page.0))
+    (OfFile (PageIsRefused files page.1) fault × (line ≡ page.0))
     ⊎ ((g : Parts) × HasPage files page.1 g × AfterPageIsRefused files g (targets_of told.statements) told fault line)
 
 -- a run file that tells this is refused with this fault at this line: the first, in the order of the lines

@@ -1,25 +1,19 @@
 -- The lines that a run writes.
 use Rattle.std.specs.Prelude.{ℕ, ◌+◌, List, [], ◌∷◌, ◌++◌, codes}
 use Rattle.std.specs.Fmt.{decimal}
-use Rattle.nand_geometry.specs.Codes.{page_fault_code}
 use Rattle.die_model.specs.Loading.{code as image_fault_code}
-use Rattle.micro_word.specs.Codes.{word_fault_code}
-use Rattle.micro_claims.specs.Codes.{reason_code}
-use Rattle.seq_core.specs.Codes.{job_fault_code}
 use Rattle.run_file.specs.Line.{code as line_fault_code}
 use Rattle.seq_commands.specs.Lines.{refusal_line}
+use Rattle.seq_commands.specs.Refusals.{code_of as file_code}
 use Rattle.seq_run.specs.declared.refusal.PlanFault.{PlanFault}
-use Rattle.seq_run.specs.declared.refusal.PlanFault.TheVariants.{Line, Page, Image, Words, Text, Job}
+use Rattle.seq_run.specs.declared.refusal.PlanFault.TheVariants.{Line, Image, File}
 use Rattle.seq_run.specs.declared.refusal.PlanRefusal.{PlanRefusal}
 
 -- the code of what is wrong
 abbrev pub code_of : PlanFault → List ℕ
 code_of (Line fault) = line_fault_code fault
-code_of (Page fault) = page_fault_code fault
 code_of (Image fault) = image_fault_code fault
-code_of (Words fault word) = word_fault_code fault
-code_of (Text reason word) = reason_code reason
-code_of (Job fault) = job_fault_code fault
+code_of (File refusal) = file_code refusal
 
 -- `refused CODE at LINE`, and a line feed
 abbrev pub line_of : PlanRefusal → List ℕ

@@ -1,5 +1,5 @@
 -- A run: what its files say, what happens on its channel, and what is written and printed of it.
-use Rattle.std.specs.Prelude.{◌≡◌, ◌⊎◌, ℕ, ⊤, true, List, ◌++◌, reverse, drop, Option}
+use Rattle.std.specs.Prelude.{◌≡◌, ◌⊎◌, ℕ, ◌*◌, ⊤, true, List, ◌++◌, length, reverse, drop, Option}
 use Rattle.std.specs.Option.{option_copied}
 use Rattle.seq_files.specs.Store.{Store, Holds}
 use Rattle.onfi_cycle.specs.Permitted.{is_legal}
@@ -16,15 +16,19 @@ use Rattle.seq_run.specs.declared.ending.RunEnd.{RunEnd}
 use Rattle.seq_run.specs.Judged.{PlanPasses, PlanIsRefused}
 use Rattle.seq_run.specs.Planned.{outputs_of, images_in, planned_outputs, planned_images, ended_outputs}
 use Rattle.seq_run.specs.Lines.{job_lines}
-use Rattle.seq_run.specs.Written.{Written, with_all, IsCut, buffers_of, images_of, trace_at, shown_trace, codes_of}
+use Rattle.seq_run.specs.Happened.{HasHappened}
+use Rattle.seq_run.specs.Written.{Written, with_all, IsCut, buffers_of, images_of, trace_at, printed_trace, codes_of}
 
--- what has come of a channel: what happened on its bus, which is legal, the dies as that left them, the jobs after their end, and the images to be written
+-- what has come of a channel: what happened on its bus, which is legal, a die for each LUN as that left it, the jobs after their end, whose codes and
+-- buffers come from there, and the images to be written
 pub record Outcome : Type 0 where
   pub bus : Traced
   pub legal : is_legal bus.geometry bus.targets bus.past ≡ true
   pub dies : List Die
+  pub count : length dies ≡ bus.targets * bus.geometry.luns
   pub stand : StandFor (channel_of bus) bus.past dies
   pub jobs : List EndedJob
+  pub happened : HasHappened bus jobs
   pub images : List PlannedImage
 
 -- the files that are written: the buffers, the images, and the trace where a path is given for it
@@ -33,7 +37,7 @@ writes_of request o = buffers_of o.jobs ++ (images_of o.dies o.images ++ trace_a
 
 -- what is printed: the trace, unless it is kept quiet, and a line for each job
 abbrev pub lines_of : RunRequest → Outcome → List ℕ
-lines_of request o = shown_trace request.is_quiet (reverse o.bus.past) ++ job_lines 1 (codes_of o.jobs)
+lines_of request o = printed_trace request.is_quiet (reverse o.bus.past) ++ job_lines 1 (codes_of o.jobs)
 
 -- this has come of what was run
 pub record ShowsAll (ran : Ran) (o : Outcome) : Type 0 where

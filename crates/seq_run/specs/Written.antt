@@ -21,9 +21,9 @@ with_all [] files = files
 with_all (w ∷ ws) files = with_all ws (with_file files w.0 w.1)
 
 -- the files after this one was written, if there is one
-abbrev pub with_one : Option Written → Option Store → Option Store
-with_one None files = files
-with_one (Some w) files = with_file files w.0 w.1
+abbrev pub with_optional : Option Written → Option Store → Option Store
+with_optional None files = files
+with_optional (Some w) files = with_file files w.0 w.1
 
 -- of all files that are to be written the first are written, and these are left
 pub record IsWritten (all left : List Written) (files later : Option Store) : Type 0 where
@@ -60,13 +60,13 @@ trace_at (Some path) items = (path, text items) ∷ []
 abbrev pub written_of : Outgoing → Written
 written_of file = (file.path.now, file.bytes.items)
 
-abbrev pub traces_of : Option Outgoing → List Written
-traces_of None = []
-traces_of (Some file) = written_of file ∷ []
+abbrev pub optional_of : Option Outgoing → List Written
+optional_of None = []
+optional_of (Some file) = written_of file ∷ []
 
 -- the text of a trace, unless it is kept quiet
-abbrev pub shown_trace : Bool → List Item → List ℕ
-shown_trace is_quiet items = if is_quiet then [] else text items
+abbrev pub printed_trace : Bool → List Item → List ℕ
+printed_trace is_quiet items = if is_quiet then [] else text items
 
 -- the codes with which jobs have ended
 abbrev pub codes_of : List EndedJob → List ℕ

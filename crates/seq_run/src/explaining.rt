@@ -1,57 +1,41 @@
 //! A refusal in words, for whoever wrote the run file.
 
 use crate::refusal::{PlanFault, PlanRefusal};
-use micro_claims::Reason;
-use micro_word::WordFault;
+use seq_commands::{BaseGiver, Meaning};
+use std::alloc::Global;
 use std::fmt;
+use std::io::Write;
 
 impl fmt::Display for PlanFault {
     fn fmt<W: fmt::Write>(&self, f: &mut fmt::Formatter<W>) -> fmt::Result {
         match *self {
             PlanFault::Line(fault) => write!(f, "{fault}"),
-            PlanFault::Page(fault) => write!(f, "{fault}"),
             PlanFault::Image(fault) => write!(f, "{fault}"),
-            PlanFault::Words { fault, .. } => write!(f, "{fault}"),
-            PlanFault::Text { reason, .. } => write!(f, "{reason}"),
-            PlanFault::Job(fault) => write!(f, "{fault}"),
+            PlanFault::File(refusal) => {
+                let giver = BaseGiver::RunFile;
+                let meaning = Meaning { refusal, giver };
+                write!(f, "{meaning}")
+            }
         }
     }
 }
 
-// The word that has the fault, if it is one's.
-fn find_word(fault: PlanFault) -> Option<usize> {
-    match fault {
-        PlanFault::Words {
-            fault: WordFault::UnknownCode | WordFault::UnusedFieldSet | WordFault::OutOfRange,
-            word,
-        } => Some(word),
-        PlanFault::Text {
-            reason: Reason::NoWords,
-            ..
-        } => None,
-        PlanFault::Text { word, .. } => Some(word),
-        _ => None,
-    }
+/// What is wrong with the file of this path, in words, unless there is no memory for them.
+pub(crate) fn words_of(alloc: Global, path: &str, fault: PlanFault) -> Option<String> {
+    format!(in alloc; "{path}: {fault} ({})", fault.code()).ok()
 }
 
-/// A refusal of a run file with the path of the file that the line names, if it is that which has the fault.
-#[derive(Clone, Copy)]
-pub(crate) struct Explained<'a> {
-    pub run: &'a str,
-    pub refusal: PlanRefusal,
-    pub path: Option<&'a str>,
-}
-
-impl fmt::Display for Explained<'_> {
-    fn fmt<W: fmt::Write>(&self, f: &mut fmt::Formatter<W>) -> fmt::Result {
-        let PlanRefusal { fault, line } = self.refusal;
-        write!(f, "{}: line {line}", self.run)?;
-        if let Some(path) = self.path {
-            write!(f, ", {path}")?;
-        }
-        if let Some(word) = find_word(fault) {
-            write!(f, ", word {word}")?;
-        }
-        write!(f, ": {fault} ({})", fault.code())
-    }
+/// Says why a line of a run file is refused: of a file that it names with these words, if there are some. Where standard error takes nothing,
+/// standard output alone says it.
+pub(crate) fn explain<E: Write>(
+    errors: &mut E,
+    run: &str,
+    refusal: PlanRefusal,
+    words: Option<String>,
+) {
+    let PlanRefusal { fault, line } = refusal;
+    let _ = match words {
+        Some(words) => writeln!(errors, "{run}: line {line}: {words}"),
+        None => writeln!(errors, "{run}: line {line}: {fault} ({})", fault.code()),
+    };
 }

@@ -1,19 +1,21 @@
 //! Why a statement doesn't pass, and why there is no plan.
 ghost use Rattle.std.specs.Prelude.{◌≡◌};
-ghost use Rattle.seq_run.specs.Failures.{line_failure, SaysNothing, IsAt};
+ghost use Rattle.seq_run.specs.Failures.{line_failure, SaysNothing, IsNamed, IsAt};
 
 use crate::refusal::{PlanFault, PlanRefusal};
 use run_file::RunFault;
+use seq_commands::Failure as NamedFailure;
 use seq_files::FileError;
 use std::alloc::{AllocError, AllocFailed};
 
 /// Why a statement doesn't pass.
-#[derive(Clone, Copy, Debug)]
+#[derive(Drop)]
 pub(crate) enum Failure<'a> {
-    /// It has a fault, or the file of this path has.
+    /// It has a fault, or a file that it names has. The words name that file and say the fault to a person, unless there was no memory for
+    /// them.
     Fault {
         fault: PlanFault,
-        path: Option<&'a str>,
+        words: Option<String>,
     },
     /// The file of this path can't be read.
     FileFault(&'a str),
@@ -28,7 +30,7 @@ impl<'a> Failure<'a> {
     {
         Failure::Fault {
             fault: PlanFault::Line(fault),
-            path: None,
+            words: None,
         }
     }
 
@@ -42,14 +44,28 @@ impl<'a> Failure<'a> {
         }
     }
 
+    /// What the failure of a command comes to that reads the file of this path.
+    pub(crate) fn of_named(path: &'a str, failure: NamedFailure) -> Failure<'a>
+        ensures { IsNamed failure result }
+    {
+        match failure {
+            NamedFailure::Refused { refusal, words } => Failure::Fault {
+                fault: PlanFault::File(refusal),
+                words,
+            },
+            NamedFailure::FileFault(_) => Failure::FileFault(path),
+            NamedFailure::OutOfMemory => Failure::OutOfMemory,
+        }
+    }
+
     /// The same of the statement in this line.
     pub(crate) fn at(self, line: usize) -> NotRun<'a>
         ensures { IsAt self.entry line result }
     {
         match self {
-            Failure::Fault { fault, path } => NotRun::Refused {
+            Failure::Fault { fault, words } => NotRun::Refused {
                 refusal: PlanRefusal { fault, line },
-                path,
+                words,
             },
             Failure::FileFault(path) => NotRun::FileFault(path),
             Failure::OutOfMemory => NotRun::OutOfMemory,
@@ -80,12 +96,13 @@ impl<'a, T: Drop> From<AllocFailed<T>> for Failure<'a> {
 }
 
 /// Why a run is not done.
-#[derive(Clone, Copy, Debug)]
+#[derive(Drop)]
 pub enum NotRun<'a> {
-    /// A line is refused, or the file of this path which it names.
+    /// A line is refused, or a file that it names. Of a file the words say its path and the fault to a person, unless there was no memory for
+    /// them.
     Refused {
         refusal: PlanRefusal,
-        path: Option<&'a str>,
+        words: Option<String>,
     },
     /// The file of this path can't be read.
     FileFault(&'a str),

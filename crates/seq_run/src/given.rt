@@ -3,18 +3,18 @@ ghost use Rattle.std.specs.Prelude.{◌≡◌, true, IfOk, IfErr, OnOk, vec_len}
 ghost use Rattle.std.specs.Option.{option_copied};
 ghost use Rattle.target_bus.specs.Bus.{is_new_of};
 ghost use Rattle.seq_files.specs.Store.{Holds};
-ghost use Rattle.seq_commands.specs.Commands.{HasPage};
-ghost use Rattle.seq_run.specs.Failures.{Says, SaysNothing};
-ghost use Rattle.seq_run.specs.Judged.{PageIsRefused, ImageIsRefused, HasImage, HasText, TextIsRefused, HasInput, InputIsRefused};
+ghost use Rattle.seq_commands.specs.Commands.{HasPage, PageIsRefused, HasText, FileOrTextIsRefused};
+ghost use Rattle.seq_run.specs.Failures.{Says, SaysNothing, OfFile};
+ghost use Rattle.seq_run.specs.Judged.{ImageIsRefused, HasImage, HasInput, InputIsRefused};
 
+use crate::explaining::words_of;
 use crate::failure::Failure;
 use crate::refusal::PlanFault;
 use die_model::{ImageRefusal, LunDie};
 use micro_program::Verified;
-use micro_verify::{VerifyRefusal, verify};
-use micro_word::{WordRefusal, read};
 use nand_geometry::Geometry;
 use run_file::RunFault;
+use seq_commands::{geometry_at, verified_at};
 use seq_files::Files;
 use std::alloc::Global;
 
@@ -35,22 +35,19 @@ fn read_file<'a, F: Files>(
 }
 
 /// The geometry of the page at a path.
+#[tactic(auto, using(crate::proofs::OfFiles::said_named))]
 pub(crate) fn read_geometry<'a, F: Files>(
     alloc: Global,
     files: &mut F,
     path: &'a str,
 ) -> Result<Geometry, Failure<'a>>
     ensures ok { IfOk result (λ g. HasPage (F.store files.old) path.now g) }
-    ensures err { IfErr result (Says (PageIsRefused (F.store files.old) path.now)) }
+    ensures err { IfErr result (Says (OfFile (PageIsRefused (F.store files.old) path.now))) }
     ensures stays { F.store files.new ≡ F.store files.old }
 {
-    let bytes = read_file(alloc, files, path)?;
-    match Geometry::read(bytes.as_slice()) {
+    match geometry_at(alloc, files, path) {
         Ok(geometry) => Ok(geometry),
-        Err(fault) => Err(Failure::Fault {
-            fault: PlanFault::Page(fault),
-            path: Some(path),
-        }),
+        Err(failure) => Err(Failure::of_named(path, failure)),
     }
 }
 
@@ -71,15 +68,19 @@ pub(crate) fn read_die<'a, F: Files>(
     let mut die = LunDie::new(alloc, geometry)?;
     match die.load_image(bytes.as_slice()) {
         Ok(()) => Ok(die),
-        Err(ImageRefusal::Fault(fault)) => Err(Failure::Fault {
-            fault: PlanFault::Image(fault),
-            path: Some(path),
-        }),
+        Err(ImageRefusal::Fault(fault)) => {
+            let fault = PlanFault::Image(fault);
+            Err(Failure::Fault {
+                fault,
+                words: words_of(alloc, path, fault),
+            })
+        }
         Err(ImageRefusal::OutOfMemory) => Err(Failure::OutOfMemory),
     }
 }
 
 /// The microprogram of the word file at a path, verified.
+#[tactic(auto, using(crate::proofs::OfFiles::said_named))]
 pub(crate) fn read_verified<'a, F: Files>(
     alloc: Global,
     files: &mut F,
@@ -87,30 +88,12 @@ pub(crate) fn read_verified<'a, F: Files>(
     path: &'a str,
 ) -> Result<Verified, Failure<'a>>
     ensures ok { IfOk result (λ v. HasText (F.store files.old) geometry path.now v.text × (v.geometry ≡ geometry)) }
-    ensures err { IfErr result (Says (TextIsRefused (F.store files.old) geometry path.now)) }
+    ensures err { IfErr result (Says (OfFile (FileOrTextIsRefused (F.store files.old) geometry path.now))) }
     ensures stays { F.store files.new ≡ F.store files.old }
 {
-    let bytes = read_file(alloc, files, path)?;
-    let text = match read(alloc, bytes.as_slice()) {
-        Ok(text) => text,
-        Err(WordRefusal::Fault { fault, word }) => {
-            return Err(Failure::Fault {
-                fault: PlanFault::Words { fault, word },
-                path: Some(path),
-            });
-        }
-        Err(WordRefusal::OutOfMemory) => return Err(Failure::OutOfMemory),
-    };
-    match verify(text, geometry) {
-        Ok(verified) => {
-            let _safe = verified.text();
-            Ok(verified)
-        }
-        Err((VerifyRefusal::Refusal { word, reason, .. }, _)) => Err(Failure::Fault {
-            fault: PlanFault::Text { reason, word },
-            path: Some(path),
-        }),
-        Err((VerifyRefusal::OutOfMemory, _)) => Err(Failure::OutOfMemory),
+    match verified_at(alloc, files, path, geometry) {
+        Ok(verified) => Ok(verified),
+        Err(failure) => Err(Failure::of_named(path, failure)),
     }
 }
 
@@ -131,9 +114,10 @@ pub(crate) fn read_buffer<'a, F: Files>(
         None => Vec::new(alloc),
     };
     if buffer.len() > length {
+        let fault = PlanFault::Line(RunFault::InputTooLong);
         return Err(Failure::Fault {
-            fault: PlanFault::Line(RunFault::InputTooLong),
-            path: input,
+            fault,
+            words: words_of(alloc, input.unwrap_or("-"), fault),
         });
     }
     buffer.resize(length, 0)?;

@@ -1,9 +1,12 @@
 //! The jobs of a run after their end, in the order of the run file.
-ghost use Rattle.std.specs.Prelude.{◌≡◌, ◌++◌, IfOk, OnOk};
+ghost use Rattle.std.specs.Prelude.{◌≡◌, ◌++◌, IfOk, OnOk, map};
 ghost use Rattle.std.specs.String.{string_bytes};
+ghost use Rattle.channel_work.specs.Done.{ended_of};
 ghost use Rattle.seq_run.specs.Lines.{job_line, job_lines};
 ghost use Rattle.seq_run.specs.Written.{codes_of};
 ghost use Rattle.seq_run.specs.Planned.{planned_outputs, ended_outputs};
+ghost use Rattle.seq_run.specs.Happened.{given_back, WereGivenBack};
+ghost use Rattle.seq_run.specs.Endings.{opened, given_as, given_of, said_of, ending_outputs, PutsGiven, PutsAllGiven};
 
 use crate::plan::PlannedJob;
 use channel_work::{Name, NamedDone};
@@ -17,6 +20,13 @@ pub(crate) struct EndedJob<'a> {
     pub done: Done,
 }
 
+// A job of a run, and its end, once it has ended.
+#[derive(Drop)]
+struct Ending<'a> {
+    output: Option<&'a str>,
+    done: Option<Done>,
+}
+
 // The place of a job among all, where each host's jobs have these places.
 fn find_place(places: &[Vec<usize>], name: Name) -> Option<usize> {
     let of_host = places.get(name.host as usize)?;
@@ -26,52 +36,95 @@ fn find_place(places: &[Vec<usize>], name: Name) -> Option<usize> {
         .copied()
 }
 
-// Puts a job that is done to the one planned in this place, if there is one.
-#[tactic(auto, using(crate::proofs::JobLines::outputs_stay))]
-fn put_one(planned: &mut [PlannedJob<'_>], place: usize, done: Done)
-    ensures { planned_outputs planned.new ≡ planned_outputs planned.old }
+// The jobs that were planned, none of which has ended.
+fn open_endings<'a>(
+    alloc: Global,
+    planned: &[PlannedJob<'a>],
+) -> Result<Vec<Ending<'a>>, AllocError>
+    ensures { IfOk result (λ endings. endings.items ≡ map opened planned.now) }
 {
-    if place < planned.len() {
-        let output = planned[place].output;
-        planned[place] = PlannedJob {
+    planned
+        .iter()
+        .map(|job| Ending {
+            output: job.output,
+            done: None,
+        })
+        .collect(alloc)
+}
+
+// Puts its end to the job in this place, if there is one.
+#[tactic(auto, using(crate::proofs::Endings::outputs_stay, crate::proofs::Endings::one_given))]
+fn put_ending(endings: &mut Vec<Ending<'_>>, place: usize, done: Done)
+    ensures outputs { ending_outputs endings.new.items ≡ ending_outputs endings.old.items }
+    ensures given { PutsGiven (given_as done) endings.old.items endings.new.items }
+{
+    if place < endings.len() {
+        let output = endings[place].output;
+        endings[place] = Ending {
             output,
             done: Some(done),
         };
     }
 }
 
-// Puts the jobs that are done to those planned.
-fn put_done(planned: &mut [PlannedJob<'_>], places: &[Vec<usize>], done: Vec<NamedDone>)
-    ensures { planned_outputs planned.new ≡ planned_outputs planned.old }
+// Puts its end to the job of this name.
+fn put_named(endings: &mut Vec<Ending<'_>>, places: &[Vec<usize>], named: NamedDone)
+    ensures outputs { ending_outputs endings.new.items ≡ ending_outputs endings.old.items }
+    ensures given { PutsGiven (given_back (ended_of named)) endings.old.items endings.new.items }
 {
-    for one in done {
-        let NamedDone { name, done } = one;
-        if let Some(place) = find_place(places, name) {
-            put_one(planned, place, done);
-        }
+    let NamedDone { name, done } = named;
+    if let Some(place) = find_place(places, name) {
+        put_ending(endings, place, done);
     }
 }
 
-/// The jobs that were planned, each after its end, where each host's jobs have these places; none where a job hasn't ended.
-pub(crate) fn end_jobs<'a>(
-    alloc: Global,
-    planned: Vec<PlannedJob<'a>>,
-    places: &[Vec<usize>],
-    done: Vec<NamedDone>,
-) -> Result<Vec<EndedJob<'a>>, AllocError>
-    ensures { IfOk result (λ ended. ended_outputs ended.items ≡ planned_outputs planned.entry.items) }
+// Puts their ends to the jobs.
+#[tactic(auto, using(crate::proofs::Endings::all_given, crate::proofs::Endings::puts_first))]
+fn put_all(endings: &mut Vec<Ending<'_>>, places: &[Vec<usize>], done: Vec<NamedDone>)
+    ensures outputs { ending_outputs endings.new.items ≡ ending_outputs endings.old.items }
+    ensures given { PutsAllGiven (map given_back (map ended_of done.items)) endings.old.items endings.new.items }
 {
-    let mut planned = planned;
-    put_done(planned.as_mut_slice(), places, done);
-    let mut ended = Vec::with_capacity(alloc, planned.len())?;
-    for job in planned {
-        let PlannedJob { output, done } = job;
+    let mut done = done;
+    while let Some(named) = done.pop() {
+        put_named(endings, places, named);
+    }
+}
+
+// The jobs after their ends, where each has ended.
+fn close_endings<'a>(
+    alloc: Global,
+    endings: Vec<Ending<'a>>,
+) -> Result<Vec<EndedJob<'a>>, AllocError>
+    ensures outputs { IfOk result (λ ended. ended_outputs ended.items ≡ ending_outputs endings.entry.items) }
+    ensures given { IfOk result (λ ended. map said_of ended.items ≡ map given_of endings.entry.items) }
+{
+    let mut ended = Vec::with_capacity(alloc, endings.len())?;
+    for ending in endings {
+        let Ending { output, done } = ending;
         match done {
             Some(done) => ended.push(EndedJob { output, done })?,
             None => return Err(AllocError),
         }
     }
     Ok(ended)
+}
+
+/// The jobs that were planned, each after its end, where each host's jobs have these places; none where a job hasn't ended.
+pub(crate) fn end_jobs<'a>(
+    alloc: Global,
+    planned: &[PlannedJob<'a>],
+    places: &[Vec<usize>],
+    done: Vec<NamedDone>,
+) -> Result<Vec<EndedJob<'a>>, AllocError>
+    ensures outputs { IfOk result (λ ended. ended_outputs ended.items ≡ planned_outputs planned.now) }
+    ensures given { IfOk result (λ ended. WereGivenBack (map ended_of done.items) ended.items) }
+{
+    let mut endings = open_endings(alloc, planned)?;
+    put_all(&mut endings, places, done);
+    match close_endings(alloc, endings) {
+        Ok(ended) => Ok(ended),
+        Err(error) => Err(error),
+    }
 }
 
 // Adds the line of a job.

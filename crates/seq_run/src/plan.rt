@@ -7,7 +7,7 @@ ghost use Rattle.seq_run.specs.Planned.{planned_outputs};
 use crate::dies::ChannelDies;
 use crate::gate::Failing;
 use nand_geometry::Geometry;
-use seq_core::{Done, Job};
+use seq_core::Job;
 use std::alloc::{AllocError, Global};
 
 /// The image of a die, which is written after the run.
@@ -25,11 +25,10 @@ pub struct TargetJobs {
     pub places: Vec<usize>,
 }
 
-/// A job by its place among all jobs: where its buffer goes after the end, and the job once it has ended.
-#[derive(Drop)]
+/// A job by its place among all jobs: where its buffer goes after the end.
+#[derive(Clone, Copy, Debug)]
 pub struct PlannedJob<'a> {
     pub output: Option<&'a str>,
-    pub done: Option<Done>,
 }
 
 /// The jobs of a run.
@@ -71,7 +70,8 @@ impl<'a> PlannedJobs<'a> {
 
     /// Adds a job after the others.
     pub(crate) fn push(&mut self, job: Job, output: Option<&'a str>) -> Result<(), AllocError>
-        ensures { OnOk result (planned_outputs self.new.all.items ≡ planned_outputs self.old.all.items ++ (option_copied output.entry ∷ [])) }
+        ensures { OnOk result (planned_outputs self.new.all.items ≡ planned_outputs self.old.all.items
+            ++ (option_copied output.entry ∷ [])) }
     {
         let place = self.all.len();
         let target = usize::from(job.lun().ce);
@@ -79,7 +79,7 @@ impl<'a> PlannedJobs<'a> {
             of_target.jobs.push(job)?;
             of_target.places.push(place)?;
         }
-        self.all.push(PlannedJob { output, done: None })?;
+        self.all.push(PlannedJob { output })?;
         Ok(())
     }
 }

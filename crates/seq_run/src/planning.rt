@@ -7,6 +7,7 @@ ghost use Rattle.seq_run.specs.Planned.{output_in, outputs_of, image_in, images_
 ghost use Rattle.seq_run.specs.Failures.{Says, Refuses, line_refused};
 ghost use Rattle.seq_run.specs.Judged.{has_lun, lun_at, LunIsRefused, JobPasses, JobLineIsRefused, Passes, IsRefused, IsRefusedAt, RestPasses, RestIsRefused, EndIsRefused, page_of, targets_of, PlanPasses, PlanIsRefused};
 
+use crate::explaining::words_of;
 use crate::failure::{Failure, NotRun};
 use crate::gate::Failing;
 use crate::given::{read_buffer, read_die, read_geometry, read_verified};
@@ -15,6 +16,7 @@ use crate::refusal::{PlanFault, PlanRefusal};
 use nand_geometry::Geometry;
 use onfi_cycle::Lun;
 use run_file::{Numbered, RunFault, RunRefusal, RunText, Statement};
+use seq_commands::Refusal;
 use seq_core::Job;
 use seq_files::Files;
 use std::alloc::Global;
@@ -54,10 +56,15 @@ fn read_job<'a, F: Files>(
     let buffer = read_buffer(alloc, files, input, length)?;
     match Job::new(geometry, targets, lun, base, verified, buffer) {
         Ok(job) => Ok(job),
-        Err(refused) => Err(Failure::Fault {
-            fault: PlanFault::Job(refused.fault),
-            path: Some(text),
-        }),
+        Err(refused) => {
+            let fault = PlanFault::File(Refusal::Job {
+                fault: refused.fault,
+            });
+            Err(Failure::Fault {
+                fault,
+                words: words_of(alloc, text, fault),
+            })
+        }
     }
 }
 
@@ -72,8 +79,10 @@ impl<'a> RunPlan<'a> {
         ensures ok { OnOk result (Passes (F.store files.old) self.old.dies.geometry self.old.dies.targets (shown_statement statement.entry)) }
         ensures err { IfErr result (Says (IsRefused (F.store files.old) self.old.dies.geometry self.old.dies.targets (shown_statement statement.entry))) }
         ensures channel { (self.new.dies.geometry ≡ self.old.dies.geometry) × (self.new.dies.targets ≡ self.old.dies.targets) }
-        ensures jobs { OnOk result (planned_outputs self.new.jobs.all.items ≡ planned_outputs self.old.jobs.all.items ++ filter_map output_in (shown_statement statement.entry ∷ [])) }
-        ensures images { OnOk result (planned_images self.new.images.items ≡ planned_images self.old.images.items ++ filter_map (image_in self.old.dies.geometry) (shown_statement statement.entry ∷ [])) }
+        ensures jobs { OnOk result (planned_outputs self.new.jobs.all.items ≡ planned_outputs self.old.jobs.all.items
+            ++ filter_map output_in (shown_statement statement.entry ∷ [])) }
+        ensures images { OnOk result (planned_images self.new.images.items ≡ planned_images self.old.images.items
+            ++ filter_map (image_in self.old.dies.geometry) (shown_statement statement.entry ∷ [])) }
         ensures stays { F.store files.new ≡ F.store files.old }
     {
         match statement {
@@ -115,7 +124,8 @@ impl<'a> RunPlan<'a> {
         ensures err { IfErr result (Says (IsRefused (F.store files.old) self.old.dies.geometry self.old.dies.targets (ImageLine target lun path.now))) }
         ensures channel { (self.new.dies.geometry ≡ self.old.dies.geometry) × (self.new.dies.targets ≡ self.old.dies.targets) }
         ensures jobs { self.new.jobs ≡ self.old.jobs }
-        ensures images { OnOk result (planned_images self.new.images.items ≡ planned_images self.old.images.items ++ ((target * self.old.dies.geometry.luns + lun, path.now) ∷ [])) }
+        ensures images { OnOk result (planned_images self.new.images.items ≡ planned_images self.old.images.items
+            ++ ((target * self.old.dies.geometry.luns + lun, path.now) ∷ [])) }
         ensures stays { F.store files.new ≡ F.store files.old }
     {
         let l = find_lun(&self.dies.geometry, self.dies.targets, target, lun)?;
@@ -140,7 +150,8 @@ impl<'a> RunPlan<'a> {
         ensures ok { OnOk result (JobPasses (F.store files.old) self.old.dies.geometry self.old.dies.targets l base text.now (option_copied input.entry)) }
         ensures err { IfErr result (Says (JobLineIsRefused (F.store files.old) self.old.dies.geometry self.old.dies.targets l base text.now (option_copied input.entry))) }
         ensures channel { (self.new.dies.geometry ≡ self.old.dies.geometry) × (self.new.dies.targets ≡ self.old.dies.targets) }
-        ensures jobs { OnOk result (planned_outputs self.new.jobs.all.items ≡ planned_outputs self.old.jobs.all.items ++ (option_copied output.entry ∷ [])) }
+        ensures jobs { OnOk result (planned_outputs self.new.jobs.all.items ≡ planned_outputs self.old.jobs.all.items
+            ++ (option_copied output.entry ∷ [])) }
         ensures images { self.new.images ≡ self.old.images }
         ensures stays { F.store files.new ≡ F.store files.old }
     {
@@ -178,8 +189,10 @@ impl<'a> RunPlan<'a> {
         ensures ok { OnOk result (Passes (F.store files.old) self.old.dies.geometry self.old.dies.targets (shown_statement numbered.entry.statement)) }
         ensures err { IfErr result (Refuses (IsRefusedAt (F.store files.old) self.old.dies.geometry self.old.dies.targets (shown_numbered numbered.entry))) }
         ensures channel { (self.new.dies.geometry ≡ self.old.dies.geometry) × (self.new.dies.targets ≡ self.old.dies.targets) }
-        ensures jobs { OnOk result (planned_outputs self.new.jobs.all.items ≡ planned_outputs self.old.jobs.all.items ++ outputs_of (shown_numbered numbered.entry ∷ [])) }
-        ensures images { OnOk result (planned_images self.new.images.items ≡ planned_images self.old.images.items ++ images_in self.old.dies.geometry (shown_numbered numbered.entry ∷ [])) }
+        ensures jobs { OnOk result (planned_outputs self.new.jobs.all.items ≡ planned_outputs self.old.jobs.all.items
+            ++ outputs_of (shown_numbered numbered.entry ∷ [])) }
+        ensures images { OnOk result (planned_images self.new.images.items ≡ planned_images self.old.images.items
+            ++ images_in self.old.dies.geometry (shown_numbered numbered.entry ∷ [])) }
         ensures stays { F.store files.new ≡ F.store files.old }
     {
         let Numbered { line, statement } = numbered;
@@ -201,8 +214,10 @@ impl<'a> RunPlan<'a> {
         ensures ok { OnOk result (RestPasses (F.store files.old) self.old.dies.geometry self.old.dies.targets (shown_all rest.now) last) }
         ensures err { IfErr result (Refuses (RestIsRefused (F.store files.old) self.old.dies.geometry self.old.dies.targets (shown_all rest.now) last)) }
         ensures channel { (self.new.dies.geometry ≡ self.old.dies.geometry) × (self.new.dies.targets ≡ self.old.dies.targets) }
-        ensures jobs { OnOk result (planned_outputs self.new.jobs.all.items ≡ planned_outputs self.old.jobs.all.items ++ outputs_of (shown_all rest.now)) }
-        ensures images { OnOk result (planned_images self.new.images.items ≡ planned_images self.old.images.items ++ images_in self.old.dies.geometry (shown_all rest.now)) }
+        ensures jobs { OnOk result (planned_outputs self.new.jobs.all.items ≡ planned_outputs self.old.jobs.all.items
+            ++ outputs_of (shown_all rest.now)) }
+        ensures images { OnOk result (planned_images self.new.images.items ≡ planned_images self.old.images.items
+            ++ images_in self.old.dies.geometry (shown_all rest.now)) }
         ensures stays { F.store files.new ≡ F.store files.old }
     {
         for &numbered in rest {
@@ -226,7 +241,7 @@ fn refuse_line<'a>(fault: RunFault, line: usize) -> NotRun<'a>
             fault: PlanFault::Line(fault),
             line,
         },
-        path: None,
+        words: None,
     }
 }
 
@@ -300,7 +315,8 @@ pub fn plan_run<'a, F: Files>(
 ) -> Result<RunPlan<'a>, NotRun<'a>>
     ensures ok { IfOk result (λ plan. PlanPasses (F.store files.old) (shown_text text.now) plan.dies.geometry plan.dies.targets) }
     ensures jobs { IfOk result (λ plan. planned_outputs plan.jobs.all.items ≡ outputs_of (drop 2 (shown_text text.now).statements)) }
-    ensures images { IfOk result (λ plan. planned_images plan.images.items ≡ images_in plan.dies.geometry (drop 2 (shown_text text.now).statements)) }
+    ensures images { IfOk result (λ plan. planned_images plan.images.items
+        ≡ images_in plan.dies.geometry (drop 2 (shown_text text.now).statements)) }
     ensures err { IfErr result (Refuses (PlanIsRefused (F.store files.old) (shown_text text.now))) }
     ensures stays { F.store files.new ≡ F.store files.old }
 {

@@ -4,11 +4,8 @@ ghost use Rattle.std.specs.String.{string_bytes};
 ghost use Rattle.seq_run.specs.Lines.{code_of, line_of};
 
 use die_model::ImageFault;
-use micro_claims::Reason;
-use micro_word::WordFault;
-use nand_geometry::PageFault;
 use run_file::RunFault;
-use seq_core::JobFault;
+use seq_commands::Refusal;
 use std::alloc::{AllocError, Allocator};
 
 /// What is wrong with a line of a run file, or with a file that it names.
@@ -16,16 +13,10 @@ use std::alloc::{AllocError, Allocator};
 pub enum PlanFault {
     /// The line itself.
     Line(RunFault),
-    /// The parameter page.
-    Page(PageFault),
     /// The image of a die.
     Image(ImageFault),
-    /// The word file of a job.
-    Words { fault: WordFault, word: usize },
-    /// The microprogram of a job.
-    Text { reason: Reason, word: usize },
-    /// The job on this channel.
-    Job(JobFault),
+    /// Another file that it names: the parameter page, or the word file of a job.
+    File(Refusal),
 }
 
 impl PlanFault {
@@ -35,11 +26,8 @@ impl PlanFault {
     {
         match self {
             PlanFault::Line(fault) => fault.code(),
-            PlanFault::Page(fault) => fault.code(),
             PlanFault::Image(fault) => fault.code(),
-            PlanFault::Words { fault, .. } => fault.code(),
-            PlanFault::Text { reason, .. } => reason.code(),
-            PlanFault::Job(fault) => fault.code(),
+            PlanFault::File(refusal) => refusal.code(),
         }
     }
 }

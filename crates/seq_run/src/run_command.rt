@@ -13,14 +13,15 @@ ghost use Rattle.seq_run.specs.Written.{with_all, IsCut};
 ghost use Rattle.seq_run.specs.Runs.{Outcome, IsOutcomeOf, writes_of, lines_of, IsRunDone, RunIsRefused, RunMayLeave};
 
 use crate::ending::RunEnd;
-use crate::explaining::Explained;
+use crate::explaining::explain;
 use crate::failure::NotRun;
+use crate::phases::{NoClock, Phase, RunProgress, Timed};
 use crate::plan::RunPlan;
 use crate::planning::plan_run;
 use crate::refusal::PlanRefusal;
 use crate::request::RunRequest;
 use crate::running::run_plan;
-use crate::summary::Summary;
+use crate::summary::{Stats, Summary};
 use crate::writing::write_run;
 use run_file::parse_run;
 use seq_files::{FileError, Files, write_text};
@@ -28,6 +29,8 @@ use std::alloc::Global;
 use std::io::Write;
 use std::sync::Wait;
 use std::thread::Threads;
+use std::time::Clock;
+use trace_text::NoProgress;
 
 // Reads the text of a run file, and judges it with the files that it names.
 fn plan_text<'a, F: Files>(
@@ -37,7 +40,8 @@ fn plan_text<'a, F: Files>(
 ) -> Result<RunPlan<'a>, NotRun<'a>>
     ensures ok { IfOk result (λ plan. PlanPasses (F.store files.old) (told text.entry.now) plan.dies.geometry plan.dies.targets) }
     ensures jobs { IfOk result (λ plan. planned_outputs plan.jobs.all.items ≡ outputs_of (drop 2 (told text.entry.now).statements)) }
-    ensures images { IfOk result (λ plan. planned_images plan.images.items ≡ images_in plan.dies.geometry (drop 2 (told text.entry.now).statements)) }
+    ensures images { IfOk result (λ plan. planned_images plan.images.items
+        ≡ images_in plan.dies.geometry (drop 2 (told text.entry.now).statements)) }
     ensures err { IfErr result (Refuses (PlanIsRefused (F.store files.old) (told text.entry.now))) }
     ensures stays { F.store files.new ≡ F.store files.old }
 {
@@ -46,11 +50,12 @@ fn plan_text<'a, F: Files>(
 }
 
 // Runs what was planned, and writes what came of it.
-fn carry_out<'a, R: Threads + Wait + Sync, F: Files, W: Write>(
+fn carry_out<'a, R: Threads + Wait + Sync, F: Files, W: Write, P: RunProgress>(
     rt: &R,
     alloc: Global,
     files: &mut F,
     output: &mut W,
+    progress: &mut P,
     request: RunRequest<'a>,
     plan: RunPlan<'a>,
 ) -> Result<Summary, NotRun<'a>>
@@ -61,7 +66,11 @@ fn carry_out<'a, R: Threads + Wait + Sync, F: Files, W: Write>(
         × IsCut (writes_of request.entry o) (F.store files.old) (F.store files.new))) }
     ensures nothing { IfErr result RefusesNothing }
 {
+    progress.begin(Phase::Running {
+        jobs: plan.jobs.all.len(),
+    });
     let ran = run_plan(rt, alloc, plan, request.workers)?;
+    progress.begin(Phase::Writing);
     write_run(alloc, files, output, request, ran)
 }
 
@@ -80,15 +89,15 @@ fn end_with_refusal<W: Write, E: Write>(
     errors: &mut E,
     run: &str,
     refusal: PlanRefusal,
-    path: Option<&str>,
+    words: Option<String>,
 ) -> RunEnd
     ensures done { result ≡ RunEnd.Done → ⊥ }
-    ensures refused { (other : PlanRefusal) → result ≡ RunEnd.Refused other → (other ≡ refusal) × Appends (W.contents output.old) (W.contents output.new) (line_of refusal) }
+    ensures refused { (other : PlanRefusal) → result ≡ RunEnd.Refused other → (other ≡ refusal)
+        × Appends (W.contents output.old) (W.contents output.new) (line_of refusal) }
 {
     match refuse(alloc, output, refusal) {
         Ok(()) => {
-            let explained = Explained { run, refusal, path };
-            let _ = writeln!(errors, "{explained}");
+            explain(errors, run, refusal, words);
             RunEnd::Refused(refusal)
         }
         Err(error) => end_with_error(errors, "-", error),
@@ -120,29 +129,45 @@ fn end<W: Write, E: Write>(
     not_run: NotRun<'_>,
 ) -> RunEnd
     ensures done { result ≡ RunEnd.Done → ⊥ }
-    ensures refused { (refusal : PlanRefusal) → result ≡ RunEnd.Refused refusal → Tells refusal not_run.entry × Appends (W.contents output.old) (W.contents output.new) (line_of refusal) }
+    ensures refused { (refusal : PlanRefusal) → result ≡ RunEnd.Refused refusal → Tells refusal not_run.entry
+        × Appends (W.contents output.old) (W.contents output.new) (line_of refusal) }
 {
     match not_run {
-        NotRun::Refused { refusal, path } => {
-            end_with_refusal(alloc, output, errors, run, refusal, path)
+        NotRun::Refused { refusal, words } => {
+            end_with_refusal(alloc, output, errors, run, refusal, words)
         }
         NotRun::FileFault(path) => end_with_error(errors, path, FileError::Fault),
         NotRun::OutOfMemory => end_with_error(errors, run, FileError::OutOfMemory),
     }
 }
 
+// Tells what there was in a run that is done.
+fn tell_stats<C: Clock, E: Write, P: RunProgress>(
+    errors: &mut E,
+    summary: Summary,
+    timed: &Timed<'_, C, P>,
+) {
+    let stats = Stats {
+        summary,
+        time: timed.time(),
+    };
+    let _ = writeln!(errors, "{stats}");
+}
+
 // Runs the text of the run file.
-fn run_text<R: Threads + Wait + Sync, F: Files, W: Write, E: Write>(
+fn run_text<R: Threads + Wait + Sync, C: Clock, F: Files, W: Write, E: Write, P: RunProgress>(
     rt: &R,
     alloc: Global,
     files: &mut F,
     output: &mut W,
     errors: &mut E,
+    timed: &mut Timed<'_, C, P>,
     request: RunRequest<'_>,
     text: &str,
 ) -> RunEnd
     requires { Holds (F.store files.old) request.path.now text.now }
-    ensures done { result ≡ RunEnd.Done → (printed : List ℕ) × IsRunDone (F.store files.old) (F.store files.new) request.entry printed × Appends (W.contents output.old) (W.contents output.new) printed }
+    ensures done { result ≡ RunEnd.Done → (printed : List ℕ) × IsRunDone (F.store files.old) (F.store files.new) request.entry printed
+        × Appends (W.contents output.old) (W.contents output.new) printed }
     ensures refused { (refusal : PlanRefusal) → result ≡ RunEnd.Refused refusal → RunIsRefused (F.store files.old) request.entry refusal
         × (F.store files.new ≡ F.store files.old) × Appends (W.contents output.old) (W.contents output.new) (line_of refusal) }
     ensures leaves { RunMayLeave (F.store files.old) (F.store files.new) request.entry }
@@ -151,10 +176,10 @@ fn run_text<R: Threads + Wait + Sync, F: Files, W: Write, E: Write>(
         Ok(plan) => plan,
         Err(not_run) => return end(alloc, output, errors, request.path, not_run),
     };
-    match carry_out(rt, alloc, files, output, request, plan) {
+    match carry_out(rt, alloc, files, output, timed, request, plan) {
         Ok(summary) => {
             if request.has_stats {
-                let _ = writeln!(errors, "{summary}");
+                tell_stats(errors, summary, timed);
             }
             RunEnd::Done
         }
@@ -162,7 +187,45 @@ fn run_text<R: Threads + Wait + Sync, F: Files, W: Write, E: Write>(
     }
 }
 
-/// Runs a channel as a run file says. What is refused is also said in words on `errors`.
+/// Runs a channel as a run file says. What is refused is also said in words on `errors`. Where the clock tells the time, what there was is told
+/// with the seconds that the jobs took, and `progress` is told what the run does.
+pub fn run_watched<
+    R: Threads + Wait + Sync,
+    C: Clock,
+    F: Files,
+    W: Write,
+    E: Write,
+    P: RunProgress,
+>(
+    rt: &R,
+    clock: &C,
+    alloc: Global,
+    files: &mut F,
+    output: &mut W,
+    errors: &mut E,
+    progress: &mut P,
+    request: RunRequest<'_>,
+) -> RunEnd
+    // What the run file says passes, and what is printed and written is of one legal trace.
+    ensures done { result ≡ RunEnd.Done → (printed : List ℕ) × IsRunDone (F.store files.old) (F.store files.new) request.entry printed
+        × Appends (W.contents output.old) (W.contents output.new) printed }
+    ensures refused { (refusal : PlanRefusal) → result ≡ RunEnd.Refused refusal → RunIsRefused (F.store files.old) request.entry refusal
+        × (F.store files.new ≡ F.store files.old) × Appends (W.contents output.old) (W.contents output.new) (line_of refusal) }
+    ensures leaves { RunMayLeave (F.store files.old) (F.store files.new) request.entry }
+{
+    let mut timed = Timed::new(clock, progress);
+    timed.begin(Phase::Reading);
+    let bytes = match files.read(alloc, request.path) {
+        Ok(bytes) => bytes,
+        Err(error) => return end_with_error(errors, request.path, error),
+    };
+    match str::from_utf8(bytes.as_slice()) {
+        Ok(text) => run_text(rt, alloc, files, output, errors, &mut timed, request, text),
+        Err(_) => end_with_error(errors, request.path, FileError::Fault),
+    }
+}
+
+/// The same without a clock, where nobody is told what the run does.
 pub fn run_on<R: Threads + Wait + Sync, F: Files, W: Write, E: Write>(
     rt: &R,
     alloc: Global,
@@ -172,17 +235,20 @@ pub fn run_on<R: Threads + Wait + Sync, F: Files, W: Write, E: Write>(
     request: RunRequest<'_>,
 ) -> RunEnd
     // What the run file says passes, and what is printed and written is of one legal trace.
-    ensures done { result ≡ RunEnd.Done → (printed : List ℕ) × IsRunDone (F.store files.old) (F.store files.new) request.entry printed × Appends (W.contents output.old) (W.contents output.new) printed }
+    ensures done { result ≡ RunEnd.Done → (printed : List ℕ) × IsRunDone (F.store files.old) (F.store files.new) request.entry printed
+        × Appends (W.contents output.old) (W.contents output.new) printed }
     ensures refused { (refusal : PlanRefusal) → result ≡ RunEnd.Refused refusal → RunIsRefused (F.store files.old) request.entry refusal
         × (F.store files.new ≡ F.store files.old) × Appends (W.contents output.old) (W.contents output.new) (line_of refusal) }
     ensures leaves { RunMayLeave (F.store files.old) (F.store files.new) request.entry }
 {
-    let bytes = match files.read(alloc, request.path) {
-        Ok(bytes) => bytes,
-        Err(error) => return end_with_error(errors, request.path, error),
-    };
-    match str::from_utf8(bytes.as_slice()) {
-        Ok(text) => run_text(rt, alloc, files, output, errors, request, text),
-        Err(_) => end_with_error(errors, request.path, FileError::Fault),
-    }
+    run_watched(
+        rt,
+        &NoClock,
+        alloc,
+        files,
+        output,
+        errors,
+        &mut NoProgress,
+        request,
+    )
 }

@@ -4,6 +4,7 @@ ghost use Rattle.seq_core.specs.World.{fresh};
 ghost use Rattle.seq_core.specs.Shows.{IsAt, channel_in};
 ghost use Rattle.seq_run.specs.Hosts.{OwnsAll};
 ghost use Rattle.seq_run.specs.Planned.{planned_outputs, ended_outputs};
+ghost use Rattle.seq_run.specs.Happened.{IsBusOf, HasWorked, HasHappened};
 
 use crate::gate::RunGate;
 use crate::hosts::{Host, run_hosts};
@@ -165,6 +166,22 @@ fn open_channel<L: Turns>(
     Ok(ChannelState::new(alloc, blank, core, taker, seats))
 }
 
+// What is left of a channel whose workers have ended, once each pass is back.
+#[tactic(auto, using(crate::proofs::Happening::has_worked))]
+fn gather_all<L: Turns>(
+    state: ChannelState<L>,
+    passes: Vec<WorkerPass<L>>,
+) -> Result<Gathered, AllocError>
+    requires { L.all ≡ L.parts }
+    ensures { IfOk result HasWorked }
+{
+    let _lawful = state.trace();
+    match state.gather(passes) {
+        Ok(gathered) => Ok(gathered),
+        Err(_) => Err(AllocError),
+    }
+}
+
 // Runs the jobs of hosts on a channel.
 fn run_channel<L: Turns + Sync, R: Threads + Wait + Sync>(
     rt: &R,
@@ -178,6 +195,7 @@ fn run_channel<L: Turns + Sync, R: Threads + Wait + Sync>(
     requires name { blank.name ≡ L.name }
     requires parts { (blank.parts ≡ L.parts) × (L.all ≡ L.parts) × (L.parts ≡ 9) }
     requires core { IsAt core (fresh (channel_in core)) }
+    ensures { IfOk result HasWorked }
 {
     let places = count_places(jobs_of_hosts.as_slice(), workers <= 1);
     let (queue, host_passes, taker) = open_queue(alloc, places, jobs_of_hosts.len())?;
@@ -186,15 +204,13 @@ fn run_channel<L: Turns + Sync, R: Threads + Wait + Sync>(
     let passes = make_passes(alloc, &mut state, workers)?;
     let channel = Channel::new(state);
     let back = run_threads(rt, alloc, &channel, gate, hosts, passes);
-    match channel.into_state().gather(back) {
-        Ok(gathered) => Ok(gathered),
-        Err(_) => Err(AllocError),
-    }
+    gather_all(channel.into_state(), back)
 }
 
 // The bus of a sequencer that has lain under a lock, where it is of this channel; it always is.
 fn take_bus(core: Core, geometry: Geometry, targets: u8) -> Result<Bus, AllocError>
-    ensures { IfOk result (λ bus. (bus.geometry ≡ geometry) × (bus.targets ≡ targets)) }
+    ensures channel { IfOk result (λ bus. (bus.geometry ≡ geometry) × (bus.targets ≡ targets)) }
+    ensures bus { IfOk result (λ bus. IsBusOf core bus) }
 {
     let bus = core.into_bus();
     if bus.geometry() == geometry && bus.targets() == targets {
@@ -205,6 +221,7 @@ fn take_bus(core: Core, geometry: Geometry, targets: u8) -> Result<Bus, AllocErr
 }
 
 /// Runs what was planned. Where memory is refused or a thread can't be started, nothing comes of it.
+#[tactic(auto, using(crate::proofs::Happening::has_happened))]
 pub(crate) fn run_plan<'a, R: Threads + Wait + Sync>(
     rt: &R,
     alloc: Global,
@@ -214,6 +231,7 @@ pub(crate) fn run_plan<'a, R: Threads + Wait + Sync>(
     ensures channel { IfOk result (λ ran. (ran.bus.geometry ≡ plan.entry.dies.geometry) × (ran.bus.targets ≡ plan.entry.dies.targets)) }
     ensures jobs { IfOk result (λ ran. ended_outputs ran.jobs.items ≡ planned_outputs plan.entry.jobs.all.items) }
     ensures images { IfOk result (λ ran. ran.images ≡ plan.entry.images) }
+    ensures happened { IfOk result (λ ran. HasHappened ran.bus ran.jobs.items) }
 {
     let RunPlan {
         dies,
@@ -241,6 +259,6 @@ pub(crate) fn run_plan<'a, R: Threads + Wait + Sync>(
     }
     let Gathered { core, done, .. } = gathered;
     let bus = take_bus(core, geometry, targets)?;
-    let jobs = end_jobs(alloc, all, hosts.places.as_slice(), done)?;
+    let jobs = end_jobs(alloc, all.as_slice(), hosts.places.as_slice(), done)?;
     Ok(Ran { bus, images, jobs })
 }

@@ -2,6 +2,7 @@
 
 use onfi_cycle::{Cycle, Item, Kind};
 use std::fmt;
+use std::time::Duration;
 
 /// What there was in a run.
 #[derive(Clone, Copy, Debug, PartialEq, Eq)]
@@ -62,5 +63,37 @@ impl fmt::Display for Summary {
             f,
             "jobs {jobs}, cycles {cycles}, polls {polls}, bytes to the dies {inputs}, bytes from the dies {read}"
         )
+    }
+}
+
+/// What there was in a run, and how long its jobs took, if that is known.
+#[derive(Clone, Copy, Debug)]
+pub(crate) struct Stats {
+    pub summary: Summary,
+    pub time: Option<Duration>,
+}
+
+// How many cycles there were in a second, if it took any time.
+fn cycles_a_second(cycles: u64, time: Duration) -> Option<u128> {
+    let nanos = time.as_nanos();
+    if nanos == 0 {
+        return None;
+    }
+    Some(u128::from(cycles) * 1_000_000_000 / nanos)
+}
+
+impl fmt::Display for Stats {
+    fn fmt<W: fmt::Write>(&self, f: &mut fmt::Formatter<W>) -> fmt::Result {
+        let Stats { summary, time } = *self;
+        write!(f, "{summary}")?;
+        let Some(time) = time else {
+            return Ok(());
+        };
+        let (whole, millis) = (time.as_secs(), time.subsec_millis());
+        write!(f, ", seconds {whole}.{millis:03}, cycles a second ")?;
+        match cycles_a_second(summary.cycles, time) {
+            Some(cycles) => write!(f, "{cycles}"),
+            None => f.write_str("-"),
+        }
     }
 }

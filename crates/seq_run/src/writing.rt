@@ -9,7 +9,8 @@ ghost use Rattle.die_model.specs.Image.{image_of};
 ghost use Rattle.trace_text.specs.Line.{text};
 ghost use Rattle.seq_run.specs.Lines.{job_lines};
 ghost use Rattle.seq_run.specs.Failures.{RefusesNothing};
-ghost use Rattle.seq_run.specs.Written.{with_all, with_one, IsWritten, IsCut, buffer_of, buffers_of, image_at, images_of, trace_at, written_of, traces_of, shown_trace, codes_of};
+ghost use Rattle.seq_run.specs.Happened.{HasHappened};
+ghost use Rattle.seq_run.specs.Written.{with_all, with_optional, IsWritten, IsCut, buffer_of, buffers_of, image_at, images_of, trace_at, written_of, optional_of, printed_trace, codes_of};
 ghost use Rattle.seq_run.specs.Runs.{Outcome, ShowsAll, writes_of, lines_of};
 
 use crate::failure::NotRun;
@@ -47,7 +48,7 @@ fn write_file<'a, F: Files>(files: &mut F, path: &'a str, bytes: &[u8]) -> Resul
 
 // Writes the buffer of a job, if it has an output.
 fn write_buffer<'a, F: Files>(files: &mut F, job: &EndedJob<'a>) -> Result<(), NotRun<'a>>
-    ensures ok { OnOk result (F.store files.new ≡ with_one (buffer_of job.now) (F.store files.old)) }
+    ensures ok { OnOk result (F.store files.new ≡ with_optional (buffer_of job.now) (F.store files.old)) }
     ensures err { OnErr result (F.store files.new ≡ F.store files.old) }
     ensures nothing { IfErr result RefusesNothing }
 {
@@ -144,7 +145,7 @@ fn make_lines(
     bus: &Bus,
     jobs: &[EndedJob<'_>],
 ) -> Result<String, AllocError>
-    ensures { IfOk result (λ lines. string_bytes lines ≡ shown_trace is_quiet (reverse bus.now.past) ++ job_lines 1 (codes_of jobs.now)) }
+    ensures { IfOk result (λ lines. string_bytes lines ≡ printed_trace is_quiet (reverse bus.now.past) ++ job_lines 1 (codes_of jobs.now)) }
 {
     let mut lines = if is_quiet {
         String::new(alloc)
@@ -161,7 +162,7 @@ fn make_trace<'a>(
     bus: &Bus,
     path: Option<&'a str>,
 ) -> Result<Option<Outgoing<'a>>, AllocError>
-    ensures { IfOk result (λ made. traces_of made ≡ trace_at (option_copied path.entry) (reverse bus.now.past)) }
+    ensures { IfOk result (λ made. optional_of made ≡ trace_at (option_copied path.entry) (reverse bus.now.past)) }
 {
     match path {
         Some(path) => {
@@ -182,7 +183,7 @@ fn make_outgoing<'a>(
     images: &[PlannedImage<'a>],
     trace: Option<Outgoing<'a>>,
 ) -> Result<Vec<Outgoing<'a>>, AllocError>
-    ensures { IfOk result (λ made. map written_of made.items ≡ images_of dies.now images.now ++ traces_of trace.entry) }
+    ensures { IfOk result (λ made. map written_of made.items ≡ images_of dies.now images.now ++ optional_of trace.entry) }
 {
     let mut outgoing = make_images(alloc, dies, images)?;
     if let Some(trace) = trace {
@@ -192,7 +193,7 @@ fn make_outgoing<'a>(
 }
 
 // Writes the buffers, and then the other files.
-#[tactic(auto, using(crate::proofs::FilesWritten::cut_first, crate::proofs::FilesWritten::cut_next, crate::proofs::FilesWritten::then))]
+#[tactic(auto, using(crate::proofs::FilesWritten::cut_first, crate::proofs::FilesWritten::cut_next, crate::proofs::FilesWritten::written_next))]
 fn write_all<'a, F: Files>(
     files: &mut F,
     jobs: &[EndedJob<'a>],
@@ -247,9 +248,12 @@ pub(crate) fn write_run<'a, F: Files, W: Write>(
     request: RunRequest<'a>,
     ran: Ran<'a>,
 ) -> Result<Summary, NotRun<'a>>
-    ensures ok { OnOk result ((o : Outcome) × ShowsAll ran.entry o × (F.store files.new ≡ with_all (writes_of request.entry o) (F.store files.old))
+    requires { HasHappened ran.bus ran.jobs.items }
+    ensures ok { OnOk result ((o : Outcome) × ShowsAll ran.entry o
+        × (F.store files.new ≡ with_all (writes_of request.entry o) (F.store files.old))
         × Appends (W.contents output.old) (W.contents output.new) (lines_of request.entry o)) }
-    ensures err { OnErr result ((F.store files.new ≡ F.store files.old) ⊎ ((o : Outcome) × ShowsAll ran.entry o × IsCut (writes_of request.entry o) (F.store files.old) (F.store files.new))) }
+    ensures err { OnErr result ((F.store files.new ≡ F.store files.old)
+        ⊎ ((o : Outcome) × ShowsAll ran.entry o × IsCut (writes_of request.entry o) (F.store files.old) (F.store files.new))) }
     ensures nothing { IfErr result RefusesNothing }
 {
     let Ran { bus, images, jobs } = ran;

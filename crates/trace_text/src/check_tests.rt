@@ -1,4 +1,5 @@
-use crate::{CheckRefusal, check, parse};
+use crate::checking::first_broken;
+use crate::{CheckProgress, CheckRefusal, check, check_watched, parse};
 use nand_geometry::{Geometry, Parts};
 use onfi_cycle::Forbidden;
 use std::alloc::Global;
@@ -170,5 +171,42 @@ fn refusals_are_told(rt: HostRuntime) -> Result<(), Fail> {
     assert_eq!(rt; told.as_str(), "F9 at item 5: the LUN is busy");
     let memory = format!(in rt.alloc(); "{}", CheckRefusal::OutOfMemory)?;
     assert_eq!(rt; memory.as_str(), "out of memory");
+    Ok(())
+}
+
+// Keeps what it is told.
+#[derive(Drop)]
+struct Kept {
+    told: Vec<usize>,
+}
+
+impl CheckProgress for Kept {
+    fn checked(&mut self, items: usize) {
+        let _ = self.told.push(items);
+    }
+}
+
+#[test]
+fn how_far_it_has_come_is_told(rt: HostRuntime) -> Result<(), Fail> {
+    let geometry = Geometry::of(ONE_LUN)?;
+    let erase = parse(rt.alloc(), ERASE)?;
+    // The ten items of an erase.
+    for (every, told) in [
+        (4usize, [4, 8].as_slice()),
+        (5, [5].as_slice()),
+        (10, [].as_slice()),
+    ] {
+        let mut kept = Kept {
+            told: Vec::new(rt.alloc()),
+        };
+        assert_eq!(rt; first_broken(&geometry, 1, &erase, &mut kept, every), None);
+        assert_eq!(rt; kept.told.as_slice(), told);
+    }
+    // Nothing is told of fewer than a million.
+    let mut kept = Kept {
+        told: Vec::new(rt.alloc()),
+    };
+    assert_eq!(rt; check_watched(&geometry, 1, &erase, &mut kept), Ok(()));
+    assert!(rt; kept.told.is_empty());
     Ok(())
 }

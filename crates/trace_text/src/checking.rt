@@ -4,6 +4,7 @@ ghost use Rattle.std.specs.Prelude.{◌≡◌, ◌≤◌, ◌↔◌, true, false
 ghost use Rattle.onfi_cycle.specs.Permitted.{is_legal, IsFirstBroken};
 ghost use Rattle.trace_text.specs.Checking.{TellsFirst};
 
+use crate::progress::{CheckProgress, NoProgress};
 use nand_geometry::Geometry;
 use onfi_cycle::{BusState, Forbidden, Item};
 use thiserror::Error;
@@ -21,15 +22,36 @@ pub enum CheckRefusal {
     OutOfMemory,
 }
 
-// The place of the first item that isn't permitted after those before it, with the first rule that it breaks.
-fn first_broken(geometry: &Geometry, targets: u8, items: &[Item]) -> Option<(usize, Forbidden)>
-    requires { targets ≤ 4 }
+// After how many items a check tells how far it has come, each time.
+const MILLION: usize = 1_000_000;
+
+// Tells how far a check has come, each time after so many items.
+fn tell_each<P: CheckProgress>(progress: &mut P, every: usize, items: usize)
+    requires { 1 ≤ every }
+{
+    if items > 0 && items % every == 0 {
+        progress.checked(items);
+    }
+}
+
+// The place of the first item that isn't permitted after those before it, with the first rule that it breaks. It is told each time after so
+// many items how far this has come.
+pub(crate) fn first_broken<P: CheckProgress>(
+    geometry: &Geometry,
+    targets: u8,
+    items: &[Item],
+    progress: &mut P,
+    every: usize,
+) -> Option<(usize, Forbidden)>
+    requires few { targets ≤ 4 }
+    requires steps { 1 ≤ every }
     ensures none { IfNone result (is_legal geometry.now targets (reverse items.now) ≡ true) }
     ensures some { IfSome result (λ found. IsFirstBroken geometry.now targets items.now found.0 found.1) }
     ensures illegal { IfSome result (λ found. is_legal geometry.now targets (reverse items.now) ≡ false) }
 {
     let mut state = BusState::new(*geometry, targets);
     for (place, item) in items.iter().enumerate() {
+        tell_each(progress, every, place);
         if let Some(rule) = state.judge(*item) {
             return Some((place, rule));
         }
@@ -46,7 +68,21 @@ pub fn check(geometry: &Geometry, targets: u8, items: &[Item]) -> Result<(), Che
     ensures legal { IsOk result ↔ (is_legal geometry.now targets (reverse items.now) ≡ true) }
     ensures first { IfErr result (TellsFirst geometry.now targets items.now) }
 {
-    match first_broken(geometry, targets, items) {
+    check_watched(geometry, targets, items, &mut NoProgress)
+}
+
+/// The same, and `progress` is told at each million of items that are permitted.
+pub fn check_watched<P: CheckProgress>(
+    geometry: &Geometry,
+    targets: u8,
+    items: &[Item],
+    progress: &mut P,
+) -> Result<(), CheckRefusal>
+    requires { targets ≤ 4 }
+    ensures legal { IsOk result ↔ (is_legal geometry.now targets (reverse items.now) ≡ true) }
+    ensures first { IfErr result (TellsFirst geometry.now targets items.now) }
+{
+    match first_broken(geometry, targets, items, progress, MILLION) {
         Some((place, rule)) => Err(CheckRefusal::At(place, rule)),
         None => Ok(()),
     }

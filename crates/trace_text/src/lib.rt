@@ -16,11 +16,13 @@ pub mod laws;
 mod line;
 mod parsing;
 mod printing;
+mod progress;
 mod refusal;
 
-pub use checking::{CheckRefusal, check};
+pub use checking::{CheckRefusal, check, check_watched};
 pub use parsing::parse;
 pub use printing::{is_printable, print};
+pub use progress::{CheckProgress, NoProgress};
 pub use refusal::{TraceFault, TraceRefusal};
 
 #[cfg(test)]

@@ -1,5 +1,6 @@
-use Rattle.channel_work.proofs.Recounting.{IsCounting}
+use Rattle.std.proofs.Common.{◌≡◌, reverse, take, length}
+use Rattle.channel_work.specs.Counts.{AreCounts}
 use Rattle.channel_work.proofs.tally.count_luns.Given as goal
 
-abbrev pub invariant-loop-n : goal.invariant-loop-n
-invariant-loop-n l = IsCounting l.geometry l.trace l.from l.counted l.n
+abbrev pub invariant-loop-k : goal.invariant-loop-k
+invariant-loop-k l = (length l.counted ≡ 16) × AreCounts l.geometry l.counted (reverse (take l.k l.trace))

@@ -1,0 +1,30 @@
+//! What came of a run, as tests compare it.
+ghost use Rattle.std.specs.Prelude.{◌≡◌, ◌≤◌, IfOk, IfSome, IfNone, length, Some, slice_get};
+ghost use Rattle.trace_text.specs.Trace.{IsTextOf};
+
+use channel_work::NamedDone;
+use onfi_cycle::{Item, Lun};
+use std::alloc::Global;
+use std::test::Fail;
+use trace_text::parse;
+
+/// The items of a text.
+pub fn read_trace(alloc: Global, text: &str) -> Result<Vec<Item>, Fail>
+    ensures { IfOk result (λ trace. IsTextOf text.now trace.items) }
+{
+    Ok(parse(alloc, text)?)
+}
+
+/// A job that is done: its host, its number, its LUN and its code.
+pub type Told = (u32, u64, Lun, u8);
+
+/// What is told of the job that was done in this place.
+pub fn tell_done(done: &[NamedDone], k: usize) -> Option<Told> {
+    let one = done.get(k)?;
+    Some((
+        one.name.host,
+        one.name.number,
+        one.done.job.lun(),
+        one.done.code,
+    ))
+}
