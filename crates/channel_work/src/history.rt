@@ -288,7 +288,8 @@ impl<L: Ledger> History<L> {
         requires book { book.total ≡ 0 }
         ensures core { result.core ≡ core }
         ensures taker { result.taker ≡ taker }
-        ensures none { (result.events ≡ []) × (result.taken ≡ []) × (result.started ≡ []) × (result.backlog ≡ []) × (result.done ≡ []) × (result.turns ≡ 0) }
+        ensures none { (result.events ≡ []) × (result.taken ≡ []) × (result.started ≡ []) × (result.backlog ≡ []) × (result.done ≡ [])
+            × (result.turns ≡ 0) }
     {
         fresh_is_lawful();
         History {
@@ -311,7 +312,8 @@ impl<L: Ledger> History<L> {
 
     /// The parts that go on.
     pub(crate) fn into_parts(self) -> (Core, Taker<Job>, Vec<NamedDone>, Vec<QueuedJob<Job>>)
-        ensures { (result.0 ≡ self.core) × (result.1 ≡ self.taker) × (map ended_of result.2.items ≡ self.done) × (result.3.items ≡ self.backlog) }
+        ensures { (result.0 ≡ self.core) × (result.1 ≡ self.taker) × (map ended_of result.2.items ≡ self.done)
+            × (result.3.items ≡ self.backlog) }
     {
         (self.core, self.taker, self.done, self.backlog)
     }

@@ -48,7 +48,8 @@ pub(crate) fn take_one<R: Wait>(
 ) -> bool
     requires taken { vec_len taken.old < vec_capacity taken.old }
     requires backlog { vec_len backlog.old < vec_capacity backlog.old }
-    ensures yes { IsTrue result → (t : Took taker.old taker.new taken.old.items taken.new.items backlog.old.items backlog.new.items) × IsInOrder (taker.old.taken ++ t.job ∷ []) taker.old.hosts }
+    ensures yes { IsTrue result → (t : Took taker.old taker.new taken.old.items taken.new.items backlog.old.items backlog.new.items)
+        × IsInOrder (taker.old.taken ++ t.job ∷ []) taker.old.hosts }
     ensures no { IsFalse result → (taker.new ≡ taker.old) × (taken.new.items ≡ taken.old.items) × (backlog.new.items ≡ backlog.old.items) }
 {
     match taker.take(rt) {
@@ -71,8 +72,10 @@ pub(crate) fn make_room(
     taken: &mut Vec<Name>,
     backlog: &mut Vec<QueuedJob<Job>>,
 ) -> bool
-    ensures same { (events.new.items ≡ events.old.items) × (started.new.items ≡ started.old.items) × (taken.new.items ≡ taken.old.items) × (backlog.new.items ≡ backlog.old.items) }
-    ensures room { IsTrue result → (vec_len events.new < vec_capacity events.new) × (vec_len started.new < vec_capacity started.new) × (vec_len taken.new < vec_capacity taken.new) × (vec_len backlog.new < vec_capacity backlog.new) }
+    ensures same { (events.new.items ≡ events.old.items) × (started.new.items ≡ started.old.items) × (taken.new.items ≡ taken.old.items)
+        × (backlog.new.items ≡ backlog.old.items) }
+    ensures room { IsTrue result → (vec_len events.new < vec_capacity events.new) × (vec_len started.new < vec_capacity started.new)
+        × (vec_len taken.new < vec_capacity taken.new) × (vec_len backlog.new < vec_capacity backlog.new) }
 {
     events.reserve(1).is_ok()
         && started.reserve(1).is_ok()

@@ -194,7 +194,8 @@ impl<L: Turns> ChannelState<L> {
     /// A new pass, at most 8.
     pub fn worker(&mut self) -> Option<WorkerPass<L>>
         requires { L.all ≡ 9 }
-        ensures some { IfSome result (λ pass. (pass ≡ 0) × (self.old.passes < 8) × (self.new ≡ record self.old { passes = self.old.passes + 1 })) }
+        ensures some { IfSome result (λ pass. (pass ≡ 0) × (self.old.passes < 8)
+            × (self.new ≡ record self.old { passes = self.old.passes + 1 })) }
         ensures none { IfNone result ((self.old.passes ≡ 8) × (self.new ≡ self.old)) }
     {
         if self.passes == 8 {
@@ -269,7 +270,8 @@ impl<L: Turns> ChannelState<L> {
 
     /// Takes the lease that was parked first.
     pub fn unpark(&mut self) -> Option<Lease<Loaded>>
-        ensures some { IfSome result (λ lease. (self.old.parked ≡ lease ∷ self.new.parked) × (self.new ≡ record self.old { parked = self.new.parked })) }
+        ensures some { IfSome result (λ lease. (self.old.parked ≡ lease ∷ self.new.parked)
+            × (self.new ≡ record self.old { parked = self.new.parked })) }
         ensures none { IfNone result ((self.old.parked ≡ []) × (self.new ≡ self.old)) }
     {
         self.parked.take_first()
@@ -323,8 +325,11 @@ impl<L: Turns> ChannelState<L> {
         passes: Vec<WorkerPass<L>>,
     ) -> Result<Gathered, (ChannelState<L>, Vec<WorkerPass<L>>)>
         requires { L.all ≡ L.parts }
-        ensures turns { IfOk result (λ r. (length passes.items ≡ self.passes) × (r.turns ≡ self.history.turns) × (r.turns ≡ sum passes.items)) }
-        ensures parts { IfOk result (λ r. (r.core ≡ self.history.core) × (r.taker ≡ self.history.taker) × (map ended_of r.done.items ≡ self.history.done) × (r.backlog.items ≡ self.history.backlog) × (r.seats ≡ self.seats) × (r.parked ≡ self.parked)) }
+        ensures turns { IfOk result (λ r. (length passes.items ≡ self.passes) × (r.turns ≡ self.history.turns)
+            × (r.turns ≡ sum passes.items)) }
+        ensures parts { IfOk result (λ r. (r.core ≡ self.history.core) × (r.taker ≡ self.history.taker)
+            × (map ended_of r.done.items ≡ self.history.done) × (r.backlog.items ≡ self.history.backlog) × (r.seats ≡ self.seats)
+            × (r.parked ≡ self.parked)) }
         ensures err { IfErr result (λ r. (length passes.items ≢ self.passes) × (r.0 ≡ self) × (r.1.items ≡ passes.items)) }
     {
         if passes.len() != self.passes as usize {
@@ -337,7 +342,7 @@ impl<L: Turns> ChannelState<L> {
             passes: _,
             mut own,
         } = self;
-        let turns = merged(&mut history, &mut own, passes);
+        let turns = merge_passes(&mut history, &mut own, passes);
         history.audit(&mut own);
         let (core, taker, done, backlog) = history.into_parts();
         Ok(Gathered {
@@ -353,7 +358,7 @@ impl<L: Turns> ChannelState<L> {
 }
 
 // Takes passes into a share, and adds their turns up.
-fn merged<L: Turns>(
+fn merge_passes<L: Turns>(
     history: &mut History<L>,
     own: &mut Share<L>,
     mut passes: Vec<WorkerPass<L>>,

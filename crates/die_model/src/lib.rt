@@ -382,7 +382,10 @@ impl<A: Allocator + Copy> LunDie<A> {
     pub fn fill(&mut self, plane: usize, column: usize, byte: u8)
         requires plane { plane < planes self.old.geometry }
         requires column { column < page_len self.old.geometry }
-        ensures { self.new ≡ record self.old { planes = slice_set self.old.planes plane (slice_set (slice_index_or self.old.planes plane []) column byte) } }
+        ensures { self.new ≡ record self.old {
+          planes = slice_set self.old.planes plane
+              (slice_set (slice_index_or self.old.planes plane []) column byte);
+        } }
     {
         let register = &mut self.planes[plane];
         register.set(column, byte);

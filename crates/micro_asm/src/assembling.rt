@@ -59,7 +59,8 @@ fn words_of<A: Allocator>(alloc: A, survey: &Survey<'_, A>) -> Result<Vec<Word, 
         ≡ Ok v.items) }
     ensures fits { IfOk result (λ v. AllByRecursion (IsInRange Two (length (seen survey.now).entries)) v.items) }
     ensures count { IfOk result (λ v. length v.items ≡ length (seen survey.now).entries) }
-    ensures err { IfErr result (λ e. IsRefusalOf e (words_of (length (seen survey.now).entries) (seen survey.now).labels (seen survey.now).entries)) }
+    ensures err { IfErr result (λ e. IsRefusalOf e (words_of (length (seen survey.now).entries) (seen survey.now).labels
+        (seen survey.now).entries)) }
 {
     let mut words = Vec::with_capacity(alloc, survey.entries.len())?;
     for pending in survey.entries.as_slice() {

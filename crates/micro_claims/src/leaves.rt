@@ -351,7 +351,8 @@ impl KnownLun {
 
     // At work that leaves no register.
     fn at_work(&self, queue: QueuedRows) -> KnownLun
-        ensures { result ≡ record { busy = true; register = None; column = None; queue = queue; last = other_closer; cached = self.now.cached } }
+        ensures { result ≡ record { busy = true; register = None; column = None; queue = queue; last = other_closer;
+            cached = self.now.cached } }
     {
         KnownLun {
             busy: true,
@@ -365,7 +366,8 @@ impl KnownLun {
 
     // At a cache read.
     fn caching(&self, last: LastCloser, cached: CachedPage) -> KnownLun
-        ensures { result ≡ record { busy = true; register = page_register; column = Some (record { at = exactly 0; read = false }); queue = self.now.queue; last = last; cached = cached } }
+        ensures { result ≡ record { busy = true; register = page_register; column = Some (record { at = exactly 0; read = false });
+            queue = self.now.queue; last = last; cached = cached } }
     {
         KnownLun {
             busy: true,
@@ -498,7 +500,8 @@ impl State {
 
     // After a reset.
     fn reset(self) -> State
-        ensures { result ≡ record { registers = self.registers; target = closed None; lun = record { busy = true; register = None; column = None; queue = NoRows; last = other_closer; cached = self.lun.cached } } }
+        ensures { result ≡ record { registers = self.registers; target = closed None;
+            lun = record { busy = true; register = None; column = None; queue = NoRows; last = other_closer; cached = self.lun.cached } } }
     {
         State {
             registers: self.registers,
@@ -509,7 +512,8 @@ impl State {
 
     // After the column that 05h gave.
     fn column_given(self) -> State
-        ensures { result ≡ record { registers = self.registers; target = closed self.target.shows; lun = record self.lun { column = given_at self.target.column } } }
+        ensures { result ≡ record { registers = self.registers; target = closed self.target.shows;
+            lun = record self.lun { column = given_at self.target.column } } }
     {
         State {
             registers: self.registers,
@@ -753,7 +757,8 @@ impl State {
 
     // After `rowadd`.
     fn after_rows(self, geometry: &Geometry, rows: u16) -> State
-        ensures { result ≡ index_moved (drift_more rows) (plus self.registers.index rows) (page_plus geometry.now.pages rows self.registers.page) self }
+        ensures { result ≡ index_moved (drift_more rows) (plus self.registers.index rows)
+            (page_plus geometry.now.pages rows self.registers.page) self }
     {
         let more = u64::from(rows);
         self.index_moved(
@@ -765,7 +770,8 @@ impl State {
 
     // After `row`.
     fn at_row(self, geometry: &Geometry, row: u16) -> State
-        ensures { result ≡ index_moved (drift_set (only self.registers.index) row) (exactly row) (record { lo = row % geometry.now.pages; hi = row % geometry.now.pages }) self }
+        ensures { result ≡ index_moved (drift_set (only self.registers.index) row) (exactly row)
+            (record { lo = row % geometry.now.pages; hi = row % geometry.now.pages }) self }
     {
         let page = u32::from(row) % geometry.parts().pages;
         let row = u64::from(row);

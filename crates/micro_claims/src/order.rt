@@ -411,7 +411,9 @@ impl LoopPlace {
 
 impl Registers {
     fn in_loop(&self, end: &Registers, place: LoopPlace) -> Registers
-        ensures { result ≡ record end.now { column = span_in_loop place self.now.column end.now.column; index = span_in_loop place self.now.index end.now.index; place = span_in_loop place self.now.place end.now.place; cost = span_in_loop place self.now.cost end.now.cost } }
+        ensures { result ≡ record end.now { column = span_in_loop place self.now.column end.now.column;
+            index = span_in_loop place self.now.index end.now.index; place = span_in_loop place self.now.place end.now.place;
+            cost = span_in_loop place self.now.cost end.now.cost } }
     {
         Registers {
             column: place.number(self.column, end.column),

@@ -368,7 +368,8 @@ pub fn register_bytes(
     past: &[Item],
     l: Lun,
 ) -> Result<Vec<u8>, AllocError>
-    ensures { IfOk result (λ v. v.items ≡ register_bytes parameters.now (content geometry.now (opening_of (page_len geometry.now) opening.now) past.now l) (register geometry.now past.now l)) }
+    ensures { IfOk result (λ v. v.items ≡ register_bytes parameters.now
+        (content geometry.now (opening_of (page_len geometry.now) opening.now) past.now l) (register geometry.now past.now l)) }
 {
     match register(alloc, geometry, past, l)? {
         Register::Empty => Ok(Vec::new(alloc)),
@@ -387,7 +388,9 @@ fn data_byte(
     past: &[Item],
     l: Lun,
 ) -> Result<Option<u8>, AllocError>
-    ensures { IfOk result (λ b. b ≡ byte_at (register_bytes parameters.now (content geometry.now (opening_of (page_len geometry.now) opening.now) past.now l) (register geometry.now past.now l)) (output_column (read_column geometry.now past.now l))) }
+    ensures { IfOk result (λ b. b ≡ byte_at (register_bytes parameters.now
+        (content geometry.now (opening_of (page_len geometry.now) opening.now) past.now l) (register geometry.now past.now l))
+        (output_column (read_column geometry.now past.now l))) }
 {
     match output_column(read_column(alloc, geometry, past, l)?) {
         None => Ok(None),

@@ -20,7 +20,7 @@ const ONCE: &str =
     "Runs the word file on standard input once, and prints the trace. It runs on an erased die: 1 LUN, 1 plane, 8 blocks of 4 pages of 512 + 16 bytes";
 
 // An argument that has to be given.
-fn required<'a>(alloc: Global, id: &'a str, help: &'a str) -> Arg<'a> {
+fn require<'a>(alloc: Global, id: &'a str, help: &'a str) -> Arg<'a> {
     Arg::new(alloc, id).required(true).help(help)
 }
 
@@ -28,8 +28,8 @@ fn assemble<'a>(alloc: Global) -> Result<clap::Command<'a>, Error> {
     let command = clap::Command::new(alloc, "asm")
         .about("Assembles a text into a word file, and prints `ok`")
         .after_help("Example: onfiseq asm erase.asm erase.nmp")
-        .arg(required(alloc, "IN", "The assembly text, as docs/ASSEMBLY.md has it"))?
-        .arg(required(alloc, "OUT", "The word file to write, in format 2"))?;
+        .arg(require(alloc, "IN", "The assembly text, as docs/ASSEMBLY.md has it"))?
+        .arg(require(alloc, "OUT", "The word file to write, in format 2"))?;
     Ok(command)
 }
 
@@ -43,8 +43,8 @@ fn verify<'a>(alloc: Global) -> Result<clap::Command<'a>, Error> {
     let command = clap::Command::new(alloc, "verify")
         .about("Verifies a word file for a die, and prints `accepted`")
         .after_help("Example: onfiseq verify die.page erase.nmp --counter wrong.trace")
-        .arg(required(alloc, "PAGE", "The parameter page of the die"))?
-        .arg(required(alloc, "IN", "The word file, of either format"))?
+        .arg(require(alloc, "PAGE", "The parameter page of the die"))?
+        .arg(require(alloc, "IN", "The word file, of either format"))?
         .arg(counter)?;
     Ok(command)
 }
@@ -93,7 +93,7 @@ fn run<'a>(alloc: Global) -> Result<clap::Command<'a>, Error> {
     let command = clap::Command::new(alloc, "run")
         .about("Runs a channel as a run file says, and prints the trace and each job's code")
         .after_help("Example: onfiseq run examples/two_luns.run --workers 2")
-        .arg(required(alloc, "FILE", "The run file, as docs/RUNFILES.md has it"))?
+        .arg(require(alloc, "FILE", "The run file, as docs/RUNFILES.md has it"))?
         .arg(workers(alloc))?
         .arg(quiet)?
         .arg(trace)?
@@ -102,13 +102,13 @@ fn run<'a>(alloc: Global) -> Result<clap::Command<'a>, Error> {
 }
 
 fn check<'a>(alloc: Global) -> Result<clap::Command<'a>, Error> {
-    let targets = required(alloc, "TARGETS", "How many targets the channel has").value_parser([
+    let targets = require(alloc, "TARGETS", "How many targets the channel has").value_parser([
         "1", "2", "3", "4",
     ].as_slice());
     let command = clap::Command::new(alloc, "check")
         .about("Checks whether a trace is legal on a channel, and prints `legal`")
         .after_help("Example: onfiseq check die.page 1 erase.trace")
-        .arg(required(alloc, "PAGE", "The parameter page of each die"))?
+        .arg(require(alloc, "PAGE", "The parameter page of each die"))?
         .arg(targets)?
         .arg(required(
             alloc,
@@ -122,7 +122,7 @@ fn disassemble<'a>(alloc: Global) -> Result<clap::Command<'a>, Error> {
     let command = clap::Command::new(alloc, "dis")
         .about("Prints the assembly text of a word file")
         .after_help("Example: onfiseq dis erase.nmp > erase.asm")
-        .arg(required(alloc, "IN", "The word file, of either format"))?;
+        .arg(require(alloc, "IN", "The word file, of either format"))?;
     Ok(command)
 }
 
@@ -130,14 +130,14 @@ fn upgrade<'a>(alloc: Global) -> Result<clap::Command<'a>, Error> {
     let command = clap::Command::new(alloc, "upgrade")
         .about("Writes a word file of either format as one of format 2, and prints `ok`")
         .after_help("Example: onfiseq upgrade old.nmp new.nmp")
-        .arg(required(alloc, "IN", "The word file to read"))?
-        .arg(required(alloc, "OUT", "The word file to write, in format 2"))?;
+        .arg(require(alloc, "IN", "The word file to read"))?
+        .arg(require(alloc, "OUT", "The word file to write, in format 2"))?;
     Ok(command)
 }
 
 // The command line, as it is declared: the commands in the order in which an author uses them. It has its name in usage, however
 // the program was called.
-fn declared<'a>(alloc: Global) -> Result<clap::Command<'a>, Error> {
+fn declare<'a>(alloc: Global) -> Result<clap::Command<'a>, Error> {
     let command = clap::Command::new(alloc, "onfiseq")
         .bin_name("onfiseq")?
         .version("0.1.0")
@@ -154,12 +154,12 @@ fn declared<'a>(alloc: Global) -> Result<clap::Command<'a>, Error> {
 }
 
 // The word that is given for an argument; one that has to be given is there.
-fn given<'a>(matches: &ArgMatches<'a>, id: &str) -> &'a str {
+fn find_word<'a>(matches: &ArgMatches<'a>, id: &str) -> &'a str {
     matches.get_str(id).unwrap_or("")
 }
 
 // The number of targets; the parser takes no other word than 1 to 4.
-fn targets(word: &str) -> Targets {
+fn read_targets(word: &str) -> Targets {
     match word {
         "1" => Targets::One,
         "2" => Targets::Two,
@@ -179,8 +179,8 @@ fn count_workers(word: &str) -> u8 {
 // What a run is asked for.
 fn read_run<'a>(matches: &ArgMatches<'a>) -> RunRequest<'a> {
     RunRequest {
-        path: given(matches, "FILE"),
-        workers: count_workers(given(matches, "workers")),
+        path: find_word(matches, "FILE"),
+        workers: count_workers(find_word(matches, "workers")),
         is_quiet: matches.get_flag("quiet"),
         trace: matches.get_str("trace"),
         has_stats: matches.get_flag("stats"),
@@ -188,10 +188,10 @@ fn read_run<'a>(matches: &ArgMatches<'a>) -> RunRequest<'a> {
 }
 
 // What a command and its arguments ask for.
-fn read_asked<'a>(name: &str, matches: &ArgMatches<'a>) -> Asked<'a> {
-    let input = given(matches, "IN");
-    let page = given(matches, "PAGE");
-    let target = given(matches, "OUT");
+fn read_command<'a>(name: &str, matches: &ArgMatches<'a>) -> Asked<'a> {
+    let input = find_word(matches, "IN");
+    let page = find_word(matches, "PAGE");
+    let target = find_word(matches, "OUT");
     match name {
         "run" => Asked::Run(read_run(matches)),
         "asm" => Asked::Files(Command::Assemble { input, target }),
@@ -204,8 +204,8 @@ fn read_asked<'a>(name: &str, matches: &ArgMatches<'a>) -> Asked<'a> {
         }),
         "check" => Asked::Files(Command::Check {
             page,
-            targets: targets(given(matches, "TARGETS")),
-            input: given(matches, "TRACE"),
+            targets: read_targets(find_word(matches, "TARGETS")),
+            input: find_word(matches, "TRACE"),
         }),
         _ => Asked::Once {
             base: matches.get_one::<u32>("base").unwrap_or(0),
@@ -216,9 +216,9 @@ fn read_asked<'a>(name: &str, matches: &ArgMatches<'a>) -> Asked<'a> {
 /// What these words ask for; the first is the name of the program. An error has the text for the user, and so have the
 /// words that ask for help.
 pub fn parse<'a>(alloc: Global, words: &'a [String]) -> Result<Asked<'a>, Error> {
-    let matches = declared(alloc)?.try_get_matches_from(words)?;
+    let matches = declare(alloc)?.try_get_matches_from(words)?;
     match matches.subcommand() {
-        Some((name, given)) => Ok(read_asked(name, given)),
+        Some((name, given)) => Ok(read_command(name, given)),
         None => Ok(Asked::Once { base: 0 }),
     }
 }

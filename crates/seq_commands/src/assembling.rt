@@ -20,7 +20,7 @@ use std::alloc::Allocator;
 use std::io::Write;
 
 // The word file of an assembly text.
-fn assembled<A: Allocator + Clone>(
+fn make_file<A: Allocator + Clone>(
     alloc: A,
     path: &str,
     text: &str,
@@ -54,7 +54,7 @@ fn assemble_at<A: Allocator + Clone, F: Files>(
 {
     let bytes = file_of(alloc.clone()?, files, Medium::Input, input)?;
     let text = str_of(bytes.as_slice())?;
-    let file = assembled(alloc, input, text)?;
+    let file = make_file(alloc, input, text)?;
     put_file(files, target, file.as_slice())
 }
 

@@ -176,7 +176,8 @@ fn put<A: Allocator + Copy>(
 ) -> Result<(), AllocError>
     requires inside { place + len ≤ length buffer.now }
     requires own { MovesAreOwn (channel_of bus.old) lun (gives Din (part place len buffer.now)) bus.old.past }
-    ensures ok { IfOk result (λ _. IsSame bus.old bus.new × Plays (channel_of bus.old) lun.ce (gives Din (part place len buffer.now)) bus.old.past bus.new.past []) }
+    ensures ok { IfOk result (λ _. IsSame bus.old bus.new × Plays (channel_of bus.old) lun.ce
+        (gives Din (part place len buffer.now)) bus.old.past bus.new.past []) }
     ensures err { OnErr result (IsUntouched bus.old bus.new) }
 {
     bus.reserve(len)?;

@@ -48,7 +48,8 @@ fn read_job<'a, F: Files>(
     input: Option<&'a str>,
 ) -> Result<Job, Failure<'a>>
     ensures ok { OnOk result (JobPasses (F.store files.old) geometry targets lun base text.now (option_copied input.entry)) }
-    ensures err { IfErr result (Says (JobLineIsRefused (F.store files.old) geometry targets lun base text.now (option_copied input.entry))) }
+    ensures err { IfErr result (Says (JobLineIsRefused (F.store files.old) geometry targets lun base text.now
+        (option_copied input.entry))) }
     ensures stays { F.store files.new ≡ F.store files.old }
 {
     let verified = read_verified(alloc, files, geometry, text)?;
@@ -76,8 +77,10 @@ impl<'a> RunPlan<'a> {
         files: &mut F,
         statement: Statement<'a>,
     ) -> Result<(), Failure<'a>>
-        ensures ok { OnOk result (Passes (F.store files.old) self.old.dies.geometry self.old.dies.targets (shown_statement statement.entry)) }
-        ensures err { IfErr result (Says (IsRefused (F.store files.old) self.old.dies.geometry self.old.dies.targets (shown_statement statement.entry))) }
+        ensures ok { OnOk result (Passes (F.store files.old) self.old.dies.geometry self.old.dies.targets
+            (shown_statement statement.entry)) }
+        ensures err { IfErr result (Says (IsRefused (F.store files.old) self.old.dies.geometry self.old.dies.targets
+            (shown_statement statement.entry))) }
         ensures channel { (self.new.dies.geometry ≡ self.old.dies.geometry) × (self.new.dies.targets ≡ self.old.dies.targets) }
         ensures jobs { OnOk result (planned_outputs self.new.jobs.all.items ≡ planned_outputs self.old.jobs.all.items
             ++ filter_map output_in (shown_statement statement.entry ∷ [])) }
@@ -121,7 +124,8 @@ impl<'a> RunPlan<'a> {
         path: &'a str,
     ) -> Result<(), Failure<'a>>
         ensures ok { OnOk result (Passes (F.store files.old) self.old.dies.geometry self.old.dies.targets (ImageLine target lun path.now)) }
-        ensures err { IfErr result (Says (IsRefused (F.store files.old) self.old.dies.geometry self.old.dies.targets (ImageLine target lun path.now))) }
+        ensures err { IfErr result (Says (IsRefused (F.store files.old) self.old.dies.geometry self.old.dies.targets
+            (ImageLine target lun path.now))) }
         ensures channel { (self.new.dies.geometry ≡ self.old.dies.geometry) × (self.new.dies.targets ≡ self.old.dies.targets) }
         ensures jobs { self.new.jobs ≡ self.old.jobs }
         ensures images { OnOk result (planned_images self.new.images.items ≡ planned_images self.old.images.items
@@ -147,8 +151,10 @@ impl<'a> RunPlan<'a> {
         input: Option<&'a str>,
         output: Option<&'a str>,
     ) -> Result<(), Failure<'a>>
-        ensures ok { OnOk result (JobPasses (F.store files.old) self.old.dies.geometry self.old.dies.targets l base text.now (option_copied input.entry)) }
-        ensures err { IfErr result (Says (JobLineIsRefused (F.store files.old) self.old.dies.geometry self.old.dies.targets l base text.now (option_copied input.entry))) }
+        ensures ok { OnOk result (JobPasses (F.store files.old) self.old.dies.geometry self.old.dies.targets l base text.now
+            (option_copied input.entry)) }
+        ensures err { IfErr result (Says (JobLineIsRefused (F.store files.old) self.old.dies.geometry self.old.dies.targets l base text.now
+            (option_copied input.entry))) }
         ensures channel { (self.new.dies.geometry ≡ self.old.dies.geometry) × (self.new.dies.targets ≡ self.old.dies.targets) }
         ensures jobs { OnOk result (planned_outputs self.new.jobs.all.items ≡ planned_outputs self.old.jobs.all.items
             ++ (option_copied output.entry ∷ [])) }
@@ -186,8 +192,10 @@ impl<'a> RunPlan<'a> {
         files: &mut F,
         numbered: Numbered<'a>,
     ) -> Result<(), NotRun<'a>>
-        ensures ok { OnOk result (Passes (F.store files.old) self.old.dies.geometry self.old.dies.targets (shown_statement numbered.entry.statement)) }
-        ensures err { IfErr result (Refuses (IsRefusedAt (F.store files.old) self.old.dies.geometry self.old.dies.targets (shown_numbered numbered.entry))) }
+        ensures ok { OnOk result (Passes (F.store files.old) self.old.dies.geometry self.old.dies.targets
+            (shown_statement numbered.entry.statement)) }
+        ensures err { IfErr result (Refuses (IsRefusedAt (F.store files.old) self.old.dies.geometry self.old.dies.targets
+            (shown_numbered numbered.entry))) }
         ensures channel { (self.new.dies.geometry ≡ self.old.dies.geometry) × (self.new.dies.targets ≡ self.old.dies.targets) }
         ensures jobs { OnOk result (planned_outputs self.new.jobs.all.items ≡ planned_outputs self.old.jobs.all.items
             ++ outputs_of (shown_numbered numbered.entry ∷ [])) }
@@ -212,7 +220,8 @@ impl<'a> RunPlan<'a> {
         last: Option<RunRefusal>,
     ) -> Result<(), NotRun<'a>>
         ensures ok { OnOk result (RestPasses (F.store files.old) self.old.dies.geometry self.old.dies.targets (shown_all rest.now) last) }
-        ensures err { IfErr result (Refuses (RestIsRefused (F.store files.old) self.old.dies.geometry self.old.dies.targets (shown_all rest.now) last)) }
+        ensures err { IfErr result (Refuses (RestIsRefused (F.store files.old) self.old.dies.geometry self.old.dies.targets
+            (shown_all rest.now) last)) }
         ensures channel { (self.new.dies.geometry ≡ self.old.dies.geometry) × (self.new.dies.targets ≡ self.old.dies.targets) }
         ensures jobs { OnOk result (planned_outputs self.new.jobs.all.items ≡ planned_outputs self.old.jobs.all.items
             ++ outputs_of (shown_all rest.now)) }

@@ -185,7 +185,8 @@ impl<A: Allocator + Copy> Bus<A> {
     pub fn take(&mut self, ce: u8) -> Result<u8, BusRefusal>
         ensures ok { IfOk result (λ byte. (broken self.old.geometry self.old.targets self.old.past (cycle ce Dout byte) ≡ None)
             × (bus_byte (channel_of self.old) self.old.past ce ≡ Some byte) × IsNext self.old self.new (cycle ce Dout byte)) }
-        ensures err { IfErr result (λ e. ((byte : ℕ) → Refuses e (broken self.old.geometry self.old.targets self.old.past (cycle ce Dout byte))) × (self.new ≡ self.old)) }
+        ensures err { IfErr result (λ e. ((byte : ℕ) → Refuses e
+            (broken self.old.geometry self.old.targets self.old.past (cycle ce Dout byte))) × (self.new ≡ self.old)) }
         ensures memory { 0 < self.old.room → IfErr result (λ e. e ≢ BusRefusal.OutOfMemory) }
     {
         if let Some(rule) = judge_output(&self.state, ce) {
