@@ -10,9 +10,8 @@ ghost use Rattle.die_model.specs.Die.{effect_of, work_begun, work_of, works_of, 
 use crate::Work;
 use crate::page::Page;
 use crate::pages::Pages;
-use arrayvec::ArrayVec;
 use nand_geometry::Parts;
-use onfi_cycle::{Effect, PageAddress, Queued};
+use onfi_cycle::{Effect, PageAddress, Queued, RowQueue};
 use std::alloc::Allocator;
 
 /// The effect that a work stands for.
@@ -76,7 +75,7 @@ pub fn caching_after(effect: Effect, before: bool) -> bool
 }
 
 /// A work joins the rows that wait; they are closed by it or not.
-pub fn join(members: &mut ArrayVec<Queued, 16>, work: Work) -> bool
+pub fn join(members: &mut RowQueue, work: Work) -> bool
     requires { is_reset work ≡ false → length members.old.items < 16 }
     ensures members { members.new.items ≡ members_after work members.old.items }
     ensures closed { result ≡ closes work }

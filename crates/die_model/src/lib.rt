@@ -29,8 +29,8 @@ use effects::{caching_after, effect_of, end_works, join, page_to_keep, plane_of,
 use loading::{image_fault, keep_image};
 use nand_geometry::Geometry;
 use onfi_cycle::{
-    Effect, Filling, PageAddress, Queued, Register, Status, array_busy_after, array_page_after,
-    busy_after, register_after,
+    Effect, Filling, PageAddress, Queued, Register, RowQueue, Status, array_busy_after,
+    array_page_after, busy_after, register_after,
 };
 use page::Page;
 pub use pages::Pages;
@@ -70,7 +70,7 @@ struct Activity {
     caching: bool,
     array_busy: bool,
     // The rows that are queued, the newest first.
-    members: ArrayVec<Queued, 16>,
+    members: RowQueue,
     // The next ready ends them.
     closed: bool,
     failed: bool,

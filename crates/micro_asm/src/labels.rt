@@ -3,10 +3,7 @@ ghost use Rattle.std.specs.Prelude.{◌≡◌, ℕ, ◌<◌, ◌||◌, IfSome, s
 ghost use Rattle.micro_asm.specs.Assembly.{is_target, branches_to};
 ghost use Rattle.micro_asm.specs.Targets.{target_of, TargetsBelow};
 
-use micro_word::Word;
-
-/// The greatest number of words of a text.
-pub const MAX_WORDS: usize = 1024;
+use micro_word::{MAX_WORDS, Word};
 
 // The word to which a word branches, if it is a branch.
 fn target_of(word: Word) -> Option<u16>

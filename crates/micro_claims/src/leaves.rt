@@ -9,7 +9,7 @@ ghost use Rattle.micro_claims.specs.Accepts.{word_leaves, state_after};
 
 use crate::planes::Planes;
 use crate::reasons::cost;
-use crate::span::Span;
+use crate::span::{GREATEST_BOUND, Span};
 use crate::state::{
     CachedPage, Drift, Held, IndexMove, KnownLun, KnownTarget, LastCloser, NamedRow, OutputColumn,
     PageRange, Place, QueuedRows, Registers, Shown, State,
@@ -17,8 +17,6 @@ use crate::state::{
 use micro_word::Word;
 use nand_geometry::Geometry;
 use onfi_cycle::Command;
-
-const GREATEST_BOUND: u64 = 4_611_686_018_427_387_904;
 
 // Others may have the bus, and drive.
 const ANY_DRIVER: Option<Shown> = None;
@@ -351,8 +349,14 @@ impl KnownLun {
 
     // At work that leaves no register.
     fn at_work(&self, queue: QueuedRows) -> KnownLun
-        ensures { result ≡ record { busy = true; register = None; column = None; queue = queue; last = other_closer;
-            cached = self.now.cached } }
+        ensures { result ≡ record {
+          busy = true;
+          register = None;
+          column = None;
+          queue = queue;
+          last = other_closer;
+          cached = self.now.cached;
+        } }
     {
         KnownLun {
             busy: true,
@@ -366,8 +370,14 @@ impl KnownLun {
 
     // At a cache read.
     fn caching(&self, last: LastCloser, cached: CachedPage) -> KnownLun
-        ensures { result ≡ record { busy = true; register = page_register; column = Some (record { at = exactly 0; read = false });
-            queue = self.now.queue; last = last; cached = cached } }
+        ensures { result ≡ record {
+          busy = true;
+          register = page_register;
+          column = Some (record { at = exactly 0; read = false });
+          queue = self.now.queue;
+          last = last;
+          cached = cached;
+        } }
     {
         KnownLun {
             busy: true,
@@ -500,8 +510,11 @@ impl State {
 
     // After a reset.
     fn reset(self) -> State
-        ensures { result ≡ record { registers = self.registers; target = closed None;
-            lun = record { busy = true; register = None; column = None; queue = NoRows; last = other_closer; cached = self.lun.cached } } }
+        ensures { result ≡ record {
+          registers = self.registers;
+          target = closed None;
+          lun = record { busy = true; register = None; column = None; queue = NoRows; last = other_closer; cached = self.lun.cached };
+        } }
     {
         State {
             registers: self.registers,
@@ -512,8 +525,11 @@ impl State {
 
     // After the column that 05h gave.
     fn column_given(self) -> State
-        ensures { result ≡ record { registers = self.registers; target = closed self.target.shows;
-            lun = record self.lun { column = given_at self.target.column } } }
+        ensures { result ≡ record {
+          registers = self.registers;
+          target = closed self.target.shows;
+          lun = record self.lun { column = given_at self.target.column };
+        } }
     {
         State {
             registers: self.registers,

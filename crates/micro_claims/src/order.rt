@@ -4,13 +4,11 @@ ghost use Rattle.micro_claims.specs.Order.{is_bound_within, is_growth_within, is
 ghost use Rattle.micro_claims.specs.Spans.{saturated};
 
 use crate::planes::Planes;
-use crate::span::{Growth, Span, bound_plus};
+use crate::span::{GREATEST_BOUND, Growth, Span, bound_plus};
 use crate::state::{
     CachedPage, Drift, Held, KnownLun, KnownTarget, LoopPlace, NamedRow, OutputColumn, Place,
     QueuedRows, Registers, Shown, State,
 };
-
-const GREATEST_BOUND: u64 = 4_611_686_018_427_387_904;
 
 const NO_GROWTH: Option<Growth> = Some(Growth { lo: 0, hi: Some(0) });
 
@@ -411,9 +409,12 @@ impl LoopPlace {
 
 impl Registers {
     fn in_loop(&self, end: &Registers, place: LoopPlace) -> Registers
-        ensures { result ≡ record end.now { column = span_in_loop place self.now.column end.now.column;
-            index = span_in_loop place self.now.index end.now.index; place = span_in_loop place self.now.place end.now.place;
-            cost = span_in_loop place self.now.cost end.now.cost } }
+        ensures { result ≡ record end.now {
+          column = span_in_loop place self.now.column end.now.column;
+          index = span_in_loop place self.now.index end.now.index;
+          place = span_in_loop place self.now.place end.now.place;
+          cost = span_in_loop place self.now.cost end.now.cost;
+        } }
     {
         Registers {
             column: place.number(self.column, end.column),

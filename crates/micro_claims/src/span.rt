@@ -3,7 +3,7 @@ ghost use Rattle.std.specs.Prelude.{◌≡◌, ◌+◌, Some};
 ghost use Rattle.micro_claims.specs.Spans.{kept, saturated, bound_plus, exactly, growth_plus, plus_between, plus, is_at_most, only, copied};
 
 /// Bounds are kept up to this number; a higher one is no bound.
-const GREATEST_BOUND: u64 = 4_611_686_018_427_387_904;
+pub(crate) const GREATEST_BOUND: u64 = 4_611_686_018_427_387_904;
 
 /// How much a number has grown since the turn of a loop began.
 #[derive(Clone, Copy)]

@@ -38,7 +38,10 @@ impl Default for Queued {
     }
 }
 
-impl WorkQueue for ArrayVec<Queued, 16> {
+/// The rows that are queued on a LUN, in an array of fixed size. A legal trace queues 4 at most.
+pub type RowQueue = ArrayVec<Queued, 16>;
+
+impl WorkQueue for RowQueue {
     ghost members = { λ v. v.items };
 
     fn works(&self) -> &[Queued] {
@@ -47,7 +50,7 @@ impl WorkQueue for ArrayVec<Queued, 16> {
 }
 
 // A LUN to which nothing has happened.
-fn fresh_lun() -> LunFacts<ArrayVec<Queued, 16>>
+fn fresh_lun() -> LunFacts<RowQueue>
     ensures { (g : Parts) (l : Lun) → result ≡ lun_view g [] l }
 {
     LunFacts {
@@ -66,9 +69,9 @@ fn fresh_lun() -> LunFacts<ArrayVec<Queued, 16>>
     }
 }
 
-impl Default for LunFacts<ArrayVec<Queued, 16>> {
+impl Default for LunFacts<RowQueue> {
     /// A LUN to which nothing has happened.
-    fn default() -> LunFacts<ArrayVec<Queued, 16>> {
+    fn default() -> LunFacts<RowQueue> {
         fresh_lun()
     }
 }
@@ -77,7 +80,7 @@ impl Default for LunFacts<ArrayVec<Queued, 16>> {
 #[derive(Drop)]
 struct TargetState {
     tail: TailFacts,
-    luns: ArrayVec<LunFacts<ArrayVec<Queued, 16>>, 4>,
+    luns: ArrayVec<LunFacts<RowQueue>, 4>,
 }
 
 impl Model for TargetState {
@@ -114,7 +117,7 @@ impl Model for BusState {
 }
 
 // What an effect leaves of a queue.
-fn apply_to_queue(queue: &mut ArrayVec<Queued, 16>, effect: Effect)
+fn apply_to_queue(queue: &mut RowQueue, effect: Effect)
     requires { length queue.old.items < 16 }
     ensures { queue.new.items ≡ queue_after effect queue.old.items }
 {
@@ -130,7 +133,7 @@ fn apply_to_queue(queue: &mut ArrayVec<Queued, 16>, effect: Effect)
 
 // What an effect that may change everything leaves of a LUN.
 #[inline(always)]
-fn renew_lun(lun: &mut LunFacts<ArrayVec<Queued, 16>>, effect: Effect)
+fn renew_lun(lun: &mut LunFacts<RowQueue>, effect: Effect)
     requires outputs { lun.old.column.outputs ≤ 2 ^ 16 }
     requires array_page { lun.old.array_page.page < 2 ^ 32 }
     requires queue { length lun.old.queue ≤ 4 }
@@ -147,7 +150,7 @@ fn renew_lun(lun: &mut LunFacts<ArrayVec<Queued, 16>>, effect: Effect)
 }
 
 // What an effect leaves of a LUN: most change little of it.
-fn apply_to_lun(lun: &mut LunFacts<ArrayVec<Queued, 16>>, effect: Effect)
+fn apply_to_lun(lun: &mut LunFacts<RowQueue>, effect: Effect)
     requires outputs { lun.old.column.outputs ≤ 2 ^ 16 }
     requires array_page { lun.old.array_page.page < 2 ^ 32 }
     requires queue { length lun.old.queue ≤ 4 }
@@ -187,7 +190,7 @@ fn asks_driver(cycle: TargetCycle) -> bool
 }
 
 // Some LUN shows data.
-fn some_shows_data(luns: &[LunFacts<ArrayVec<Queued, 16>>]) -> bool
+fn some_shows_data(luns: &[LunFacts<RowQueue>]) -> bool
     ensures { result ≡ some_lun_is (λ v. is_data v.latch) luns.now }
 {
     match luns {
@@ -223,7 +226,7 @@ fn acts_by_address(opener: Command) -> bool
 }
 
 // The cycle may do something to a LUN of its target.
-fn may_act(tail: &TailFacts, luns: &[LunFacts<ArrayVec<Queued, 16>>], cycle: TargetCycle) -> bool
+fn may_act(tail: &TailFacts, luns: &[LunFacts<RowQueue>], cycle: TargetCycle) -> bool
     ensures { result ≡ may_act tail.now luns.now cycle }
 {
     match cycle {
@@ -241,7 +244,7 @@ fn may_act(tail: &TailFacts, luns: &[LunFacts<ArrayVec<Queued, 16>>], cycle: Tar
 
 // What a cycle leaves of the LUN of number n of its target.
 fn apply_to_one(
-    lun: &mut LunFacts<ArrayVec<Queued, 16>>,
+    lun: &mut LunFacts<RowQueue>,
     geometry: &Geometry,
     tail: &TailFacts,
     has_driver: bool,
@@ -257,7 +260,7 @@ fn apply_to_one(
 
 // What a cycle leaves of the LUNs of its target, from number n on.
 fn apply_from(
-    luns: &mut [LunFacts<ArrayVec<Queued, 16>>],
+    luns: &mut [LunFacts<RowQueue>],
     geometry: &Geometry,
     tail: &TailFacts,
     has_driver: bool,
@@ -278,7 +281,7 @@ fn apply_from(
 
 // What a cycle leaves of the LUNs of its target.
 fn apply_to_luns(
-    luns: &mut [LunFacts<ArrayVec<Queued, 16>>],
+    luns: &mut [LunFacts<RowQueue>],
     geometry: &Geometry,
     tail: &TailFacts,
     cycle: TargetCycle,
@@ -294,7 +297,7 @@ fn apply_to_luns(
 }
 
 // The LUN becomes ready.
-fn become_ready(lun: &mut LunFacts<ArrayVec<Queued, 16>>, failed: bool)
+fn become_ready(lun: &mut LunFacts<RowQueue>, failed: bool)
     ensures { lun.new ≡ view_after (Effect.BecameReady failed) lun.old }
 {
     let effect = Effect::BecameReady { failed };
@@ -303,14 +306,14 @@ fn become_ready(lun: &mut LunFacts<ArrayVec<Queued, 16>>, failed: bool)
 }
 
 // The array of the LUN becomes ready.
-fn become_array_ready(lun: &mut LunFacts<ArrayVec<Queued, 16>>)
+fn become_array_ready(lun: &mut LunFacts<RowQueue>)
     ensures { lun.new ≡ view_after Effect.ArrayBecameReady lun.old }
 {
     lun.array_busy = false;
 }
 
 // The LUN of this number becomes ready, if it is there.
-fn end_work(luns: &mut [LunFacts<ArrayVec<Queued, 16>>], n: u8, failed: bool)
+fn end_work(luns: &mut [LunFacts<RowQueue>], n: u8, failed: bool)
     ensures { luns.new ≡ one_after (Effect.BecameReady failed) n luns.old }
 {
     let place = usize::from(n);
@@ -320,7 +323,7 @@ fn end_work(luns: &mut [LunFacts<ArrayVec<Queued, 16>>], n: u8, failed: bool)
 }
 
 // The array of the LUN of this number becomes ready, if it is there.
-fn end_array_work(luns: &mut [LunFacts<ArrayVec<Queued, 16>>], n: u8)
+fn end_array_work(luns: &mut [LunFacts<RowQueue>], n: u8)
     ensures { luns.new ≡ one_after Effect.ArrayBecameReady n luns.old }
 {
     let place = usize::from(n);
@@ -335,7 +338,7 @@ impl TargetState {
         requires { count ≤ 4 }
         ensures { (g : Parts) (ce : ℕ) → g.luns ≡ count → result ≡ target_view g [] ce }
     {
-        let mut luns: ArrayVec<LunFacts<ArrayVec<Queued, 16>>, 4> = ArrayVec::new();
+        let mut luns: ArrayVec<LunFacts<RowQueue>, 4> = ArrayVec::new();
         for _ in 0..count {
             luns.push(fresh_lun());
         }
@@ -374,7 +377,7 @@ impl TargetState {
 }
 
 // A look at a LUN.
-fn look_at(lun: &LunFacts<ArrayVec<Queued, 16>>) -> LunState
+fn look_at(lun: &LunFacts<RowQueue>) -> LunState
     requires given { IfSome lun.now.column.given (λ from. from < 2 ^ 16) }
     requires outputs { lun.now.column.outputs ≤ 2 ^ 16 }
     ensures { result ≡ look_at lun.now }
@@ -391,7 +394,7 @@ fn look_at(lun: &LunFacts<ArrayVec<Queued, 16>>) -> LunState
 }
 
 // The LUN of this number, if it is there.
-fn lun_at(luns: &[LunFacts<ArrayVec<Queued, 16>>], n: u8) -> Option<&LunFacts<ArrayVec<Queued, 16>>>
+fn lun_at(luns: &[LunFacts<RowQueue>], n: u8) -> Option<&LunFacts<RowQueue>>
     ensures { option_copied result ≡ slice_get luns.now n }
 {
     luns.get(usize::from(n))

@@ -18,7 +18,7 @@ mod status_byte;
 mod tail_facts;
 mod target_cycle;
 
-pub use bus_state::{BusState, LunState};
+pub use bus_state::{BusState, LunState, RowQueue};
 pub use command::Command;
 pub use effect::{
     Effect, PageAddress, array_busy_after, array_page_after, busy_after, closer_after,

@@ -2,8 +2,8 @@
 ghost use Rattle.std.specs.Prelude.{◌≡◌, ◌≤◌, ◌*◌, length};
 ghost use Rattle.onfi_cycle.specs.Readies.{starts, starts_work, awaits_parameters, due_at, due_of, ReadiesAreDue};
 
-use crate::{Command, Item, LunFacts, Opening, Queued, TailFacts, TargetCycle, is_cache_read};
-use arrayvec::ArrayVec;
+use crate::bus_state::RowQueue;
+use crate::{Command, Item, LunFacts, Opening, TailFacts, TargetCycle, is_cache_read};
 
 // The command starts work, or its address does.
 fn starts(command: Command) -> bool
@@ -51,7 +51,7 @@ fn awaits_parameters(tail: &TailFacts) -> bool
 }
 
 // The readies still to come of a LUN.
-fn due_at(tail: &TailFacts, lun: &LunFacts<ArrayVec<Queued, 16>>) -> usize
+fn due_at(tail: &TailFacts, lun: &LunFacts<RowQueue>) -> usize
     ensures value { result ≡ due_at tail.now lun.now }
     ensures most { result ≤ 4 }
 {
@@ -62,7 +62,7 @@ fn due_at(tail: &TailFacts, lun: &LunFacts<ArrayVec<Queued, 16>>) -> usize
 }
 
 /// The readies still to come of the LUNs of a target.
-pub(crate) fn due_of(tail: &TailFacts, luns: &[LunFacts<ArrayVec<Queued, 16>>]) -> usize
+pub(crate) fn due_of(tail: &TailFacts, luns: &[LunFacts<RowQueue>]) -> usize
     requires { length luns.now ≤ 4 }
     ensures value { result ≡ due_of tail.now luns.now }
     ensures most { result ≤ 4 * length luns.now }
