@@ -3,42 +3,17 @@ use Rattle.std.proofs.Common.{◌≡◌, ℕ, ◌+◌, List, [], ◌∷◌, ◌+
 use Rattle.std.specs.List.{AllByRecursion}
 use Rattle.std.proofs.lemmas.List.{map-append, append_assoc, append-nil}
 use Rattle.onfi_cycle.specs.declared.item.Lun.{Lun}
-use Rattle.onfi_cycle.specs.Channel.{Channel}
 use Rattle.seq_core.specs.declared.answers.Stepped.{Stepped}
 use Rattle.seq_core.specs.declared.answers.Stepped.TheVariants.{Went}
 use Rattle.seq_core.specs.Event.{Event, Step}
 use Rattle.seq_core.specs.Reply.{Reply, ToStep}
-use Rattle.seq_core.specs.After.{after}
-use Rattle.seq_core.specs.Lawful.{LawfulWorld}
-use Rattle.seq_core.specs.Shows.{CoreView, channel_in}
-use Rattle.seq_core.specs.Headline.{AddsItsOwn}
 use Rattle.seq_core.specs.Calls.{IsEvent}
 use Rattle.seq_core.specs.EventList.{IsRun}
 use Rattle.channel_work.specs.declared.stored.Stored.{Stored}
 use Rattle.channel_work.specs.declared.stored.Stored.TheVariants.{Step as WasStepped}
 use Rattle.channel_work.specs.Channel.{HistoryView}
 use Rattle.channel_work.specs.Turned.{counted, IsBeside, TookSteps, IsTurn, IsGoing}
-use Rattle.seq_core.proofs.Beginnings.{runs_go_on}
-
-none_run : (c : CoreView) → IsRun c [] [] c
-none_run c w at law = record { ran = record { world = w; replies = [] }; is_ran = refl; replied = refl; is_at = at; own = tt; lawful = law; channel = refl }
-
-one_run_more : (c m later : CoreView) (events : List Event) (replies : List Reply) (e : Event) (reply : Reply) → IsRun c events replies m → IsEvent m e reply later → IsRun c (events ++ (e ∷ [])) (replies ++ (reply ∷ [])) later
-one_run_more c m later events replies e reply before event w at law =
-    let r = before w at law in
-    let came = event r.ran.world r.is_at (subst (λ (s : Channel). LawfulWorld s r.ran.world) (sym r.channel) r.lawful) in
-    let is : after (channel_in c) r.ran.world e ≡ Some came.next = subst (λ (s : Channel). after s r.ran.world e ≡ Some came.next) r.channel came.is_next in
-    let own : AddsItsOwn (channel_in c) e r.ran.world.past came.next.world.past = subst (λ (s : Channel). AddsItsOwn s e r.ran.world.past came.next.world.past) r.channel came.own in
-    let more = runs_go_on (channel_in c) events w e r.ran came.next r.is_ran r.own is own in
-    record {
-      ran = record { world = came.next.world; replies = r.ran.replies ++ (came.next.reply ∷ []) };
-      is_ran = more.0;
-      replied = ap (λ (x : List Reply). x ++ (came.next.reply ∷ [])) r.replied ∙ ap (λ (x : Reply). replies ++ (x ∷ [])) came.replied;
-      is_at = came.is_at;
-      own = more.1;
-      lawful = subst (λ (s : Channel). LawfulWorld s came.next.world) r.channel came.lawful;
-      channel = came.channel ∙ r.channel;
-    }
+use Rattle.seq_core.proofs.EventList.{none_run, one_run_more}
 
 -- the first step of a turn
 pub one_step : (v u : HistoryView) (l : Lun) (answer : Stepped) → IsEvent v.core (Step l) (ToStep answer) u.core → u.events ≡ v.events ++ (WasStepped l v.turns ∷ []) → u.turns ≡ v.turns + 1 → IsBeside v u → TookSteps v l (answer ∷ []) u

@@ -2,3 +2,4 @@ pub mod Holders
 pub mod Calls
 pub mod Steps
 pub mod Moves
+pub mod Parts

@@ -11,8 +11,9 @@ use Rattle.atomic_table.proofs.Lists.{at_set, set_here, set_else}
 use Rattle.lun_lease.specs.declared.rule.View.{View}
 use Rattle.lun_lease.specs.declared.rule.Call.{Call}
 use Rattle.lun_lease.specs.declared.rule.Call.TheVariants.{Given, Refused, Released}
-use Rattle.lun_lease.specs.Rule.{view, newcomer, Has, IsApart, is_given, as_word, Holds, Keeps, TellsClaim, TellsRelease}
+use Rattle.lun_lease.specs.Rule.{view, bare, Has, IsApart, all_parts, is_given, as_word, Holds, Keeps, TellsClaim, TellsRelease}
 use Rattle.lun_lease.proofs.Holders.{nothing, only, is_apart}
+use Rattle.lun_lease.proofs.Parts.{parts_set}
 use Rattle.lun_lease.proofs.Calls.{by_eq, is_given-append, is_truthful-append, at_same, is_there, own_after, later_after}
 
 is_no : (b : Bool) → as_word b ≡ 0 → b ≡ false
@@ -48,9 +49,21 @@ module _ {S : Type 0} (s : State S View) (h : Keeps s) (id : ℕ) (v : View) (at
       (λ (x : (seat ≢ id) × (get_elem? s.views seat ≡ some u)). h.apart seat u x.1)
       (at_set s.views id seat w u e)
 
+  -- all parts are still there, where this seat's new view has as many as the old one
+  still_sixteen : (w : View) → w.parts ≡ v.parts → all_parts (set s.views id w) ≡ 16
+  still_sixteen w same = let e = parts_set s.views id v w at in let all = h.sixteen in omega (arith, e, all, same)
+
+  -- who holds a LUN still has a part, where this seat has one
+  still_able : (n : ℕ) (w : View) → ((l : ℕ) → Has w l → 0 < w.parts) → (l seat : ℕ) (u : View) → Holds (stepped s lun n id [] w keeps) seat u l → 0 < u.parts
+  still_able n w new l seat u has =
+      ⊎_elim
+      (λ (x : (seat ≡ id) × (w ≡ u)). subst (λ (y : View). 0 < y.parts) x.1 (new l (subst (λ (y : View). Has y l) (sym x.1) has.1)))
+      (λ (x : (seat ≢ id) × (get_elem? s.views seat ≡ some u)). h.able l seat u (x.1, has.1))
+      (at_set s.views id seat w u has.0)
+
   -- the seat was free, and so was the LUN
-  gives : ((l : ℕ) → Has v l → ⊥) → slice_index s.words lun ≡ 0 → Keeps (stepped s lun 1 id [] (view (Some lun) (v.calls ++ Given lun ∷ [])) keeps)
-  gives free zero_word =
+  gives : v.parts ≡ 1 → ((l : ℕ) → Has v l → ⊥) → slice_index s.words lun ≡ 0 → Keeps (stepped s lun 1 id [] (view (Some lun) (v.calls ++ Given lun ∷ [])) keeps)
+  gives has_part free zero_word =
       let w : View = view (Some lun) (v.calls ++ Given lun ∷ []) in
       let log = h.log ++ (id, Given lun) ∷ [] in
       let off : is_given lun false h.log ≡ false = is_no _ (sym (h.word lun small) ∙ zero_word) in
@@ -83,15 +96,17 @@ module _ {S : Type 0} (s : State S View) (h : Keeps s) (id : ℕ) (v : View) (at
             (λ _ e. absurd (true≢false (sym (h.given l i a was).1 ∙ subst (λ k. is_given k false h.log ≡ false) (only lun w.calls l e) off)))
             (λ _ was'. h.one l i j a b was was'));
         apart = still_apart 1 w (is_apart (Some lun) w.calls);
+        sixteen = still_sixteen w (sym has_part);
+        able = still_able 1 w (λ l e. omega arith);
         truthful = λ l. is_truthful-append l false h.log (id, Given lun) (h.truthful l) (by_eq lun l (λ b. (if b then not (is_given l false h.log) else true) ≡ true) (λ e. ap not (subst (λ k. is_given k false h.log ≡ false) e off)) (λ n. refl));
         own = own_after s.views h.log id v w (Given lun) h.own at refl;
         later = λ seat far. later_after s.views h.log id v w (Given lun) h.later at seat (simp length-set at far);
       }
 
   -- the LUN was given already
-  refuses : (n : ℕ) → slice_index s.words lun ≡ n → n ≢ 0 → Keeps (stepped s lun n id [] (record { holds = v.holds; beside = v.beside; calls = v.calls ++ Refused lun ∷ [] }) keeps)
+  refuses : (n : ℕ) → slice_index s.words lun ≡ n → n ≢ 0 → Keeps (stepped s lun n id [] (record { holds = v.holds; beside = v.beside; calls = v.calls ++ Refused lun ∷ []; parts = v.parts }) keeps)
   refuses n found set_word =
-      let w : View = record { holds = v.holds; beside = v.beside; calls = v.calls ++ Refused lun ∷ [] } in
+      let w : View = record { holds = v.holds; beside = v.beside; calls = v.calls ++ Refused lun ∷ []; parts = v.parts } in
       let log = h.log ++ (id, Refused lun) ∷ [] in
       let on : is_given lun false h.log ≡ true = is_yes _ (λ e. set_word (sym found ∙ h.word lun small ∙ e)) in
       let same : (l : ℕ) → is_given l false log ≡ is_given l false h.log = λ l. is_given-append l false h.log (id, Refused lun) in
@@ -115,14 +130,16 @@ module _ {S : Type 0} (s : State S View) (h : Keeps s) (id : ℕ) (v : View) (at
             (λ i_is e. holder n w j b l hj (λ j_is _. i_is ∙ sym j_is) (λ _ was. i_is ∙ h.one l id j v b (at, e) was))
             (λ _ was. holder n w j b l hj (λ j_is e. h.one l i id a v was (at, e) ∙ sym j_is) (λ _ was'. h.one l i j a b was was'));
         apart = still_apart n w (h.apart id v at);
+        sixteen = still_sixteen w refl;
+        able = still_able n w (λ l e. h.able l id v (at, e));
         truthful = λ l. is_truthful-append l false h.log (id, Refused lun) (h.truthful l) (by_eq lun l (λ b. (if b then is_given l false h.log else true) ≡ true) (λ e. subst (λ k. is_given k false h.log ≡ true) e on) (λ _. refl));
         own = own_after s.views h.log id v w (Refused lun) h.own at refl;
         later = λ seat far. later_after s.views h.log id v w (Refused lun) h.later at seat (simp length-set at far);
       }
 
   -- the seat held the LUN
-  frees : Has v lun → ((l : ℕ) → Has v l → lun ≡ l) → Keeps (stepped s lun 0 id [] (view None (v.calls ++ Released lun ∷ [])) keeps)
-  frees has_it only_it =
+  frees : v.parts ≡ 1 → Has v lun → ((l : ℕ) → Has v l → lun ≡ l) → Keeps (stepped s lun 0 id [] (view None (v.calls ++ Released lun ∷ [])) keeps)
+  frees has_part has_it only_it =
       let w : View = view None (v.calls ++ Released lun ∷ []) in
       let log = h.log ++ (id, Released lun) ∷ [] in
       let on : is_given lun false h.log ≡ true = (h.given lun id v (at, has_it)).1 in
@@ -150,6 +167,8 @@ module _ {S : Type 0} (s : State S View) (h : Keeps s) (id : ℕ) (v : View) (at
             (λ _ e. absurd (nothing w.calls l e))
             (λ _ was. holder 0 w j b l hj (λ _ e. absurd (nothing w.calls l e)) (λ _ was'. h.one l i j a b was was'));
         apart = still_apart 0 w (is_apart None w.calls);
+        sixteen = still_sixteen w (sym has_part);
+        able = still_able 0 w (λ l e. absurd (nothing w.calls l e));
         truthful = λ l. is_truthful-append l false h.log (id, Released lun) (h.truthful l) (by_eq lun l (λ b. (if b then is_given l false h.log else true) ≡ true) (λ e. subst (λ k. is_given k false h.log ≡ true) e on) (λ _. refl));
         own = own_after s.views h.log id v w (Released lun) h.own at refl;
         later = λ seat far. later_after s.views h.log id v w (Released lun) h.later at seat (simp length-set at far);
@@ -169,7 +188,7 @@ module _ {S : Type 0} where
         given,
         keeps,
         tt,
-        subst (λ b. Keeps (stepped s lun (either b 1 found) id [] given keeps)) (sym (eq-eqb found 0 e)) (gives s h id v at lun small (nothing calls) e),
+        subst (λ b. Keeps (stepped s lun (either b 1 found) id [] given keeps)) (sym (eq-eqb found 0 e)) (gives s h id v at lun small refl (nothing calls) e),
         (refl, subst (λ b. MatchBool b (given ≡ given) ((found ≡ 1) × (given ≡ refused))) (sym (eq-eqb found 0 e)) refl),
       ))
       (λ ne. (
@@ -187,10 +206,10 @@ module _ {S : Type 0} where
   pub releases : (slots id : ℕ) (calls : List Call) (lun : ℕ) → lun < 16
       → Allows {S = S} Keeps slots id (view (Some lun) calls, []) lun (λ _. 0) (λ _. TellsRelease (step slots lun 0 0 none) (view (Some lun) calls, []) 0)
   releases slots id calls lun small s h count at fits =
-      (view None (calls ++ Released lun ∷ []), keeps, tt, frees s h id (view (Some lun) calls) at lun small (inl refl) (only lun calls), (refl, refl))
+      (view None (calls ++ Released lun ∷ []), keeps, tt, frees s h id (view (Some lun) calls) at lun small refl (inl refl) (only lun calls), (refl, refl))
 
 -- sixteen words of 0, and one seat that has made no call
-pub begins : {S : Type 0} → Keeps (opening {S = S} (replicate 16 0) [] newcomer)
+pub begins : {S : Type 0} → Keeps (opening {S = S} (replicate 16 0) [] (bare 16 []))
 begins {S} = record {
   log = [];
   wide = refl;
@@ -199,21 +218,23 @@ begins {S} = record {
   given = λ l seat u has. absurd (nobody l seat u has);
   one = λ l i j a b hi hj. absurd (nobody l i a hi);
   apart = λ seat u e. first_apart seat u e;
+  sixteen = refl;
+  able = λ l seat u has. absurd (nobody l seat u has);
   truthful = λ l. refl;
   own = λ seat u e. no_calls seat u e;
   later = λ seat far. refl;
 }
   where
-    nobody : (l seat : ℕ) (u : View) → Holds (opening {S = S} (replicate 16 0) [] newcomer) seat u l → ⊥
-    nobody l zero u has = nothing [] l (subst (λ (y : View). Has y l) (sym (some-injective newcomer u has.0)) has.1)
+    nobody : (l seat : ℕ) (u : View) → Holds (opening {S = S} (replicate 16 0) [] (bare 16 [])) seat u l → ⊥
+    nobody l zero u has = nothing [] l (subst (λ (y : View). Has y l) (sym (some-injective (bare 16 []) u has.0)) has.1)
     nobody l (suc seat) u has = some-ne-none u (sym has.0)
 
-    first_apart : (seat : ℕ) (u : View) → get_elem? (newcomer ∷ []) seat ≡ some u → IsApart u
-    first_apart zero u e = subst (λ (y : View). IsApart y) (some-injective newcomer u e) (is_apart None [])
+    first_apart : (seat : ℕ) (u : View) → get_elem? (bare 16 [] ∷ []) seat ≡ some u → IsApart u
+    first_apart zero u e = subst (λ (y : View). IsApart y) (some-injective (bare 16 []) u e) (is_apart None [])
     first_apart (suc seat) u e = absurd (some-ne-none u (sym e))
 
-    no_calls : (seat : ℕ) (u : View) → get_elem? (newcomer ∷ []) seat ≡ some u → u.calls ≡ []
-    no_calls zero u e = ap (λ (y : View). y.calls) (sym (some-injective newcomer u e))
+    no_calls : (seat : ℕ) (u : View) → get_elem? (bare 16 [] ∷ []) seat ≡ some u → u.calls ≡ []
+    no_calls zero u e = ap (λ (y : View). y.calls) (sym (some-injective (bare 16 []) u e))
     no_calls (suc seat) u e = absurd (some-ne-none u (sym e))
 
 -- the steps, at a seat whose view is known

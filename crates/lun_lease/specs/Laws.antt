@@ -2,7 +2,7 @@
 use Rattle.std.specs.Prelude.{◌≡◌, ℕ, ◌<◌, slice_index}
 use Rattle.atomic_table.specs.Table.{State}
 use Rattle.lun_lease.specs.declared.rule.View.{View}
-use Rattle.lun_lease.specs.Rule.{Keeps, Holds}
+use Rattle.lun_lease.specs.Rule.{Keeps, Holds, count_idle}
 
 -- two seats that hold one LUN are one seat, and a seat holds no LUN twice
 abbrev pub NoTwoHoldOneLun : Type 0
@@ -16,3 +16,7 @@ IsHeld s lun = (seat : ℕ) × (v : View) × Holds s seat v lun
 abbrev pub WordsTellHolders : Type 0
 WordsTellHolders = (s : State (Unit {0}) View) → Keeps s → (lun : ℕ) → lun < 16
     → (slice_index s.words lun < 2) × (slice_index s.words lun ≡ 1 → IsHeld s lun) × (IsHeld s lun → slice_index s.words lun ≡ 1)
+
+-- where sixteen seats have a part and hold nothing, no seat holds a LUN
+abbrev pub NoneBesideSixteen : Type 0
+NoneBesideSixteen = (s : State (Unit {0}) View) → Keeps s → count_idle s.views ≡ 16 → (lun seat : ℕ) (v : View) → Holds s seat v lun → ⊥

@@ -15,6 +15,11 @@ pub record Leased : Type 0 where
   pub lun : ℕ
   pub calls : List Call
 
+-- the table whose seats are dealt, and how many are left
+pub record Dealt : Type 0 where
+  pub table : TableId
+  pub left : ℕ
+
 -- sixteen seats of this table, none of which has made a call
 pub record AreNew (seats : List (Option Seated)) (table : TableId) : Type 0 where
   pub count : length seats ≡ 16

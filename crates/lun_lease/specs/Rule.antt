@@ -1,5 +1,5 @@
 -- The rule of the lease table: its words, the views of its seats, and one list of all calls.
-use Rattle.std.specs.Prelude.{◌≡◌, ◌⊎◌, ℕ, ◌<◌, ◌≤◌, Bool, true, false, not, ◌&&◌, ◌==◌, if◌then◌else◌, Option, Some, None, List, [], ◌∷◌, ◌++◌, length, slice_index, MatchBool}
+use Rattle.std.specs.Prelude.{◌≡◌, ◌⊎◌, ℕ, ◌+◌, ◌<◌, ◌≤◌, Bool, true, false, not, ◌&&◌, ◌==◌, if◌then◌else◌, Option, Some, None, List, [], ◌∷◌, ◌++◌, length, nat_lt, slice_index, MatchBool}
 use mathlib.Core.Option.{some}
 use lib.ListN.{get_elem?}
 use Rattle.atomic_table.specs.Table.{State, Me, Step}
@@ -7,13 +7,33 @@ use Rattle.lun_lease.specs.declared.rule.View.{View}
 use Rattle.lun_lease.specs.declared.rule.Call.{Call}
 use Rattle.lun_lease.specs.declared.rule.Call.TheVariants.{Given, Refused, Released}
 
--- it holds this LUN or nothing, and has made these calls
+-- it has one part of the table, holds this LUN or nothing, and has made these calls
 abbrev pub view : Option ℕ → List Call → View
-view holds calls = record { holds = holds; beside = None; calls = calls }
+view holds calls = record { holds = holds; beside = None; calls = calls; parts = 1 }
 
--- it holds nothing, and has made no call
+-- it has so many parts, holds nothing, and has made these calls
+abbrev pub bare : ℕ → List Call → View
+bare parts calls = record { holds = None; beside = None; calls = calls; parts = parts }
+
+-- it has one part, holds nothing, and has made no call
 abbrev pub newcomer : View
 newcomer = view None []
+
+-- the parts of all views
+abbrev pub all_parts : List View → ℕ
+all_parts [] = 0
+all_parts (v ∷ views) = v.parts + all_parts views
+
+-- the view has a part and holds nothing
+abbrev pub is_idle : Option ℕ → Option ℕ → ℕ → Bool
+is_idle None None parts = nat_lt 0 parts
+is_idle None (Some l) parts = false
+is_idle (Some l) beside parts = false
+
+-- how many views have a part and hold nothing
+abbrev pub count_idle : List View → ℕ
+count_idle [] = 0
+count_idle (v ∷ views) = if is_idle v.holds v.beside v.parts then count_idle views + 1 else count_idle views
 
 -- the LUN is one that it holds
 abbrev pub Has : View → ℕ → Type 0
@@ -76,6 +96,9 @@ module _ {S : Type 0} where
     -- no two seats hold one LUN, and no seat holds one twice
     pub one : (lun i j : ℕ) (v w : View) → Holds s i v lun → Holds s j w lun → i ≡ j
     pub apart : (seat : ℕ) (v : View) → get_elem? s.views seat ≡ some v → IsApart v
+    -- there are sixteen parts, and who holds a LUN has one
+    pub sixteen : all_parts s.views ≡ 16
+    pub able : (lun seat : ℕ) (v : View) → Holds s seat v lun → 0 < v.parts
     -- each answer in the list is true
     pub truthful : (lun : ℕ) → is_truthful lun false log ≡ true
     -- each seat's calls are its own entries, in order, and a seat not yet made has none

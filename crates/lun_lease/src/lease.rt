@@ -1,5 +1,5 @@
 // Seats and leases.
-ghost use Rattle.std.specs.Prelude.{◌≡◌, ◌≢◌, ◌<◌, [], ◌∷◌, ◌++◌, IfOk};
+ghost use Rattle.std.specs.Prelude.{◌≡◌, ◌≢◌, ◌+◌, ◌<◌, [], ◌∷◌, ◌++◌, IfOk};
 ghost use Rattle.lun_lease.specs.Lease.{AreNew};
 
 use crate::rule::{
@@ -81,36 +81,74 @@ impl LeaseTable {
     ) -> Result<ArrayVec<Option<LeaseSeat<A>>, SEATS>, AllocError>
         ensures { IfOk result (λ v. (table : TableId) × AreNew v.items table) }
     {
-        let mut first = LeaseSeat::first(alloc)?;
+        let mut deck = Deck::new(alloc)?;
         let mut seats = ArrayVec::new();
         for _ in 1..SEATS {
-            seats.push(Some(first.another()?));
+            seats.push(Some(deck.deal()?));
         }
-        seats.push(Some(first));
+        seats.push(Some(deck.last()));
         Ok(seats)
     }
 }
 
-impl<A: Allocator + Clone> LeaseSeat<A> {
-    // The first seat of a new table.
-    fn first(alloc: A) -> Result<LeaseSeat<A>, AllocError>
-        ensures { IfOk result (λ s. s.calls ≡ []) }
+// The first seat of a new table, which has the parts of the seats to come.
+#[derive(Drop)]
+struct Deck<A: Allocator = Global> {
+    table: Arc<Words<A>, A>,
+    seat: Seat<(), View>,
+    left: u32,
+}
+
+impl<A: Allocator> Model for Deck<A> {
+    ghost use Rattle.lun_lease.specs.Lease.{Dealt};
+    ghost use Rattle.lun_lease.specs.Holding.{IsDealing};
+
+    ghost Value = { Dealt };
+
+    ghost view = { λ d. record { table = d.seat.table_id; left = d.left } };
+
+    ghost invariant = { λ d. IsDealing d.table.value d.seat d.left };
+}
+
+impl<A: Allocator + Clone> Deck<A> {
+    // The seats of a new table.
+    fn new(alloc: A) -> Result<Deck<A>, AllocError>
+        ensures { IfOk result (λ d. d.left ≡ 16) }
     {
         let (table, seat) = Words::of_words(alloc.clone()?, &[0; SEATS], &())?;
-        Ok(LeaseSeat {
+        Ok(Deck {
             table: Arc::new(alloc, table)?,
             seat,
+            left: SEATS as u32,
         })
     }
 
-    // A new seat of the same table.
-    fn another(&mut self) -> Result<LeaseSeat<A>, AllocError>
+    // One of them.
+    fn deal(&mut self) -> Result<LeaseSeat<A>, AllocError>
+        requires { 0 < self.old.left }
         ensures new { IfOk result (λ s. s ≡ record { table = self.old.table; calls = [] }) }
-        ensures same { self.new ≡ self.old }
+        ensures same { self.new.table ≡ self.old.table }
+        ensures left { IfOk result (λ _. self.new.left + 1 ≡ self.old.left) }
     {
         let table = Arc::try_clone(&self.table)?;
         let seat = table.shared.split_seat::<Deals>(&mut self.seat);
+        self.left -= 1;
         Ok(LeaseSeat { table, seat })
+    }
+}
+
+impl<A: Allocator> Deck<A> {
+    // The last of them.
+    fn last(self) -> LeaseSeat<A>
+        requires { self.left ≡ 1 }
+        ensures { result ≡ record { table = self.table; calls = [] } }
+    {
+        let Deck {
+            table,
+            seat,
+            left: _,
+        } = self;
+        LeaseSeat { table, seat }
     }
 }
 

@@ -9,22 +9,24 @@ pub enum Call {
     Released(u32),
 }
 
-/// What a seat knows: the LUN that it holds, and the calls that it made. No value of it is made. A second LUN lies
-/// beside the first only while two leases are compared.
+/// What a seat knows: the LUN that it holds, the calls that it made, and how many parts of its table it has. A table has sixteen, and
+/// who holds a LUN has one. No value of it is made. A second LUN lies beside the first only while two leases are compared.
 pub struct View {
     pub holds: Option<u32>,
     pub beside: Option<u32>,
     pub calls: LinkedList<Call>,
+    pub parts: u64,
 }
 
 pub struct LeaseRule;
 
 impl TableRule<(), View, ()> for LeaseRule {
-    ghost use Rattle.lun_lease.specs.Rule.{Keeps, newcomer};
+    ghost use Rattle.lun_lease.specs.Rule.{Keeps, bare};
+    ghost use Rattle.std.specs.Prelude.{[]};
 
     ghost holds = { λ _ s. Keeps s };
 
-    ghost first = { λ _. newcomer };
+    ghost first = { λ _. bare 16 [] };
 }
 
 /// A claim.
@@ -54,25 +56,26 @@ impl Play<(), View> for Compares {
     ghost then = { TellsApart };
 }
 
-/// A seat that has made no call, beside one that stays as it is.
+/// A seat that has made no call, with a part of one that holds nothing.
 pub struct Deals;
 
 impl Split<View> for Deals {
-    ghost use Rattle.lun_lease.specs.Rule.{newcomer};
+    ghost use Rattle.lun_lease.specs.Rule.{bare, newcomer};
+    ghost use Rattle.std.specs.Prelude.{◌-◌};
 
-    ghost left = { λ v. v };
+    ghost left = { λ v. bare (v.parts - 1) v.calls };
 
     ghost right = { λ _. newcomer };
 }
 
-/// A seat lends its LUN to a new seat.
+/// A seat lends its LUN and its part to a new seat.
 pub struct Lends;
 
 impl Split<View> for Lends {
-    ghost use Rattle.lun_lease.specs.Rule.{view};
-    ghost use Rattle.std.specs.Prelude.{None, []};
+    ghost use Rattle.lun_lease.specs.Rule.{view, bare};
+    ghost use Rattle.std.specs.Prelude.{[]};
 
-    ghost left = { λ v. view None v.calls };
+    ghost left = { λ v. bare 0 v.calls };
 
     ghost right = { λ v. view v.holds [] };
 }
@@ -81,11 +84,12 @@ impl Split<View> for Lends {
 pub struct LaysBeside;
 
 impl Join<View> for LaysBeside {
-    ghost use Rattle.lun_lease.specs.Rule.{newcomer};
+    ghost use Rattle.lun_lease.specs.Rule.{bare};
+    ghost use Rattle.std.specs.Prelude.{◌+◌, []};
 
-    ghost both = { λ v w. record { holds = v.holds; beside = w.holds; calls = v.calls } };
+    ghost both = { λ v w. record { holds = v.holds; beside = w.holds; calls = v.calls; parts = v.parts + w.parts } };
 
-    ghost spent = { newcomer };
+    ghost spent = { bare 0 [] };
 }
 
 /// The LUN that lies beside goes to a new seat again.
@@ -104,9 +108,10 @@ impl Split<View> for PutsAside {
 pub struct TakesBack;
 
 impl Join<View> for TakesBack {
-    ghost use Rattle.lun_lease.specs.Rule.{view, newcomer};
+    ghost use Rattle.lun_lease.specs.Rule.{view, bare};
+    ghost use Rattle.std.specs.Prelude.{[]};
 
     ghost both = { λ v w. view w.holds v.calls };
 
-    ghost spent = { newcomer };
+    ghost spent = { bare 0 [] };
 }

@@ -1,59 +1,38 @@
 -- Lists of events: the run of those done, one event more at its end.
-use Rattle.std.proofs.Common.{◌≡◌, ℕ, ◌-◌, take, List, [], ◌∷◌, ◌++◌, Option, Some, None, Result, Ok, Err, IfOk, IfErr, map, reverse, refl, sym, ap, ◌∙◌, subst}
+use Rattle.std.proofs.Common.{◌≡◌, ℕ, ◌-◌, take, List, [], ◌∷◌, ◌++◌, Some, Result, Ok, Err, IfOk, IfErr, map, reverse, refl, sym, ap, ◌∙◌, subst}
 use Rattle.std.proofs.lemmas.List.{map-append, append-nil, append_assoc, reverse-append, reverse-reverse}
 use Rattle.onfi_cycle.specs.declared.item.Lun.{Lun}
 use Rattle.onfi_cycle.specs.Channel.{Channel}
 use Rattle.micro_program.specs.Program.{Job}
-use Rattle.micro_program.specs.Moves.{and_then}
 use Rattle.seq_core.specs.declared.answers.LoadFault.{LoadFault}
 use Rattle.seq_core.specs.declared.answers.UnloadFault.{UnloadFault}
 use Rattle.seq_core.specs.declared.sequencer.Done.{Done}
 use Rattle.seq_core.specs.declared.event_list.Event.{Event as Asked}
 use Rattle.seq_core.specs.declared.event_list.Reply.{Reply as Answered}
-use Rattle.seq_core.specs.World.{World, fresh}
+use Rattle.seq_core.specs.World.{fresh}
 use Rattle.seq_core.specs.Event.{Event, Load, Unload}
 use Rattle.seq_core.specs.Reply.{Reply, ToLoad, ToUnload, Loaded, NotLoaded, Unloaded, NotUnloaded}
-use Rattle.seq_core.specs.After.{After, Ran, after, run}
+use Rattle.seq_core.specs.After.{after}
 use Rattle.seq_core.specs.Lawful.{LawfulWorld}
 use Rattle.seq_core.specs.Shows.{CoreView, IsAt, channel_in}
-use Rattle.seq_core.specs.Headline.{AddsItsOwn, EventsAreOwn, GoesWell}
+use Rattle.seq_core.specs.Headline.{AddsItsOwn, GoesWell}
 use Rattle.seq_core.specs.Calls.{IsEvent}
 use Rattle.seq_core.specs.EventList.{IsRun, DidEvents, event_of, reply_of, loading_of, unloading_of, WantsMemory, StopsAt, LeftFor, shortage_of}
+use Rattle.seq_core.proofs.Beginnings.{runs_go_on}
 use Rattle.seq_core.proofs.Main.{fresh_is_lawful, lawful_slot}
 use Rattle.seq_core.proofs.Making.{runs_as_told}
-use Rattle.seq_core.proofs.Runnings.{same_ran, with_first}
 
--- a run goes on with any event that is defined behind it
-abbrev Extends : Channel → List Event → World → Event → Ran → Type 0
-Extends s events w e ran =
-    (a : After) → after s ran.world e ≡ Some a → AddsItsOwn s e ran.world.past a.world.past →
-    (run s (events ++ (e ∷ [])) w ≡ Some (record { world = a.world; replies = ran.replies ++ (a.reply ∷ []) })) × EventsAreOwn s (events ++ (e ∷ [])) w
-
-extends : (s : Channel) (events : List Event) (w : World) (e : Event) (ran : Ran) → run s events w ≡ Some ran → EventsAreOwn s events w → Extends s events w e ran
-extends s [] w e ran is own =
-    subst (Extends s [] w e) (same_ran (record { world = w; replies = [] }) ran is) (λ a is_a own_a. (rw is_a refl, (a, is_a, own_a, tt)))
-extends s (d ∷ events) w e ran is own =
-    let b = own.0 in
-    let is_b : after s w d ≡ Some b = own.1 in
-    let whole : with_first b (run s events b.world) ≡ Some ran = sym (ap (λ (o : Option After). and_then o (λ x. with_first x (run s events x.world))) is_b) ∙ is in
-    at b is_b own.2 (λ r h. extends s events b.world e r h own.3) (run s events b.world) refl whole
-  where
-    at : (b : After) → after s w d ≡ Some b → AddsItsOwn s d w.past b.world.past → ((r : Ran) → run s events b.world ≡ Some r → Extends s events b.world e r) → (o : Option Ran) → run s events b.world ≡ o → with_first b o ≡ Some ran → Extends s (d ∷ events) w e ran
-    at b is_b own_b more None h whole = cc
-    at b is_b own_b more (Some r) h whole =
-        subst (Extends s (d ∷ events) w e) (same_ran (record { world = r.world; replies = b.reply ∷ r.replies }) ran whole)
-        (λ a is_a own_a. let m = more r h a is_a own_a in (rw is_b (rw m.0 refl), (b, is_b, own_b, m.1)))
-
-none_run : (c : CoreView) → IsRun c [] [] c
+-- no event, and one event more
+pub none_run : (c : CoreView) → IsRun c [] [] c
 none_run c w at law = record { ran = record { world = w; replies = [] }; is_ran = refl; replied = refl; is_at = at; own = tt; lawful = law; channel = refl }
 
-one_run_more : (c m later : CoreView) (events : List Event) (replies : List Reply) (e : Event) (reply : Reply) → IsRun c events replies m → IsEvent m e reply later → IsRun c (events ++ (e ∷ [])) (replies ++ (reply ∷ [])) later
+pub one_run_more : (c m later : CoreView) (events : List Event) (replies : List Reply) (e : Event) (reply : Reply) → IsRun c events replies m → IsEvent m e reply later → IsRun c (events ++ (e ∷ [])) (replies ++ (reply ∷ [])) later
 one_run_more c m later events replies e reply before event w at law =
     let r = before w at law in
     let came = event r.ran.world r.is_at (subst (λ (s : Channel). LawfulWorld s r.ran.world) (sym r.channel) r.lawful) in
     let is : after (channel_in c) r.ran.world e ≡ Some came.next = subst (λ (s : Channel). after s r.ran.world e ≡ Some came.next) r.channel came.is_next in
     let own : AddsItsOwn (channel_in c) e r.ran.world.past came.next.world.past = subst (λ (s : Channel). AddsItsOwn s e r.ran.world.past came.next.world.past) r.channel came.own in
-    let more = extends (channel_in c) events w e r.ran r.is_ran r.own came.next is own in
+    let more = runs_go_on (channel_in c) events w e r.ran came.next r.is_ran r.own is own in
     record {
       ran = record { world = came.next.world; replies = r.ran.replies ++ (came.next.reply ∷ []) };
       is_ran = more.0;

@@ -1,4 +1,4 @@
-use Rattle.std.proofs.Common.{sym, ap, ◌∙◌, arith}
+use Rattle.std.proofs.Common.{◌≡◌, sym, ap, ◌∙◌, arith}
 use Rattle.lun_lease.proofs.Moves.{lends_as, lays_beside_as, compares, puts_aside, takes_back_as}
 use Rattle.lun_lease.proofs.lease.Lease.tell_apart.Goals as goal
 
@@ -31,7 +31,12 @@ pub split_seat-lent-requires-2 : goal.split_seat-lent-requires-2
 split_seat-lent-requires-2 g c =
     let i = c.self.invariant.0 in
     let at = i.same ∙ sym (ap (λ t. t.shared.table_id) c.deref-4.ensures) in
-    (c.load.ensures.0 ∙ c.join_seat.ensures.0 ∙ at, omega (arith, i.wide, ap (λ t. t.shared.table_id.words) c.deref-4.ensures), puts_aside _ _)
+    let loaded = ap (λ m. m.0.parts) c.load.ensures.2.0 in
+    let joined = ap (λ m. m.0.parts) c.join_seat.ensures.2 in
+    let own = ap (λ m. m.0.parts) i.now in
+    let lent = ap (λ m. m.0.parts) c.split_seat-lent.ensures.4 in
+    let two : c.load.new.seat.me.0.parts ≡ 2 = omega (arith, loaded, joined, own, lent) in
+    (c.load.ensures.0 ∙ c.join_seat.ensures.0 ∙ at, omega (arith, i.wide, ap (λ t. t.shared.table_id.words) c.deref-4.ensures), puts_aside _ _ two)
 
 pub join_seat-requires-2 : goal.join_seat-requires-2
 join_seat-requires-2 g c =
