@@ -4,7 +4,8 @@ use Rattle.std.proofs.lemmas.Nat.{div-mul-add}
 use Rattle.onfi_cycle.specs.declared.item.Lun.{Lun}
 use Rattle.onfi_cycle.specs.Channel.{Channel, is_there, same_lun}
 use Rattle.seq_core.specs.World.{number}
-use Rattle.seq_core.proofs.Below.{there_lun, and_true}
+use Rattle.seq_core.proofs.Below.{there_lun}
+use Rattle.nand_geometry.proofs.Booleans.{and_true}
 
 first_same : (a b n x y : ℕ) → x < n → y < n → a * n + x ≡ b * n + y → a ≡ b
 first_same a b n x y hx hy e = sym (div-mul-add a n x hx) ∙ (ap (λ k. k / n) e ∙ div-mul-add b n y hy)

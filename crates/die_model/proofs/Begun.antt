@@ -19,6 +19,7 @@ use Rattle.die_model.specs.Pages.{kept, page_in, is_given}
 use Rattle.onfi_cycle.specs.Bounds.{is_row}
 use Rattle.die_model.specs.Die.{Die, bytes_taken, plane_bytes, works_of, effect_of, is_row_of, row_of_work, goes_with, is_reset, members_after, closes, page_to_keep, AreKept, are_erases, are_programs, HasRows, IsDie, ShowsPage}
 use Rattle.die_model.proofs.Kept.{Entries, same_parts}
+use Rattle.nand_geometry.proofs.Booleans.{or_parts as neither}
 
 pub not_closed : (reset closed busy : Bool) → (closed ≡ true → busy ≡ true) → (reset || not busy) ≡ true → reset ≡ false → closed ≡ false
 not_closed reset false busy h k r = refl
@@ -163,10 +164,6 @@ kept_begun len w.Identifier old new members k h = still len (page_to_keep w.Iden
 kept_begun len w.Parameters old new members k h = still len (page_to_keep w.Parameters) old new k members h
 kept_begun len w.Cache old new members k h = still len (page_to_keep w.Cache) old new k members h
 kept_begun len w.CacheEnd old new members k h = still len (page_to_keep w.CacheEnd) old new k members h
-
-neither : (a b : Bool) → (a || b) ≡ false → (a ≡ false) × (b ≡ false)
-neither true b h = cc
-neither false b h = (refl, h)
 
 all_erases : (g : Parts) (at : PageAddress) (members : List Queued) → some_queued_clashes g true at members ≡ false → are_erases members ≡ true
 all_erases g at [] h = refl

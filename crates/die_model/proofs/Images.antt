@@ -20,6 +20,7 @@ use Rattle.onfi_cycle.specs.declared.lun_facts.Register.TheVariants.{Empty, Page
 use Rattle.onfi_cycle.specs.Rules.{has_some, is_empty}
 use Rattle.std.specs.List.{starts_with}
 use Rattle.die_model.proofs.Kept.{Entries, ChangesAt, kept_after, same_parts}
+use Rattle.nand_geometry.proofs.Booleans.{and_parts as first_true}
 
 -- ---- writing
 
@@ -193,10 +194,6 @@ room_to_keep g count k rest all pages low before =
     let left : count - k ≡ suc (count - (k + 1)) = omega arith in
     let room : length rest ≡ suc (count - (k + 1)) * entry_len g = before.room ∙ ap (λ (n : ℕ). n * entry_len g) left in
     omega (arith, room)
-
-first_true : (a b : Bool) → (a && b) ≡ true → (a ≡ true) × (b ≡ true)
-first_true true b h = (refl, h)
-first_true false b h = cc
 
 pub keeps_entry : (g : Parts) (count k row : ℕ) (rest all behind : List ℕ) (at : PageAddress) (bytes : List ℕ) (old new : Entries) → k < count → row ≡ first_row rest → at ≡ page_address g row → bytes ≡ first_bytes g rest → behind ≡ drop (entry_len g) rest → ((p : PageAddress) → kept new p ≡ cond (same_page p at) (Some bytes) (kept old p)) → IsKeptSoFar g count k rest all old → IsKeptSoFar g count (k + 1) behind all new
 keeps_entry g count k row rest all behind at bytes old new low er ea eb ed put before =

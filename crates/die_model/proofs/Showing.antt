@@ -10,16 +10,13 @@ use Rattle.onfi_cycle.specs.Content.{content, register_bytes}
 use Rattle.onfi_cycle.specs.Rules.{is_empty, has_some}
 use Rattle.die_model.specs.Die.{page_of, works_of}
 use Rattle.die_model.specs.Standing.{DiesShow}
+use Rattle.nand_geometry.proofs.Booleans.{and_parts as both}
 
 same_bytes : (parameters : List ℕ) (f g : PageAddress → List ℕ) (x : Register) → ((p : PageAddress) → f p ≡ g p) → register_bytes parameters f x ≡ register_bytes parameters g x
 same_bytes parameters f g r.Empty h = refl
 same_bytes parameters f g (r.Page p) h = h p
 same_bytes parameters f g r.ParameterPage h = refl
 same_bytes parameters f g r.Identifier h = refl
-
-both : (a b : Bool) → (a && b) ≡ true → (a ≡ true) × (b ≡ true)
-both true b h = (refl, h)
-both false b h = cc
 
 no : (b : Bool) → not b ≡ true → b ≡ false
 no true h = cc

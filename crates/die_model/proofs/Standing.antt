@@ -45,6 +45,7 @@ use Rattle.nand_geometry.specs.Row.{parts_of}
 use Rattle.onfi_cycle.proofs.Passed.{permitted_keeps}
 use Rattle.onfi_cycle.proofs.Keeping.{view_at}
 use Rattle.die_model.proofs.Tails.{stays, no_opening, blank}
+use Rattle.nand_geometry.proofs.Booleans.{and_parts as both, or_parts as neither}
 
 -- 1. the bytes of a program that starts are those of its tail
 
@@ -55,10 +56,6 @@ Programs g t lun _ = Unit {0}
 choice : (g : Parts) (t : TailFacts) (lun : ℕ) (b : Bool) (x y : Effect) → (b ≡ true → Programs g t lun x) → Programs g t lun y → Programs g t lun (cond b x y)
 choice g t lun true x y f h = f refl
 choice g t lun false x y f h = h
-
-both : (a b : Bool) → (a && b) ≡ true → (a ≡ true) × (b ≡ true)
-both true b h = (refl, h)
-both false b h = cc
 
 or_first : (a b : Bool) → a ≡ true → (a || b) ≡ true
 or_first true b h = refl
@@ -288,10 +285,6 @@ works_nil g r q (x ∷ rows) h = cc
 not_true : (b : Bool) → not b ≡ false → b ≡ true
 not_true true h = refl
 not_true false h = cc
-
-neither : (a b : Bool) → (a || b) ≡ false → (a ≡ false) × (b ≡ false)
-neither true b h = cc
-neither false b h = (refl, h)
 
 -- a register of another plane isn't looked at
 apart_works : (g : Parts) (registers : List (List ℕ)) (at : PageAddress) (w : List ℕ) (rows : List Queued) → some_queued_clashes g false at rows ≡ false → works_of g (set registers (at.block % planes g) w) rows ≡ works_of g registers rows

@@ -15,6 +15,7 @@ use Rattle.onfi_cycle.specs.Effect.{names_lun, page_address}
 use Rattle.onfi_cycle.specs.Rules.{ends_row}
 use Rattle.onfi_cycle.specs.declared.fillings.Filling.TheVariants.{Leaves, Clears, Fills}
 use Rattle.onfi_cycle.specs.Filling.{cycle_filling}
+use Rattle.nand_geometry.proofs.Booleans.{and_true as both_of}
 
 abbrev is_data : DataPhase → Bool
 is_data p = takes_inputs p || wants_column p
@@ -73,10 +74,6 @@ pub record Stays (len : ℕ) (t u : List TargetCycle) : Type 0 where
   pub named : names_program (facts_of t) ≡ true
   pub same_row : row (facts_of u) ≡ row (facts_of t)
   pub bytes : filled len u ≡ filled len t
-
-both_of : (a b : Bool) → a ≡ true → b ≡ true → (a && b) ≡ true
-both_of true b h k = k
-both_of false b h k = cc
 
 ends_program : (o : Opening) → (is_page_program o.opener && o.addresses == 4) ≡ true → (is_page_program o.opener && at_last_row o.opener o.addresses) ≡ true
 ends_program o h = of o.opener o.addresses h

@@ -23,14 +23,15 @@ use Rattle.micro_claims.specs.Against.{command_not_for_programs, continues_unsee
 use Rattle.micro_claims.specs.Reasons.{breaks_command_not_allowed, reason_against}
 use Rattle.micro_claims.specs.Accepts.{state_after, goes_on, accepts}
 use Rattle.micro_program.proofs.Below.{rows}
-use Rattle.micro_program.proofs.Basics.{and_parts, there_lun}
+use Rattle.micro_program.proofs.Basics.{there_lun}
+use Rattle.nand_geometry.proofs.Booleans.{and_parts, or_parts}
 use Rattle.micro_program.proofs.Claiming.{stays_fine}
 use Rattle.micro_program.proofs.Scenes.{Scene, IsScene}
 use Rattle.micro_claims.proofs.Fits.{closer_among, Fits}
 use Rattle.micro_claims.proofs.Numbers.{in_exactly}
 use Rattle.micro_claims.proofs.Tails.{no_address}
 use Rattle.micro_claims.proofs.Sounding.{KnownJob, Claims, knows_tail, NoReasons, no_reasons, SoundWord}
-use Rattle.micro_claims.proofs.Commands.{or_parts, sound_00, sound_30, sound_05, sound_e0, sound_60, sound_d0, sound_80, sound_85, sound_10}
+use Rattle.micro_claims.proofs.Commands.{sound_00, sound_30, sound_05, sound_e0, sound_60, sound_d0, sound_80, sound_85, sound_10}
 use Rattle.micro_claims.proofs.Identities.{sound_90, sound_ec, sound_any_address}
 use Rattle.micro_claims.proofs.MoreCommands.{sound_d1, sound_11, sound_ff, sound_31, sound_3f}
 use Rattle.micro_claims.proofs.Words.{sound_get, sound_put}

@@ -18,7 +18,8 @@ use Rattle.micro_program.proofs.Basics.{there_lun}
 use Rattle.micro_claims.proofs.Fits.{RegistersFit, Address, all_bytes, facts_behind, RowIs}
 use Rattle.micro_claims.proofs.Numbers.{surely}
 use Rattle.micro_claims.proofs.Sounding.{KnownJob}
-use Rattle.micro_claims.proofs.Commands.{or_parts, not_no}
+use Rattle.micro_claims.proofs.Commands.{not_no}
+use Rattle.nand_geometry.proofs.Booleans.{or_parts}
 
 -- 1. nothing is against it at its place
 

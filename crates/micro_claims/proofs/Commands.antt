@@ -37,15 +37,11 @@ use Rattle.micro_claims.specs.Accepts.{state_after, accepts}
 use Rattle.micro_program.proofs.Scenes.{Scene, IsScene, CommandAllowed, shown_alone, sole_behind, scene_behind}
 use Rattle.micro_program.specs.Moves.{Give}
 use Rattle.micro_claims.proofs.Fits.{ColumnBegun, closer_among, Address, is_place, RegistersFit, TailFits, ColumnFits, RowIs, NameFits, ShowsFit, LunFits, OutputColumnFits, RegisterFits, Below, latch_among, register_among, Fits, Now, now_of}
-use Rattle.micro_program.proofs.Basics.{and_parts}
+use Rattle.nand_geometry.proofs.Booleans.{and_parts, or_parts}
 use Rattle.micro_claims.proofs.Tails.{closed_tail, closed_fits, opener_fits, whole_read, whole_erase, whole_column, Programming, programming}
 use Rattle.micro_claims.proofs.Sounding.{KnownJob, NoReasons, unmoved, SoundWord, plain_sound}
 
 -- 1. what serves all of them
-
-pub or_parts : (a b : Bool) → (a || b) ≡ false → (a ≡ false) × (b ≡ false)
-or_parts true b h = cc
-or_parts false b h = (refl, h)
 
 pub not_no : (b : Bool) → not b ≡ false → b ≡ true
 not_no true h = refl

@@ -28,13 +28,13 @@ use Rattle.micro_claims.specs.Against.{may_be_open, may_be_queued, opener_refuse
 use Rattle.micro_claims.specs.Reasons.{breaks_cycle_forbidden}
 use Rattle.micro_claims.specs.Leaves.{identity_read, address_leaves_at, with_registers, paid, data_shown}
 use Rattle.micro_claims.specs.Accepts.{state_after, accepts}
-use Rattle.micro_program.proofs.Basics.{and_parts}
+use Rattle.nand_geometry.proofs.Booleans.{and_parts, or_parts}
 use Rattle.micro_program.proofs.Scenes.{Scene, IsScene, AddressAllowed, scene_behind}
 use Rattle.micro_claims.proofs.Fits.{Address, ShowsFit, TailFits, latch_among, facts_behind, bytes_of, RegistersFit, Opened, opener_facts, PlaceIs, RowsFit, LunFits, Fits, now_of}
 use Rattle.micro_claims.proofs.Numbers.{in_exactly}
 use Rattle.micro_claims.proofs.Tails.{every_place, no_place, closed_tail, closed_fits}
 use Rattle.micro_claims.proofs.Sounding.{KnownJob, NoReasons, unmoved, SoundWord, plain_sound}
-use Rattle.micro_claims.proofs.Commands.{or_parts, not_no, plain_opener, same_either}
+use Rattle.micro_claims.proofs.Commands.{not_no, plain_opener, same_either}
 use Rattle.micro_claims.proofs.MoreCommands.{declared, opener_free}
 use Rattle.micro_claims.proofs.SoundAddress.{not_caching, sound_address}
 use Rattle.micro_claims.proofs.Indices.{only_is}

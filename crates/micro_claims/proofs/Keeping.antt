@@ -25,7 +25,8 @@ use Rattle.micro_program.specs.Program.{Job, index_now}
 use Rattle.micro_program.specs.Safe.{Seat, after_item}
 use Rattle.micro_claims.specs.State.{KnownLun, OutputColumn, Shown}
 use Rattle.micro_program.proofs.Below.{readies, own_cycles, targets}
-use Rattle.micro_program.proofs.Basics.{and_parts, and_true, there_lun}
+use Rattle.micro_program.proofs.Basics.{there_lun}
+use Rattle.nand_geometry.proofs.Booleans.{and_parts, and_true}
 use Rattle.micro_program.proofs.Scenes.{Scene}
 use Rattle.micro_program.proofs.Stepping.{drivers_same}
 use Rattle.micro_claims.proofs.Fits.{RegisterFits, RowsFit, closer_among, latch_among, Below, ShowsFit, OutputFits, OutputColumnFits, LunFits, is_unread}

@@ -31,13 +31,13 @@ use Rattle.micro_claims.specs.Leaves.{work_started, rows_at, goes_along, queued_
 use Rattle.micro_claims.specs.Accepts.{state_after, accepts}
 use Rattle.micro_program.specs.Program.{Job, Done, index_now}
 use Rattle.micro_claims.proofs.PlaneSets.{among_first, among_second}
-use Rattle.micro_program.proofs.Basics.{and_parts}
+use Rattle.nand_geometry.proofs.Booleans.{and_parts, or_parts}
 use Rattle.micro_program.proofs.Scenes.{Scene, IsScene, shown_alone, scene_behind}
 use Rattle.micro_claims.proofs.Fits.{latch_among, DriftFits, Address, NameFits, RowIs, is_of_kind, page_of, RowFits, AllFit, RowsFit, closer_among, LunFits, Fits, now_of}
 use Rattle.micro_claims.proofs.Numbers.{below_plus, in_exactly, surely}
 use Rattle.micro_claims.proofs.Tails.{closed_tail, closed_fits, whole_erase_plane, programming}
 use Rattle.micro_claims.proofs.Sounding.{KnownJob, NoReasons, SoundWord}
-use Rattle.micro_claims.proofs.Commands.{or_parts, not_no, command_sound, shows_kept, wanted, row_names, program_row, driven, out_of_place}
+use Rattle.micro_claims.proofs.Commands.{not_no, command_sound, shows_kept, wanted, row_names, program_row, driven, out_of_place}
 
 -- 1. what is declared
 

@@ -6,7 +6,7 @@ use Rattle.nand_geometry.specs.declared.Parts.{Parts}
 use Rattle.micro_program.specs.Program.{Job, Done, index_now}
 use Rattle.micro_claims.specs.State.{State, PageRange}
 use Rattle.micro_claims.specs.Leaves.{greatest_page_of, name_now}
-use Rattle.micro_program.proofs.Basics.{and_parts}
+use Rattle.nand_geometry.proofs.Booleans.{and_parts}
 use Rattle.micro_claims.proofs.Fits.{Below, InRange, RegistersFit, RowNamed}
 use Rattle.micro_claims.proofs.Addressing.{AddressNow, of_now}
 

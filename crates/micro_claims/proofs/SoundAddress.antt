@@ -37,12 +37,12 @@ use Rattle.micro_program.specs.Program.{Job, Done, column_now, plane_now, index_
 use Rattle.micro_program.specs.Lines.{Line}
 use Rattle.micro_program.specs.Moves.{gives, and_then}
 use Rattle.micro_word.specs.declared.word.Word.TheVariants.{Address as AddressWord}
-use Rattle.micro_program.proofs.Basics.{and_true}
+use Rattle.nand_geometry.proofs.Booleans.{and_true, or_parts}
 use Rattle.micro_program.proofs.Scenes.{Scene, IsScene, AddressAllowed, scene_behind}
 use Rattle.micro_program.proofs.SceneMoves.{MovesAllowed}
 use Rattle.micro_claims.proofs.Fits.{holds_address, is_of_kind, page_of, RowFits, AllFit, ColumnBegun, Fits, RegisterFits, Below, RegistersFit, Address, all_bytes, bytes_of, opener_facts, facts_behind, InProgram, Opened, PlaceIs, has_column, has_row, now_of, IsNow, ColumnFits, NameFits, RowIs, TailFits, ShowsFit, RowsFit, closer_among, LunFits}
 use Rattle.micro_claims.proofs.Numbers.{surely}
-use Rattle.micro_claims.proofs.Commands.{or_parts, shows_kept}
+use Rattle.micro_claims.proofs.Commands.{shows_kept}
 use Rattle.micro_claims.proofs.Tails.{no_place}
 use Rattle.micro_claims.proofs.Words.{least_register}
 use Rattle.micro_claims.proofs.Sounding.{KnownJob, NoReasons, unmoved, SoundWord, plain_sound}

@@ -13,7 +13,7 @@ use Rattle.micro_program.specs.Program.{Job}
 use Rattle.micro_claims.specs.Spans.{Span}
 use Rattle.micro_claims.specs.State.{KnownTarget, Place, Closed, After, InData, InColumn, Unknown, Shown, NamedRow}
 use Rattle.micro_claims.specs.Against.{is_open_place, place_wants, is_data_command, is_inside_address}
-use Rattle.micro_program.proofs.Basics.{and_parts}
+use Rattle.nand_geometry.proofs.Booleans.{and_parts}
 use Rattle.micro_claims.proofs.Fits.{holds_address, Address, bytes_of, opener_facts, facts_behind, is_place, InProgram, Opened, PlaceIs, has_column, has_row, Now, ColumnFits, NameFits, RowIs, TailFits}
 
 -- 1. what is tested of the place that is claimed is so of the place

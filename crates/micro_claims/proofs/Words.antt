@@ -31,7 +31,8 @@ use Rattle.micro_claims.proofs.Fits.{Below, TailFits, ShowsFit, LunFits, OutputF
 use Rattle.micro_claims.proofs.Numbers.{below_plus, surely}
 use Rattle.micro_claims.proofs.Tails.{closed_tail, closed_fits, programming}
 use Rattle.micro_claims.proofs.Sounding.{KnownJob, NoReasons, unmoved, SoundWord, plain_sound}
-use Rattle.micro_claims.proofs.Commands.{or_parts, not_no, shows_kept}
+use Rattle.micro_claims.proofs.Commands.{not_no, shows_kept}
+use Rattle.nand_geometry.proofs.Booleans.{or_parts}
 use Rattle.micro_claims.proofs.Transfers.{Outputs, status_outputs, data_outputs, CanRead, inputs_go}
 use Rattle.micro_program.proofs.Costs.{buffer_len}
 

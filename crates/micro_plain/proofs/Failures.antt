@@ -15,7 +15,7 @@ use Rattle.micro_claims.specs.Order.{same_place}
 use Rattle.micro_claims.specs.Joins.{joined, joined_rows}
 use Rattle.micro_claims.specs.Reasons.{reason_against, breaks_cycle_forbidden, breaks_address_unaligned, breaks_handover_in_sequence, breaks_buffer_passed, breaks_row_or_plane_outside, breaks_column_too_large, breaks_no_status, breaks_ends_too_soon, breaks_over_budget, breaks_command_not_allowed}
 use Rattle.micro_walk.specs.Faults.{met, reason_at}
-use Rattle.micro_plain.proofs.Basics.{neither}
+use Rattle.nand_geometry.proofs.Booleans.{or_parts as neither}
 
 -- what no way leads to may stand there, and what is known to be idle
 abbrev pub may_end : Option State → Bool

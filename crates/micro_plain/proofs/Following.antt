@@ -14,7 +14,7 @@ use Rattle.micro_claims.specs.Accepts.{state_after}
 use Rattle.micro_claims.specs.Certificate.{claim}
 use Rattle.micro_walk.specs.Faults.{met, reached, led, led_from, reason_at, fault_or, followed}
 use Rattle.micro_walk.proofs.Ahead.{claim_there, claim_elsewhere}
-use Rattle.micro_plain.proofs.Basics.{both}
+use Rattle.nand_geometry.proofs.Booleans.{and_parts as both}
 
 -- each branch leads to the last word, and `end 1` stands behind the first `end`
 abbrev pub AreLed : (last : ℕ) → List Word → Type 0

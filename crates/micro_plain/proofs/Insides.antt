@@ -10,7 +10,7 @@ use Rattle.micro_plain.specs.declared.operation.PlainOp.{PlainOp}
 use Rattle.micro_plain.specs.declared.operation.PlainOp.TheVariants.{Read, Program, Erase}
 use Rattle.micro_plain.specs.declared.refusal.PlainFault.TheVariants.{NoOperations, TooManyWords}
 use Rattle.micro_plain.specs.Plain.{operations_len, plain_words, row_of, rows_of, buffer_end, buffer_of, budget_of, is_row_outside, are_bytes_outside, is_outside, first_outside, outside_fault, plain_fault}
-use Rattle.micro_plain.proofs.Basics.{neither}
+use Rattle.nand_geometry.proofs.Booleans.{or_parts as neither}
 use Rattle.micro_plain.proofs.Shapes.{words_long}
 
 -- the row and the plane of an operation

@@ -9,7 +9,8 @@ use Rattle.micro_walk.specs.Faults.{has_loop}
 use Rattle.micro_plain.specs.declared.operation.PlainOp.{PlainOp}
 use Rattle.micro_plain.specs.declared.operation.PlainOp.TheVariants.{Read, Program, Erase}
 use Rattle.micro_plain.specs.Plain.{operation_words, operations_len, words_from, plain_words}
-use Rattle.micro_plain.proofs.Basics.{both, lt_test, not_zero}
+use Rattle.micro_plain.proofs.Basics.{lt_test, not_zero}
+use Rattle.nand_geometry.proofs.Booleans.{and_parts as both}
 use Rattle.micro_plain.proofs.Following.{AreLed}
 
 pub words_long : (failure : ℕ) (ops : List PlainOp) → length (words_from failure ops) ≡ operations_len ops + 2

@@ -19,7 +19,8 @@ use Rattle.onfi_cycle.specs.Lun.{luns_of}
 use Rattle.onfi_cycle.specs.Rules.{ends_row, some_lun_is, named_lun_is, driver, caching, some_queued_clashes, breaks_not_there, breaks_command_unknown, breaks_sequence_open, breaks_several_luns, breaks_no_column_to_change, breaks_command_misplaced, breaks_address_misplaced, breaks_row_outside, breaks_lun_busy, breaks_queue_clash, breaks_input_misplaced, breaks_no_sole_driver, breaks_data_not_ready, breaks_column_outside, breaks_cache_read_misplaced}
 use Rattle.onfi_cycle.specs.Permitted.{broken, judge_cycle}
 use Rattle.onfi_cycle.specs.Channel.{Channel, IsIdle, IsOwn, is_there, is_open_on, cycle}
-use Rattle.micro_program.proofs.Basics.{and_parts, and_true, eqb_self, there_lun}
+use Rattle.micro_program.proofs.Basics.{eqb_self, there_lun}
+use Rattle.nand_geometry.proofs.Booleans.{and_parts, and_true}
 use Rattle.micro_program.proofs.Views.{some_at, never}
 
 -- a cycle on a target that is there is permitted where it breaks no rule beside the first

@@ -7,10 +7,7 @@ use Rattle.micro_word.specs.declared.word.Word.{Word}
 use Rattle.micro_word.specs.declared.word.Word.TheVariants.{BranchOnStatus, Loop, Jump}
 use Rattle.micro_program.specs.Nested.{loops, loops_at, closer, LeadsForward, StandsIn, IsNested, is_same, leads_forward}
 use Rattle.micro_program.proofs.Ways.{drop_past, word_here}
-
-and_parts : (a b : Bool) → (a && b) ≡ true → (a ≡ true) × (b ≡ true)
-and_parts true b h = (refl, h)
-and_parts false b h = absurd cc
+use Rattle.nand_geometry.proofs.Booleans.{and_parts}
 
 le_of : (a b : ℕ) → nat_le a b ≡ true → a ≤ b
 le_of a b h = grind (arith, nat_tests)

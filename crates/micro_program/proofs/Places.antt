@@ -4,7 +4,7 @@ use Rattle.std.specs.List.{slice_get}
 use Rattle.micro_word.specs.declared.word.Word.{Word}
 use Rattle.micro_word.specs.declared.word.Word.TheVariants.{BranchOnStatus, Loop, Next, Jump}
 use Rattle.micro_program.specs.Lines.{Line, Unrolling, word_before, unrolling, leads_on, all_lead_on}
-use Rattle.micro_program.proofs.Basics.{and_parts}
+use Rattle.nand_geometry.proofs.Booleans.{and_parts}
 use Rattle.micro_program.specs.Places.{from_word, FitsAt, IsShaped}
 
 outer_before : (line : Line) (u : Unrolling) (word : Word) → leads_on word ≡ true → (word_before line u word).outer ≡ u.outer

@@ -27,7 +27,8 @@ use Rattle.micro_program.specs.Moves.{Move, Give, Take, poll}
 use Rattle.micro_program.specs.Played.{Played, played}
 use Rattle.micro_program.specs.Safe.{MovesAreOwn}
 use Rattle.micro_program.proofs.Below.{facts, outputs}
-use Rattle.micro_program.proofs.Basics.{and_true, eqb_self, there_lun}
+use Rattle.micro_program.proofs.Basics.{eqb_self, there_lun}
+use Rattle.nand_geometry.proofs.Booleans.{and_true}
 use Rattle.micro_program.proofs.Calm.{Calm, calmer, either_calm, calm_cycle, calm_after, own_effect}
 use Rattle.micro_program.proofs.Cycles.{permitted_cycle, tail_more, own_address, own_status, tail_status, own_enhanced, tail_enhanced, judge_enhanced_1, judge_enhanced_2, judge_enhanced_3, judge_output}
 

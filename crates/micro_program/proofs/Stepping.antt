@@ -24,7 +24,8 @@ use Rattle.onfi_cycle.specs.Permitted.{broken, judge_cycle}
 use Rattle.onfi_cycle.specs.OtherLun.{keeps_to}
 use Rattle.onfi_cycle.specs.Channel.{Channel, IsOwn, is_there, cycle}
 use Rattle.micro_program.proofs.Below.{facts, driver_on}
-use Rattle.micro_program.proofs.Basics.{and_parts, and_true, eqb_self, there_lun}
+use Rattle.micro_program.proofs.Basics.{eqb_self, there_lun}
+use Rattle.nand_geometry.proofs.Booleans.{and_parts, and_true}
 use Rattle.micro_program.proofs.Calm.{own_effect}
 use Rattle.micro_program.proofs.Cycles.{permitted_cycle}
 use Rattle.micro_program.proofs.Scenes.{Scene, IsScene, CommandAllowed, AddressAllowed, Allowed, shown_alone, command_sole, opener_sole, address_sole, sole_behind, scene_behind}

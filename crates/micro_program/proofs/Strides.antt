@@ -11,7 +11,7 @@ use Rattle.micro_program.specs.Played.{Played, played}
 use Rattle.micro_program.specs.Step.{Stride, stride, waited, first_byte, keeps_bus}
 use Rattle.micro_program.specs.Safe.{AddsOwn, lets_go, is_end}
 use Rattle.micro_program.specs.Laws.{FineStepsGoWell}
-use Rattle.micro_program.proofs.Basics.{and_true}
+use Rattle.nand_geometry.proofs.Booleans.{and_true}
 use Rattle.micro_program.proofs.Walk.{walked, poll_closes}
 
 -- the word joins those done, or comes again

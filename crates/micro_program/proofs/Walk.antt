@@ -14,7 +14,7 @@ use Rattle.micro_program.specs.Program.{Job}
 use Rattle.micro_program.specs.Played.{Played, played, with_byte}
 use Rattle.micro_program.specs.Safe.{MovesAreOwn, cycles_on, AllOwn, AddsOwn}
 use Rattle.micro_program.proofs.Below.{facts, outputs}
-use Rattle.micro_program.proofs.Basics.{and_parts}
+use Rattle.nand_geometry.proofs.Booleans.{and_parts}
 
 -- what moves leave that come after a past, which itself added to a start
 pub record Walked (s : Channel) (l : Lun) (moved : List Move) (start past : List Item) : Type 0 where

@@ -19,8 +19,8 @@ use Rattle.micro_claims.specs.Against.{first_address, is_inside_address, byte_of
 use Rattle.micro_claims.specs.Reasons.{breaks_cycle_forbidden, breaks_address_unaligned, breaks_row_or_plane_outside, breaks_column_too_large, reason_against, breaks_handover_in_sequence, breaks_buffer_passed, breaks_no_status, breaks_ends_too_soon, breaks_command_not_allowed}
 use Rattle.micro_claims.specs.Accepts.{state_after}
 use Rattle.micro_program.specs.Program.{Job, column_now, index_now, plane_now}
-use Rattle.micro_program.proofs.Basics.{and_parts}
-use Rattle.micro_claims.proofs.Commands.{or_parts, not_no}
+use Rattle.nand_geometry.proofs.Booleans.{and_parts, or_parts}
+use Rattle.micro_claims.proofs.Commands.{not_no}
 use Rattle.micro_claims.proofs.Fits.{has_column, has_row, RowIs, IsNow, now_of, is_place}
 use Rattle.micro_claims.proofs.Sounding.{no_reasons}
 use Rattle.micro_verify.proofs.AddressTests.{carries_is, more_left, and_left, taken}

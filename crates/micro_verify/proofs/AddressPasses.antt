@@ -17,7 +17,7 @@ use Rattle.micro_claims.specs.Leaves.{with_target, with_registers, paid, target_
 use Rattle.micro_claims.specs.Accepts.{state_after}
 use Rattle.micro_program.specs.Program.{Job, column_now, index_now}
 use Rattle.micro_program.specs.Moves.{address, gives, and_then}
-use Rattle.micro_claims.proofs.Commands.{or_parts}
+use Rattle.nand_geometry.proofs.Booleans.{or_parts}
 use Rattle.micro_claims.proofs.Fits.{Address, bytes_of, takes_column, now_of}
 use Rattle.micro_claims.proofs.Addressing.{of_now, carried_is}
 use Rattle.micro_claims.proofs.SoundAddress.{leaves_target}

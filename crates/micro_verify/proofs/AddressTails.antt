@@ -21,8 +21,8 @@ use Rattle.micro_claims.specs.Against.{first_address, same_test, is_read, is_era
 use Rattle.micro_claims.specs.Planes.{share_a_plane}
 use Rattle.micro_claims.specs.Leaves.{greatest_page_of, name_now, goes_along, opener_leads_to, address_leads_to, target_after_addresses}
 use Rattle.micro_program.specs.Program.{Job, Done, column_now, index_now}
-use Rattle.micro_program.proofs.Basics.{and_parts, and_true}
-use Rattle.micro_claims.proofs.Commands.{or_parts, not_no}
+use Rattle.nand_geometry.proofs.Booleans.{and_parts, and_true, or_parts}
+use Rattle.micro_claims.proofs.Commands.{not_no}
 use Rattle.micro_claims.proofs.Fits.{Address, bytes_of, opener_facts, facts_behind, takes_column, takes_row, has_column, has_row, is_place, now_of}
 use Rattle.micro_claims.proofs.Addressing.{AddressNow, of_now, carried_is}
 use Rattle.micro_claims.proofs.AddressSteps.{carried}

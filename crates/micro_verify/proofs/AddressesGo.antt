@@ -22,8 +22,7 @@ use Rattle.micro_claims.specs.Against.{first_address, takes_identity_at, is_insi
 use Rattle.micro_claims.specs.Leaves.{name_now, after_few, opener_leads_to, address_leads_to, target_after_addresses}
 use Rattle.micro_program.specs.Program.{Job, column_now, index_now}
 use Rattle.micro_program.specs.Moves.{address}
-use Rattle.micro_program.proofs.Basics.{and_parts}
-use Rattle.micro_claims.proofs.Commands.{or_parts}
+use Rattle.nand_geometry.proofs.Booleans.{and_parts, or_parts}
 use Rattle.micro_claims.proofs.Fits.{Address, all_bytes, bytes_of, takes_row, has_column, has_row, is_place, RowIs, IsNow, ColumnBegun, now_of}
 use Rattle.micro_claims.proofs.Addressing.{of_now, carried_is}
 use Rattle.micro_claims.proofs.SoundAddress.{few_is, with_column, first_led, second_led, row_with_column}

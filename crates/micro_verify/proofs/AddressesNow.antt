@@ -2,7 +2,7 @@
 use Rattle.std.proofs.lemmas.Bool.Decides.{nat_tests}
 use Rattle.micro_claims.specs.declared.state.Place.TheVariants.{After}
 use Rattle.micro_claims.specs.Against.{first_address}
-use Rattle.micro_program.proofs.Basics.{and_true}
+use Rattle.nand_geometry.proofs.Booleans.{and_true}
 use Rattle.std.proofs.Common.{◌≡◌, ℕ, zero, suc, ◌+◌, ◌≤◌, ◌<◌, Bool, true, false, ◌&&◌, ltb, List, [], ◌∷◌, refl, sym, ap, ◌∙◌, arith, take, eq-eqb}
 use Rattle.nand_geometry.specs.declared.Parts.{Parts}
 use Rattle.nand_geometry.specs.declared.RowParts.{RowParts}

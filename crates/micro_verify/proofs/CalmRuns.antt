@@ -17,7 +17,7 @@ use Rattle.micro_word.specs.Text.{Microprogram}
 use Rattle.micro_program.specs.Program.{Job, Done}
 use Rattle.micro_program.specs.Moves.{Move, Give, Take, moves, and_then, is_wait}
 use Rattle.micro_program.specs.Played.{Played, played, with_byte}
-use Rattle.micro_program.proofs.Basics.{and_parts}
+use Rattle.nand_geometry.proofs.Booleans.{and_parts}
 use Rattle.micro_verify.specs.Lazy.{the_lun, Run, run_with, run_word, run_words, awaited, Counter, counter_in, counter_at}
 use Rattle.micro_verify.specs.Calm.{calm_word, calm_words}
 use Rattle.micro_verify.proofs.CountersThere.{legal_before, permitted_before, any_byte, same_played}

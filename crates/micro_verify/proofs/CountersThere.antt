@@ -11,7 +11,7 @@ use Rattle.onfi_cycle.specs.Permitted.{broken, is_legal, is_permitted}
 use Rattle.onfi_cycle.specs.Channel.{Channel, cycle, bus_byte}
 use Rattle.micro_program.specs.Moves.{Move, Give, Take, and_then}
 use Rattle.micro_program.specs.Played.{Played, played, with_byte}
-use Rattle.micro_program.proofs.Basics.{and_parts}
+use Rattle.nand_geometry.proofs.Booleans.{and_parts}
 use Rattle.micro_verify.specs.Lazy.{item_of, counter_in, awaited}
 use Rattle.micro_verify.specs.Counters.{CountersAreThere}
 

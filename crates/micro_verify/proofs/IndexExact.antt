@@ -28,7 +28,8 @@ use Rattle.micro_claims.specs.Accepts.{state_after}
 use Rattle.micro_claims.proofs.Fits.{Address, Now, now_of}
 use Rattle.micro_claims.proofs.Indices.{mod_more}
 use Rattle.micro_claims.proofs.Sounding.{no_reasons}
-use Rattle.micro_program.proofs.Basics.{and_parts, and_true, eqb_self}
+use Rattle.micro_program.proofs.Basics.{eqb_self}
+use Rattle.nand_geometry.proofs.Booleans.{and_parts, and_true}
 use Rattle.micro_verify.specs.Lazy.{lone_job, Run}
 use Rattle.micro_verify.specs.Cause.{Cause}
 use Rattle.micro_verify.proofs.Lone.{Lone, IsAlone, IsLone}

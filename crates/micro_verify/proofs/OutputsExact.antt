@@ -35,7 +35,7 @@ use Rattle.micro_claims.specs.Reasons.{reason_against, breaks_cycle_forbidden, b
 use Rattle.micro_claims.specs.Accepts.{state_after}
 use Rattle.micro_claims.proofs.Fits.{Address, facts_behind, bytes_of, opener_facts}
 use Rattle.micro_claims.proofs.Sounding.{no_reasons}
-use Rattle.micro_claims.proofs.Commands.{or_parts}
+use Rattle.nand_geometry.proofs.Booleans.{or_parts}
 use Rattle.micro_claims.proofs.Transfers.{read_on}
 use Rattle.micro_verify.specs.Lazy.{lone_job, Run}
 use Rattle.micro_verify.specs.Cause.{Cause, WordStops, is_of_cycle_forbidden, is_of_column_too_large}

@@ -7,7 +7,7 @@ use Rattle.micro_word.specs.declared.word.Word.TheVariants.{Loop}
 use Rattle.micro_word.specs.Text.{Microprogram}
 use Rattle.micro_claims.specs.declared.refusal.Fault.{Fault}
 use Rattle.micro_program.specs.Lines.{leads_on, all_lead_on}
-use Rattle.micro_program.proofs.Basics.{and_parts}
+use Rattle.nand_geometry.proofs.Booleans.{and_parts}
 use Rattle.micro_walk.specs.Faults.{is_loop, has_loop}
 use Rattle.micro_walk.specs.Verdicts.{is_of_shape, MayBe}
 use Rattle.micro_verify.specs.Lazy.{lone_channel}

@@ -28,7 +28,7 @@ use Rattle.micro_claims.specs.State.{first_state}
 use Rattle.micro_claims.specs.Spans.{greatest_bound}
 use Rattle.micro_verify.specs.Lazy.{lone_channel, lone_job, new_run, run_words}
 use Rattle.micro_verify.specs.Cause.{no_end, AllInRange, RefusalsHaveCauses}
-use Rattle.micro_program.proofs.Basics.{and_parts}
+use Rattle.nand_geometry.proofs.Booleans.{and_parts}
 use Rattle.micro_verify.proofs.Lone.{IsAlone}
 use Rattle.micro_verify.proofs.Causes.{IsFit, IsExact, AreExact, causes_among, first_lone, first_mirrors, end_exact}
 use Rattle.micro_verify.proofs.WordsExact.{wait_exact, stat_exact}

@@ -17,7 +17,7 @@ use Rattle.micro_claims.specs.declared.state.Place.TheVariants.{Closed, After, I
 use Rattle.micro_claims.specs.Against.{takes_identity_at}
 use Rattle.micro_claims.specs.Leaves.{with_target, data_shown, page_plus, address_leads_to, greatest_page_of, name_now, target_after_addresses, identity_read, address_leaves_at, address_leaves}
 use Rattle.micro_claims.specs.Order.{top, SpanAt, SpanIs, RegistersAt, HasColumn, NameIs, NamedIs, IsFineName, IsFineNamed, TargetAt, At, column_number, PlaceIs, Exactly}
-use Rattle.micro_program.proofs.Basics.{and_parts, and_true}
+use Rattle.nand_geometry.proofs.Booleans.{and_parts, and_true}
 use Rattle.micro_walk.proofs.SpanLaws as numbers
 use Rattle.micro_walk.proofs.SpanLaws.{le_of}
 use Rattle.micro_claims.proofs.NamesNow.{same_block, page_in_block}

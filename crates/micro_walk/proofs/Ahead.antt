@@ -25,7 +25,7 @@ use Rattle.micro_claims.specs.Joins.{joined}
 use Rattle.micro_walk.specs.Shape.{is_end_there, ends}
 use Rattle.micro_walk.specs.Faults.{met, reached, led, led_from, known_first, reason_at, fault_or, followed, is_loop, has_loop}
 use Rattle.micro_program.specs.Nested.{loops_before, loops, StandsIn, IsNested}
-use Rattle.micro_program.proofs.Basics.{and_true}
+use Rattle.nand_geometry.proofs.Booleans.{and_true, or_parts as neither_loop}
 use Rattle.micro_walk.proofs.Joining.{joins_claim_less}
 use Rattle.micro_walk.proofs.Machines.{branch_reason, alike}
 use Rattle.micro_claims.proofs.AcceptedLines.{accepted_is_safe}
@@ -276,10 +276,6 @@ plain_word all at around (Jump target) never none stands = record { leads = (sta
 plain_word all at around (Loop turns) never none stands = absurd cc
 plain_word all at around Next never none stands = absurd cc
 plain_word all at around word never none stands = record { leads = tt; none = none }
-
-neither_loop : (a b : Bool) → (a || b) ≡ false → (a ≡ false) × (b ≡ false)
-neither_loop false b h = (refl, h)
-neither_loop true b h = absurd cc
 
 all_lead : (all rest : List Word) (at : ℕ) → has_loop rest ≡ false → loops rest at ≡ [] → ((i : ℕ) (word : Word) → slice_get rest i ≡ Some word → StandsIn all (at + i) word) → AllLeadOn (length all) at rest
 all_lead all [] at never none stands = tt

@@ -9,16 +9,9 @@ use Rattle.micro_program.specs.Lines.{Line, Unrolling, repeated, looped, word_be
 use Rattle.micro_program.specs.Nested.{loops_before, loops_at, first_of, LeadsForward, StandsIn, IsNested}
 use Rattle.micro_claims.specs.Certificate.{Machine, Laws, Turned, entered, turned, if_there, goes_on, accepts, claim, reaches, turns_hold, loop_holds, word_holds, holds, all_hold, CertifiedIsAccepted}
 use Rattle.micro_program.proofs.Ways.{from_word, line_of, word_here, unrolled_here, loops_here, closes, leads, led_on}
+use Rattle.nand_geometry.proofs.Booleans.{and_parts, and_true}
 
 -- 1. small tests
-
-pub and_parts : (a b : Bool) → (a && b) ≡ true → (a ≡ true) × (b ≡ true)
-and_parts true b h = (refl, h)
-and_parts false b h = absurd cc
-
-pub and_true : (a b : Bool) → a ≡ true → b ≡ true → (a && b) ≡ true
-and_true true b h k = k
-and_true false b h k = absurd cc
 
 or_right : (a b : Bool) → (a || b) ≡ true → a ≡ false → b ≡ true
 or_right true b h no_a = absurd cc

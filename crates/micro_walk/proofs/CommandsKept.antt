@@ -22,7 +22,7 @@ use Rattle.micro_claims.specs.State.{other_closer, any_number}
 use Rattle.micro_claims.specs.Against.{same_test}
 use Rattle.micro_claims.specs.Leaves.{with_target, data_shown, rows_at, work_started, same_drift, queued_more, cache_read, command_leaves, column_read, get_leaves, span_more, put_leaves, page_register}
 use Rattle.micro_claims.specs.Order.{SpanAt, May, DriftIs, HasColumn, NamedIs, ShowsIs, RegisteredIs, RowsAre, At, column_number, output_number, Exactly}
-use Rattle.micro_program.proofs.Basics.{and_parts, and_true}
+use Rattle.nand_geometry.proofs.Booleans.{and_parts, and_true}
 use Rattle.micro_walk.proofs.SpanLaws as numbers
 use Rattle.micro_walk.proofs.SpanLaws.{le_of, saturated_is, top_plus}
 use Rattle.micro_walk.proofs.Shapes.{both_among}

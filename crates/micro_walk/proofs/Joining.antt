@@ -22,7 +22,7 @@ use Rattle.micro_claims.specs.declared.state.QueuedRows.TheVariants.{NoRows, Som
 use Rattle.micro_claims.specs.Against.{same_test, is_open_place}
 use Rattle.micro_claims.specs.Order.{is_bound_within, is_growth_within, is_span_within, may_within, are_planes_within, same_place, is_place_within, same_drift_as, is_drift_within, are_registers_within, is_column_within, is_name_within, is_named_within, is_shows_within, is_target_within, is_register_within, is_output_within, are_rows_within, is_lun_within, is_state_within}
 use Rattle.micro_claims.specs.Joins.{greater_bound, joined_growth, joined_span, joined_pages, joined_registers, joined_place, both_know, joined_drift, joined_name, joined_shown, joined_target, joined_held, joined_output, joined_rows, joined_closer, joined_cached, joined_lun, joined, JoinsClaimLess}
-use Rattle.micro_program.proofs.Basics.{and_parts, and_true}
+use Rattle.nand_geometry.proofs.Booleans.{and_parts, and_true}
 use Rattle.micro_walk.proofs.Shapes.{same_is, drift_is}
 
 -- both of two claims are at least what is claimed

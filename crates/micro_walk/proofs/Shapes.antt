@@ -9,7 +9,7 @@ use Rattle.micro_claims.specs.declared.state.Drift.{Drift}
 use Rattle.micro_claims.specs.declared.planes.Planes.{Planes}
 use Rattle.micro_claims.specs.Planes.{has_plane, either_plane}
 use Rattle.micro_claims.specs.Order.{are_planes_within, AllAmong, same_code, same_place, may_within, May, same_drift_as, is_drift_within, DriftIs}
-use Rattle.micro_program.proofs.Basics.{and_parts, and_true}
+use Rattle.nand_geometry.proofs.Booleans.{and_parts, and_true}
 
 or_left : (b c : Bool) → b ≡ true → (b || c) ≡ true
 or_left true c h = refl

@@ -8,7 +8,7 @@ use Rattle.micro_claims.specs.declared.span.Growth.{Growth}
 use Rattle.micro_claims.specs.Spans.{greatest_bound, kept, saturated, bound_plus, exactly, growth_plus, plus, plus_between, is_at_most, only, only_of, copied}
 use Rattle.micro_claims.specs.State.{any_number}
 use Rattle.micro_claims.specs.Order.{is_bound_within, is_growth_within, is_span_within, no_growth, bound_sum, bound_times, growth_sum, span_at_head, span_heads_by, span_at_heads, span_after_by, span_after_turns, top, Grew, SpanAt, SpanIs}
-use Rattle.micro_program.proofs.Basics.{and_parts}
+use Rattle.nand_geometry.proofs.Booleans.{and_parts}
 
 -- 1. bounds as numbers
 

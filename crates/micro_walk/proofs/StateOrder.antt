@@ -21,7 +21,7 @@ use Rattle.micro_claims.specs.declared.state.Bounds.{Bounds}
 use Rattle.micro_claims.specs.Against.{same_test, is_open_place}
 use Rattle.micro_claims.specs.Order.{SpanAt, AllAmong, May, RegistersAt, HasColumn, NameIs, NamedIs, IsFineNamed, ShowsIs, TargetAt, RegisteredIs, HasOutput, RowsAre, LunAt, At, column_number, output_number, may_within, same_drift_as, is_span_within, span_at_head, span_at_heads, span_after_turns, are_registers_within, is_column_within, is_name_within, is_named_within, is_shows_within, is_target_within, is_register_within, is_output_within, are_rows_within, is_lun_within, is_state_within, column_by, output_by, state_by, state_at_head, state_at_heads, state_after_turns, machine, PlaceIs, Anywhere, NothingOpen, Exactly, are_planes_within, is_place_within}
 use Rattle.micro_claims.specs.Certificate.{Turned}
-use Rattle.micro_program.proofs.Basics.{and_parts}
+use Rattle.nand_geometry.proofs.Booleans.{and_parts}
 use Rattle.micro_walk.proofs.SpanLaws as numbers
 use Rattle.micro_walk.proofs.SpanLaws.{le_of, Ran}
 use Rattle.micro_walk.proofs.Shapes.{planes_too, among_self, same_is, may_too, must_too, drift_is, drift_too}

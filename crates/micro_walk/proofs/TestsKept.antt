@@ -28,7 +28,7 @@ use Rattle.micro_claims.specs.declared.planes.Planes.{Planes}
 use Rattle.micro_claims.specs.Planes.{has_plane, share_a_plane, are_below}
 use Rattle.micro_claims.specs.Order.{top, SpanAt, SpanIs, AllAmong, May, PlaceIs, Anywhere, NothingOpen, Exactly, ShowsIs, RegisteredIs, HasOutput, RowsAre}
 use Rattle.micro_claims.proofs.PlaneSets.{below_count, below_all, shared, sharing}
-use Rattle.micro_program.proofs.Basics.{and_parts, and_true}
+use Rattle.nand_geometry.proofs.Booleans.{and_parts, and_true}
 use Rattle.micro_walk.proofs.SpanLaws.{at_most_too, only_too}
 use Rattle.micro_walk.proofs.Shapes.{or_on, not_on, same_on}
 

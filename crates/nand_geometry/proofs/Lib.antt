@@ -1,3 +1,4 @@
+pub mod Booleans
 pub mod ChecksumLemmas
 pub mod FieldLemmas
 pub mod LimitLemmas

@@ -23,6 +23,7 @@ use Rattle.onfi_cycle.specs.Rules.{some_lun_is}
 use Rattle.onfi_cycle.specs.Sequence.{target_cycle, facts_after, opened, wants_command}
 use Rattle.onfi_cycle.specs.State.{TargetView, luns_after, effect_alone, has_driver, target_after, target}
 use Rattle.std.proofs.lemmas.Bool.{eq-eqb}
+use Rattle.nand_geometry.proofs.Booleans.{or_parts as neither}
 
 -- 1. a cycle
 
@@ -35,10 +36,6 @@ cycle_on_luns g t sole c n (v ∷ vs) =
     rw (eqb_self c.ce) (ap (λ (ws : List LunView). view_after (cycle_effect g t (cond sole v.latch Off) (target_cycle c.kind c.byte) n) v ∷ ws) (cycle_on_luns g t sole c (n + 1) vs))
 
 -- a cycle that can't act
-
-neither : (a b : Bool) → (a || b) ≡ false → (a ≡ false) × (b ≡ false)
-neither true b h = cc
-neither false b h = (refl, h)
 
 command_rests : (g : Parts) (t : TailFacts) (s : Latch) (c : Command) (n : ℕ) → (needs_no_row c || wants_command t c) ≡ false → command_effect g t s c n ≡ Unaffected
 command_rests g t s Read n h = cc

@@ -34,6 +34,7 @@ use Rattle.onfi_cycle.proofs.Applied.{ready_on_luns, array_ready_on_luns}
 use Rattle.onfi_cycle.proofs.Others.{first_passed}
 use Rattle.onfi_cycle.proofs.EffectBounds.{identity_waits}
 use Rattle.onfi_cycle.proofs.Working.{target_fits_at}
+use Rattle.nand_geometry.proofs.Booleans.{and_parts as both, or_parts as neither}
 
 -- ---- effects that leave all readies as they are
 
@@ -72,10 +73,6 @@ command_keeps g t la c n h = either (wants_command t c && names_lun g (row t) n)
 
 not_zero : (m : ℕ) → (m + 1 == 0) ≡ true → false ≡ true
 not_zero m h = grind (arith, nat_tests)
-
-both : (a b : Bool) → (a && b) ≡ true → (a ≡ true) × (b ≡ true)
-both true b h = (refl, h)
-both false b h = cc
 
 no_more : (o : Option Opening) → opened (λ c n. is_parameter_page c && n == 0) (one_address_more o) ≡ true → false ≡ true
 no_more None h = h
@@ -228,10 +225,6 @@ one_due t e test (v ∷ vs) (suc k) less h = let rest = one_due t e test vs k le
 not_not : (b : Bool) → not b ≡ false → b ≡ true
 not_not true h = refl
 not_not false h = cc
-
-neither : (a b : Bool) → (a || b) ≡ false → (a ≡ false) × (b ≡ false)
-neither true b h = cc
-neither false b h = (refl, h)
 
 is_busy_there : (g : Parts) (targets : ℕ) (s : TargetView) (ce lun : ℕ) (fail : Bool) → judge g targets s.tail s.luns (Rdy ce lun fail) ≡ None → lun_is (λ v. v.busy) s.luns lun ≡ true
 unfolding breaks_not_there

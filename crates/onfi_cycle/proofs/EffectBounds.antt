@@ -33,6 +33,7 @@ use Rattle.onfi_cycle.specs.State.{effect_alone, has_driver}
 use Rattle.onfi_cycle.specs.Bounds.{TailFits, RowFits, RowStands, CanStart, EffectFits, is_read, is_block_erase, names_read, names_erase, names_program, names_row, names_identity}
 use Rattle.onfi_cycle.proofs.Others.{first_passed}
 use Rattle.onfi_cycle.proofs.Passed.{KeepsRules, keeps_rules}
+use Rattle.nand_geometry.proofs.Booleans.{and_parts as both, or_parts as neither}
 
 -- a LUN that is on is among those that drive
 on_drives : (vs : List LunView) (n : ℕ) (v : LunView) → slice_get vs n ≡ Some v → is_off v.latch ≡ false → are_none (driving vs) ≡ false
@@ -93,14 +94,6 @@ data_is_on Data h = refl
 
 driver_passes : (test : LunView → Bool) (luns : List LunView) (v : LunView) → IsDriver luns v → driver_is test luns ≡ test v
 driver_passes test luns v d = rw d.is refl
-
-both : (a b : Bool) → (a && b) ≡ true → (a ≡ true) × (b ≡ true)
-both true b h = (refl, h)
-both false b h = cc
-
-neither : (a b : Bool) → (a || b) ≡ false → (a ≡ false) × (b ≡ false)
-neither true b h = cc
-neither false b h = (refl, h)
 
 not_and : (a b : Bool) → a ≡ true → (a && b) ≡ false → b ≡ false
 not_and true b e h = h

@@ -22,14 +22,7 @@ use Rattle.onfi_cycle.proofs.Steps.{facts_of_cycle}
 use Rattle.onfi_cycle.proofs.Drivers.{driver_of_target}
 use Rattle.onfi_cycle.proofs.Latches.{latch_by_effect}
 use Rattle.onfi_cycle.proofs.Bytes.{output_shows, output_closes}
-
-pub and_parts : (a b : Bool) → (a && b) ≡ true → (a ≡ true) × (b ≡ true)
-and_parts true b h = (refl, h)
-and_parts false b h = cc
-
-pub and_true : (a b : Bool) → a ≡ true → b ≡ true → (a && b) ≡ true
-and_true true b h k = k
-and_true false b h k = cc
+use Rattle.nand_geometry.proofs.Booleans.{and_parts, and_true}
 
 -- 1. the facts go on
 

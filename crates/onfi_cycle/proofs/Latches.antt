@@ -22,7 +22,8 @@ use Rattle.onfi_cycle.specs.Lun.{latch, latch_after, latch_alone, effect_on, dri
 use Rattle.onfi_cycle.specs.Rules.{driving, are_none, only, driver, is_some_and, driver_is, breaks_cache_read_misplaced, continues_cache, ends_cache}
 use Rattle.onfi_cycle.specs.Permitted.{broken, is_permitted, is_legal}
 use Rattle.onfi_cycle.specs.Decides.{or_before, last_decided, tail_of, drives_alone, identity_closer, closing_address, closed_latch, read_latch, selected_latch, third_of_status, selecting_latch, latch_cycle, latch_decided}
-use Rattle.onfi_cycle.proofs.Others.{permitted_none, both_true}
+use Rattle.onfi_cycle.proofs.Others.{permitted_none}
+use Rattle.nand_geometry.proofs.Booleans.{and_parts as both_true}
 use Rattle.onfi_cycle.proofs.Meaning.{driver_on, alone_off}
 use Rattle.onfi_cycle.proofs.Passed.{permitted_keeps}
 

@@ -12,11 +12,7 @@ use Rattle.onfi_cycle.specs.LunView.{LunView}
 use Rattle.onfi_cycle.specs.Lun.{view_after}
 use Rattle.onfi_cycle.specs.Rules.{planes_clash, queued_clashes, some_queued_clashes}
 use Rattle.onfi_cycle.specs.Bounds.{plane_of, is_in_use, room_in, rooms, LunFits, EffectFits}
-
--- a row that clashes with none of a queue lies in a plane that the queue doesn't use
-either : (a b : Bool) → (a || b) ≡ false → (a ≡ false) × (b ≡ false)
-either true b h = cc
-either false b h = (refl, h)
+use Rattle.nand_geometry.proofs.Booleans.{or_parts as either}
 
 first_of : (a b c : Bool) → (a || b || c) ≡ false → a ≡ false
 first_of true b c h = cc

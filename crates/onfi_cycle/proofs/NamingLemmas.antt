@@ -15,7 +15,8 @@ use Rattle.onfi_cycle.specs.Command.{is_opener, address_cycles, takes_address, i
 use Rattle.onfi_cycle.specs.Sequence.{opening, opened, one_address_more, next_address_place, data_phase, phase_after_command, phase_after_address, phase_after_input, phase_after_last_address, facts_of, row, row_with, column, column_with, wants_address, wants_column}
 use Rattle.onfi_cycle.specs.Table.{IsSequence, IsBeginning}
 use Rattle.onfi_cycle.specs.Naming.{since_command, row_cycles, column_cycles, AreWhole, TailsName}
-use Rattle.onfi_cycle.proofs.TableLemmas.{IsOpening, opening_shape, addresses, beginning_wants, reverse_more, either_true, and_parts}
+use Rattle.onfi_cycle.proofs.TableLemmas.{IsOpening, opening_shape, addresses, beginning_wants, reverse_more, either_true}
+use Rattle.nand_geometry.proofs.Booleans.{and_parts}
 
 -- a beginning stays one without its last cycle
 beginning_before : (c : TargetCycle) (t : List TargetCycle) → IsBeginning (reverse (c ∷ t)) → IsBeginning (reverse t)

@@ -25,6 +25,7 @@ use Rattle.onfi_cycle.specs.Rules.{breaks_not_there, breaks_command_unknown, bre
 use Rattle.onfi_cycle.specs.Permitted.{broken, judge_cycle, is_permitted, is_legal}
 use Rattle.onfi_cycle.specs.OtherLun.{keeps_to, is_of, closes_row, needs_driver, OthersKeep, TargetsKeep}
 use Rattle.onfi_cycle.proofs.Quiet.{is_quiet, keeps_quiet}
+use Rattle.nand_geometry.proofs.Booleans.{and_parts as both_true}
 
 -- two numbers that a third equals are one
 not_both : (x l m : ℕ) → l ≢ m → (x == m) ≡ true → (x == l) ≡ false
@@ -118,10 +119,6 @@ other_with_cycle g (InputCycle byte) [] several f4 h = refl
 other_with_cycle g (InputCycle byte) (d ∷ t) several f4 h = refl
 other_with_cycle g OutputCycle [] several f4 h = refl
 other_with_cycle g OutputCycle (d ∷ t) several f4 h = refl
-
-pub both_true : (a b : Bool) → (a && b) ≡ true → (a ≡ true) × (b ≡ true)
-both_true true b h = (refl, h)
-both_true false b h = cc
 
 pub other_openings : (g : Parts) (n : ℕ) (past : List Item) (ce : ℕ) → ltb 1 g.luns ≡ true → is_legal g n past ≡ true → is_other_opening (opening (tail past ce)) ≡ true
 other_openings g n [] ce several h = refl

@@ -32,6 +32,7 @@ use Rattle.onfi_cycle.specs.State.{tail_after, effect_alone, has_driver}
 use Rattle.onfi_cycle.specs.Bounds.{TailFits, RowFits, is_block_erase, names_erase, names_program}
 use Rattle.onfi_cycle.proofs.Others.{first_passed}
 use Rattle.onfi_cycle.proofs.Passed.{KeepsRules, keeps_rules}
+use Rattle.nand_geometry.proofs.Booleans.{and_parts as both}
 
 -- a tail that names no row
 unnamed : (g : Parts) (t : TailFacts) (n : ℕ) (v : LunView) → names_erase t ≡ false → names_program t ≡ false → RowFits g t n v
@@ -44,10 +45,6 @@ same_queue g t n v w e f =
       erase = λ named h. ap (some_queued_clashes g true (page_address g (row t))) e ∙ f.erase named h;
       program = λ named h. ap (some_queued_clashes g false (page_address g (row t))) e ∙ f.program named h;
     }
-
-both : (a b : Bool) → (a && b) ≡ true → (a ≡ true) × (b ≡ true)
-both true b h = (refl, h)
-both false b h = cc
 
 never : (b : Bool) → (b && false) ≡ false
 never true = refl

@@ -31,6 +31,7 @@ use Rattle.onfi_cycle.specs.Bounds.{TailFits, RowStands, is_read, is_block_erase
 use Rattle.onfi_cycle.proofs.Others.{first_passed}
 use Rattle.onfi_cycle.proofs.Passed.{KeepsRules, keeps_rules}
 use Rattle.onfi_cycle.proofs.RowBounds.{ChangesColumn, goes_on_inside, begun_outside, judged_row, next_is, later_address, last_address, input_inside}
+use Rattle.nand_geometry.proofs.Booleans.{and_parts as both}
 
 -- a tail that names no row and waits for no address of an identity
 unnamed : (g : Parts) (t : TailFacts) (n : ℕ) (v : LunView) → names_row t ≡ false → names_identity t ≡ false → RowStands g t n v
@@ -52,10 +53,6 @@ not_false false h = cc
 not_true : (b : Bool) → not b ≡ true → b ≡ false
 not_true true h = cc
 not_true false h = refl
-
-both : (a b : Bool) → (a && b) ≡ true → (a ≡ true) × (b ≡ true)
-both true b h = (refl, h)
-both false b h = cc
 
 -- ---- where there is one LUN alone
 

@@ -16,6 +16,7 @@ use Rattle.onfi_cycle.specs.Table.{IsProgramData, IsProgramCloser, IsSequence, I
 use Rattle.onfi_cycle.specs.Table.IsProgramData.{nothing, input, column}
 use Rattle.onfi_cycle.specs.Table.IsProgramCloser.{whole, plane}
 use Rattle.onfi_cycle.specs.Table.IsSequence.{read, change_read_column, erase, erase_plane, read_status, read_status_enhanced, program, read_id, read_parameter_page, reset, read_cache_sequential, read_cache_end}
+use Rattle.nand_geometry.proofs.Booleans.{and_parts, and_true}
 
 -- 1. A sequence, read in the order of time, is wanted cycle by cycle.
 
@@ -37,14 +38,6 @@ facts_extended OutputCycle t = refl
 abbrev scans : List TargetCycle → Bool
 scans [] = false
 scans (c ∷ cs) = begins_sequence c && wanted_along (facts_of (c ∷ [])) cs
-
-and_true : (a b : Bool) → a ≡ true → b ≡ true → (a && b) ≡ true
-and_true true b h k = k
-and_true false b h k = cc
-
-pub and_parts : (a b : Bool) → (a && b) ≡ true → (a ≡ true) × (b ≡ true)
-and_parts true b h = (refl, h)
-and_parts false b h = cc
 
 -- the data of a program, up to its closer
 data_scans : (f : TailFacts) (bytes : List TargetCycle) (closer : Command) → IsProgramData bytes → IsProgramCloser closer → f.phase ≡ Inputs → wanted_along f (bytes ++ (CommandCycle closer ∷ [])) ≡ true

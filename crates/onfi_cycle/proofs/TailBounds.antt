@@ -22,6 +22,7 @@ use Rattle.onfi_cycle.specs.declared.forbidden.Forbidden.TheVariants.{NotThere}
 use Rattle.onfi_cycle.proofs.Others.{first_passed}
 use Rattle.onfi_cycle.proofs.Passed.{keeps_rules}
 use Rattle.onfi_cycle.specs.Bounds.{TailFits}
+use Rattle.nand_geometry.proofs.Booleans.{and_parts as both}
 
 -- no opener takes more than five addresses
 most_addresses : (c : Command) → address_cycles c ≤ 5
@@ -37,10 +38,6 @@ most_addresses c = omega arith
 not_true : (b : Bool) → not b ≡ false → b ≡ true
 not_true true h = refl
 not_true false h = cc
-
-both : (a b : Bool) → (a && b) ≡ true → (a ≡ true) × (b ≡ true)
-both true b h = (refl, h)
-both false b h = cc
 
 -- a Change Write Column waits in the data of a program alone
 command_in_column : (c : Command) (p : DataPhase) → wants_column (phase_after_command c p) ≡ true → p ≡ Inputs

@@ -38,10 +38,7 @@ use Rattle.onfi_cycle.proofs.Passed.{KeepsRules, permitted_keeps}
 use Rattle.onfi_cycle.proofs.Keeping.{view_at}
 use Rattle.onfi_cycle.proofs.EffectBounds.{effect_fits, identity_waits}
 use Rattle.onfi_cycle.proofs.Following.{found_target, effect_by_state, effect_elsewhere}
-
-both : (a b : Bool) → (a && b) ≡ true → (a ≡ true) × (b ≡ true)
-both true b h = (refl, h)
-both false b h = cc
+use Rattle.nand_geometry.proofs.Booleans.{and_parts as both}
 
 same_number : (g : Parts) (r n m : ℕ) → names_lun g r n ≡ true → names_lun g r m ≡ true → n ≡ m
 same_number g r n m a b = sym (eqb-true (parts_of g r).lun n a) ∙ eqb-true (parts_of g r).lun m b

@@ -1,5 +1,4 @@
 pub mod Ends
-pub mod Printing
 pub mod Statuses
 pub mod Told
 pub mod Turns

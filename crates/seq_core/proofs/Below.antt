@@ -14,7 +14,7 @@ use Rattle.micro_walk.proofs.Erase.{erase_is_safe}
 use Rattle.micro_program.specs.Moves.{BufferKeepsLength, CostsCountMoves}
 use Rattle.micro_program.proofs.Costs.{buffer_len, cost_is}
 pub use Rattle.micro_program.proofs.Tracking.{StepParts, step_parts}
-pub use Rattle.micro_program.proofs.Basics.{and_parts, and_true, eqb_self, there_lun}
+pub use Rattle.micro_program.proofs.Basics.{eqb_self, there_lun}
 
 pub facts : FactsGoOn
 facts = facts_go_on

@@ -19,6 +19,7 @@ use Rattle.seq_core.specs.Buffer.{fills, is_filled, KeepsOthers}
 use Rattle.seq_core.specs.Made.{cycles_of, takes, bytes_told}
 use Rattle.seq_core.proofs.Below.{keeps_length, step_parts}
 use Rattle.seq_core.proofs.Plays.{took}
+use Rattle.nand_geometry.proofs.Booleans.{or_parts as neither}
 
 -- 1. bytes elsewhere
 
@@ -49,10 +50,6 @@ written_elsewhere (byte ∷ bytes) place buffer k h =
 -- what was got was asked for by a `get` of so many bytes
 abbrev pub AnswerFits : Done → Type 0
 AnswerFits d = (bytes : List ℕ) → d.answer ≡ Got bytes → d.word ≡ Get (length bytes)
-
-neither : (a b : Bool) → (a || b) ≡ false → (a ≡ false) × (b ≡ false)
-neither true b h = cc
-neither false b h = (refl, h)
 
 -- one word more is done
 pub keeps_more : (d : Done) (done : List Done) (before : List ℕ) → AnswerFits d → KeepsOthers done before (buffer_now before done) → KeepsOthers (d ∷ done) before (buffer_now before (d ∷ done))

@@ -11,7 +11,7 @@ use Rattle.seq_core.specs.World.{Slot, World, slot_of, with_slot, fresh_slot}
 use Rattle.seq_core.specs.Event.{IsVerified}
 use Rattle.seq_core.specs.After.{same_bool, same_parts, load_fault, after_load, after_unload, after_slot_unload}
 use Rattle.seq_core.specs.Lawful.{HasSeat, LawfulSlot, LawfulAt, has_bus, LawfulWorld}
-use Rattle.seq_core.proofs.Below.{and_parts}
+use Rattle.nand_geometry.proofs.Booleans.{and_parts}
 use Rattle.seq_core.proofs.Slots.{same_lun_is, slot_same, slot_other, there_of_slot}
 
 -- a slot is changed while the trace stands

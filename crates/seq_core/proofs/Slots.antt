@@ -6,7 +6,8 @@ use Rattle.onfi_cycle.specs.declared.item.Lun.{Lun}
 use Rattle.onfi_cycle.specs.declared.item.Item.{Item}
 use Rattle.onfi_cycle.specs.Channel.{Channel, is_there, same_lun}
 use Rattle.seq_core.specs.World.{Slot, World, number, slot_of, with_slot}
-use Rattle.seq_core.proofs.Below.{and_parts, and_true, eqb_self, there_lun}
+use Rattle.seq_core.proofs.Below.{eqb_self, there_lun}
+use Rattle.nand_geometry.proofs.Booleans.{and_parts, and_true}
 
 pub same_lun_is : (l m : Lun) → same_lun l m ≡ true → l ≡ m
 same_lun_is l m h =

@@ -7,7 +7,7 @@ use Rattle.die_model.specs.Loading.{IsLoaded}
 use Rattle.target_bus.specs.declared.refusal.BusFault.{BusFault}
 use Rattle.target_bus.specs.declared.refusal.BusFault.TheVariants.{DiesMissing, DieUnfit}
 use Rattle.target_bus.specs.Bus.{are_targets, same_parts, is_new_of, are_new, bus_fault}
-use Rattle.micro_program.proofs.Basics.{and_parts, and_true}
+use Rattle.nand_geometry.proofs.Booleans.{and_parts, and_true}
 
 self : (n : ℕ) → (n == n) ≡ true
 self n = eq-eqb n n refl

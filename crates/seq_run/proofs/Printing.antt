@@ -15,12 +15,7 @@ use Rattle.onfi_cycle.specs.Sequence.{target_of, tail, facts_of}
 use Rattle.onfi_cycle.specs.Lun.{luns_of, views_from}
 use Rattle.onfi_cycle.specs.Permitted.{judge_item, is_permitted, is_legal}
 use Rattle.trace_text.specs.Line.{IsPrintable}
-use Rattle.seq_core.proofs.Below.{and_parts}
-
-neither : (a b : Bool) → (a || b) ≡ false → (a ≡ false) × (b ≡ false)
-neither false false e = (refl, refl)
-neither false true e = absurd cc
-neither true b e = absurd cc
+use Rattle.nand_geometry.proofs.Booleans.{and_parts, or_parts as neither}
 
 not_first : (b : Bool) (o : Option Forbidden) → is_none (cond b (Some NotThere) o) ≡ true → b ≡ false
 not_first true o e = absurd cc

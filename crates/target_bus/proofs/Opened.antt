@@ -20,10 +20,7 @@ use Rattle.die_model.specs.Standing.{IsDieOf}
 use Rattle.die_model.proofs.Showing.{dies_show}
 use Rattle.target_bus.specs.Bus.{Entries, channel_on, opened_page, numbered, number_of, IsStanding, are_targets, same_sizes, same_parts, is_new_of, are_new, IsWhole, WholeDies, forgotten}
 use Rattle.target_bus.proofs.Numbers.{number_back}
-
-both : (a b : Bool) → (a && b) ≡ true → (a ≡ true) × (b ≡ true)
-both true b h = (refl, h)
-both false b h = cc
+use Rattle.nand_geometry.proofs.Booleans.{and_parts as both}
 
 beq_is : (a b : Bool) → beq a b ≡ true → a ≡ b
 beq_is true true h = refl

@@ -31,6 +31,7 @@ use Rattle.die_model.specs.Standing.{IsDieOf}
 use Rattle.die_model.proofs.Showing.{dies_show}
 use Rattle.target_bus.specs.Bus.{Entries, channel_on, numbered, number_of, first_of, IsStanding}
 use Rattle.target_bus.proofs.Numbers.{numbered_number, number_below, slice_get_none}
+use Rattle.nand_geometry.proofs.Booleans.{or_parts as neither}
 
 -- the byte of an output isn't judged
 pub any_byte : (g : Parts) (n : ℕ) (past : List Item) (ce a b : ℕ) → broken g n past (cycle ce Dout a) ≡ broken g n past (cycle ce Dout b)
@@ -48,10 +49,6 @@ any_byte_judged state ce a b = at (slice_get state.targets ce)
 not_not : (b : Bool) → not b ≡ false → b ≡ true
 not_not true h = refl
 not_not false h = cc
-
-neither : (a b : Bool) → (a || b) ≡ false → (a ≡ false) × (b ≡ false)
-neither true b h = cc
-neither false b h = (refl, h)
 
 pub one_driver : (g : Parts) (n : ℕ) (past : List Item) (ce byte : ℕ) → broken g n past (cycle ce Dout byte) ≡ None → IsOne (drivers g past ce)
 unfolding breaks_no_sole_driver

@@ -52,14 +52,7 @@ use Rattle.die_model.proofs.Standing.{IsInput, is_input, dies_go_on}
 use Rattle.target_bus.specs.Bus.{Entries, channel_on, opened_page, numbered, number_of, lun_at, StandFor, IsWorkedAt, FindsWork, IsStanding, IsNext, IsRunning, Traced, spent}
 use Rattle.target_bus.specs.declared.dies.Worked.{Worked}
 use Rattle.target_bus.proofs.Numbers.{target_there, lun_there, numbered_number, number_apart, number_below, set_here, set_other, slice_get_none}
-
-both : (a b : Bool) → (a && b) ≡ true → (a ≡ true) × (b ≡ true)
-both true b h = (refl, h)
-both false b h = cc
-
-neither : (a b : Bool) → (a || b) ≡ false → (a ≡ false) × (b ≡ false)
-neither true b h = cc
-neither false b h = (refl, h)
+use Rattle.nand_geometry.proofs.Booleans.{and_parts as both, or_parts as neither}
 
 not_not : (b : Bool) → not b ≡ false → b ≡ true
 not_not true h = refl

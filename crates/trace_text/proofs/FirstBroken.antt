@@ -7,14 +7,11 @@ use Rattle.nand_geometry.specs.declared.Parts.{Parts}
 use Rattle.onfi_cycle.specs.declared.forbidden.Forbidden.{Forbidden}
 use Rattle.onfi_cycle.specs.declared.item.Item.{Item}
 use Rattle.onfi_cycle.specs.Permitted.{broken, is_permitted, is_legal, IsFirstBroken}
+use Rattle.nand_geometry.proofs.Booleans.{and_parts as both_true}
 
 -- one item more of a list in the order of time
 pub next_past : (items : List Item) (k : ℕ) (d : Item) → k < length items → get_or items k d ∷ reverse (take k items) ≡ reverse (take (k + 1) items)
 next_past items k d h = grind (arith, common_steps)
-
-both_true : (a b : Bool) → (a && b) ≡ true → (a ≡ true) × (b ≡ true)
-both_true true b h = (refl, h)
-both_true false b h = cc
 
 -- what stands before part of a legal past is legal
 legal_before : (g : Parts) (n : ℕ) (later past : List Item) → is_legal g n (later ++ past) ≡ true → is_legal g n past ≡ true

@@ -14,7 +14,7 @@ use Rattle.onfi_cycle.specs.declared.item.Item.{Item}
 use Rattle.onfi_cycle.specs.declared.item.Item.TheVariants.{Cyc, Rdy, Ard}
 use Rattle.trace_text.specs.Line.{hex_digit, kind_letter, fail_digit, line, text, IsPrintable, is_printable_item, HasByte}
 use Rattle.trace_text.specs.Reading.{reading}
-use Rattle.trace_text.proofs.Ranges.{both_true}
+use Rattle.nand_geometry.proofs.Booleans.{and_parts as both_true}
 use Rattle.trace_text.proofs.Texts.{read_back}
 
 pub printed_array : (ce lun : ℕ) → ce ≤ 3 → lun ≤ 3 → decimal ce ++ 32 ∷ 89 ∷ 32 ∷ (decimal lun ++ 10 ∷ []) ≡ line (Ard ce lun)

@@ -8,6 +8,7 @@ use Rattle.trace_text.specs.declared.line.Letter.{Letter}
 use Rattle.trace_text.specs.declared.line.Letter.TheVariants.{CycleOf, Ready, ArrayReady}
 use Rattle.trace_text.specs.Line.{digit, hex_digit, kind_letter, fail_digit}
 use Rattle.trace_text.specs.Reading.{and_then, place_of_digit, place_of, hex_value, byte_of, fail_of_digit, fail_of, letter_of_code, letter_of}
+use Rattle.nand_geometry.proofs.Booleans.{and_parts as both_true}
 
 -- ---- lists of one and of two
 
@@ -30,11 +31,6 @@ guarded false o x e = absurd cc
 pub and_then_some : {A B : Type 0} (o : Option A) (f : A → Option B) (y : B) → and_then o f ≡ Some y → (x : A) × (o ≡ Some x) × (f x ≡ Some y)
 and_then_some (Some x) f y e = (x, refl, e)
 and_then_some None f y e = absurd cc
-
-pub both_true : (a b : Bool) → (a && b) ≡ true → (a ≡ true) × (b ≡ true)
-both_true true true e = (refl, refl)
-both_true true false e = absurd cc
-both_true false b e = absurd cc
 
 -- a number between two others, and the test of it
 between : (low n high : ℕ) → (leb low n && leb n high) ≡ true → (low ≤ n) × (n ≤ high)
