@@ -1,5 +1,5 @@
 -- What a file that a line names is refused for, the line is.
-use Rattle.std.proofs.Common.{◌≡◌, sym, subst}
+use Rattle.std.proofs.Common.{sym, subst}
 use Rattle.seq_commands.specs.declared.refusal.Refusal.{Refusal}
 use Rattle.seq_commands.specs.declared.failure.Failure.{Failure as NamedFailure}
 use Rattle.seq_commands.specs.declared.failure.Failure.TheVariants as named
