@@ -43,7 +43,7 @@ pub puts_next : {A : Type 0} (all : List Given) (items left : List (NamedDone A)
 puts_next {A} all items left named old now new is put puts =
     let front = map given_back (map ended_of left) in
     let both = subst (λ (l : List Given). (given : Given) → Contains l given → Contains all given)
-        (ap (λ (l : List (NamedDone A)). map given_back (map ended_of l)) is ∙ ap (map given_back) (map-append ended_of left (named ∷ [])) ∙ map-append given_back (map ended_of left) (ended_of named ∷ [])) puts.rest in
+    (ap (λ (l : List (NamedDone A)). map given_back (map ended_of l)) is ∙ ap (map given_back) (map-append ended_of left (named ∷ [])) ∙ map-append given_back (map ended_of left) (ended_of named ∷ [])) puts.rest in
     record {
       given = λ more within each. put more (within (given_back (ended_of named)) (both (given_back (ended_of named)) (Contains-push front (given_back (ended_of named))))) (puts.given more within each);
       rest = λ given h. both given (Contains-append_left front (given_back (ended_of named) ∷ []) given h);

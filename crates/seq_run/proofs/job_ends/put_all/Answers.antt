@@ -8,5 +8,5 @@ pub loop-named-preserved : goal.loop-named-preserved
 loop-named-preserved c = (
   c.put_named.ensures.outputs ∙ c.loop-named.invariant.0,
   puts_next (map given_back (map ended_of c.args.done.items)) c.loop-named.done.items c.pop.new.self.items c.in-Some.named c.args.endings.now.items c.loop-named.endings.items c.put_named.new.endings.items
-  c.in-Some.ensures.items c.put_named.ensures.given c.loop-named.invariant.1,
+      c.in-Some.ensures.items c.put_named.ensures.given c.loop-named.invariant.1,
 )
