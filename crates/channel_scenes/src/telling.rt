@@ -1,6 +1,8 @@
 //! What came of a run, as tests compare it.
-ghost use Rattle.std.specs.Prelude.{◌≡◌, ◌≤◌, IfOk, IfSome, IfNone, length, Some, slice_get};
+ghost use Rattle.std.specs.Prelude.{◌≡◌, IfOk, slice_get};
+ghost use Rattle.std.specs.Option.{option_map};
 ghost use Rattle.trace_text.specs.Trace.{IsTextOf};
+ghost use Rattle.channel_scenes.specs.Telling.{told_of};
 
 use channel_work::NamedDone;
 use onfi_cycle::{Item, Lun};
@@ -19,7 +21,9 @@ pub fn read_trace(alloc: Global, text: &str) -> Result<Vec<Item>, Fail>
 pub type Told = (u32, u64, Lun, u8);
 
 /// What is told of the job that was done in this place.
-pub fn tell_done(done: &[NamedDone], k: usize) -> Option<Told> {
+pub fn tell_done(done: &[NamedDone], k: usize) -> Option<Told>
+    ensures { result ≡ option_map told_of (slice_get done.now k) }
+{
     let one = done.get(k)?;
     Some((
         one.name.host,
