@@ -1,7 +1,6 @@
 //! Queues with their passes, and hosts that store jobs.
 ghost use Rattle.std.specs.Prelude.{◌≡◌, ◌<◌, ◌≤◌, [], IfOk, IfSome};
-ghost use Rattle.job_queue.specs.Passes.{owns};
-ghost use Rattle.channel_scenes.specs.Hosts.{OwnsAll};
+ghost use Rattle.job_queue.specs.Passes.{owns, OwnsAll};
 
 use crate::erases::{Erase, make_erase};
 use job_queue::{HostPass, JobQueue, Submitted, Taker};

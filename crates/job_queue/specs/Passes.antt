@@ -31,6 +31,10 @@ module _ {J : Type 0} where
   abbrev pub owns : Queue → Storing J → Type 0
   owns q p = p.table ≡ q.table
 
+  -- each of these passes is
+  abbrev pub OwnsAll : Queue → List (Storing J) → Type 0
+  OwnsAll q passes = (k : ℕ) (p : Storing J) → slice_get passes k ≡ Some p → owns q p
+
   -- the taker is of the queue
   abbrev pub owns_taker : Queue → Taking J → Type 0
   owns_taker q t = (t.table ≡ q.table) × (t.hosts ≡ q.hosts)

@@ -1,7 +1,6 @@
 pub mod Lines
 pub mod Failures
 pub mod Judged
-pub mod Hosts
 pub mod Happened
 pub mod Endings
 pub mod Written

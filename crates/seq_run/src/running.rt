@@ -2,7 +2,7 @@
 ghost use Rattle.std.specs.Prelude.{◌≡◌, ◌≤◌, [], IfOk};
 ghost use Rattle.seq_core.specs.World.{fresh};
 ghost use Rattle.seq_core.specs.Shows.{IsAt, channel_in};
-ghost use Rattle.seq_run.specs.Hosts.{OwnsAll};
+ghost use Rattle.job_queue.specs.Passes.{OwnsAll};
 ghost use Rattle.seq_run.specs.Planned.{planned_outputs, ended_outputs};
 ghost use Rattle.seq_run.specs.Happened.{IsBusOf, HasWorked, HasHappened};
 

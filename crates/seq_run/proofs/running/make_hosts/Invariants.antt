@@ -1,5 +1,5 @@
 use Rattle.std.proofs.Common.{length}
-use Rattle.seq_run.specs.Hosts.{OwnsAll}
+use Rattle.job_queue.specs.Passes.{OwnsAll}
 use Rattle.seq_run.proofs.running.make_hosts.Given as goal
 
 abbrev pub invariant-loop-jobs : goal.invariant-loop-jobs
