@@ -110,7 +110,7 @@ fn check<'a>(alloc: Global) -> Result<clap::Command<'a>, Error> {
         .after_help("Example: onfiseq check die.page 1 erase.trace")
         .arg(require(alloc, "PAGE", "The parameter page of each die"))?
         .arg(targets)?
-        .arg(required(
+        .arg(require(
             alloc,
             "TRACE",
             "The text of the trace, as docs/TRACES.md has it",
