@@ -111,7 +111,8 @@ pub(crate) fn load_one(
     requires started { vec_len started.old < vec_capacity started.old }
     requires inside { k < vec_len backlog.old }
     requires may { (x : QueuedJob JobValue) × IsOldest backlog.old.items k x × (load_fault_at core.old x.job.lun x.job ≡ None) }
-    ensures { (x : QueuedJob JobValue) × LoadedOne core.old core.new events.old.items events.new.items started.old.items started.new.items backlog.old.items backlog.new.items k x }
+    ensures { (x : QueuedJob JobValue) × LoadedOne core.old core.new
+        events.old.items events.new.items started.old.items started.new.items backlog.old.items backlog.new.items k x }
 {
     let QueuedJob { host, number, job } = backlog.remove(k);
     let l = job.lun();

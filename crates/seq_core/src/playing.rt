@@ -217,7 +217,8 @@ pub(crate) fn play<A: Allocator + Copy>(
     requires can { CanPlay (channel_of bus.old) bus.old.past lun buffer.old registers word }
     requires range { EndsWithFive word }
     ensures same { IsSame bus.old bus.new }
-    ensures ok { IfOk result (λ status. DidPlay (channel_of bus.old) bus.old.past lun buffer.old registers word bus.new.past buffer.new status) }
+    ensures ok { IfOk result (λ status. DidPlay (channel_of bus.old) bus.old.past lun buffer.old registers word
+        bus.new.past buffer.new status) }
     ensures err { OnErr result (IsUntouched bus.old bus.new × (buffer.new ≡ buffer.old)) }
 {
     let place = registers.place as usize;

@@ -174,7 +174,8 @@ impl<A: Allocator + Copy> Slot<A> {
         requires { CanStep (channel_of bus.old) bus.old.past self.old }
         ensures same { IsSame bus.old bus.new }
         ensures word { IfOk result (λ r. slice_get self.old.job.text.words self.old.at ≡ Some r.0) }
-        ensures played { IfOk result (λ r. DidPlay (channel_of bus.old) bus.old.past self.old.job.lun self.old.job.buffer self.old.registers r.0 bus.new.past self.new.job.buffer r.1) }
+        ensures played { IfOk result (λ r. DidPlay (channel_of bus.old) bus.old.past self.old.job.lun self.old.job.buffer
+            self.old.registers r.0 bus.new.past self.new.job.buffer r.1) }
         ensures slot { OnOk result (self.new ≡ with_buffer self.old self.new.job.buffer) }
         ensures place { IfOk result (λ r. reaches self.old.registers.place r.0 < 2 ^ 32) }
         ensures inside { OnOk result (self.new.at < 1024) }
