@@ -142,7 +142,7 @@ fn one_die(alloc: Global) -> anyhow::Result<Bus> {
     dies.push(LunDie::new(alloc, geometry)?)?;
     match Bus::new(alloc, geometry, dies) {
         Ok(bus) => Ok(bus),
-        Err((fault, _)) => Err(fault.into()),
+        Err(refused) => Err(refused.fault.into()),
     }
 }
 

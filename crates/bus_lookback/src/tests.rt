@@ -1,9 +1,9 @@
 use crate::made::{CACHED, Operations, PLAIN, PLANED, SHARED, made};
 use die_model::LunDie;
-use nand_geometry::{Geometry, Parts};
+use nand_geometry::{Geometry, Parts, SMALL_CHIP};
 use onfi_cycle::{
     Cycle, Forbidden, Item, Kind, Lun, LunFacts, LunState, PageAddress, Queued, WorkQueue,
-    is_cache_read, judge, output_column,
+    is_cache_read, judge,
 };
 use onfi_lookback::WrittenPage;
 use onfi_lookback::content::{content, driven_byte};
@@ -14,17 +14,7 @@ use std::test::Fail;
 use target_bus::{Bus, BusRefusal};
 
 // One LUN of 8 blocks of 4 pages of 512 + 16 bytes, in one plane.
-const ONE_LUN: Parts = Parts {
-    page_bytes: 512,
-    spare_bytes: 16,
-    pages: 4,
-    blocks: 8,
-    luns: 1,
-    plane_bits: 0,
-    enhanced: false,
-    multi_plane: false,
-    cache: false,
-};
+const ONE_LUN: Parts = SMALL_CHIP;
 
 // One LUN with Read Status Enhanced and the cache read.
 const CACHED_LUN: Parts = Parts {
@@ -188,7 +178,7 @@ fn bus_of(alloc: Global, channel: &Channel) -> Result<Bus, Fail> {
     }
     match Bus::new(alloc, channel.geometry, dies) {
         Ok(bus) => Ok(bus),
-        Err((fault, _)) => Err(fault.into()),
+        Err(refused) => Err(refused.fault.into()),
     }
 }
 
@@ -293,7 +283,7 @@ fn lun_agrees(told: LunState, facts: &LunFacts<Vec<Queued>>) -> bool {
     told.busy == facts.busy
         && told.latch == facts.latch
         && told.register == facts.register
-        && told.column.map(u64::from) == output_column(facts.column)
+        && told.column.map(u64::from) == facts.column.output_column()
         && told.queued == facts.queue.works().len()
         && told.caching == is_cache_read(facts.closer)
         && told.array_busy == facts.array_busy

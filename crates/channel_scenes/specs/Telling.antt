@@ -1,8 +1,8 @@
 -- What is told of a job that is done.
 use Rattle.std.specs.Prelude.{ℕ}
-use Rattle.onfi_cycle.specs.declared.item.Lun.{Lun}
-use Rattle.channel_work.specs.declared.stored.NamedDone.{NamedDone}
+use Rattle.onfi_cycle.specs.declared.lun.Lun.{Lun}
+use Rattle.channel_work.specs.declared.stored.NamedJob.{NamedJob}
 
 -- its host, its number, its LUN and its code
-abbrev pub told_of : {A : Type 0} → NamedDone A → ℕ × ℕ × Lun × ℕ
+abbrev pub told_of : {A : Type 0} → NamedJob A → ℕ × ℕ × Lun × ℕ
 told_of one = (one.name.host, one.name.number, one.done.job.lun, one.done.code)

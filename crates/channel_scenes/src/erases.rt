@@ -3,23 +3,13 @@ ghost use Rattle.std.specs.Prelude.{◌≡◌, IfSome};
 
 use micro_verify::verify;
 use micro_word::{Text, Word};
-use nand_geometry::{Geometry, Parts};
+use nand_geometry::{Geometry, Parts, SMALL_CHIP};
 use onfi_cycle::Lun;
 use seq_core::Job;
 use std::alloc::{AllocError, Global};
 
 /// One LUN of 8 blocks of 4 pages of 512 + 16 bytes, in one plane.
-pub const ONE_LUN: Parts = Parts {
-    page_bytes: 512,
-    spare_bytes: 16,
-    pages: 4,
-    blocks: 8,
-    luns: 1,
-    plane_bits: 0,
-    enhanced: false,
-    multi_plane: false,
-    cache: false,
-};
+pub const ONE_LUN: Parts = SMALL_CHIP;
 
 /// Two such LUNs, each in two planes.
 pub const TWO_LUNS: Parts = Parts {

@@ -31,7 +31,7 @@ fn make_core(alloc: Global, parts: Parts, targets: u8) -> Result<Core, Fail>
     }
     match Bus::new(alloc, geometry, dies) {
         Ok(bus) => Ok(Core::new(bus)),
-        Err((fault, _)) => Err(fault.into()),
+        Err(refused) => Err(refused.fault.into()),
     }
 }
 

@@ -4,7 +4,7 @@ ghost use Rattle.std.specs.Option.{option_map};
 ghost use Rattle.trace_text.specs.Trace.{IsTextOf};
 ghost use Rattle.channel_scenes.specs.Telling.{told_of};
 
-use channel_work::NamedDone;
+use channel_work::NamedJob;
 use onfi_cycle::{Item, Lun};
 use std::alloc::Global;
 use std::test::Fail;
@@ -21,7 +21,7 @@ pub fn read_trace(alloc: Global, text: &str) -> Result<Vec<Item>, Fail>
 pub type Told = (u32, u64, Lun, u8);
 
 /// What is told of the job that was done in this place.
-pub fn tell_done(done: &[NamedDone], k: usize) -> Option<Told>
+pub fn tell_done(done: &[NamedJob], k: usize) -> Option<Told>
     ensures { result ≡ option_map told_of (slice_get done.now k) }
 {
     let one = done.get(k)?;

@@ -5,7 +5,7 @@ use channel_scenes::{
     Erase, FOUR_LUNS, ON_ONE, ON_ZERO, ONE, ONE_LUN, TWO_LUNS, ZERO, gather, make_erasing,
     make_two_passes, read_trace, run_alone, start, tell_done,
 };
-use channel_work::{ChannelState, Gate, Gathered, Turns, WorkerPass};
+use channel_work::{ChannelState, Gate, GatherRefused, Gathered, Turns, WorkerPass};
 use onfi_cycle::Lun;
 use std::alloc::Global;
 use std::marker::Brand;
@@ -193,7 +193,8 @@ fn gather_late<L: Turns>(
 {
     match state.gather(vec![in alloc; first]?) {
         Ok(_) => Err(Fail::from("a pass is missing")),
-        Err((state, mut passes)) => {
+        Err(refused) => {
+            let GatherRefused { state, mut passes } = refused;
             passes.push(second)?;
             Ok(gather(state, passes)?.turns)
         }

@@ -7,7 +7,7 @@ use channel_scenes::{
     Erase, FOUR_LUNS, TwoHosts, end_two, gather, make_erase, make_state, make_two_passes,
     make_wide_queue, submit, work_by_two,
 };
-use channel_work::{Channel, Gathered, NamedDone, Turns, WorkEnd, WorkerPass};
+use channel_work::{Channel, Gathered, NamedJob, Turns, WorkEnd, WorkerPass};
 use job_queue::{HostPass, JobQueue};
 use nand_geometry::Geometry;
 use onfi_cycle::{Item, Lun};
@@ -169,7 +169,7 @@ fn erase_many<L: Turns + Sync, R: Threads + Wait + Sync + AllocGlobal>(
 }
 
 // Each job of four hosts was done once, those of a host on a LUN in order.
-fn are_in_order(done: &[NamedDone], count: u64) -> bool {
+fn are_in_order(done: &[NamedJob], count: u64) -> bool {
     let mut next = [0u64; 64];
     let mut seen = [0u64; 4];
     for one in done {
@@ -201,7 +201,7 @@ fn count_failures(trace: &[Item]) -> u64 {
 }
 
 // How many jobs ended with 1.
-fn count_failed(done: &[NamedDone]) -> u64 {
+fn count_failed(done: &[NamedJob]) -> u64 {
     let mut failed: u64 = 0;
     for one in done {
         if one.done.code == 1 {

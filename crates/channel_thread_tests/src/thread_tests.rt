@@ -5,7 +5,7 @@ use channel_scenes::{
     Erase, ON_ONE, ON_ZERO, ONE_LUN, TWO_LUNS, end_two, ended, gather, make_erasing, make_queue,
     make_state, make_two_passes, submit_erases, work_by_two,
 };
-use channel_work::{Channel, ChannelState, Gate, Gathered, NamedDone, Turns, work};
+use channel_work::{Channel, ChannelState, Gate, Gathered, NamedJob, Turns, work};
 use onfi_cycle::{Cycle, Item, Kind, Lun};
 use std::alloc::Global;
 use std::marker::Brand;
@@ -220,7 +220,7 @@ fn list_rows(alloc: Global, trace: &[Item]) -> Result<Vec<u64>, Fail> {
 }
 
 // The first row byte of each job that is done, by its name.
-fn list_done(alloc: Global, done: &[NamedDone]) -> Result<Vec<u64>, Fail> {
+fn list_done(alloc: Global, done: &[NamedJob]) -> Result<Vec<u64>, Fail> {
     let mut rows = Vec::new(alloc);
     for one in done {
         let number = one.name.number % 3;
@@ -230,7 +230,7 @@ fn list_done(alloc: Global, done: &[NamedDone]) -> Result<Vec<u64>, Fail> {
 }
 
 // The three jobs of each of two hosts are done in order.
-fn keep_order(done: &[NamedDone]) -> bool {
+fn keep_order(done: &[NamedJob]) -> bool {
     let mut next = [0u64; 2];
     for one in done {
         let (host, number) = (one.name.host, one.name.number);

@@ -1,8 +1,8 @@
 -- What finishing a job answers, from its parts.
 use Rattle.std.proofs.Common.{ℕ, List, ◌≡◌, ◌∙◌, ◌∷◌, ◌++◌, [], Some, ap, subst, reverse}
-use Rattle.onfi_cycle.specs.declared.item.Lun.{Lun}
+use Rattle.onfi_cycle.specs.declared.lun.Lun.{Lun}
 use Rattle.micro_program.specs.Program.{Job}
-use Rattle.seq_core.specs.declared.answers.UnloadFault.{UnloadFault}
+use Rattle.seq_core.specs.declared.unload_fault.UnloadFault.{UnloadFault}
 use Rattle.seq_core.specs.Event.{Unload}
 use Rattle.seq_core.specs.Reply.{ToUnload, Unloaded, NotUnloaded}
 use Rattle.seq_core.specs.Shows.{CoreView}

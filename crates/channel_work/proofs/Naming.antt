@@ -3,7 +3,7 @@ use Rattle.std.proofs.Common.{◌≡◌, ℕ, ◌*◌, Bool, true, false, cond, 
 use Rattle.std.proofs.lemmas.List.{reverse-append, append_assoc, append-nil}
 use Rattle.std.proofs.Math.ListN.{length-replicate}
 use Rattle.std.proofs.Math.ListN.{length-set}
-use Rattle.onfi_cycle.specs.declared.item.Lun.{Lun}
+use Rattle.onfi_cycle.specs.declared.lun.Lun.{Lun}
 use Rattle.onfi_cycle.specs.declared.item.Item.{Item}
 use Rattle.onfi_cycle.specs.declared.item.Item.TheVariants.{Rdy, Ard}
 use Rattle.onfi_cycle.specs.Permitted.{is_permitted}
@@ -11,13 +11,13 @@ use Rattle.onfi_cycle.specs.Channel.{Channel, is_there, same_lun}
 use Rattle.micro_program.specs.Program.{Job}
 use Rattle.micro_program.specs.Moves.{and_then}
 use Rattle.micro_program.specs.Step.{Stride, next_step, keeps_bus}
-use Rattle.seq_core.specs.declared.answers.LoadFault.{LoadFault}
-use Rattle.seq_core.specs.declared.answers.LoadFault.TheVariants.{SlotTaken, OtherLun, OtherGeometry}
-use Rattle.seq_core.specs.declared.answers.Stepped.TheVariants.{Held}
+use Rattle.seq_core.specs.declared.load_fault.LoadFault.{LoadFault}
+use Rattle.seq_core.specs.declared.load_fault.LoadFault.TheVariants.{SlotTaken, OtherLun, OtherGeometry}
+use Rattle.seq_core.specs.declared.stepped.Stepped.TheVariants.{Held}
 use Rattle.seq_core.specs.World.{Slot, World, number, slot_of, with_slot, fresh_slot, fresh}
 use Rattle.seq_core.specs.Event.{Event, Step, Unload}
-use Rattle.seq_core.specs.declared.answers.UnloadFault.{UnloadFault}
-use Rattle.seq_core.specs.declared.answers.UnloadFault.TheVariants.{NoJob}
+use Rattle.seq_core.specs.declared.unload_fault.UnloadFault.{UnloadFault}
+use Rattle.seq_core.specs.declared.unload_fault.UnloadFault.TheVariants.{NoJob}
 use Rattle.seq_core.specs.Reply.{Reply, ToReady, ToArrayReady, ToUnload, Unloaded, NotUnloaded}
 use Rattle.channel_work.specs.Channel.{HistoryView}
 use Rattle.channel_work.specs.Lawful.{IsLawful}

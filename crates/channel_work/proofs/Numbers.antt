@@ -1,7 +1,7 @@
 -- Two LUNs that are there have two numbers.
 use Rattle.std.proofs.Common.{◌≡◌, ◌≢◌, ℕ, ◌+◌, ◌*◌, ◌/◌, ◌<◌, ◌==◌, true, false, sym, ap, ◌∙◌, subst, arith, eq-eqb}
 use Rattle.std.proofs.lemmas.Nat.{div-mul-add}
-use Rattle.onfi_cycle.specs.declared.item.Lun.{Lun}
+use Rattle.onfi_cycle.specs.declared.lun.Lun.{Lun}
 use Rattle.onfi_cycle.specs.Channel.{Channel, is_there, same_lun}
 use Rattle.seq_core.specs.World.{number}
 use Rattle.seq_core.proofs.Below.{there_lun}

@@ -6,10 +6,10 @@ use Rattle.std.proofs.Math.ListN.{length-set}
 use Rattle.std.proofs.lemmas.List.Elements.{Contains-append_left, Contains-push}
 use Rattle.std.proofs.lemmas.Bool.Decides.{eqb_tells}
 use borrow.Author.Count.{below_more}
-use Rattle.onfi_cycle.specs.declared.item.Lun.{Lun}
+use Rattle.onfi_cycle.specs.declared.lun.Lun.{Lun}
 use Rattle.onfi_cycle.specs.Channel.{Channel, same_lun, is_there}
 use Rattle.micro_program.specs.Program.{Job}
-use Rattle.seq_core.specs.declared.answers.LoadFault.TheVariants.{OtherLun}
+use Rattle.seq_core.specs.declared.load_fault.LoadFault.TheVariants.{OtherLun}
 use Rattle.seq_core.specs.World.{number}
 use Rattle.seq_core.specs.Event.{Load, IsVerified}
 use Rattle.seq_core.specs.Reply.{ToLoad, Loaded as IsLoaded}

@@ -2,9 +2,9 @@
 use Rattle.std.proofs.Common.{◌≡◌, ℕ, ◌+◌, List, [], ◌∷◌, ◌++◌, Some, None, refl, sym, ap, ◌∙◌, subst, map, arith}
 use Rattle.std.specs.List.{AllByRecursion}
 use Rattle.std.proofs.lemmas.List.{map-append, append_assoc, append-nil}
-use Rattle.onfi_cycle.specs.declared.item.Lun.{Lun}
-use Rattle.seq_core.specs.declared.answers.Stepped.{Stepped}
-use Rattle.seq_core.specs.declared.answers.Stepped.TheVariants.{Went}
+use Rattle.onfi_cycle.specs.declared.lun.Lun.{Lun}
+use Rattle.seq_core.specs.declared.stepped.Stepped.{Stepped}
+use Rattle.seq_core.specs.declared.stepped.Stepped.TheVariants.{Went}
 use Rattle.seq_core.specs.Event.{Event, Step}
 use Rattle.seq_core.specs.Reply.{Reply, ToStep}
 use Rattle.seq_core.specs.Calls.{IsEvent}

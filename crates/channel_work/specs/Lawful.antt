@@ -1,7 +1,7 @@
 -- The lawful value under the lock of a channel.
 use Rattle.std.specs.Prelude.{◌≡◌, List, ◌++◌, Some, map, reverse, length}
 use Rattle.std.specs.List.{filter}
-use Rattle.onfi_cycle.specs.declared.item.Lun.{Lun}
+use Rattle.onfi_cycle.specs.declared.lun.Lun.{Lun}
 use Rattle.onfi_cycle.specs.Channel.{same_lun}
 use Rattle.micro_program.specs.Program.{Job}
 use Rattle.seq_core.specs.World.{fresh}

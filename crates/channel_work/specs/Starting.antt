@@ -1,7 +1,7 @@
 -- How a job is started: the oldest of its LUN that is loaded and claimed.
 use Rattle.std.specs.Prelude.{◌≡◌, ◌≢◌, ◌⊎◌, ℕ, ◌<◌, Bool, true, false, List, [], ◌∷◌, ◌++◌, Some, None, map, length, take, slice_get}
 use Rattle.std.specs.List.{AllByRecursion, Contains}
-use Rattle.onfi_cycle.specs.declared.item.Lun.{Lun}
+use Rattle.onfi_cycle.specs.declared.lun.Lun.{Lun}
 use Rattle.onfi_cycle.specs.Channel.{same_lun}
 use Rattle.micro_program.specs.Program.{Job}
 use Rattle.seq_core.specs.World.{number}

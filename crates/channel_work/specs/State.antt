@@ -1,12 +1,12 @@
 -- What lies under the lock of a channel, with its seats, its park and its workers' passes.
 use Rattle.std.specs.Prelude.{◌≡◌, ℕ, ◌+◌, Bool, true, false, List, Option, Some, None}
-use Rattle.onfi_cycle.specs.declared.item.Lun.{Lun}
+use Rattle.onfi_cycle.specs.declared.lun.Lun.{Lun}
 use Rattle.target_bus.specs.Bus.{numbered}
-use Rattle.seq_core.specs.declared.answers.Stepped.{Stepped}
-use Rattle.seq_core.specs.declared.answers.Stepped.TheVariants.{HandedOver as WasHandedOver, NotReady as WasNotReady, Ended as HasEnded, Held as WasHeld, Empty as WasEmpty, Went}
+use Rattle.seq_core.specs.declared.stepped.Stepped.{Stepped}
+use Rattle.seq_core.specs.declared.stepped.Stepped.TheVariants.{HandedOver as WasHandedOver, NotReady as WasNotReady, Ended as HasEnded, Held as WasHeld, Empty as WasEmpty, Went}
 use Rattle.lun_lease.specs.Lease.{Seated, Leased}
-use Rattle.channel_work.specs.declared.state.Turn.{Turn}
-use Rattle.channel_work.specs.declared.state.Turn.TheVariants.{HandedOver, NotReady, Ended, Held, Empty, OutOfMemory}
+use Rattle.channel_work.specs.declared.turn.Turn.{Turn}
+use Rattle.channel_work.specs.declared.turn.Turn.TheVariants.{HandedOver, NotReady, Ended, Held, Empty, OutOfMemory}
 use Rattle.channel_work.specs.Channel.{HistoryView}
 use Rattle.channel_work.specs.Turned.{IsTurn, TellsBusAfterTurn}
 use Rattle.channel_work.specs.Coming.{IsComing}
@@ -16,10 +16,10 @@ use Rattle.channel_work.specs.Finished.{HasFinished, HasNotEnded}
 use Rattle.seq_core.specs.Event.{Ready, ArrayReady}
 use Rattle.seq_core.specs.Reply.{ToReady, ToArrayReady}
 use Rattle.channel_work.specs.declared.stored.Stored.TheVariants.{Ready as BecameReady, ArrayReady as ArrayBecameReady}
-use Rattle.channel_work.specs.declared.state.Finished.{Finished}
-use Rattle.channel_work.specs.declared.state.Finished.TheVariants.{Done, NotEnded, OutOfMemory as NoMemory}
-use Rattle.channel_work.specs.declared.state.Readied.{Readied}
-use Rattle.channel_work.specs.declared.state.Readied.TheVariants.{Yes, NotBusy, OutOfMemory as TooLittle}
+use Rattle.channel_work.specs.declared.finished.Finished.{Finished}
+use Rattle.channel_work.specs.declared.finished.Finished.TheVariants.{Done, NotEnded, OutOfMemory as NoMemory}
+use Rattle.channel_work.specs.declared.readied.Readied.{Readied}
+use Rattle.channel_work.specs.declared.readied.Readied.TheVariants.{Yes, NotBusy, OutOfMemory as TooLittle}
 
 -- the history, the seats that are free, the leases that are parked, the oldest first, and how many passes were handed out
 pub record StateView : Type 0 where

@@ -1,12 +1,12 @@
 -- What is stored of events: which events are stored so, and what the stored ones tell.
 use Rattle.std.specs.Prelude.{◌≡◌, ℕ, Bool, true, if◌then◌else◌, List, [], ◌∷◌, ◌++◌, Option, Some, None}
 use Rattle.std.specs.List.{Contains, filter_map}
-use Rattle.onfi_cycle.specs.declared.item.Lun.{Lun}
+use Rattle.onfi_cycle.specs.declared.lun.Lun.{Lun}
 use Rattle.onfi_cycle.specs.Channel.{same_lun}
 use Rattle.micro_program.specs.Program.{Job}
 use Rattle.seq_core.specs.Event.{Event, Load, Step, Ready, ArrayReady, Unload}
 use Rattle.seq_core.specs.Reply.{Reply, ToLoad, ToStep, ToReady, ToArrayReady, ToUnload, Unloaded, Loaded as IsLoaded}
-use Rattle.seq_core.specs.declared.answers.Stepped.{Stepped}
+use Rattle.seq_core.specs.declared.stepped.Stepped.{Stepped}
 use Rattle.job_queue.specs.declared.rule.QueuedJob.{QueuedJob}
 use Rattle.channel_work.specs.declared.stored.Name.{Name}
 use Rattle.channel_work.specs.declared.stored.Stored.{Stored}

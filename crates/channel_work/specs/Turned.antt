@@ -1,9 +1,9 @@
 -- What a turn does: steps of one LUN, of which all but the last went.
 use Rattle.std.specs.Prelude.{◌≡◌, ℕ, ◌+◌, true, List, [], ◌∷◌, ◌++◌, Option, Some, None, map}
 use Rattle.std.specs.List.{AllByRecursion}
-use Rattle.onfi_cycle.specs.declared.item.Lun.{Lun}
-use Rattle.seq_core.specs.declared.answers.Stepped.{Stepped}
-use Rattle.seq_core.specs.declared.answers.Stepped.TheVariants.{Went}
+use Rattle.onfi_cycle.specs.declared.lun.Lun.{Lun}
+use Rattle.seq_core.specs.declared.stepped.Stepped.{Stepped}
+use Rattle.seq_core.specs.declared.stepped.Stepped.TheVariants.{Went}
 use Rattle.seq_core.specs.Lawful.{has_bus}
 use Rattle.seq_core.specs.Event.{Step}
 use Rattle.seq_core.specs.Reply.{ToStep}

@@ -1,6 +1,6 @@
 -- The turns of stored steps; the newest event comes first.
 use Rattle.std.specs.Prelude.{◌≡◌, ◌⊎◌, ℕ, ◌+◌, List, [], ◌∷◌}
-use Rattle.onfi_cycle.specs.declared.item.Lun.{Lun}
+use Rattle.onfi_cycle.specs.declared.lun.Lun.{Lun}
 use Rattle.channel_work.specs.declared.stored.Stored.{Stored}
 use Rattle.channel_work.specs.declared.stored.Stored.TheVariants.{Step}
 

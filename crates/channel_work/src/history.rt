@@ -1,7 +1,7 @@
 //! What happened on a channel, and what it has of it: the sequencer, the events that came to it, and the jobs.
 ghost use Rattle.std.specs.Prelude.{◌≡◌, ◌≢◌, ◌+◌, ◌-◌, ◌^◌, ◌<◌, ◌≤◌, ◌++◌, ◌∷◌, [], Some, IfSome, IfNone, length, set, slice_index, reverse, map, true};
 ghost use Rattle.seq_core.specs.Event.{Ready, ArrayReady, Step};
-ghost use Rattle.seq_core.specs.declared.answers.Stepped.TheVariants.{Went};
+ghost use Rattle.seq_core.specs.declared.stepped.Stepped.TheVariants.{Went};
 ghost use Rattle.seq_core.specs.Reply.{ToReady, ToArrayReady, ToStep};
 ghost use Rattle.seq_core.specs.Calls.{IsEvent, TellsBus};
 ghost use Rattle.channel_work.specs.Coming.{IsComing};
@@ -18,13 +18,13 @@ ghost use Rattle.channel_work.specs.Done.{ended_of};
 ghost use Rattle.channel_work.specs.Turned.{IsBeside, TookSteps, IsTurn, TellsBusAfterTurn};
 ghost use Rattle.channel_work.specs.declared.stored.Stored.TheVariants.{Step as WasStepped, Ready as BecameReady, ArrayReady as ArrayBecameReady};
 
-use crate::rows::Seats;
+use crate::seats::Seats;
 use crate::start::{Picked, Started, find_last_started, load_one, make_room, pick, take_one};
-use crate::stored::{Name, NamedDone, Stored};
+use crate::stored::{Name, NamedJob, Stored};
 use crate::tally::{LunCount, count_luns, find_lun};
 use job_queue::{QueuedJob, Taker};
 use nand_geometry::Geometry;
-use onfi_cycle::{Item, Lun};
+use onfi_cycle::{Item, Lun, MAX_CHANNEL_LUNS};
 use seq_core::laws::fresh_is_lawful;
 use seq_core::{Core, Job, Stepped};
 use std::alloc::Global;
@@ -41,10 +41,19 @@ pub(crate) struct History<L: Ledger> {
     taken: Vec<Name>,
     started: Vec<Name>,
     backlog: Vec<QueuedJob<Job>>,
-    done: Vec<NamedDone>,
-    counts: [LunCount; 16],
+    done: Vec<NamedJob>,
+    counts: [LunCount; MAX_CHANNEL_LUNS],
     turns: u64,
     book: Book<L>,
+}
+
+/// The parts of a history that go on after its end.
+#[derive(Drop)]
+pub(crate) struct HistoryParts {
+    pub(crate) core: Core,
+    pub(crate) taker: Taker<Job>,
+    pub(crate) done: Vec<NamedJob>,
+    pub(crate) backlog: Vec<QueuedJob<Job>>,
 }
 
 impl<L: Ledger> Model for History<L> {
@@ -64,17 +73,17 @@ impl<L: Ledger> Model for History<L> {
 impl<L: Ledger> History<L> {
     /// A LUN becomes ready, with failure or without, and is stored so; false, with all as it was, where it isn't there or isn't
     /// busy. None, with all as it was, without memory.
-    pub(crate) fn ready(&mut self, l: Lun, fail: bool) -> Option<bool>
-        ensures { IsComing self.old (Ready l fail) ToReady (BecameReady l fail) result self.new }
+    pub(crate) fn ready(&mut self, lun: Lun, fail: bool) -> Option<bool>
+        ensures { IsComing self.old (Ready lun fail) ToReady (BecameReady lun fail) result self.new }
     {
         match self.events.reserve(1) {
             Err(_) => None,
             Ok(()) => {
                 let from = self.core.trace().len();
-                let came = self.core.ready(l, fail);
+                let came = self.core.ready(lun, fail);
                 if came {
                     self.counts = count_luns(self.counts, &self.core, from);
-                    self.events.push_reserved(Stored::Ready(l, fail));
+                    self.events.push_reserved(Stored::Ready(lun, fail));
                 }
                 Some(came)
             }
@@ -83,17 +92,17 @@ impl<L: Ledger> History<L> {
 
     /// The array of a LUN becomes ready, and is stored so; false, with all as it was, where it isn't there or isn't busy. None, with
     /// all as it was, without memory.
-    pub(crate) fn array_ready(&mut self, l: Lun) -> Option<bool>
-        ensures { IsComing self.old (ArrayReady l) ToArrayReady (ArrayBecameReady l) result self.new }
+    pub(crate) fn array_ready(&mut self, lun: Lun) -> Option<bool>
+        ensures { IsComing self.old (ArrayReady lun) ToArrayReady (ArrayBecameReady lun) result self.new }
     {
         match self.events.reserve(1) {
             Err(_) => None,
             Ok(()) => {
                 let from = self.core.trace().len();
-                let came = self.core.array_ready(l);
+                let came = self.core.array_ready(lun);
                 if came {
                     self.counts = count_luns(self.counts, &self.core, from);
-                    self.events.push_reserved(Stored::ArrayReady(l));
+                    self.events.push_reserved(Stored::ArrayReady(lun));
                 }
                 Some(came)
             }
@@ -101,23 +110,24 @@ impl<L: Ledger> History<L> {
     }
 
     /// The first step of a turn, which counts in the share; None, with all as it was, without memory.
-    pub(crate) fn begin_turn(&mut self, share: &mut Share<L>, l: Lun) -> Option<Stepped>
+    pub(crate) fn begin_turn(&mut self, share: &mut Share<L>, lun: Lun) -> Option<Stepped>
         requires { 0 < share.old.parts }
-        ensures some { IfSome result (λ answer. TookSteps self.old l (answer ∷ []) self.new × (share.new.amount ≡ share.old.amount + 1)) }
+        ensures some { IfSome result (λ answer. TookSteps self.old lun (answer ∷ []) self.new × (share.new.amount ≡ share.old.amount + 1)) }
         ensures parts { share.new.parts ≡ share.old.parts }
         ensures none { IfNone result ((self.new ≡ self.old) × (share.new.amount ≡ share.old.amount)) }
-        ensures in_turn { IfSome result (λ _. IsInTurn l self.old.turns (reverse self.new.events)) }
-        ensures bus { IfSome result (λ answer. TellsBus answer self.new.core.holder l) }
+        ensures in_turn { IfSome result (λ _. IsInTurn lun self.old.turns (reverse self.new.events)) }
+        ensures bus { IfSome result (λ answer. TellsBus answer self.new.core.holder lun) }
     {
         match self.events.reserve(1) {
             Err(_) => None,
             Ok(()) => {
                 let from = self.core.trace().len();
-                match self.core.step(l) {
+                match self.core.step(lun) {
                     Err(_) => None,
                     Ok(answer) => {
                         self.counts = count_luns(self.counts, &self.core, from);
-                        self.events.push_reserved(Stored::Step(l, self.turns));
+                        self.events.push_reserved(Stored::Step(lun, self.turns));
+                        // Its contract says that they are few, so that the turns are too.
                         let _events = self.events.len();
                         self.turns += 1;
                         self.book.add(share, 1);
@@ -129,25 +139,25 @@ impl<L: Ledger> History<L> {
     }
 
     /// A further step of the turn of this number; None, with all as it was, without memory.
-    pub(crate) fn go_on(&mut self, turn: u64, l: Lun) -> Option<Stepped>
-        requires in_turn { IsInTurn l turn (reverse self.old.events) }
-        ensures core { IfSome result (λ answer. IsEvent self.old.core (Step l) (ToStep answer) self.new.core) }
-        ensures events { IfSome result (λ answer. self.new.events ≡ self.old.events ++ WasStepped l turn ∷ []) }
+    pub(crate) fn go_on(&mut self, turn: u64, lun: Lun) -> Option<Stepped>
+        requires in_turn { IsInTurn lun turn (reverse self.old.events) }
+        ensures core { IfSome result (λ answer. IsEvent self.old.core (Step lun) (ToStep answer) self.new.core) }
+        ensures events { IfSome result (λ answer. self.new.events ≡ self.old.events ++ WasStepped lun turn ∷ []) }
         ensures turns { self.new.turns ≡ self.old.turns }
         ensures beside { IsBeside self.old self.new }
         ensures none { IfNone result (self.new ≡ self.old) }
-        ensures in_turn { IfSome result (λ _. IsInTurn l turn (reverse self.new.events)) }
-        ensures bus { IfSome result (λ answer. TellsBus answer self.new.core.holder l) }
+        ensures in_turn { IfSome result (λ _. IsInTurn lun turn (reverse self.new.events)) }
+        ensures bus { IfSome result (λ answer. TellsBus answer self.new.core.holder lun) }
     {
         match self.events.reserve(1) {
             Err(_) => None,
             Ok(()) => {
                 let from = self.core.trace().len();
-                match self.core.step(l) {
+                match self.core.step(lun) {
                     Err(_) => None,
                     Ok(answer) => {
                         self.counts = count_luns(self.counts, &self.core, from);
-                        self.events.push_reserved(Stored::Step(l, turn));
+                        self.events.push_reserved(Stored::Step(lun, turn));
                         Some(answer)
                     }
                 }
@@ -156,22 +166,22 @@ impl<L: Ledger> History<L> {
     }
 
     /// Steps a LUN until the first answer other than `Went`, and tells that; None, with the steps done, without memory.
-    pub(crate) fn turn(&mut self, share: &mut Share<L>, l: Lun) -> Option<Stepped>
+    pub(crate) fn turn(&mut self, share: &mut Share<L>, lun: Lun) -> Option<Stepped>
         requires { 0 < share.old.parts }
-        ensures turn { IsTurn self.old l result self.new }
+        ensures turn { IsTurn self.old lun result self.new }
         ensures parts { share.new.parts ≡ share.old.parts }
         ensures counted { share.new.amount + self.old.turns ≡ share.old.amount + self.new.turns }
         ensures last { result ≢ Some Went }
-        ensures bus { TellsBusAfterTurn self.old.core.holder result self.new.core.holder l }
+        ensures bus { TellsBusAfterTurn self.old.core.holder result self.new.core.holder lun }
     {
         let turn = self.turns;
-        match self.begin_turn(share, l) {
+        match self.begin_turn(share, lun) {
             None => return None,
             Some(Stepped::Went) => {}
             Some(first) => return Some(first),
         }
         for _step in 0..u64::MAX {
-            match self.go_on(turn, l) {
+            match self.go_on(turn, lun) {
                 None => return None,
                 Some(Stepped::Went) => {}
                 Some(last) => return Some(last),
@@ -200,13 +210,13 @@ impl<L: Ledger> History<L> {
                     seats.push(back);
                     Started::Nothing { took }
                 }
-                Picked::Picks(k, lease) => {
+                Picked::Picks(place, lease) => {
                     load_one(
                         &mut self.core,
                         &mut self.events,
                         &mut self.started,
                         &mut self.backlog,
-                        k,
+                        place,
                     );
                     Started::Loaded(lease)
                 }
@@ -215,22 +225,22 @@ impl<L: Ledger> History<L> {
     }
 
     /// Unloads the job of a LUN, under its name, and tells whether it had ended; None, with all as it was, without memory.
-    pub(crate) fn finish(&mut self, l: Lun) -> Option<bool>
-        ensures { IsFinish self.old l result self.new }
+    pub(crate) fn finish(&mut self, lun: Lun) -> Option<bool>
+        ensures { IsFinish self.old lun result self.new }
     {
         match self.events.reserve(1) {
             Err(_) => None,
             Ok(()) => match self.done.reserve(1) {
                 Err(_) => None,
                 Ok(()) => {
-                    let name = find_last_started(self.events.as_slice(), l);
-                    match self.core.unload(l) {
+                    let name = find_last_started(self.events.as_slice(), lun);
+                    match self.core.unload(lun) {
                         Err(_) => Some(false),
                         Ok(done) => match name {
                             None => unreachable!(),
                             Some(name) => {
-                                self.events.push_reserved(Stored::Unload(l));
-                                self.done.push_reserved(NamedDone { name, done });
+                                self.events.push_reserved(Stored::Unload(lun));
+                                self.done.push_reserved(NamedJob { name, done });
                                 Some(true)
                             }
                         },
@@ -266,19 +276,19 @@ impl<L: Ledger> History<L> {
     }
 
     /// The LUN of a number.
-    pub(crate) fn lun(&self, n: u32) -> Lun
-        requires { n < 16 }
-        ensures { result ≡ numbered self.now.core.geometry n }
+    pub(crate) fn lun(&self, number: u32) -> Lun
+        requires { number < 16 }
+        ensures { result ≡ numbered self.now.core.geometry number }
     {
-        find_lun(&self.core.geometry(), n)
+        find_lun(&self.core.geometry(), number)
     }
 
     /// What is counted of a LUN in the trace: its busy polls since its last ready, and its readies.
-    pub(crate) fn count(&self, n: u32) -> LunCount
-        requires { n < 16 }
-        ensures { result ≡ count_of self.now.core.geometry n self.now.core.past }
+    pub(crate) fn count(&self, number: u32) -> LunCount
+        requires { number < 16 }
+        ensures { result ≡ count_of self.now.core.geometry number self.now.core.past }
     {
-        self.counts[n as usize]
+        self.counts[number as usize]
     }
 
     /// What has happened on a channel before anything has: the sequencer is fresh, and no job was taken.
@@ -304,18 +314,23 @@ impl<L: Ledger> History<L> {
                 stands: 0,
                 polls: 0,
                 works: 0,
-            }; 16],
+            }; MAX_CHANNEL_LUNS],
             turns: 0,
             book,
         }
     }
 
     /// The parts that go on.
-    pub(crate) fn into_parts(self) -> (Core, Taker<Job>, Vec<NamedDone>, Vec<QueuedJob<Job>>)
-        ensures { (result.0 ≡ self.core) × (result.1 ≡ self.taker) × (map ended_of result.2.items ≡ self.done)
-            × (result.3.items ≡ self.backlog) }
+    pub(crate) fn into_parts(self) -> HistoryParts
+        ensures { (result.core ≡ self.core) × (result.taker ≡ self.taker) × (map ended_of result.done.items ≡ self.done)
+            × (result.backlog.items ≡ self.backlog) }
     {
-        (self.core, self.taker, self.done, self.backlog)
+        HistoryParts {
+            core: self.core,
+            taker: self.taker,
+            done: self.done,
+            backlog: self.backlog,
+        }
     }
 
     /// What has happened on the channel, in the order of time. The history is lawful, and its run goes well.

@@ -4,17 +4,29 @@
 //! waits. Whenever the lock is taken it is lawful (`specs/Lawful`).
 #![tactic(auto)]
 
+mod channel_state;
+mod finished;
+mod gathered;
 mod history;
-mod rows;
+mod park;
+mod readied;
+mod seats;
 mod start;
-mod state;
 mod stored;
 mod tally;
+mod turn;
 mod worker;
+mod worker_pass;
 
-pub use rows::{Park, Seats};
+pub use channel_state::ChannelState;
+pub use finished::Finished;
+pub use gathered::{GatherRefused, Gathered};
+pub use park::Park;
+pub use readied::Readied;
+pub use seats::Seats;
 pub use start::Started;
-pub use state::{ChannelState, Finished, Gathered, Readied, Turn, Turns, WorkerPass};
-pub use stored::{Name, NamedDone, Stored};
+pub use stored::{Name, NamedJob, Stored};
 pub use tally::LunCount;
+pub use turn::Turn;
 pub use worker::{Cause, Channel, Gate, WorkEnd, work};
+pub use worker_pass::{Turns, WorkerPass};

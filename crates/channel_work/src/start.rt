@@ -13,7 +13,7 @@ ghost use Rattle.channel_work.specs.Starting.{IsOldest, Took, LoadedOne, IsTried
 use crate::stored::{Name, Stored};
 use job_queue::{QueuedJob, Taker};
 use lun_lease::{Claimed, Lease, LeaseSeat, Loaded};
-use onfi_cycle::Lun;
+use onfi_cycle::{Lun, MAX_CHANNEL_LUNS};
 use seq_core::{Core, Job};
 use std::sync::Wait;
 
@@ -84,14 +84,14 @@ pub(crate) fn make_room(
 }
 
 /// The name of the job that was last started on a LUN, if one was.
-pub(crate) fn find_last_started(events: &[Stored], l: Lun) -> Option<Name>
-    ensures { result ≡ last_started l (reverse events.now) }
+pub(crate) fn find_last_started(events: &[Stored], lun: Lun) -> Option<Name>
+    ensures { result ≡ last_started lun (reverse events.now) }
 {
-    let mut k = events.len();
-    while k > 0 {
-        k -= 1;
-        if let Stored::Load(m, name) = events[k] {
-            if l.ce == m.ce && l.lun == m.lun {
+    let mut place = events.len();
+    while place > 0 {
+        place -= 1;
+        if let Stored::Load(at, name) = events[place] {
+            if lun == at {
                 return Some(name);
             }
         }
@@ -105,35 +105,35 @@ pub(crate) fn load_one(
     events: &mut Vec<Stored>,
     started: &mut Vec<Name>,
     backlog: &mut Vec<QueuedJob<Job>>,
-    k: usize,
+    place: usize,
 )
     requires events { vec_len events.old < vec_capacity events.old }
     requires started { vec_len started.old < vec_capacity started.old }
-    requires inside { k < vec_len backlog.old }
-    requires may { (x : QueuedJob JobValue) × IsOldest backlog.old.items k x × (load_fault_at core.old x.job.lun x.job ≡ None) }
+    requires inside { place < vec_len backlog.old }
+    requires may { (x : QueuedJob JobValue) × IsOldest backlog.old.items place x × (load_fault_at core.old x.job.lun x.job ≡ None) }
     ensures { (x : QueuedJob JobValue) × LoadedOne core.old core.new
-        events.old.items events.new.items started.old.items started.new.items backlog.old.items backlog.new.items k x }
+        events.old.items events.new.items started.old.items started.new.items backlog.old.items backlog.new.items place x }
 {
-    let QueuedJob { host, number, job } = backlog.remove(k);
-    let l = job.lun();
+    let QueuedJob { host, number, job } = backlog.remove(place);
+    let lun = job.lun();
     let name = Name { host, number };
-    match core.load(l, job) {
+    match core.load(lun, job) {
         Err(_) => unreachable!(),
         Ok(()) => {
-            events.push_reserved(Stored::Load(l, name));
+            events.push_reserved(Stored::Load(lun, name));
             started.push_reserved(name);
         }
     }
 }
 
 // Tries to claim the LUN of a job, if that is admitted.
-fn try_one(core: &Core, job: &QueuedJob<Job>, n: u32, seat: LeaseSeat) -> TriedOnce
-    requires { n < 16 }
-    ensures { IsTried core.now job.now n seat result }
+fn try_one(core: &Core, job: &QueuedJob<Job>, number: u32, seat: LeaseSeat) -> TriedOnce
+    requires { number < 16 }
+    ensures { IsTried core.now job.now number seat result }
 {
     match core.admits(job.job.lun(), &job.job) {
         Err(_) => TriedOnce::Passed(seat),
-        Ok(()) => match seat.claim(n) {
+        Ok(()) => match seat.claim(number) {
             Claimed::Got(lease) => TriedOnce::Given(lease.loaded()),
             Claimed::Held(seat) => TriedOnce::Passed(seat),
         },
@@ -146,16 +146,16 @@ pub(crate) fn pick(core: &Core, backlog: &[QueuedJob<Job>], seat: LeaseSeat) -> 
     ensures { IsPicked core.now backlog.now seat result }
 {
     let mut back = seat;
-    let mut passed = [false; 16];
-    for k in 0..backlog.len() {
-        let job = &backlog[k];
-        if let Some(n) = core.number(job.job.lun()) {
-            if !passed[n as usize] {
-                match try_one(core, job, n, back) {
-                    TriedOnce::Given(lease) => return Picked::Picks(k, lease),
+    let mut passed = [false; MAX_CHANNEL_LUNS];
+    for place in 0..backlog.len() {
+        let job = &backlog[place];
+        if let Some(number) = core.number(job.job.lun()) {
+            if !passed[number as usize] {
+                match try_one(core, job, number, back) {
+                    TriedOnce::Given(lease) => return Picked::Picks(place, lease),
                     TriedOnce::Passed(again) => {
                         back = again;
-                        passed[n as usize] = true;
+                        passed[number as usize] = true;
                     }
                 }
             }

@@ -4,8 +4,19 @@ ghost use Rattle.target_bus.specs.Bus.{numbered};
 ghost use Rattle.channel_work.specs.Counts.{stands_after, polls_after, count_after, poll_row, AreCounts, IsFewAt, HaveCounted, HasCounted};
 
 use nand_geometry::Geometry;
-use onfi_cycle::{Item, Kind, Lun};
+use onfi_cycle::{Item, Kind, Lun, MAX_CHANNEL_LUNS, Status};
 use seq_core::Core;
+
+// The command that asks the one LUN of a target for its status.
+const READ_STATUS: u8 = 0x70;
+
+// The command that asks a LUN for its status by a row of it.
+const READ_STATUS_ENHANCED: u8 = 0x78;
+
+// The cycles before the output of a poll: the command, and where a target has many LUNs three bytes of a row.
+const POLL_LENGTH: u8 = 1;
+
+const ENHANCED_POLL_LENGTH: u8 = 4;
 
 /// What is counted of a LUN: how many cycles of a poll stand at the end, how many polls have said busy since its last ready, and
 /// how many readies there were.
@@ -17,22 +28,18 @@ pub struct LunCount {
 }
 
 /// The LUN of a number.
-pub(crate) fn find_lun(geometry: &Geometry, n: u32) -> Lun
-    requires { n < 16 }
-    ensures { result ≡ numbered geometry.now n }
+pub(crate) fn find_lun(geometry: &Geometry, number: u32) -> Lun
+    requires { number < 16 }
+    ensures { result ≡ numbered geometry.now number }
 {
-    let luns = u32::from(geometry.parts().luns);
-    Lun {
-        ce: (n / luns) as u8,
-        lun: (n % luns) as u8,
-    }
+    Lun::at(number as usize, geometry.parts().luns)
 }
 
 // The row bytes of a poll of a LUN.
-fn find_poll_row(geometry: &Geometry, l: Lun) -> [u8; 3]
-    ensures { result ≡ poll_row geometry.now l }
+fn find_poll_row(geometry: &Geometry, lun: Lun) -> [u8; 3]
+    ensures { result ≡ poll_row geometry.now lun }
 {
-    match geometry.row_bytes(l.lun, 0, 0) {
+    match geometry.row_bytes(lun.lun, 0, 0) {
         Some(row) => row,
         None => [0; 3],
     }
@@ -46,17 +53,21 @@ fn has_many(geometry: &Geometry) -> bool
 }
 
 // How many cycles of a poll of a LUN stand at the end after a cycle.
-fn count_stands(geometry: &Geometry, l: Lun, stands: u8, kind: Kind, byte: u8) -> u8
-    ensures { result ≡ stands_after (nat_lt 1 geometry.now.luns) (poll_row geometry.now l) stands kind byte }
+fn count_stands(geometry: &Geometry, lun: Lun, stands: u8, kind: Kind, byte: u8) -> u8
+    ensures { result ≡ stands_after (nat_lt 1 geometry.now.luns) (poll_row geometry.now lun) stands kind byte }
 {
     match kind {
         Kind::Cmd => {
-            let opener: u8 = if has_many(geometry) { 0x78 } else { 0x70 };
+            let opener = if has_many(geometry) {
+                READ_STATUS_ENHANCED
+            } else {
+                READ_STATUS
+            };
             if byte == opener { 1 } else { 0 }
         }
         Kind::Adr => {
             let goes_on = 1 <= stands && stands <= 3 && has_many(geometry);
-            if goes_on && byte == find_poll_row(geometry, l)[stands as usize - 1] {
+            if goes_on && byte == find_poll_row(geometry, lun)[stands as usize - 1] {
                 stands + 1
             } else {
                 0
@@ -73,8 +84,12 @@ fn count_polls(geometry: &Geometry, stands: u8, polls: u64, kind: Kind, byte: u8
 {
     match kind {
         Kind::Dout => {
-            let whole: u8 = if has_many(geometry) { 4 } else { 1 };
-            if stands == whole && byte & 0x40 == 0 {
+            let whole = if has_many(geometry) {
+                ENHANCED_POLL_LENGTH
+            } else {
+                POLL_LENGTH
+            };
+            if stands == whole && byte & Status::RDY.0 == 0 {
                 polls + 1
             } else {
                 polls
@@ -86,9 +101,9 @@ fn count_polls(geometry: &Geometry, stands: u8, polls: u64, kind: Kind, byte: u8
 
 impl LunCount {
     // One cycle more on the LUN's target. Where no poll stands, data changes nothing.
-    fn count_cycle(self, geometry: &Geometry, l: Lun, kind: Kind, byte: u8) -> LunCount
+    fn count_cycle(self, geometry: &Geometry, lun: Lun, kind: Kind, byte: u8) -> LunCount
         requires { self.polls < 2 ^ 64 - 1 }
-        ensures stands { result.stands ≡ stands_after (nat_lt 1 geometry.now.luns) (poll_row geometry.now l) self.stands kind byte }
+        ensures stands { result.stands ≡ stands_after (nat_lt 1 geometry.now.luns) (poll_row geometry.now lun) self.stands kind byte }
         ensures polls { result.polls ≡ polls_after (nat_lt 1 geometry.now.luns) self.stands self.polls kind byte }
         ensures works { result.works ≡ self.works }
     {
@@ -96,28 +111,32 @@ impl LunCount {
             return self;
         }
         LunCount {
-            stands: count_stands(geometry, l, self.stands, kind, byte),
+            stands: count_stands(geometry, lun, self.stands, kind, byte),
             polls: count_polls(geometry, self.stands, self.polls, kind, byte),
             works: self.works,
         }
     }
 
     // One item more.
-    fn count_item(self, geometry: &Geometry, l: Lun, item: Item) -> LunCount
+    fn count_item(self, geometry: &Geometry, lun: Lun, item: Item) -> LunCount
         requires polls { self.polls < 2 ^ 64 - 1 }
         requires works { self.works < 2 ^ 64 - 1 }
-        ensures { result ≡ count_after (nat_lt 1 geometry.now.luns) (poll_row geometry.now l) l self item }
+        ensures { result ≡ count_after (nat_lt 1 geometry.now.luns) (poll_row geometry.now lun) lun self item }
     {
         match item {
-            Item::Cyc(c) => {
-                if c.ce == l.ce {
-                    self.count_cycle(geometry, l, c.kind, c.byte)
+            Item::Cyc(cycle) => {
+                if cycle.ce == lun.ce {
+                    self.count_cycle(geometry, lun, cycle.kind, cycle.byte)
                 } else {
                     self
                 }
             }
-            Item::Rdy { ce, lun, .. } => {
-                if ce == l.ce && lun == l.lun {
+            Item::Rdy {
+                ce,
+                lun: number,
+                ..
+            } => {
+                if ce == lun.ce && number == lun.lun {
                     LunCount {
                         stands: self.stands,
                         polls: 0,
@@ -133,19 +152,26 @@ impl LunCount {
 }
 
 // One item more of the LUN of a number, if that is below 16.
-fn count_at(counts: &mut [LunCount; 16], geometry: &Geometry, n: u32, l: Lun, item: Item)
-    requires lun { l ≡ numbered geometry.now n }
-    requires few { n < 16 → IsFewAt counts.old n }
-    ensures { HaveCounted geometry.now item counts.old counts.new n (n + 1) }
+fn count_at(
+    counts: &mut [LunCount; MAX_CHANNEL_LUNS],
+    geometry: &Geometry,
+    number: u32,
+    lun: Lun,
+    item: Item,
+)
+    requires lun { lun ≡ numbered geometry.now number }
+    requires few { number < 16 → IsFewAt counts.old number }
+    ensures { HaveCounted geometry.now item counts.old counts.new number (number + 1) }
 {
-    if n < 16 {
-        counts[n as usize] = counts[n as usize].count_item(geometry, l, item);
+    let place = number as usize;
+    if place < MAX_CHANNEL_LUNS {
+        counts[place] = counts[place].count_item(geometry, lun, item);
     }
 }
 
 // One item more, which changes what is counted of the LUNs of its own target alone.
 #[tactic(auto, using(crate::proofs::Recounting::number_is, crate::proofs::Recounting::still_few, crate::proofs::Recounting::more_counted, crate::proofs::Recounting::target_counted, crate::proofs::Recounting::first_counted))]
-fn count_on_target(counts: &mut [LunCount; 16], geometry: &Geometry, item: Item)
+fn count_on_target(counts: &mut [LunCount; MAX_CHANNEL_LUNS], geometry: &Geometry, item: Item)
     requires { (n : ℕ) → n < 16 → IsFewAt counts.old n }
     ensures { HasCounted geometry.now item counts.old counts.new }
 {
@@ -158,7 +184,11 @@ fn count_on_target(counts: &mut [LunCount; 16], geometry: &Geometry, item: Item)
 }
 
 /// What is counted of each LUN, with the items of the trace from a place on.
-pub(crate) fn count_luns(counts: [LunCount; 16], core: &Core, from: usize) -> [LunCount; 16]
+pub(crate) fn count_luns(
+    counts: [LunCount; MAX_CHANNEL_LUNS],
+    core: &Core,
+    from: usize,
+) -> [LunCount; MAX_CHANNEL_LUNS]
     requires from { from ≤ length core.now.past }
     requires counts { AreCounts core.now.geometry counts (reverse (take from (reverse core.now.past))) }
     ensures size { length result ≡ 16 }
@@ -167,8 +197,8 @@ pub(crate) fn count_luns(counts: [LunCount; 16], core: &Core, from: usize) -> [L
     let geometry = core.geometry();
     let trace = core.trace();
     let mut counted = counts;
-    for k in from..trace.len() {
-        count_on_target(&mut counted, &geometry, trace[k]);
+    for place in from..trace.len() {
+        count_on_target(&mut counted, &geometry, trace[place]);
     }
     counted
 }

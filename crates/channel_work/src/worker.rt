@@ -1,9 +1,13 @@
 //! The channel under its lock, and the loop of a worker.
 ghost use Rattle.std.specs.Prelude.{◌<◌};
 
+use crate::channel_state::ChannelState;
+use crate::finished::Finished;
+use crate::readied::Readied;
 use crate::start::Started;
-use crate::state::{ChannelState, Finished, Readied, Turn, Turns, WorkerPass};
 use crate::tally::find_lun;
+use crate::turn::Turn;
+use crate::worker_pass::{Turns, WorkerPass};
 use lun_lease::{Lease, Loaded};
 use nand_geometry::Geometry;
 use onfi_cycle::Lun;
@@ -97,20 +101,33 @@ fn park<L: Turns, R: Wait>(
     channel.state.lock(rt).park(lease).err()
 }
 
-// Finishes the job of a lease that has ended, and tells whether memory sufficed.
-fn finish<L: Turns, R: Wait>(
-    rt: &R,
-    channel: &Channel<L>,
-    lease: Lease<Loaded>,
-) -> (bool, Option<Lease<Loaded>>) {
+// How a worker went on with a lease: whether memory sufficed, and the lease where it couldn't be parked.
+#[derive(Drop)]
+struct WentOn {
+    enough_memory: bool,
+    unparked: Option<Lease<Loaded>>,
+}
+
+// Finishes the job of a lease, if it has ended.
+fn finish<L: Turns, R: Wait>(rt: &R, channel: &Channel<L>, lease: Lease<Loaded>) -> WentOn {
     let finished = channel.state.lock(rt).finish(lease);
     match finished {
-        Finished::NotEnded(lease) => (true, park(rt, channel, lease)),
-        Finished::OutOfMemory(lease) => (false, park(rt, channel, lease)),
+        Finished::NotEnded(lease) => WentOn {
+            enough_memory: true,
+            unparked: park(rt, channel, lease),
+        },
+        Finished::OutOfMemory(lease) => WentOn {
+            enough_memory: false,
+            unparked: park(rt, channel, lease),
+        },
         Finished::Done(lease) => {
             let seat = lease.release();
+            // A table has no more seats than have room here.
             let _full = channel.state.lock(rt).seat_back(seat);
-            (true, None)
+            WentOn {
+                enough_memory: true,
+                unparked: None,
+            }
         }
     }
 }
@@ -120,13 +137,13 @@ fn ask_ready<L: Turns, G: Gate, R: Wait>(
     rt: &R,
     channel: &Channel<L>,
     gate: &G,
-    l: Lun,
+    lun: Lun,
     polls: u64,
     works: u64,
 ) -> bool {
-    match gate.ready(l, polls, works) {
+    match gate.ready(lun, polls, works) {
         None => true,
-        Some(fail) => channel.state.lock(rt).ready(l, fail) != Readied::OutOfMemory,
+        Some(fail) => channel.state.lock(rt).ready(lun, fail) != Readied::OutOfMemory,
     }
 }
 
@@ -135,41 +152,47 @@ fn ask_array_ready<L: Turns, G: Gate, R: Wait>(
     rt: &R,
     channel: &Channel<L>,
     gate: &G,
-    n: u32,
+    number: u32,
 ) -> bool
-    requires { n < 16 }
+    requires { number < 16 }
 {
-    let l = find_lun(&channel.geometry, n);
-    let works = channel.state.lock(rt).count(n).works;
-    !gate.array_ready(l, works) || channel.state.lock(rt).array_ready(l) != Readied::OutOfMemory
+    let lun = find_lun(&channel.geometry, number);
+    let works = channel.state.lock(rt).count(number).works;
+    !gate.array_ready(lun, works) || channel.state.lock(rt).array_ready(lun) != Readied::OutOfMemory
 }
 
-// Goes on with a lease for one turn, if the gate gives one, and tells whether memory sufficed; a lease that couldn't be parked
-// comes back.
+// Goes on with a lease for one turn, if the gate gives one.
 fn go_on<L: Turns, G: Gate, R: Wait>(
     rt: &R,
     channel: &Channel<L>,
     gate: &G,
     pass: &mut WorkerPass<L>,
     lease: Lease<Loaded>,
-) -> (bool, Option<Lease<Loaded>>) {
+) -> WentOn {
     if !gate.may_turn(pass.number()) {
-        return (true, park(rt, channel, lease));
+        return WentOn {
+            enough_memory: true,
+            unparked: park(rt, channel, lease),
+        };
     }
     let mut lease = lease;
-    let n = lease.lun();
+    let number = lease.lun();
     let turn = channel.state.lock(rt).turn(pass, &mut lease);
-    let enough = match turn {
+    let enough_memory = match turn {
         Turn::Ended => return finish(rt, channel, lease),
         Turn::OutOfMemory => false,
-        Turn::HandedOver => ask_array_ready(rt, channel, gate, n),
+        Turn::HandedOver => ask_array_ready(rt, channel, gate, number),
         Turn::NotReady { polls, works } => {
-            let l = find_lun(&channel.geometry, n);
-            ask_ready(rt, channel, gate, l, polls, works) && ask_array_ready(rt, channel, gate, n)
+            let lun = find_lun(&channel.geometry, number);
+            ask_ready(rt, channel, gate, lun, polls, works)
+                && ask_array_ready(rt, channel, gate, number)
         }
         Turn::Held | Turn::Empty => true,
     };
-    (enough, park(rt, channel, lease))
+    WentOn {
+        enough_memory,
+        unparked: park(rt, channel, lease),
+    }
 }
 
 /// A worker: it starts jobs and goes on with those that are parked, until the gate is closed and nothing is left to do, or memory is
@@ -207,15 +230,18 @@ pub fn work<L: Turns, G: Gate, R: Wait>(
                 thread::yield_now();
             }
             Next::Go(lease) => {
-                let (enough, back) = go_on(rt, channel, gate, &mut pass, lease);
-                if !enough {
+                let WentOn {
+                    enough_memory,
+                    unparked,
+                } = go_on(rt, channel, gate, &mut pass, lease);
+                if !enough_memory {
                     return WorkEnd {
                         pass,
-                        lease: back,
+                        lease: unparked,
                         cause: Cause::OutOfMemory,
                     };
                 }
-                kept = back;
+                kept = unparked;
             }
         }
     }

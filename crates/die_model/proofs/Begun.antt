@@ -2,24 +2,30 @@
 use Rattle.std.proofs.Common.{◌≡◌, ℕ, ◌<◌, ◌==◌, Bool, true, false, ◌&&◌, ◌||◌, not, cond, eq-eqb, List, [], ◌∷◌, Option, Some, None, length, replicate, refl, sym, ap, subst, ◌∙◌}
 use Rattle.std.proofs.lemmas.List.{length-replicate}
 use Rattle.std.specs.Option.{unwrap_or, is_some}
-use Rattle.nand_geometry.specs.declared.Parts.{Parts}
+use Rattle.nand_geometry.specs.declared.parts.Parts.{Parts}
 use Rattle.nand_geometry.specs.Limits.{page_len, planes}
-use Rattle.onfi_cycle.specs.declared.effect.PageAddress.{PageAddress}
-use Rattle.onfi_cycle.specs.declared.lun_facts.Queued.{Queued}
-use Rattle.onfi_cycle.specs.declared.lun_facts.Queued.TheVariants.{Erase, Program}
+use Rattle.onfi_cycle.specs.declared.page_address.PageAddress.{PageAddress}
+use Rattle.onfi_cycle.specs.declared.queued.Queued.{Queued}
+use Rattle.onfi_cycle.specs.declared.queued.Queued.TheVariants.{Erase, Program}
 use Rattle.onfi_cycle.specs.declared.effect.Effect.{Effect}
-use Rattle.onfi_cycle.specs.declared.lun_facts.Register.{Register}
-use Rattle.onfi_cycle.specs.declared.lun_facts.Register.TheVariants.{Empty, Page}
+use Rattle.onfi_cycle.specs.declared.effect.Effect.TheVariants.{BecameReady}
+use Rattle.onfi_cycle.specs.declared.register.Register.{Register}
+use Rattle.onfi_cycle.specs.declared.register.Register.TheVariants.{Empty, Page}
 use Rattle.onfi_cycle.specs.Lun.{busy_after, queue_after, register_after}
 use Rattle.onfi_cycle.specs.Content.{ArrayWork, left_by_all, same_page, queued_work_after, pending_work_after, content_after, failed_after, is_some_work}
 use Rattle.onfi_cycle.specs.Rules.{has_some, some_queued_clashes}
-use Rattle.die_model.specs.declared.Work.{Work}
-use Rattle.die_model.specs.declared.Work.TheVariants as w
+use Rattle.die_model.specs.declared.work.Work.{Work}
+use Rattle.die_model.specs.declared.work.Work.TheVariants as w
 use Rattle.die_model.specs.Pages.{kept, page_in, is_given}
 use Rattle.onfi_cycle.specs.Bounds.{is_row}
-use Rattle.die_model.specs.Die.{Die, bytes_taken, plane_bytes, works_of, effect_of, is_row_of, row_of_work, goes_with, is_reset, members_after, closes, page_to_keep, AreKept, are_erases, are_programs, HasRows, IsDie, ShowsPage}
+use Rattle.die_model.specs.declared.activity.Activity.{Activity}
+use Rattle.die_model.specs.Die.{Die, die_with, bytes_taken, plane_bytes, works_of, effect_of, is_row_of, row_of_work, goes_with, is_reset, queue_with, closes, page_to_keep, AreKept, are_erases, are_programs, HasRows, IsDie, ShowsPage}
 use Rattle.die_model.proofs.Kept.{Entries, same_parts}
 use Rattle.nand_geometry.proofs.Booleans.{or_parts as neither}
+
+-- the die with an activity
+abbrev pub die_of : Parts → Entries → List (List ℕ) → Activity → Die
+die_of g pages registers a = die_with g pages registers a.register a.array_page a.busy a.caching a.array_busy a.queue.items a.closed a.failed
 
 pub not_closed : (reset closed busy : Bool) → (closed ≡ true → busy ≡ true) → (reset || not busy) ≡ true → reset ≡ false → closed ≡ false
 not_closed reset false busy h k r = refl
@@ -29,46 +35,46 @@ not_closed false true false h k r = let x : false ≡ true = h refl in cc
 
 -- 1. the rows that wait
 
-pub queue_begun : (work : Work) (closed : Bool) (members : List Queued) → (is_reset work ≡ false → closed ≡ false) → cond (closes work) [] (members_after work members) ≡ queue_after (effect_of work) (cond closed [] members)
-queue_begun w.Reset closed members h = refl
-queue_begun (w.Program at) closed members h = refl
-queue_begun (w.Erase at) closed members h = refl
-queue_begun (w.Queue (Erase at)) closed members h = rw (h refl) refl
-queue_begun (w.Queue (Program at)) closed members h = rw (h refl) refl
-queue_begun (w.Read at) closed members h = rw (h refl) refl
-queue_begun w.Identifier closed members h = rw (h refl) refl
-queue_begun w.Parameters closed members h = rw (h refl) refl
-queue_begun w.Cache closed members h = rw (h refl) refl
-queue_begun w.CacheEnd closed members h = rw (h refl) refl
+pub queue_begun : (work : Work) (closed : Bool) (queue : List Queued) → (is_reset work ≡ false → closed ≡ false) → cond (closes work) [] (queue_with work queue) ≡ queue_after (effect_of work) (cond closed [] queue)
+queue_begun w.Reset closed queue h = refl
+queue_begun (w.Program at) closed queue h = refl
+queue_begun (w.Erase at) closed queue h = refl
+queue_begun (w.Queue (Erase at)) closed queue h = rw (h refl) refl
+queue_begun (w.Queue (Program at)) closed queue h = rw (h refl) refl
+queue_begun (w.Read at) closed queue h = rw (h refl) refl
+queue_begun w.Identifier closed queue h = rw (h refl) refl
+queue_begun w.Parameters closed queue h = rw (h refl) refl
+queue_begun w.Cache closed queue h = rw (h refl) refl
+queue_begun w.CacheEnd closed queue h = rw (h refl) refl
 
 abbrev pub taken : Parts → List (List ℕ) → Work → List ℕ
 taken g registers (w.Program at) = plane_bytes g registers at
 taken g registers (w.Queue (Program at)) = plane_bytes g registers at
 taken g registers _ = []
 
-pub queued_begun : (g : Parts) (registers : List (List ℕ)) (work : Work) (closed : Bool) (members : List Queued) → (is_reset work ≡ false → closed ≡ false) → works_of g registers (cond (closes work) [] (members_after work members)) ≡ queued_work_after (effect_of work) (taken g registers work) (works_of g registers (cond closed [] members))
-queued_begun g registers w.Reset closed members h = refl
-queued_begun g registers (w.Program at) closed members h = refl
-queued_begun g registers (w.Erase at) closed members h = refl
-queued_begun g registers (w.Queue (Erase at)) closed members h = rw (h refl) refl
-queued_begun g registers (w.Queue (Program at)) closed members h = rw (h refl) refl
-queued_begun g registers (w.Read at) closed members h = rw (h refl) refl
-queued_begun g registers w.Identifier closed members h = rw (h refl) refl
-queued_begun g registers w.Parameters closed members h = rw (h refl) refl
-queued_begun g registers w.Cache closed members h = rw (h refl) refl
-queued_begun g registers w.CacheEnd closed members h = rw (h refl) refl
+pub queued_begun : (g : Parts) (registers : List (List ℕ)) (work : Work) (closed : Bool) (queue : List Queued) → (is_reset work ≡ false → closed ≡ false) → works_of g registers (cond (closes work) [] (queue_with work queue)) ≡ queued_work_after (effect_of work) (taken g registers work) (works_of g registers (cond closed [] queue))
+queued_begun g registers w.Reset closed queue h = refl
+queued_begun g registers (w.Program at) closed queue h = refl
+queued_begun g registers (w.Erase at) closed queue h = refl
+queued_begun g registers (w.Queue (Erase at)) closed queue h = rw (h refl) refl
+queued_begun g registers (w.Queue (Program at)) closed queue h = rw (h refl) refl
+queued_begun g registers (w.Read at) closed queue h = rw (h refl) refl
+queued_begun g registers w.Identifier closed queue h = rw (h refl) refl
+queued_begun g registers w.Parameters closed queue h = rw (h refl) refl
+queued_begun g registers w.Cache closed queue h = rw (h refl) refl
+queued_begun g registers w.CacheEnd closed queue h = rw (h refl) refl
 
-pub pending_begun : (g : Parts) (registers : List (List ℕ)) (work : Work) (closed : Bool) (members : List Queued) → (is_reset work ≡ false → closed ≡ false) → works_of g registers (cond (closes work) (members_after work members) []) ≡ pending_work_after (effect_of work) (taken g registers work) (works_of g registers (cond closed [] members)) (works_of g registers (cond closed members []))
-pending_begun g registers w.Reset closed members h = refl
-pending_begun g registers (w.Program at) closed members h = rw (h refl) refl
-pending_begun g registers (w.Erase at) closed members h = rw (h refl) refl
-pending_begun g registers (w.Queue (Erase at)) closed members h = refl
-pending_begun g registers (w.Queue (Program at)) closed members h = refl
-pending_begun g registers (w.Read at) closed members h = refl
-pending_begun g registers w.Identifier closed members h = rw (h refl) refl
-pending_begun g registers w.Parameters closed members h = refl
-pending_begun g registers w.Cache closed members h = refl
-pending_begun g registers w.CacheEnd closed members h = refl
+pub pending_begun : (g : Parts) (registers : List (List ℕ)) (work : Work) (closed : Bool) (queue : List Queued) → (is_reset work ≡ false → closed ≡ false) → works_of g registers (cond (closes work) (queue_with work queue) []) ≡ pending_work_after (effect_of work) (taken g registers work) (works_of g registers (cond closed [] queue)) (works_of g registers (cond closed queue []))
+pending_begun g registers w.Reset closed queue h = refl
+pending_begun g registers (w.Program at) closed queue h = rw (h refl) refl
+pending_begun g registers (w.Erase at) closed queue h = rw (h refl) refl
+pending_begun g registers (w.Queue (Erase at)) closed queue h = refl
+pending_begun g registers (w.Queue (Program at)) closed queue h = refl
+pending_begun g registers (w.Read at) closed queue h = refl
+pending_begun g registers w.Identifier closed queue h = rw (h refl) refl
+pending_begun g registers w.Parameters closed queue h = refl
+pending_begun g registers w.Cache closed queue h = refl
+pending_begun g registers w.CacheEnd closed queue h = refl
 
 -- 2. pages and failure stay
 
@@ -131,10 +137,10 @@ kept_rows g at registers old new row k h = record { inside = outside at row k; l
         of true e = let x : page_in (page_len g) old p ≡ bytes = cc in sym (ap (λ (z : List ℕ). length z) x) ∙ page_length (page_len g) (kept old p) (h.lengths p)
         of false e = h.lengths p bytes e
 
-still : (len : ℕ) (at : Option PageAddress) (old new : Entries) → Keeps len at old new → (members : List Queued) → AreKept old members → AreKept new members
+still : (len : ℕ) (at : Option PageAddress) (old new : Entries) → Keeps len at old new → (queue : List Queued) → AreKept old queue → AreKept new queue
 still len at old new k [] h = tt
-still len at old new k (Erase q ∷ members) h = still len at old new k members h
-still len at old new k (Program q ∷ members) h = (ap is_some (k q) ∙ of (is_given q at), still len at old new k members h.1)
+still len at old new k (Erase q ∷ queue) h = still len at old new k queue h
+still len at old new k (Program q ∷ queue) h = (ap is_some (k q) ∙ of (is_given q at), still len at old new k queue h.1)
   where
     of : (b : Bool) → is_some (cond b (Some (page_in len old q)) (kept old q)) ≡ true
     of true = refl
@@ -153,27 +159,27 @@ same_itself at = of at.block at.page
 placed : (len : ℕ) (at : PageAddress) (old new : Entries) → Keeps len (Some at) old new → is_some (kept new at) ≡ true
 placed len at old new k = ap is_some (k at) ∙ ap (λ (b : Bool). is_some (cond b (Some (page_in len old at)) (kept old at))) (same_itself at)
 
-pub kept_begun : (len : ℕ) (work : Work) (old new : Entries) (members : List Queued) → Keeps len (page_to_keep work) old new → AreKept old members → AreKept new (members_after work members)
-kept_begun len (w.Program at) old new members k h = (placed len at old new k, still len (page_to_keep (w.Program at)) old new k members h)
-kept_begun len (w.Erase at) old new members k h = still len (page_to_keep (w.Erase at)) old new k members h
-kept_begun len (w.Queue (Erase at)) old new members k h = still len (page_to_keep (w.Queue (Erase at))) old new k members h
-kept_begun len (w.Queue (Program at)) old new members k h = (placed len at old new k, still len (page_to_keep (w.Queue (Program at))) old new k members h)
-kept_begun len w.Reset old new members k h = tt
-kept_begun len (w.Read at) old new members k h = still len (page_to_keep (w.Read at)) old new k members h
-kept_begun len w.Identifier old new members k h = still len (page_to_keep w.Identifier) old new k members h
-kept_begun len w.Parameters old new members k h = still len (page_to_keep w.Parameters) old new k members h
-kept_begun len w.Cache old new members k h = still len (page_to_keep w.Cache) old new k members h
-kept_begun len w.CacheEnd old new members k h = still len (page_to_keep w.CacheEnd) old new k members h
+pub kept_begun : (len : ℕ) (work : Work) (old new : Entries) (queue : List Queued) → Keeps len (page_to_keep work) old new → AreKept old queue → AreKept new (queue_with work queue)
+kept_begun len (w.Program at) old new queue k h = (placed len at old new k, still len (page_to_keep (w.Program at)) old new k queue h)
+kept_begun len (w.Erase at) old new queue k h = still len (page_to_keep (w.Erase at)) old new k queue h
+kept_begun len (w.Queue (Erase at)) old new queue k h = still len (page_to_keep (w.Queue (Erase at))) old new k queue h
+kept_begun len (w.Queue (Program at)) old new queue k h = (placed len at old new k, still len (page_to_keep (w.Queue (Program at))) old new k queue h)
+kept_begun len w.Reset old new queue k h = tt
+kept_begun len (w.Read at) old new queue k h = still len (page_to_keep (w.Read at)) old new k queue h
+kept_begun len w.Identifier old new queue k h = still len (page_to_keep w.Identifier) old new k queue h
+kept_begun len w.Parameters old new queue k h = still len (page_to_keep w.Parameters) old new k queue h
+kept_begun len w.Cache old new queue k h = still len (page_to_keep w.Cache) old new k queue h
+kept_begun len w.CacheEnd old new queue k h = still len (page_to_keep w.CacheEnd) old new k queue h
 
-all_erases : (g : Parts) (at : PageAddress) (members : List Queued) → some_queued_clashes g true at members ≡ false → are_erases members ≡ true
+all_erases : (g : Parts) (at : PageAddress) (queue : List Queued) → some_queued_clashes g true at queue ≡ false → are_erases queue ≡ true
 all_erases g at [] h = refl
-all_erases g at (Erase q ∷ members) h = all_erases g at members (neither _ _ h).1
-all_erases g at (Program q ∷ members) h = cc
+all_erases g at (Erase q ∷ queue) h = all_erases g at queue (neither _ _ h).1
+all_erases g at (Program q ∷ queue) h = cc
 
-all_programs : (g : Parts) (at : PageAddress) (members : List Queued) → some_queued_clashes g false at members ≡ false → are_programs members ≡ true
+all_programs : (g : Parts) (at : PageAddress) (queue : List Queued) → some_queued_clashes g false at queue ≡ false → are_programs queue ≡ true
 all_programs g at [] h = refl
-all_programs g at (Erase q ∷ members) h = cc
-all_programs g at (Program q ∷ members) h = all_programs g at members (neither _ _ h).1
+all_programs g at (Erase q ∷ queue) h = cc
+all_programs g at (Program q ∷ queue) h = all_programs g at queue (neither _ _ h).1
 
 not_true : (b : Bool) → not b ≡ true → b ≡ false
 not_true true h = cc
@@ -187,27 +193,27 @@ or_first : (a b : Bool) → a ≡ true → (a || b) ≡ true
 or_first true b h = refl
 or_first false b h = cc
 
-pub alike_begun : (g : Parts) (work : Work) (members : List Queued) → goes_with g work members ≡ true → (are_erases members || are_programs members) ≡ true → (are_erases (members_after work members) || are_programs (members_after work members)) ≡ true
-alike_begun g (w.Program at) members t h = all_programs g at members (not_true _ t)
-alike_begun g (w.Erase at) members t h = or_first _ _ (all_erases g at members (not_true _ t))
-alike_begun g (w.Queue (Erase at)) members t h = or_first _ _ (all_erases g at members (not_true _ t))
-alike_begun g (w.Queue (Program at)) members t h = all_programs g at members (not_true _ t)
-alike_begun g w.Reset members t h = refl
-alike_begun g (w.Read at) members t h = h
-alike_begun g w.Identifier members t h = h
-alike_begun g w.Parameters members t h = h
-alike_begun g w.Cache members t h = h
-alike_begun g w.CacheEnd members t h = h
+pub alike_begun : (g : Parts) (work : Work) (queue : List Queued) → goes_with g work queue ≡ true → (are_erases queue || are_programs queue) ≡ true → (are_erases (queue_with work queue) || are_programs (queue_with work queue)) ≡ true
+alike_begun g (w.Program at) queue t h = all_programs g at queue (not_true _ t)
+alike_begun g (w.Erase at) queue t h = or_first _ _ (all_erases g at queue (not_true _ t))
+alike_begun g (w.Queue (Erase at)) queue t h = or_first _ _ (all_erases g at queue (not_true _ t))
+alike_begun g (w.Queue (Program at)) queue t h = all_programs g at queue (not_true _ t)
+alike_begun g w.Reset queue t h = refl
+alike_begun g (w.Read at) queue t h = h
+alike_begun g w.Identifier queue t h = h
+alike_begun g w.Parameters queue t h = h
+alike_begun g w.Cache queue t h = h
+alike_begun g w.CacheEnd queue t h = h
 
 closes_busy : (work : Work) (busy : Bool) → closes work ≡ true → busy_after (effect_of work) busy ≡ true
 closes_busy (w.Program at) busy h = refl
 closes_busy (w.Erase at) busy h = refl
 closes_busy _ busy h = cc
 
-closes_some : (work : Work) (members : List Queued) → closes work ≡ true → has_some (members_after work members) ≡ true
-closes_some (w.Program at) members h = refl
-closes_some (w.Erase at) members h = refl
-closes_some _ members h = cc
+closes_some : (work : Work) (queue : List Queued) → closes work ≡ true → has_some (queue_with work queue) ≡ true
+closes_some (w.Program at) queue h = refl
+closes_some (w.Erase at) queue h = refl
+closes_some _ queue h = cc
 
 row_to_keep : (g : Parts) (work : Work) → is_row_of g (row_of_work work) ≡ true → is_row_of g (page_to_keep work) ≡ true
 row_to_keep g (w.Program at) h = h
@@ -221,48 +227,69 @@ row_to_keep g w.Parameters h = refl
 row_to_keep g w.Cache h = refl
 row_to_keep g w.CacheEnd h = refl
 
-goes_on : (g : Parts) (work : Work) (closed : Bool) (members : List Queued) → (is_reset work ≡ false → closed ≡ false) → goes_with g work (cond closed [] members) ≡ true → goes_with g work members ≡ true
-goes_on g w.Reset closed members h t = refl
-goes_on g (w.Read at) closed members h t = refl
-goes_on g w.Identifier closed members h t = refl
-goes_on g w.Parameters closed members h t = refl
-goes_on g w.Cache closed members h t = refl
-goes_on g w.CacheEnd closed members h t = refl
-goes_on g (w.Program at) closed members h t = sym (ap (λ (b : Bool). goes_with g (w.Program at) (cond b [] members)) (h refl)) ∙ t
-goes_on g (w.Erase at) closed members h t = sym (ap (λ (b : Bool). goes_with g (w.Erase at) (cond b [] members)) (h refl)) ∙ t
-goes_on g (w.Queue (Erase at)) closed members h t = sym (ap (λ (b : Bool). goes_with g (w.Queue (Erase at)) (cond b [] members)) (h refl)) ∙ t
-goes_on g (w.Queue (Program at)) closed members h t = sym (ap (λ (b : Bool). goes_with g (w.Queue (Program at)) (cond b [] members)) (h refl)) ∙ t
+goes_on : (g : Parts) (work : Work) (closed : Bool) (queue : List Queued) → (is_reset work ≡ false → closed ≡ false) → goes_with g work (cond closed [] queue) ≡ true → goes_with g work queue ≡ true
+goes_on g w.Reset closed queue h t = refl
+goes_on g (w.Read at) closed queue h t = refl
+goes_on g w.Identifier closed queue h t = refl
+goes_on g w.Parameters closed queue h t = refl
+goes_on g w.Cache closed queue h t = refl
+goes_on g w.CacheEnd closed queue h t = refl
+goes_on g (w.Program at) closed queue h t = sym (ap (λ (b : Bool). goes_with g (w.Program at) (cond b [] queue)) (h refl)) ∙ t
+goes_on g (w.Erase at) closed queue h t = sym (ap (λ (b : Bool). goes_with g (w.Erase at) (cond b [] queue)) (h refl)) ∙ t
+goes_on g (w.Queue (Erase at)) closed queue h t = sym (ap (λ (b : Bool). goes_with g (w.Queue (Erase at)) (cond b [] queue)) (h refl)) ∙ t
+goes_on g (w.Queue (Program at)) closed queue h t = sym (ap (λ (b : Bool). goes_with g (w.Queue (Program at)) (cond b [] queue)) (h refl)) ∙ t
 
-pub die_begun : (g : Parts) (work : Work) (parameters : List ℕ) (old new : Entries) (registers : List (List ℕ)) (members after : List Queued) (closed closing busy working : Bool) → IsDie g parameters old registers members closed busy → is_row_of g (row_of_work work) ≡ true → goes_with g work (cond closed [] members) ≡ true → (is_reset work ≡ false → closed ≡ false) → Keeps (page_len g) (page_to_keep work) old new → after ≡ members_after work members → closing ≡ closes work → working ≡ busy_after (effect_of work) busy → IsDie g parameters new registers after closing working
-die_begun g work parameters old new registers members after closed closing busy working d row together free k ea ec eb =
+pub die_begun : (g : Parts) (work : Work) (parameters : List ℕ) (old new : Entries) (registers : List (List ℕ)) (queue after : List Queued) (closed closing busy working : Bool) → IsDie g parameters old registers queue closed busy → is_row_of g (row_of_work work) ≡ true → goes_with g work (cond closed [] queue) ≡ true → (is_reset work ≡ false → closed ≡ false) → Keeps (page_len g) (page_to_keep work) old new → after ≡ queue_with work queue → closing ≡ closes work → working ≡ busy_after (effect_of work) busy → IsDie g parameters new registers after closing working
+die_begun g work parameters old new registers queue after closed closing busy working d row together free k ea ec eb =
     record {
       limits = d.limits;
       copies = d.copies;
       rows = kept_rows g (page_to_keep work) registers old new (row_to_keep g work row) k d.rows;
-      there = subst (AreKept new) (sym ea) (kept_begun (page_len g) work old new members k d.there);
-      alike = ap (λ (m : List Queued). are_erases m || are_programs m) ea ∙ alike_begun g work members (goes_on g work closed members free together) d.alike;
+      there = subst (AreKept new) (sym ea) (kept_begun (page_len g) work old new queue k d.there);
+      alike = ap (λ (m : List Queued). are_erases m || are_programs m) ea ∙ alike_begun g work queue (goes_on g work closed queue free together) d.alike;
       works = λ h. eb ∙ closes_busy work busy (sym ec ∙ h);
-      some = λ h. ap has_some ea ∙ closes_some work members (sym ec ∙ h);
+      some = λ h. ap has_some ea ∙ closes_some work queue (sym ec ∙ h);
     }
 
 -- 4. works that end
 
-pub ended_pages : (fail closed : Bool) (g parts : Parts) (planes ps : List (List ℕ)) (members rows : List Queued) (old new : Entries) → closed ≡ true → parts ≡ g → ps ≡ planes → rows ≡ members → ((p : PageAddress) → page_in (page_len parts) new p ≡ cond fail (page_in (page_len parts) old p) (left_by_all (page_len parts) (works_of parts ps rows) p (page_in (page_len parts) old p))) → (p : PageAddress) → page_in (page_len g) new p ≡ cond fail (page_in (page_len g) old p) (left_by_all (page_len g) (works_of g planes (cond closed members [])) p (page_in (page_len g) old p))
-ended_pages fail closed g parts planes ps members rows old new ec eg ep em h p =
-    let at_g = subst (λ (k : Parts). page_in (page_len k) new p ≡ cond fail (page_in (page_len k) old p) (left_by_all (page_len k) (works_of k ps rows) p (page_in (page_len k) old p))) eg (h p) in
-    let at_p = subst (λ (q : List (List ℕ)). page_in (page_len g) new p ≡ cond fail (page_in (page_len g) old p) (left_by_all (page_len g) (works_of g q rows) p (page_in (page_len g) old p))) ep at_g in
-    let at_m = subst (λ (q : List Queued). page_in (page_len g) new p ≡ cond fail (page_in (page_len g) old p) (left_by_all (page_len g) (works_of g planes q) p (page_in (page_len g) old p))) em at_p in
-    subst (λ (b : Bool). page_in (page_len g) new p ≡ cond fail (page_in (page_len g) old p) (left_by_all (page_len g) (works_of g planes (cond b members [])) p (page_in (page_len g) old p))) (sym ec) at_m
+pub ended_pages : (fail closed : Bool) (g parts : Parts) (planes ps : List (List ℕ)) (queue : List Queued) (old new : Entries) → parts ≡ g → ps ≡ planes
+    → ((p : PageAddress) → page_in (page_len parts) new p ≡ content_after parts (BecameReady fail) (works_of parts ps (cond closed queue [])) p (page_in (page_len parts) old p))
+    → (p : PageAddress) → page_in (page_len g) new p ≡ content_after g (BecameReady fail) (works_of g planes (cond closed queue [])) p (page_in (page_len g) old p)
+ended_pages fail closed g parts planes ps queue old new eg ep h p =
+    let at_g = subst (λ (k : Parts). page_in (page_len k) new p ≡ content_after k (BecameReady fail) (works_of k ps (cond closed queue [])) p (page_in (page_len k) old p)) eg (h p) in
+    subst (λ (q : List (List ℕ)). page_in (page_len g) new p ≡ content_after g (BecameReady fail) (works_of g q (cond closed queue [])) p (page_in (page_len g) old p)) ep at_g
 
-pub ended_failed : (g : Parts) (planes : List (List ℕ)) (fail closed : Bool) (members : List Queued) → closed ≡ true → has_some members ≡ true → fail ≡ (fail && is_some_work (works_of g planes (cond closed members [])))
-ended_failed g planes fail false members h s = cc
-ended_failed g planes fail true [] h s = cc
-ended_failed g planes true true (q ∷ members) h s = refl
-ended_failed g planes false true (q ∷ members) h s = refl
+pub ended_failed : (g : Parts) (planes : List (List ℕ)) (fail closed : Bool) (queue : List Queued) → (closed ≡ true → has_some queue ≡ true) → (closed && fail) ≡ (fail && is_some_work (works_of g planes (cond closed queue [])))
+ended_failed g planes false true queue h = refl
+ended_failed g planes true true [] h = let x : false ≡ true = h refl in cc
+ended_failed g planes true true (q ∷ queue) h = refl
+ended_failed g planes false false queue h = refl
+ended_failed g planes true false queue h = refl
 
-pub fewer : (closed : Bool) (members : List Queued) → closed ≡ false → length (cond closed [] members) < 16 → length members < 16
-fewer true members h l = cc
-fewer false members h l = l
+pub die_ended : (g parts : Parts) (parameters : List ℕ) (old new : Entries) (registers ps : List (List ℕ)) (queue after : List Queued) (closed closing busy working : Bool) → IsDie g parameters old registers queue closed busy → parts ≡ g → ps ≡ registers → HasRows parts new ps → (closed ≡ false → new ≡ old) → after ≡ cond closed [] queue → closing ≡ false → IsDie g parameters new registers after closing working
+die_ended g parts parameters old new registers ps queue after closed closing busy working d eg ep rows same is over =
+    record {
+      limits = d.limits;
+      copies = d.copies;
+      rows = subst (λ (r : List (List ℕ)). HasRows g new r) ep (subst (λ (k : Parts). HasRows k new ps) eg rows);
+      there = subst (AreKept new) (sym is) (there closed same);
+      alike = ap (λ (q : List Queued). are_erases q || are_programs q) is ∙ alike closed;
+      works = λ h. cc;
+      some = λ h. cc;
+    }
+  where
+    there : (b : Bool) → (b ≡ false → new ≡ old) → AreKept new (cond b [] queue)
+    there true k = tt
+    there false k = subst (λ (e : Entries). AreKept e queue) (sym (k refl)) d.there
+
+    alike : (b : Bool) → (are_erases (cond b [] queue) || are_programs (cond b [] queue)) ≡ true
+    alike true = refl
+    alike false = d.alike
+
+pub fewer : (closed : Bool) (queue : List Queued) → closed ≡ false → length (cond closed [] queue) < 16 → length queue < 16
+fewer true queue h l = cc
+fewer false queue h l = l
 
 -- the same under the names of the code
 pub kept_so : (len n : ℕ) (at given : Option PageAddress) (old new : Entries) → n ≡ len → given ≡ at → ((p : PageAddress) → kept new p ≡ cond (is_given p given) (Some (page_in n old p)) (kept old p)) → Keeps len at old new
@@ -297,10 +324,22 @@ closes_empty (w.Program at) p r h = refl
 closes_empty (w.Erase at) p r h = refl
 closes_empty work p r h = cc
 
-pub shows_begun : (g : Parts) (work : Work) (x : Effect) (p : PageAddress) (pages : Entries) (before after : List ℕ) (r held : Register) (closing : Bool) → x ≡ effect_of work → held ≡ register_after x p r → closing ≡ closes work → length before ≡ page_len g → length after ≡ length before → ((at : PageAddress) → held ≡ Page at → after ≡ page_in (length before) pages at) → ShowsPage g pages held after closing
-shows_begun g work x p pages before after r held closing ex eh ec was same f =
+pub shows_begun : (g : Parts) (work : Work) (p : PageAddress) (pages : Entries) (before after : List ℕ) (r held : Register) (closing : Bool) → held ≡ register_after (effect_of work) p r → closing ≡ closes work → length before ≡ page_len g → length after ≡ length before → ((at : PageAddress) → held ≡ Page at → after ≡ page_in (length before) pages at) → ShowsPage g pages held after closing
+shows_begun g work p pages before after r held closing eh ec was same f =
     record {
       page = λ at is. f at is ∙ ap (λ (n : ℕ). page_in n pages at) was;
       width = same ∙ was;
-      ends = λ h. eh ∙ (ap (λ (y : Effect). register_after y p r) ex ∙ closes_empty work p r (sym ec ∙ h));
+      ends = λ h. eh ∙ closes_empty work p r (sym ec ∙ h);
+    }
+
+shows_still : (g : Parts) (old new : Entries) (r : Register) (output : List ℕ) (closed : Bool) → (closed ≡ false → new ≡ old) → ShowsPage g old r output closed → (at : PageAddress) → r ≡ Page at → output ≡ page_in (page_len g) new at
+shows_still g old new r output true same h at is = let x = h.ends refl in cc
+shows_still g old new r output false same h at is = h.page at is ∙ ap (λ (e : Entries). page_in (page_len g) e at) (sym (same refl))
+
+pub shows_ended : (g : Parts) (old new : Entries) (r held : Register) (output : List ℕ) (closed closing : Bool) → held ≡ r → (closed ≡ false → new ≡ old) → closing ≡ false → ShowsPage g old r output closed → ShowsPage g new held output closing
+shows_ended g old new r held output closed closing eh same over h =
+    record {
+      page = λ at is. shows_still g old new r output closed same h at (sym eh ∙ is);
+      width = h.width;
+      ends = λ c. cc;
     }

@@ -2,9 +2,9 @@
 use Rattle.std.proofs.Common.{◌≡◌, ℕ, zero, suc, ◌+◌, ◌-◌, ◌*◌, ◌/◌, ◌%◌, ◌<◌, ◌≤◌, ◌==◌, Bool, true, false, ◌&&◌, cond, List, [], ◌∷◌, ◌++◌, Option, Some, None, length, drop, take, replicate, ltb, eqb, not, refl, sym, ap, ◌∙◌, arith, length-drop, length-take}
 use Rattle.std.specs.Option.{is_some, unwrap_or}
 use Rattle.nand_geometry.specs.Row.{parts_of}
-use Rattle.nand_geometry.specs.declared.Parts.{Parts}
+use Rattle.nand_geometry.specs.declared.parts.Parts.{Parts}
 use Rattle.nand_geometry.specs.Limits.{page_len}
-use Rattle.onfi_cycle.specs.declared.effect.PageAddress.{PageAddress}
+use Rattle.onfi_cycle.specs.declared.page_address.PageAddress.{PageAddress}
 use Rattle.onfi_cycle.specs.Content.{same_page}
 use Rattle.onfi_cycle.specs.Bounds.{is_row}
 use Rattle.onfi_cycle.specs.Effect.{page_address}
@@ -14,9 +14,9 @@ use Rattle.die_model.specs.Pages.{kept, page_in}
 use Rattle.die_model.specs.Image.{four, is_written, count_of, header, magic}
 use Rattle.die_model.specs.Loading.{first_row, first_page, first_bytes, entry_len, is_page, row_fault, or_later, entries_fault, told, are_pages, ArePages, image_fault, count_told, entries_told, has_numbers}
 use Rattle.die_model.specs.Die.{AreKept, IsDie}
-use Rattle.onfi_cycle.specs.declared.lun_facts.Queued.{Queued}
-use Rattle.onfi_cycle.specs.declared.lun_facts.Register.{Register}
-use Rattle.onfi_cycle.specs.declared.lun_facts.Register.TheVariants.{Empty, Page, ParameterPage, Identifier}
+use Rattle.onfi_cycle.specs.declared.queued.Queued.{Queued}
+use Rattle.onfi_cycle.specs.declared.register.Register.{Register}
+use Rattle.onfi_cycle.specs.declared.register.Register.TheVariants.{Empty, Page, ParameterPage, Identifier}
 use Rattle.onfi_cycle.specs.Rules.{has_some, is_empty}
 use Rattle.std.specs.List.{starts_with}
 use Rattle.die_model.proofs.Kept.{Entries, ChangesAt, kept_after, same_parts}
@@ -238,19 +238,19 @@ faultless g bytes h = of (ltb (length bytes) 24) (starts_with eqb bytes magic) (
     of false true true true o h = h
 
 -- nothing waits on a new die
-pub none_waits : (a b c d failed closed : Bool) (members : List Queued) → (a && (b && (c && (d && (not (has_some (cond closed [] members)) && (not (has_some (cond closed members [])) && failed)))))) ≡ true → (new : Entries) → AreKept new members
+pub none_waits : (a b c d failed closed : Bool) (queue : List Queued) → (a && (b && (c && (d && (not (has_some (cond closed [] queue)) && (not (has_some (cond closed queue [])) && failed)))))) ≡ true → (new : Entries) → AreKept new queue
 none_waits true true true true failed true [] h new = tt
-none_waits true true true true failed true (q ∷ members) h new = cc
+none_waits true true true true failed true (q ∷ queue) h new = cc
 none_waits true true true true failed false [] h new = tt
-none_waits true true true true failed false (q ∷ members) h new = cc
-none_waits true true true false failed closed members h new = cc
-none_waits true true false d failed closed members h new = cc
-none_waits true false c d failed closed members h new = cc
-none_waits false b c d failed closed members h new = cc
+none_waits true true true true failed false (q ∷ queue) h new = cc
+none_waits true true true false failed closed queue h new = cc
+none_waits true true false d failed closed queue h new = cc
+none_waits true false c d failed closed queue h new = cc
+none_waits false b c d failed closed queue h new = cc
 
 -- the die with other pages, where nothing waits
-pub loaded_is_die : (g : Parts) (parameters : List ℕ) (old new : Entries) (registers : List (List ℕ)) (members : List Queued) (closed busy : Bool) → AreKept new members → ArePages g new → IsDie g parameters old registers members closed busy → IsDie g parameters new registers members closed busy
-loaded_is_die g parameters old new registers members closed busy there are die =
+pub loaded_is_die : (g : Parts) (parameters : List ℕ) (old new : Entries) (registers : List (List ℕ)) (queue : List Queued) (closed busy : Bool) → AreKept new queue → ArePages g new → IsDie g parameters old registers queue closed busy → IsDie g parameters new registers queue closed busy
+loaded_is_die g parameters old new registers queue closed busy there are die =
     record {
       limits = die.limits;
       copies = die.copies;
@@ -262,11 +262,11 @@ loaded_is_die g parameters old new registers members closed busy there are die =
     }
 
 -- a new die shows no page
-pub shows_none : (a b c failed closed : Bool) (r : Register) (members : List Queued) → (a && (b && (c && (is_empty r && (not (has_some (cond closed [] members)) && (not (has_some (cond closed members [])) && failed)))))) ≡ true → (at : PageAddress) → r ≡ Page at → ⊥
-shows_none true true true failed closed Empty members h at e = cc
-shows_none true true true failed closed (Page p) members h at e = cc
-shows_none true true true failed closed ParameterPage members h at e = cc
-shows_none true true true failed closed Identifier members h at e = cc
-shows_none true true false failed closed r members h at e = cc
-shows_none true false c failed closed r members h at e = cc
-shows_none false b c failed closed r members h at e = cc
+pub shows_none : (a b c failed closed : Bool) (r : Register) (queue : List Queued) → (a && (b && (c && (is_empty r && (not (has_some (cond closed [] queue)) && (not (has_some (cond closed queue [])) && failed)))))) ≡ true → (at : PageAddress) → r ≡ Page at → ⊥
+shows_none true true true failed closed Empty queue h at e = cc
+shows_none true true true failed closed (Page p) queue h at e = cc
+shows_none true true true failed closed ParameterPage queue h at e = cc
+shows_none true true true failed closed Identifier queue h at e = cc
+shows_none true true false failed closed r queue h at e = cc
+shows_none true false c failed closed r queue h at e = cc
+shows_none false b c failed closed r queue h at e = cc

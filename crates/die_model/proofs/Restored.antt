@@ -13,14 +13,14 @@ use Rattle.std.specs.List.Sorted.{IsStrictlySortedBy}
 use Rattle.std.specs.Map.{keys_of, lookup}
 use Rattle.std.specs.BTreeMap.{is_at}
 use Rattle.std.specs.Option.{unwrap_or}
-use Rattle.nand_geometry.specs.declared.Parts.{Parts}
-use Rattle.nand_geometry.specs.declared.RowParts.{RowParts}
+use Rattle.nand_geometry.specs.declared.parts.Parts.{Parts}
+use Rattle.nand_geometry.specs.declared.row_parts.RowParts.{RowParts}
 use Rattle.nand_geometry.specs.Limits.{width, page_bits, block_bits, page_len, InLimits}
 use Rattle.nand_geometry.specs.Row.{row_number, parts_of, is_inside}
 use Rattle.nand_geometry.specs.Reading.{u32_at}
 use Rattle.nand_geometry.proofs.FieldLemmas.{width_fits, beside}
 use Rattle.nand_geometry.proofs.RowLemmas.{row_fits}
-use Rattle.onfi_cycle.specs.declared.effect.PageAddress.{PageAddress}
+use Rattle.onfi_cycle.specs.declared.page_address.PageAddress.{PageAddress}
 use Rattle.onfi_cycle.specs.Bounds.{is_row}
 use Rattle.onfi_cycle.specs.Content.{same_page}
 use Rattle.onfi_cycle.specs.Effect.{page_address}

@@ -1,22 +1,22 @@
 -- One LUN's array and registers: what its pages hold, what it works on, and how its last work ended.
 use Rattle.std.specs.Prelude.{◌≡◌, ℕ, ◌%◌, ◌^◌, ◌<◌, Bool, true, false, ◌||◌, ◌&&◌, not, if◌then◌else◌, List, [], ◌∷◌, Option, Some, None, length, replicate, slice_get, slice_index_or}
 use Rattle.std.specs.Option.{IsSome}
-use Rattle.nand_geometry.specs.declared.Parts.{Parts}
+use Rattle.nand_geometry.specs.declared.parts.Parts.{Parts}
 use Rattle.nand_geometry.specs.Limits.{InLimits, page_len, planes}
 use Rattle.nand_geometry.specs.Page.{parameter_bytes}
-use Rattle.onfi_cycle.specs.declared.effect.PageAddress.{PageAddress}
-use Rattle.onfi_cycle.specs.declared.lun_facts.Queued.{Queued}
-use Rattle.onfi_cycle.specs.declared.lun_facts.Queued.TheVariants.{Erase, Program}
-use Rattle.onfi_cycle.specs.declared.lun_facts.Register.{Register}
-use Rattle.onfi_cycle.specs.declared.lun_facts.Register.TheVariants.{Empty, Page}
+use Rattle.onfi_cycle.specs.declared.page_address.PageAddress.{PageAddress}
+use Rattle.onfi_cycle.specs.declared.queued.Queued.{Queued}
+use Rattle.onfi_cycle.specs.declared.queued.Queued.TheVariants.{Erase, Program}
+use Rattle.onfi_cycle.specs.declared.register.Register.{Register}
+use Rattle.onfi_cycle.specs.declared.register.Register.TheVariants.{Empty, Page}
 use Rattle.onfi_cycle.specs.declared.effect.Effect.{Effect}
 use Rattle.onfi_cycle.specs.declared.effect.Effect.TheVariants.{ReadStarted, EraseStarted, ProgramStarted, IdRead, ParameterPageReadStarted, CacheReadContinued, CacheReadEnded, ResetStarted}
 use Rattle.onfi_cycle.specs.Lun.{busy_after, array_busy_after, array_page_after, register_after, queue_after}
 use Rattle.onfi_cycle.specs.Content.{ArrayWork, ErasesBlock, ProgramsPage, queued_work_after, pending_work_after, content_after, failed_after, register_bytes}
 use Rattle.onfi_cycle.specs.Bounds.{is_row}
 use Rattle.onfi_cycle.specs.Rules.{is_empty, has_some, some_queued_clashes}
-use Rattle.die_model.specs.declared.Work.{Work}
-use Rattle.die_model.specs.declared.Work.TheVariants as w
+use Rattle.die_model.specs.declared.work.Work.{Work}
+use Rattle.die_model.specs.declared.work.Work.TheVariants as w
 use Rattle.die_model.specs.Pages.{kept, page_in}
 
 -- a die: the pages that it keeps, the page register of each plane, what its register shows, the page that its array was last told to read,
@@ -35,8 +35,8 @@ pub record Die : Type 0 where
   pub failed : Bool
 
 -- a die by what is kept of it: one list of rows, which are queued until they are closed
-abbrev pub die_with : Parts → List ((ℕ × ℕ) × List ℕ) → List (List ℕ) → Register → PageAddress → (busy caching array_busy : Bool) → (members : List Queued) → (closed failed : Bool) → Die
-die_with g pages registers register array_page busy caching array_busy members closed failed =
+abbrev pub die_with : Parts → List ((ℕ × ℕ) × List ℕ) → List (List ℕ) → Register → PageAddress → (busy caching array_busy : Bool) → (queue : List Queued) → (closed failed : Bool) → Die
+die_with g pages registers register array_page busy caching array_busy queue closed failed =
     record {
       geometry = g;
       pages = pages;
@@ -46,8 +46,8 @@ die_with g pages registers register array_page busy caching array_busy members c
       busy = busy;
       caching = caching;
       array_busy = array_busy;
-      queued = if closed then [] else members;
-      pending = if closed then members else [];
+      queued = if closed then [] else queue;
+      pending = if closed then queue else [];
       failed = failed;
     }
 
@@ -175,12 +175,12 @@ pub record CanBegin (work : Work) (d : Die) : Type 0 where
   pub next : d.array_page.page < 2 ^ 32
 
 -- what a work makes of the rows that wait
-abbrev pub members_after : Work → List Queued → List Queued
-members_after (w.Program at) members = Program at ∷ members
-members_after (w.Erase at) members = Erase at ∷ members
-members_after (w.Queue q) members = q ∷ members
-members_after w.Reset members = []
-members_after _ members = members
+abbrev pub queue_with : Work → List Queued → List Queued
+queue_with (w.Program at) queue = Program at ∷ queue
+queue_with (w.Erase at) queue = Erase at ∷ queue
+queue_with (w.Queue q) queue = q ∷ queue
+queue_with w.Reset queue = []
+queue_with _ queue = queue
 
 -- the rows that wait are those that the next ready ends
 abbrev pub closes : Work → Bool
@@ -224,15 +224,15 @@ pub record HasRows (g : Parts) (pages : List ((ℕ × ℕ) × List ℕ)) (regist
   pub count : length registers ≡ planes g
   pub widths : (k : ℕ) (bytes : List ℕ) → slice_get registers k ≡ Some bytes → length bytes ≡ page_len g
 
--- what is true of every die, by its parts; members are the rows queued, or where they are closed those that the next ready ends
-pub record IsDie (g : Parts) (parameters : List ℕ) (pages : List ((ℕ × ℕ) × List ℕ)) (registers : List (List ℕ)) (members : List Queued) (closed busy : Bool) : Type 0 where
+-- what is true of every die, by its parts; queue are the rows queued, or where they are closed those that the next ready ends
+pub record IsDie (g : Parts) (parameters : List ℕ) (pages : List ((ℕ × ℕ) × List ℕ)) (registers : List (List ℕ)) (queue : List Queued) (closed busy : Bool) : Type 0 where
   pub limits : InLimits g
   pub copies : parameters ≡ parameter_bytes g
   pub rows : HasRows g pages registers
-  pub there : AreKept pages members
-  pub alike : are_erases members || are_programs members ≡ true
+  pub there : AreKept pages queue
+  pub alike : are_erases queue || are_programs queue ≡ true
   pub works : closed ≡ true → busy ≡ true
-  pub some : closed ≡ true → has_some members ≡ true
+  pub some : closed ≡ true → has_some queue ≡ true
 
 -- while its register holds a page the bytes of that page stand ready, and works that wait for their end leave no page in it
 pub record ShowsPage (g : Parts) (pages : List ((ℕ × ℕ) × List ℕ)) (register : Register) (output : List ℕ) (closed : Bool) : Type 0 where
@@ -241,8 +241,8 @@ pub record ShowsPage (g : Parts) (pages : List ((ℕ × ℕ) × List ℕ)) (regi
   pub ends : closed ≡ true → register ≡ Empty
 
 -- what is true of every die, and of the bytes that stand ready
-pub record KeepsDie (g : Parts) (parameters : List ℕ) (pages : List ((ℕ × ℕ) × List ℕ)) (registers : List (List ℕ)) (members : List Queued) (closed busy : Bool) (register : Register) (output : List ℕ) : Type 0 where
-  pub die : IsDie g parameters pages registers members closed busy
+pub record KeepsDie (g : Parts) (parameters : List ℕ) (pages : List ((ℕ × ℕ) × List ℕ)) (registers : List (List ℕ)) (queue : List Queued) (closed busy : Bool) (register : Register) (output : List ℕ) : Type 0 where
+  pub die : IsDie g parameters pages registers queue closed busy
   pub shows : ShowsPage g pages register output closed
 
 -- a die fresh from the factory: every byte of every page and register is FF

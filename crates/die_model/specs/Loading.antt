@@ -1,11 +1,11 @@
 -- What an image says: its first fault, and the bytes of each page.
 use Rattle.std.specs.Prelude.{◌≡◌, ℕ, zero, suc, ◌+◌, ◌*◌, ◌^◌, ◌<◌, ◌==◌, Bool, true, false, ◌&&◌, not, nat_eq, nat_lt, if◌then◌else◌, List, codes, length, take, drop, replicate, Option, Some, None, Result, Err, IfErr}
 use Rattle.std.specs.List.{starts_with}
-use Rattle.nand_geometry.specs.declared.Parts.{Parts}
+use Rattle.nand_geometry.specs.declared.parts.Parts.{Parts}
 use Rattle.nand_geometry.specs.Limits.{page_len}
 use Rattle.nand_geometry.specs.Reading.{u32_at}
 use Rattle.nand_geometry.specs.Row.{parts_of, is_inside}
-use Rattle.onfi_cycle.specs.declared.effect.PageAddress.{PageAddress}
+use Rattle.onfi_cycle.specs.declared.page_address.PageAddress.{PageAddress}
 use Rattle.onfi_cycle.specs.Bounds.{is_row}
 use Rattle.onfi_cycle.specs.Content.{same_page}
 use Rattle.onfi_cycle.specs.Effect.{page_address}

@@ -1,15 +1,15 @@
 -- How a die stands for its LUN after a past.
 use Rattle.std.specs.Prelude.{◌≡◌, ℕ, ◌<◌, Bool, true, false, List, [], ◌∷◌, Option, None, Some, length}
-use Rattle.nand_geometry.specs.declared.Parts.{Parts}
+use Rattle.nand_geometry.specs.declared.parts.Parts.{Parts}
 use Rattle.nand_geometry.specs.Limits.{page_len, planes}
 use Rattle.nand_geometry.specs.Page.{parameter_bytes}
 use Rattle.onfi_cycle.specs.declared.item.Item.{Item}
-use Rattle.onfi_cycle.specs.declared.item.Lun.{Lun}
-use Rattle.onfi_cycle.specs.declared.effect.PageAddress.{PageAddress}
+use Rattle.onfi_cycle.specs.declared.lun.Lun.{Lun}
+use Rattle.onfi_cycle.specs.declared.page_address.PageAddress.{PageAddress}
 use Rattle.onfi_cycle.specs.declared.target_cycle.TargetCycle.{TargetCycle}
 use Rattle.onfi_cycle.specs.declared.effect.Effect.{Effect}
 use Rattle.onfi_cycle.specs.declared.effect.Effect.TheVariants.{BecameReady, ArrayBecameReady}
-use Rattle.die_model.specs.declared.Work.{Work}
+use Rattle.die_model.specs.declared.work.Work.{Work}
 use Rattle.onfi_cycle.specs.Sequence.{tail, facts_of, filled, row}
 use Rattle.onfi_cycle.specs.Bounds.{names_program, RowFits}
 use Rattle.onfi_cycle.specs.Effect.{names_lun, page_address}
@@ -18,8 +18,8 @@ use Rattle.onfi_cycle.specs.Content.{queued_work, pending_work, has_failed, cont
 use Rattle.onfi_cycle.specs.Permitted.{broken}
 use Rattle.onfi_cycle.specs.Channel.{Channel}
 use Rattle.die_model.specs.Die.{Die, CanBegin, work_begun, status_of, bytes_shown, is_new, IsAfter, page_of, plane_bytes, queued_of, pending_of}
-use Rattle.onfi_cycle.specs.declared.fillings.Filling.{Filling}
-use Rattle.onfi_cycle.specs.declared.fillings.Filling.TheVariants.{Leaves, Clears, Fills}
+use Rattle.onfi_cycle.specs.declared.filling.Filling.{Filling}
+use Rattle.onfi_cycle.specs.declared.filling.Filling.TheVariants.{Leaves, Clears, Fills}
 use Rattle.onfi_cycle.specs.Filling.{filling, filled_by}
 
 -- while a program of the LUN is open on its target, the die is ready, and the register of the plane has the bytes so far

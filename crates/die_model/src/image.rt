@@ -65,6 +65,7 @@ pub fn write_entry<A: Allocator>(
     ensures { IfOk result (λ _. out.new.items ≡ out.old.items ++ entry geometry.now (block, page) bytes.now) }
 {
     if is_written(geometry, block, page, bytes) {
+        // Their contract says that they are in the limits, so there is a LUN 0.
         let _limits = geometry.parts();
         let row = geometry.row_number(RowParts {
             lun: 0,

@@ -2,7 +2,7 @@
 ghost use Rattle.std.specs.Prelude.{◌≡◌, ◌+◌, ◌*◌, ◌≤◌, true, List, [], None, IfOk, length, replicate};
 ghost use Rattle.nand_geometry.specs.Limits.{page_len};
 ghost use Rattle.nand_geometry.specs.Reading.{u32_at};
-ghost use Rattle.onfi_cycle.specs.declared.effect.PageAddress.{PageAddress as At};
+ghost use Rattle.onfi_cycle.specs.declared.page_address.PageAddress.{PageAddress as At};
 ghost use Rattle.die_model.specs.Pages.{page_in};
 ghost use Rattle.die_model.specs.Loading.{has_numbers, is_page, row_fault, entry_len, entries_fault, image_fault, told, page_told, are_pages, ArePages};
 
@@ -10,7 +10,7 @@ use crate::pages::Pages;
 use crate::refusal::ImageFault;
 use byteorder::{ByteOrder, LittleEndian};
 use nand_geometry::{Geometry, Parts};
-use onfi_cycle::page_address;
+use onfi_cycle::PageAddress;
 use std::alloc::{AllocError, Allocator};
 
 // How many bytes come before the entries.
@@ -43,6 +43,7 @@ fn entry_len(geometry: &Geometry) -> usize
     ensures value { result ≡ entry_len geometry.now }
     ensures small { result ≤ 32768 }
 {
+    // Their contract says that they are in the limits, so the sum fits.
     let _limits = geometry.parts();
     ROW_LEN + geometry.page_len() as usize
 }
@@ -120,7 +121,7 @@ fn keep_entries<A: Allocator + Copy>(
     let mut rest = entries;
     for k in 0..count {
         let (entry, later) = rest.split_at(len);
-        let at = page_address(geometry, number_at(rest, 0));
+        let at = PageAddress::of_row(geometry, number_at(rest, 0));
         pages.put(at, entry.split_at(ROW_LEN).1)?;
         rest = later;
     }

@@ -1,7 +1,7 @@
 //! The pages of a die that were programmed.
 ghost use Rattle.std.specs.Prelude.{◌≡◌, ℕ, ◌%◌, ◌^◌, ◌<◌, ◌≤◌, ◌==◌, ◌&&◌, nat_lt, ◌++◌, if◌then◌else◌, List, [], Some, None, IsOk, IfOk, OnErr, length, replicate};
 ghost use Rattle.std.specs.Option.{option_copied};
-ghost use Rattle.onfi_cycle.specs.declared.effect.PageAddress.{PageAddress as At};
+ghost use Rattle.onfi_cycle.specs.declared.page_address.PageAddress.{PageAddress as At};
 ghost use Rattle.onfi_cycle.specs.Content.{same_page};
 ghost use Rattle.die_model.specs.Image.{entries_of, count_of, header};
 ghost use Rattle.die_model.specs.Pages.{kept, page_in, programmed, is_given, AreInOrder};

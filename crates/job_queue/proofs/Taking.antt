@@ -12,7 +12,8 @@ use Rattle.job_queue.specs.declared.rule.QueuedJob.{QueuedJob}
 use Rattle.job_queue.specs.declared.rule.View.{View}
 use Rattle.job_queue.specs.declared.rule.View.TheVariants.{Taker}
 use Rattle.job_queue.specs.Rule.{of_host, IsInOrder, TakesNext, with_next_host}
-use Rattle.job_queue.specs.Passes.{Counts, all_are_zero}
+use Rattle.job_queue.specs.Passes.{Counts}
+use Rattle.std.specs.List.{list_all}
 use Rattle.job_queue.specs.Holding.{taken_in, taken_of, IsTakerPass}
 use Rattle.job_queue.proofs.Jobs.{of_host-append, of_host-mine, of_host-other}
 
@@ -72,6 +73,9 @@ module _ {J : Type 0} where
         room = length-append put (0 ∷ []) ∙ ap (λ k. k + 1) h.room;
         counted = subst (λ ts. Counts (counts ++ 0 ∷ []) (hosts + 1) ts) (sym is) (counts_more counts hosts (taken_of p) h.counted h.order);
       }
+
+abbrev pub all_are_zero : List ℕ → Bool
+all_are_zero numbers = list_all (λ n. n == 0) numbers
 
 both_true : (a b : Bool) → (a && b) ≡ true → (a ≡ true) × (b ≡ true)
 both_true true b h = (refl, h)

@@ -1,5 +1,5 @@
 -- What clauses see of a queue, a host's pass and the taker.
-use Rattle.std.specs.Prelude.{◌≡◌, ℕ, ◌<◌, ◌==◌, ◌&&◌, Bool, true, List, [], ◌∷◌, length, slice_index, slice_get, Some}
+use Rattle.std.specs.Prelude.{◌≡◌, ℕ, ◌<◌, List, [], ◌∷◌, length, slice_index, slice_get, Some}
 use Rattle.atomic_table.specs.Seated.{TableId}
 use Rattle.job_queue.specs.declared.rule.QueuedJob.{QueuedJob}
 use Rattle.job_queue.specs.Rule.{of_host}
@@ -20,11 +20,6 @@ pub record Taking (J : Type 0) : Type 0 where
   pub table : TableId
   pub hosts : ℕ
   pub taken : List (QueuedJob J)
-
--- each number is 0
-abbrev pub all_are_zero : List ℕ → Bool
-all_are_zero [] = true
-all_are_zero (n ∷ numbers) = (n == 0) && all_are_zero numbers
 
 module _ {J : Type 0} where
   -- the pass is of the queue

@@ -11,7 +11,7 @@
 mod queue;
 mod rule;
 
-pub use queue::{HostPass, JobQueue, Submitted, Taker, Tally};
+pub use queue::{CloseRefused, HostPass, JobQueue, Submitted, Taker, Tally};
 pub use rule::QueuedJob;
 
 #[cfg(test)]

@@ -1,6 +1,7 @@
 // The queue, the hosts' passes and the taker.
-ghost use Rattle.std.specs.Prelude.{◌≡◌, ◌↔◌, ◌<◌, ◌≤◌, [], ◌∷◌, ◌++◌, IfOk, OnOk, IfSome, IfNone, ◌^◌, ◌-◌, ◌+◌, true};
-ghost use Rattle.job_queue.specs.Passes.{owns, AreNew, all_are_zero};
+ghost use Rattle.std.specs.Prelude.{◌≡◌, ◌↔◌, ◌<◌, ◌≤◌, ◌==◌, [], ◌∷◌, ◌++◌, IfOk, OnOk, IfSome, IfNone, ◌^◌, ◌-◌, ◌+◌, true};
+ghost use Rattle.std.specs.List.{list_all};
+ghost use Rattle.job_queue.specs.Passes.{owns, AreNew};
 ghost use Rattle.job_queue.specs.Rule.{TakesNext};
 
 use crate::rule::{Hosts, QueueRule, QueuedJob, Stores, Takes, View};
@@ -10,6 +11,8 @@ use std::marker::Model;
 use std::sync::{Arc, Wait};
 
 mod close;
+
+pub use close::CloseRefused;
 
 type Ring<J, A> = RuledArrayQueue<QueuedJob<J>, View<J>, QueueRule, A>;
 
@@ -168,12 +171,9 @@ impl<J: Drop, A: Allocator + Clone> JobQueue<J, A> {
 
 // Each number is 0.
 fn all_are_zero(numbers: &[u64]) -> bool
-    ensures { result ≡ all_are_zero numbers.now }
+    ensures { result ≡ list_all (λ n. n == 0) numbers.now }
 {
-    match numbers {
-        [] => true,
-        [first, rest @ ..] => *first == 0 && all_are_zero(rest),
-    }
+    numbers.iter().all(|number| *number == 0)
 }
 
 impl<J, A: Allocator> Taker<J, A> {

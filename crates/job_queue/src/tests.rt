@@ -2,7 +2,7 @@ ghost use Rattle.std.specs.Prelude.{◌≡◌, ◌<◌, ◌≤◌, IfOk};
 ghost use Rattle.std.specs.List.{All};
 ghost use Rattle.job_queue.specs.Passes.{owns, owns_taker};
 
-use crate::{HostPass, JobQueue, QueuedJob, Submitted, Taker, Tally};
+use crate::{CloseRefused, HostPass, JobQueue, QueuedJob, Submitted, Taker, Tally};
 use linked_list_allocator::LocalHeap;
 use std::alloc::{AllocError, Global};
 use std::process::Abort;
@@ -92,10 +92,10 @@ fn close_too_soon<R: Abort>(
     queue: JobQueue<Job>,
     passes: Vec<HostPass<Job>>,
     taker: Taker<Job>,
-) -> (JobQueue<Job>, Vec<HostPass<Job>>, Taker<Job>)
+) -> CloseRefused<Job>
     requires passes { All (λ p. owns queue p) passes.items }
     requires taker { owns_taker queue taker }
-    ensures { (result.0 ≡ queue) × (result.1.items ≡ passes.items) × (result.2 ≡ taker) }
+    ensures { (result.queue ≡ queue) × (result.passes.items ≡ passes.items) × (result.taker ≡ taker) }
 {
     match queue.close(passes, taker) {
         Ok(_) => panic!(rt; "a pass is missing"),
@@ -138,12 +138,11 @@ fn a_full_queue_gives_the_job_back(rt: HostRuntime) -> Result<(), Fail> {
 fn a_queue_stays_open_while_a_pass_is_missing(rt: HostRuntime) -> Result<(), Fail> {
     let (queue, first, second, taker) = two_hosts(rt.alloc(), 4)?;
     let first = store(&rt, &queue, first, 10);
-    let (queue, mut passes, mut taker) = close_too_soon(
-        &rt,
+    let CloseRefused {
         queue,
-        vec![in rt.alloc(); first]?,
-        taker,
-    );
+        mut passes,
+        mut taker,
+    } = close_too_soon(&rt, queue, vec![in rt.alloc(); first]?, taker);
     assert_eq!(rt; passes.len(), 1);
     let second = store(&rt, &queue, second, 20);
     passes.push(second)?;

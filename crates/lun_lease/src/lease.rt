@@ -205,6 +205,24 @@ impl<S, A: Allocator> Lease<S, A> {
             .shared
             .join_seat::<TakesBack>(&mut other.seat, lent);
     }
+
+    // The same lease, in another state.
+    fn into_state<T>(self) -> Lease<T, A>
+        ensures { result ≡ self }
+    {
+        let Lease {
+            table,
+            seat,
+            lun,
+            state: _,
+        } = self;
+        Lease {
+            table,
+            seat,
+            lun,
+            state: PhantomData,
+        }
+    }
 }
 
 impl<A: Allocator> Lease<Idle, A> {
@@ -229,18 +247,7 @@ impl<A: Allocator> Lease<Idle, A> {
     pub fn loaded(self) -> Lease<Loaded, A>
         ensures { result ≡ self }
     {
-        let Lease {
-            table,
-            seat,
-            lun,
-            state: _,
-        } = self;
-        Lease {
-            table,
-            seat,
-            lun,
-            state: PhantomData,
-        }
+        self.into_state()
     }
 }
 
@@ -249,17 +256,6 @@ impl<A: Allocator> Lease<Loaded, A> {
     pub fn idle(self) -> Lease<Idle, A>
         ensures { result ≡ self }
     {
-        let Lease {
-            table,
-            seat,
-            lun,
-            state: _,
-        } = self;
-        Lease {
-            table,
-            seat,
-            lun,
-            state: PhantomData,
-        }
+        self.into_state()
     }
 }

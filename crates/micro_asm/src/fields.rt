@@ -8,7 +8,7 @@ ghost use Rattle.micro_asm.specs.Line.{before_comment, fields, is_blank, one, tw
 
 use memchr::{memchr, memchr2};
 
-// What stands before the first blank, and behind it.
+// What stands before the first blank, and after it.
 fn cut_at_blank(text: &[u8]) -> Option<(&[u8], &[u8])>
     ensures some { IfSome result (λ x. slice_split is_blank text.entry.now ≡ x.0.now ∷ slice_split is_blank x.1.now) }
     ensures shorter { IfSome result (λ x. length x.1.now < length text.entry.now) }

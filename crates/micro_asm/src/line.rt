@@ -24,25 +24,35 @@ fn plain<'a>(word: Word) -> Statement<'a>
 }
 
 // The line of a name and its number, which is in range.
-fn with_number<'a>(kind: Counted, n: u64) -> Statement<'a>
-    requires least { least kind ≤ n }
-    requires greatest { n ≤ greatest kind }
-    ensures value { shown_line result ≡ with_number kind n }
+fn with_number<'a>(kind: Counted, number: u64) -> Statement<'a>
+    requires least { least kind ≤ number }
+    requires greatest { number ≤ greatest kind }
+    ensures value { shown_line result ≡ with_number kind number }
     ensures fits { LineFits (shown_line result) }
 {
     match kind {
-        Counted::Rows => Statement::Header(Setting::Rows(n as u16)),
-        Counted::Buffer => Statement::Header(Setting::Buffer(n as u32)),
-        Counted::Budget => Statement::Header(Setting::Budget(n as u32)),
-        Counted::End => plain(Word::End { code: n as u8 }),
-        Counted::Get => plain(Word::Get { len: n as u32 }),
-        Counted::Put => plain(Word::Put { len: n as u32 }),
-        Counted::Seek => plain(Word::Seek { place: n as u32 }),
-        Counted::Column => plain(Word::Column { column: n as u16 }),
-        Counted::RowAdd => plain(Word::RowAdd { rows: n as u16 }),
-        Counted::Row => plain(Word::Row { row: n as u16 }),
-        Counted::Plane => plain(Word::Plane { plane: n as u8 }),
-        Counted::Loop => plain(Word::Loop { turns: n as u16 }),
+        Counted::Rows => Statement::Header(Setting::Rows(number as u16)),
+        Counted::Buffer => Statement::Header(Setting::Buffer(number as u32)),
+        Counted::Budget => Statement::Header(Setting::Budget(number as u32)),
+        Counted::End => plain(Word::End { code: number as u8 }),
+        Counted::Get => plain(Word::Get { len: number as u32 }),
+        Counted::Put => plain(Word::Put { len: number as u32 }),
+        Counted::Seek => plain(Word::Seek {
+            place: number as u32,
+        }),
+        Counted::Column => plain(Word::Column {
+            column: number as u16,
+        }),
+        Counted::RowAdd => plain(Word::RowAdd {
+            rows: number as u16,
+        }),
+        Counted::Row => plain(Word::Row { row: number as u16 }),
+        Counted::Plane => plain(Word::Plane {
+            plane: number as u8,
+        }),
+        Counted::Loop => plain(Word::Loop {
+            turns: number as u16,
+        }),
     }
 }
 
@@ -53,9 +63,9 @@ fn counted_line<'a>(kind: Counted, operands: &[u8]) -> Result<Statement<'a>, Asm
     ensures fits { IfOk result (λ s. LineFits (shown_line s)) }
 {
     let field = one_field(operands).ok_or(AsmFault::BadOperand)?;
-    let n = number_of(field).ok_or(AsmFault::BadOperand)?;
-    if kind.least() <= n && n <= kind.greatest() {
-        Ok(with_number(kind, n))
+    let number = number_of(field).ok_or(AsmFault::BadOperand)?;
+    if kind.least() <= number && number <= kind.greatest() {
+        Ok(with_number(kind, number))
     } else {
         Err(AsmFault::OperandOutOfRange)
     }
@@ -84,6 +94,9 @@ fn command_line<'a>(operands: &[u8]) -> Result<Statement<'a>, AsmFault>
     Ok(plain(Word::Command { byte }))
 }
 
+// The address bytes of a row and a column.
+const ADDRESS_BYTES: u64 = 5;
+
 // The first of the five address bytes and their count.
 #[tactic(auto, unfolding(crate::specs::Line::address_line))]
 fn address_line<'a>(operands: &[u8]) -> Result<Statement<'a>, AsmFault>
@@ -93,7 +106,7 @@ fn address_line<'a>(operands: &[u8]) -> Result<Statement<'a>, AsmFault>
     let (first, second) = two_fields(operands).ok_or(AsmFault::BadOperand)?;
     let from = number_of(first).ok_or(AsmFault::BadOperand)?;
     let count = number_of(second).ok_or(AsmFault::BadOperand)?;
-    if count < 1 || from > 5 || count > 5 - from {
+    if count < 1 || from > ADDRESS_BYTES || count > ADDRESS_BYTES - from {
         return Err(AsmFault::OperandOutOfRange);
     }
     Ok(plain(Word::Address {
@@ -102,7 +115,7 @@ fn address_line<'a>(operands: &[u8]) -> Result<Statement<'a>, AsmFault>
     }))
 }
 
-// A label of the right form, and nothing behind it.
+// A label of the right form, and nothing after it.
 #[tactic(auto, unfolding(crate::specs::Line::target_of))]
 fn target_of(operands: &[u8]) -> Result<&[u8], AsmFault>
     ensures ok { IfOk result (λ to. target_of (fields operands.entry.now) ≡ Ok to.now) }

@@ -3,7 +3,7 @@
 ghost use Rattle.std.specs.Prelude.{◌≡◌, ◌≤◌};
 ghost use Rattle.micro_asm.specs.Line.{is_named, header_of, counted_of, other_of, word_name, name_of, least, greatest, bare_word};
 
-use micro_word::Word;
+use micro_word::{Format, MAX_ROWS, Word};
 
 // What takes one decimal number: a header line or a word.
 #[derive(Clone, Copy)]
@@ -43,7 +43,7 @@ pub(crate) enum Name {
 }
 
 impl Counted {
-    // The least number that may stand behind the name.
+    // The least number that may stand after the name.
     pub(crate) fn least(self) -> u64
         ensures { result ≡ least self }
     {
@@ -53,18 +53,21 @@ impl Counted {
         }
     }
 
-    // The greatest number that may stand behind the name.
+    // The greatest number that may stand after the name.
     pub(crate) fn greatest(self) -> u64
         ensures { result ≡ greatest self }
     {
         match self {
-            Counted::Rows | Counted::Loop => 4096,
-            Counted::Buffer | Counted::Get | Counted::Put | Counted::Seek => 16_777_215,
-            Counted::Budget => 4_294_967_295,
-            Counted::End => 255,
-            Counted::Column | Counted::RowAdd => 65_535,
-            Counted::Row => 4095,
+            Counted::Rows => u64::from(MAX_ROWS),
+            Counted::Buffer | Counted::Get | Counted::Put | Counted::Seek => {
+                u64::from(Format::Two.limit())
+            }
+            Counted::Budget => u64::from(u32::MAX),
+            Counted::End => u64::from(u8::MAX),
+            Counted::Column | Counted::RowAdd => u64::from(u16::MAX),
+            Counted::Row => u64::from(MAX_ROWS - 1),
             Counted::Plane => 3,
+            Counted::Loop => 4_096,
         }
     }
 }

@@ -20,6 +20,9 @@ fn is_decimal(field: &[u8]) -> bool
     true
 }
 
+// The most digits of a number.
+const MAX_DIGITS: usize = 10;
+
 // The number of at most ten digits.
 fn value_of(field: &[u8]) -> u64
     requires decimal { all_ascii_digits field.now ≡ true }
@@ -36,7 +39,7 @@ fn value_of(field: &[u8]) -> u64
 pub fn number_of(field: &[u8]) -> Option<u64>
     ensures { result ≡ number_of field.now }
 {
-    if !field.is_empty() && field.len() <= 10 && is_decimal(field) {
+    if !field.is_empty() && field.len() <= MAX_DIGITS && is_decimal(field) {
         Some(value_of(field))
     } else {
         None
@@ -83,13 +86,11 @@ fn is_name_byte(byte: u8) -> bool
 fn is_name(field: &[u8]) -> bool
     ensures { result ≡ list_all is_name_byte field.now }
 {
-    for byte in field {
-        if !is_name_byte(*byte) {
-            return false;
-        }
-    }
-    true
+    field.iter().all(|byte| is_name_byte(*byte))
 }
+
+// The most characters of a label's name.
+const MAX_LABEL: usize = 32;
 
 // The name of a label: a letter, then letters, digits or _, 32 characters at most.
 #[tactic(auto, unfolding(crate::specs::Line::is_label))]
@@ -97,7 +98,7 @@ pub(crate) fn is_label(field: &[u8]) -> bool
     ensures { result ≡ is_label field.now }
 {
     match field {
-        [first, ..] => field.len() <= 32 && is_letter(*first) && is_name(field),
+        [first, ..] => field.len() <= MAX_LABEL && is_letter(*first) && is_name(field),
         [] => false,
     }
 }

@@ -25,7 +25,7 @@ pub enum AsmFault {
     /// A line before has the same label.
     #[error("the label stands twice")]
     LabelTwice,
-    /// No word stands behind the label.
+    /// No word stands after the label.
     #[error("the label stands behind the last word")]
     LabelAfterLastWord,
     /// The word is the 1,025th.

@@ -28,7 +28,7 @@ fn text_of<A: Allocator>(
     )
 }
 
-// These words, with the header `rows 1`, `buffer 9`, `budget 2`, are written so behind it.
+// These words, with the header `rows 1`, `buffer 9`, `budget 2`, are written so after it.
 fn is_written(rt: &impl Abort, alloc: Global, words: &[Word], lines: &str) -> Result<(), Fail> {
     let text = text_of(1, 9, 2, words.to_vec(alloc)?)?;
     let written = disassemble(alloc, &text)?;

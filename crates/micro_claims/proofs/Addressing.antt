@@ -1,7 +1,7 @@
 -- An address word that nothing is against: its bytes, and what stands at the place where it begins.
 use Rattle.std.proofs.Common.{◌≡◌, ℕ, zero, suc, ◌+◌, ◌*◌, ◌/◌, ◌%◌, ◌≤◌, ◌<◌, ◌==◌, Bool, true, false, ◌&&◌, ◌||◌, cond, not, ltb, nat_le, List, [], ◌∷◌, ◌++◌, Option, Some, None, refl, sym, ap, ◌∙◌, arith, eqb-true, take, drop}
 use Rattle.std.proofs.lemmas.Bool.Decides.{nat_tests}
-use Rattle.nand_geometry.specs.declared.Parts.{Parts}
+use Rattle.nand_geometry.specs.declared.parts.Parts.{Parts}
 use Rattle.nand_geometry.specs.Limits.{planes, indices}
 use Rattle.nand_geometry.specs.Row.{indexed, row_number, row_cycles, row_bytes_of, ReadsBack}
 use Rattle.onfi_cycle.specs.declared.tail_facts.TailFacts.{TailFacts}

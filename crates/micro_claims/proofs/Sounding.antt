@@ -1,7 +1,7 @@
 -- A word is sound: where a claim fits and nothing is against it, the word is fine, and the claim behind it fits.
 use Rattle.std.proofs.Common.{◌≡◌, ℕ, ◌+◌, ◌%◌, ◌≤◌, Bool, true, false, ◌&&◌, ◌||◌, cond, not, ltb, List, ◌∷◌, length, Option, Some, None, refl, sym, ap, ◌∙◌, subst, arith}
 use Rattle.std.proofs.lemmas.Bool.Decides.{nat_tests}
-use Rattle.nand_geometry.specs.declared.Parts.{Parts}
+use Rattle.nand_geometry.specs.declared.parts.Parts.{Parts}
 use Rattle.nand_geometry.specs.Limits.{InLimits, indices}
 use Rattle.nand_geometry.specs.Row.{ReadsBack}
 use Rattle.onfi_cycle.specs.declared.item.Item.{Item}

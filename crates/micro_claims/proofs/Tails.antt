@@ -1,10 +1,10 @@
 -- Places of the tail: what the facts of the tail are there.
 use Rattle.std.proofs.Common.{◌≡◌, ℕ, zero, suc, ◌==◌, Bool, true, false, ◌&&◌, ◌||◌, ltb, nat_le, Option, None, refl, sym, ap, ◌∙◌, subst, arith, eqb-true, take}
 use Rattle.std.proofs.lemmas.Bool.Decides.{nat_tests}
-use Rattle.nand_geometry.specs.declared.Parts.{Parts}
+use Rattle.nand_geometry.specs.declared.parts.Parts.{Parts}
 use Rattle.onfi_cycle.specs.declared.command.Command.{Command}
 use Rattle.onfi_cycle.specs.declared.command.Command.TheVariants.{Read, ReadConfirm, ChangeReadColumn, ChangeReadColumnConfirm, BlockErase, BlockEraseConfirm, BlockErasePlane, PageProgram, ReadId, ReadParameterPage}
-use Rattle.onfi_cycle.specs.declared.tail_facts.DataPhase.TheVariants.{Inputs}
+use Rattle.onfi_cycle.specs.declared.data_phase.DataPhase.TheVariants.{Inputs}
 use Rattle.onfi_cycle.specs.declared.tail_facts.TailFacts.{TailFacts}
 use Rattle.onfi_cycle.specs.declared.target_cycle.TargetCycle.TheVariants.{CommandCycle}
 use Rattle.onfi_cycle.specs.Command.{closes, address_cycles}
@@ -114,25 +114,25 @@ pub record Whole (g : Parts) (j : Job) (v : KnownTarget) (n : Now) (o : Command)
   pub named : has_row (After o (address_cycles o)) ≡ true → NameFits g j address n.index v.named
 
 -- of all the openers it is this one
-only_read : (o : Command) → closes o ReadConfirm ≡ true → o ≡ Read
+pub only_read : (o : Command) → closes o ReadConfirm ≡ true → o ≡ Read
 only_read Read h = refl
 only_read ChangeReadColumn h = cc
 only_read BlockErase h = cc
 only_read _ h = cc
 
-only_erase : (o : Command) → closes o BlockEraseConfirm ≡ true → o ≡ BlockErase
+pub only_erase : (o : Command) → closes o BlockEraseConfirm ≡ true → o ≡ BlockErase
 only_erase BlockErase h = refl
 only_erase Read h = cc
 only_erase ChangeReadColumn h = cc
 only_erase _ h = cc
 
-only_erase_plane : (o : Command) → closes o BlockErasePlane ≡ true → o ≡ BlockErase
+pub only_erase_plane : (o : Command) → closes o BlockErasePlane ≡ true → o ≡ BlockErase
 only_erase_plane BlockErase h = refl
 only_erase_plane Read h = cc
 only_erase_plane ChangeReadColumn h = cc
 only_erase_plane _ h = cc
 
-only_column : (o : Command) → closes o ChangeReadColumnConfirm ≡ true → o ≡ ChangeReadColumn
+pub only_column : (o : Command) → closes o ChangeReadColumnConfirm ≡ true → o ≡ ChangeReadColumn
 only_column ChangeReadColumn h = refl
 only_column Read h = cc
 only_column BlockErase h = cc

@@ -1,12 +1,12 @@
 -- Outputs and inputs, one by one: what a scene must allow, and the scene behind so many of them.
 use Rattle.std.proofs.Common.{◌≡◌, ℕ, zero, suc, ◌+◌, ◌≤◌, Bool, true, false, cond, nat_le, List, [], ◌∷◌, Option, Some, None, refl, sym, ap, ◌∙◌, subst, arith, length, replicate}
 use Rattle.std.proofs.lemmas.Bool.Decides.{nat_tests}
-use Rattle.nand_geometry.specs.declared.Parts.{Parts}
+use Rattle.nand_geometry.specs.declared.parts.Parts.{Parts}
 use Rattle.nand_geometry.specs.Limits.{page_len}
-use Rattle.onfi_cycle.specs.declared.tail_facts.DataPhase.TheVariants.{Inputs}
+use Rattle.onfi_cycle.specs.declared.data_phase.DataPhase.TheVariants.{Inputs}
 use Rattle.onfi_cycle.specs.declared.item.Kind.TheVariants.{Din}
-use Rattle.onfi_cycle.specs.declared.lun_facts.Latch.TheVariants.{Status, Data}
-use Rattle.onfi_cycle.specs.declared.lun_facts.ReadColumn.{ReadColumn}
+use Rattle.onfi_cycle.specs.declared.latch.Latch.TheVariants.{Status, Data}
+use Rattle.onfi_cycle.specs.declared.read_column.ReadColumn.{ReadColumn}
 use Rattle.onfi_cycle.specs.declared.tail_facts.TailFacts.{TailFacts}
 use Rattle.onfi_cycle.specs.declared.target_cycle.TargetCycle.TheVariants.{InputCycle, OutputCycle}
 use Rattle.onfi_cycle.specs.LunView.{LunView}
@@ -66,7 +66,7 @@ pub record CanRead (g : Parts) (v : LunView) (at : ℕ) (n : ℕ) : Type 0 where
   pub column : output_column v.column ≡ Some at
   pub inside : at + n ≤ register_len g v.register
 
-read_one : (k : ReadColumn) (at : ℕ) → output_column k ≡ Some at → output_column (record k { outputs = k.outputs + 1 }) ≡ Some (at + 1)
+pub read_one : (k : ReadColumn) (at : ℕ) → output_column k ≡ Some at → output_column (record k { outputs = k.outputs + 1 }) ≡ Some (at + 1)
 read_one k at h = by k.lost k.given h
   where
     by : (b : Bool) (o : Option ℕ) → cond b None (option_plus k.outputs o) ≡ Some at → cond b None (option_plus (k.outputs + 1) o) ≡ Some (at + 1)

@@ -1,5 +1,5 @@
 -- What two states both claim.
-use Rattle.std.specs.Prelude.{◌≡◌, ℕ, min, max, Bool, true, ◌&&◌, ◌||◌, if◌then◌else◌, Option, Some, None}
+use Rattle.std.specs.Prelude.{◌≡◌, ℕ, min, max, true, ◌&&◌, ◌||◌, if◌then◌else◌, Option, Some, None}
 use Rattle.micro_claims.specs.Spans.{Span, Growth}
 use Rattle.micro_claims.specs.Planes.{either_plane}
 use Rattle.micro_claims.specs.State.{State, Registers, KnownTarget, KnownLun, PageRange, Place, Closed, Unknown, Drift, NamedRow, Shown, Held, OutputColumn, QueuedRows, NoRows, SomeRows, AnyRows, LastCloser, CachedPage}

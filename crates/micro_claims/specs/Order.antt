@@ -1,6 +1,6 @@
 -- What one state says beside another: the order of states, what loops make of them, and the verifier as a machine.
 use Rattle.std.specs.Prelude.{◌≡◌, ℕ, ◌+◌, ◌-◌, ◌*◌, ◌≤◌, ◌<◌, ◌==◌, min, Bool, true, false, ◌&&◌, ◌||◌, not, nat_le, if◌then◌else◌, Option, Some, None, is_none}
-use Rattle.nand_geometry.specs.declared.Parts.{Parts}
+use Rattle.nand_geometry.specs.declared.parts.Parts.{Parts}
 use Rattle.onfi_cycle.specs.Command.{opcode}
 use Rattle.micro_word.specs.declared.word.Word.{Word}
 use Rattle.micro_claims.specs.Spans.{greatest_bound, kept, saturated, bound_plus}

@@ -1,6 +1,6 @@
 -- Numbers that are known by their bounds, and that may grow in loops.
 use Rattle.std.specs.Prelude.{ℕ, ◌+◌, ◌==◌, Bool, false, nat_le, if◌then◌else◌, Option, Some, None}
-pub use Rattle.micro_claims.specs.declared.span.Growth.{Growth}
+pub use Rattle.micro_claims.specs.declared.growth.Growth.{Growth}
 pub use Rattle.micro_claims.specs.declared.span.Span.{Span}
 
 -- bounds are kept up to this number; a higher one is no bound

@@ -4,27 +4,27 @@ use Rattle.micro_word.specs.Text.{Microprogram}
 use Rattle.micro_program.specs.Lines.{continues_cache_read}
 pub use Rattle.micro_claims.specs.Spans.{Span, Growth, exactly}
 pub use Rattle.micro_claims.specs.Planes.{Planes, just_plane}
-pub use Rattle.micro_claims.specs.declared.state.PageRange.{PageRange}
-pub use Rattle.micro_claims.specs.declared.state.Registers.{Registers}
-pub use Rattle.micro_claims.specs.declared.state.Place.{Place}
-pub use Rattle.micro_claims.specs.declared.state.Place.TheVariants.{Closed, After, InData, InColumn, Unknown}
-pub use Rattle.micro_claims.specs.declared.state.Drift.{Drift}
-pub use Rattle.micro_claims.specs.declared.state.IndexMove.{IndexMove}
-pub use Rattle.micro_claims.specs.declared.state.IndexMove.TheVariants.{On, To}
-pub use Rattle.micro_claims.specs.declared.state.LoopPlace.{LoopPlace}
-pub use Rattle.micro_claims.specs.declared.state.LoopPlace.TheVariants.{Head, Heads, After as AfterTurns}
-pub use Rattle.micro_claims.specs.declared.state.NamedRow.{NamedRow}
-pub use Rattle.micro_claims.specs.declared.state.Shown.{Shown}
-pub use Rattle.micro_claims.specs.declared.state.KnownTarget.{KnownTarget}
-pub use Rattle.micro_claims.specs.declared.state.Held.{Held}
-pub use Rattle.micro_claims.specs.declared.state.OutputColumn.{OutputColumn}
-pub use Rattle.micro_claims.specs.declared.state.QueuedRows.{QueuedRows}
-pub use Rattle.micro_claims.specs.declared.state.QueuedRows.TheVariants.{NoRows, SomeRows, AnyRows}
-pub use Rattle.micro_claims.specs.declared.state.LastCloser.{LastCloser}
-pub use Rattle.micro_claims.specs.declared.state.CachedPage.{CachedPage}
-pub use Rattle.micro_claims.specs.declared.state.KnownLun.{KnownLun}
+pub use Rattle.micro_claims.specs.declared.page_range.PageRange.{PageRange}
+pub use Rattle.micro_claims.specs.declared.registers.Registers.{Registers}
+pub use Rattle.micro_claims.specs.declared.place.Place.{Place}
+pub use Rattle.micro_claims.specs.declared.place.Place.TheVariants.{Closed, After, InData, InColumn, Unknown}
+pub use Rattle.micro_claims.specs.declared.drift.Drift.{Drift}
+pub use Rattle.micro_claims.specs.declared.drift.IndexMove.{IndexMove}
+pub use Rattle.micro_claims.specs.declared.drift.IndexMove.TheVariants.{On, To}
+pub use Rattle.micro_claims.specs.declared.loop_place.LoopPlace.{LoopPlace}
+pub use Rattle.micro_claims.specs.declared.loop_place.LoopPlace.TheVariants.{Head, Heads, After as AfterTurns}
+pub use Rattle.micro_claims.specs.declared.named_row.NamedRow.{NamedRow}
+pub use Rattle.micro_claims.specs.declared.shown.Shown.{Shown}
+pub use Rattle.micro_claims.specs.declared.known_target.KnownTarget.{KnownTarget}
+pub use Rattle.micro_claims.specs.declared.held.Held.{Held}
+pub use Rattle.micro_claims.specs.declared.output_column.OutputColumn.{OutputColumn}
+pub use Rattle.micro_claims.specs.declared.queued_rows.QueuedRows.{QueuedRows}
+pub use Rattle.micro_claims.specs.declared.queued_rows.QueuedRows.TheVariants.{NoRows, SomeRows, AnyRows}
+pub use Rattle.micro_claims.specs.declared.last_closer.LastCloser.{LastCloser}
+pub use Rattle.micro_claims.specs.declared.cached_page.CachedPage.{CachedPage}
+pub use Rattle.micro_claims.specs.declared.known_lun.KnownLun.{KnownLun}
 pub use Rattle.micro_claims.specs.declared.state.State.{State}
-pub use Rattle.micro_claims.specs.declared.state.Bounds.{Bounds}
+pub use Rattle.micro_claims.specs.declared.bounds.Bounds.{Bounds}
 
 -- what is read off a text before its first word
 abbrev pub bounds_of : Microprogram → Bounds

@@ -1,6 +1,9 @@
 //! Sets of planes.
 ghost use Rattle.std.specs.Prelude.{◌≡◌};
+ghost use Rattle.micro_claims.specs.Order.{are_planes_within};
 ghost use Rattle.micro_claims.specs.Planes.{no_planes, just_plane, either_plane, share_a_plane, are_below};
+
+use crate::flags::may_within;
 
 /// Some of the four numbers that a plane may have.
 #[derive(Clone, Copy)]
@@ -66,5 +69,14 @@ impl Planes {
             || self.one && count <= 1
             || self.two && count <= 2
             || self.three && count <= 3)
+    }
+
+    pub(crate) fn are_within(self, other: Planes) -> bool
+        ensures { result ≡ are_planes_within self other }
+    {
+        may_within(self.zero, other.zero)
+            && may_within(self.one, other.one)
+            && may_within(self.two, other.two)
+            && may_within(self.three, other.three)
     }
 }

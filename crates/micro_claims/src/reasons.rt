@@ -1,14 +1,15 @@
 //! The reasons against a word, by what is known before it.
-ghost use Rattle.std.specs.Prelude.{◌≡◌, ◌^◌, ◌<◌, ◌==◌, ◌||◌, ◌&&◌, not};
-ghost use Rattle.micro_program.specs.Program.{cost};
-ghost use Rattle.micro_claims.specs.Against.{shows_only_data, drives, may_show_data, has_page_or_parameters, length_of, least_length, may_be_queued, is_read, is_erase, queue_refuses, is_unfit, opener_refused, closer_refused, command_out_of_place, command_past_rows, asks_status, command_not_for_programs, continues_unseen, has_second_column, column_limit, byte_of_column, is_identity_byte, identity_refused, row_refused, surely_past, address_out_of_place, begins_elsewhere, column_past, row_outside, output_refused, column_bound, output_past, span_bound, input_past, may_be_unready, may_be_open, next_address};
-ghost use Rattle.micro_claims.specs.Spans.{bound_plus, is_at_most};
+ghost use Rattle.std.specs.Prelude.{◌≡◌, ◌^◌, ◌<◌, ◌==◌, ◌&&◌, not};
+ghost use Rattle.micro_claims.specs.Against.{next_address, is_unfit, opener_refused, closer_refused, command_out_of_place, command_past_rows, command_not_for_programs, has_second_column, column_limit, is_identity_byte, identity_refused, row_refused, surely_past, address_out_of_place, begins_elsewhere, column_past, row_outside, output_refused, output_past, input_past, may_be_unready};
 ghost use Rattle.micro_claims.specs.Reasons.{breaks_cycle_forbidden, breaks_address_unaligned, breaks_handover_in_sequence, breaks_buffer_passed, breaks_row_or_plane_outside, breaks_column_too_large, breaks_no_status, breaks_ends_too_soon, breaks_over_budget, breaks_command_not_allowed, reason_against};
+ghost use Rattle.micro_claims.specs.Spans.{bound_plus, is_at_most};
+ghost use Rattle.micro_program.specs.Program.{cost};
 
-use crate::planes::Planes;
+use crate::bounds::Bounds;
+use crate::limits::{bound_plus, is_at_most};
+use crate::place::Place;
 use crate::refusal::Reason;
-use crate::span::{Span, bound_plus, is_at_most};
-use crate::state::{Bounds, Held, KnownLun, KnownTarget, OutputColumn, Place, QueuedRows, State};
+use crate::state::State;
 use micro_word::Word;
 use nand_geometry::Geometry;
 use onfi_cycle::{Command, is_undeclared};
@@ -82,113 +83,7 @@ fn breaks_command_not_allowed(geometry: &Geometry, bounds: Bounds, word: Word) -
     }
 }
 
-impl Held {
-    // The least length that the register may have.
-    fn least_length(self, geometry: &Geometry) -> u32
-        ensures { result ≡ length_of geometry.now self }
-    {
-        if self.identifier {
-            4
-        } else if !self.page {
-            768
-        } else if self.parameters {
-            geometry.page_len().min(768)
-        } else {
-            geometry.page_len()
-        }
-    }
-}
-
-impl QueuedRows {
-    fn may_be_some(self) -> bool
-        ensures { result ≡ may_be_queued self }
-    {
-        !matches!(self, QueuedRows::NoRows)
-    }
-
-    // The queue may refuse a row of these planes, of this opener.
-    fn refuses(self, planes: Planes, opener: Command) -> bool
-        ensures { result ≡ queue_refuses self planes opener }
-    {
-        match self {
-            QueuedRows::NoRows => false,
-            QueuedRows::AnyRows => true,
-            QueuedRows::SomeRows {
-                erase,
-                planes: queued,
-                drift,
-            } => {
-                opener == Command::Read
-                    || erase != (opener == Command::BlockErase)
-                    || drift.ahead != drift.behind
-                    || planes.meet(queued)
-            }
-        }
-    }
-}
-
-impl KnownTarget {
-    // The LUN surely drives alone.
-    fn drives(&self) -> bool
-        ensures { result ≡ drives self.now.shows }
-    {
-        self.shows.is_some()
-    }
-
-    fn shows_only_data(&self) -> bool
-        ensures { result ≡ shows_only_data self.now.shows }
-    {
-        match self.shows {
-            None => false,
-            Some(shown) => !shown.status,
-        }
-    }
-
-    fn may_show_data(&self) -> bool
-        ensures { result ≡ may_show_data self.now.shows }
-    {
-        match self.shows {
-            None => false,
-            Some(shown) => shown.register,
-        }
-    }
-}
-
-impl KnownLun {
-    fn has_page_or_parameters(&self) -> bool
-        ensures { result ≡ has_page_or_parameters self.now.register }
-    {
-        match self.register {
-            None => false,
-            Some(held) => !held.identifier,
-        }
-    }
-
-    fn least_length(&self, geometry: &Geometry) -> u32
-        ensures { result ≡ least_length geometry.now self.now.register }
-    {
-        match self.register {
-            None => 0,
-            Some(held) => held.least_length(geometry),
-        }
-    }
-
-    // An opener that reads an identifier or a parameter page may be refused.
-    fn may_work(&self) -> bool
-        ensures { result ≡ self.now.busy || may_be_queued self.now.queue || self.now.last.cache }
-    {
-        self.busy || self.queue.may_be_some() || self.last.cache
-    }
-}
-
 impl State {
-    /// A sequence may be open.
-    pub fn may_be_open(&self) -> bool
-        ensures { result ≡ may_be_open self.now }
-    {
-        self.target.tail.is_open()
-    }
-
     // A continued cache read may pass its block.
     fn may_leave_the_block(&self, geometry: &Geometry) -> bool
         ensures { result ≡ not (is_at_most (bound_plus self.now.lun.cached.page.hi 2) geometry.now.pages) }

@@ -1,162 +1,24 @@
 //! What is known of a program before a word: the state of the verifier. Each field says what it claims; what is not claimed
 //! may be anything.
 ghost use Rattle.std.specs.Prelude.{◌≡◌};
+ghost use Rattle.micro_claims.specs.Against.{may_be_open};
+ghost use Rattle.micro_claims.specs.Joins.{joined};
+ghost use Rattle.micro_claims.specs.Leaves.{with_registers, with_target};
+ghost use Rattle.micro_claims.specs.Order.{is_state_within, state_at_head, state_at_heads, state_after_turns, span_in_loop, state_by};
 ghost use Rattle.micro_claims.specs.State.{first_state};
 
+use crate::cached_page::{CachedPage, NOT_CACHED};
+use crate::known_lun::KnownLun;
+use crate::known_target::KnownTarget;
+use crate::last_closer::LastCloser;
+use crate::loop_place::LoopPlace;
+use crate::output_column::output_in_loop;
+use crate::page_range::{ANY_PAGE, PageRange};
+use crate::place::Place;
 use crate::planes::Planes;
-use crate::span::Span;
-use onfi_cycle::Command;
-
-/// From `lo` to `hi`.
-#[derive(Clone, Copy)]
-pub struct PageRange {
-    pub lo: u32,
-    pub hi: u32,
-}
-
-/// The registers of the program.
-#[derive(Clone, Copy)]
-pub struct Registers {
-    pub column: Span,
-    pub planes: Planes,
-    /// The row index, counted from the job's base.
-    pub index: Span,
-    /// The page of the row index in its block, for a base that begins a block.
-    pub page: PageRange,
-    /// The place in the buffer.
-    pub place: Span,
-    /// The cost of the words so far, in cycles.
-    pub cost: Span,
-    /// A status was asked for.
-    pub polled: bool,
-}
-
-/// Where the tail of the program's target is.
-#[derive(Clone, Copy)]
-pub enum Place {
-    /// Nothing is open; a 00h may stand alone.
-    Closed,
-    /// After an opener and so many of its addresses.
-    After { opener: Command, addresses: u8 },
-    /// In the data of a program.
-    InData,
-    /// After a change of the write column and so many of its addresses.
-    InColumn { addresses: u8 },
-    /// Anywhere: ways have met that stand at different places.
-    Unknown,
-}
-
-/// How far the index register is from the index of a row: register + `behind` is index + `ahead`, and one of the two is 0.
-#[derive(Clone, Copy, PartialEq, Eq)]
-pub struct Drift {
-    pub ahead: u64,
-    pub behind: u64,
-}
-
-/// A move of the index register: on by so many rows, or to a row from where it is, if that is known.
-#[derive(Clone, Copy)]
-pub enum IndexMove {
-    On { rows: u64 },
-    To { from: Option<u64>, row: u64 },
-}
-
-/// A place of a loop: where a turn begins, where one of so many turns but the first begins, and after the last of them.
-#[derive(Clone, Copy)]
-pub enum LoopPlace {
-    Head,
-    Heads { turns: u16 },
-    After { turns: u16 },
-}
-
-/// The row that the tail names.
-#[derive(Clone, Copy)]
-pub struct NamedRow {
-    /// Its index, counted from the job's base.
-    pub index: Span,
-    pub planes: Planes,
-    /// The greatest page that it may be in its block, for a base that begins a block.
-    pub page: u32,
-    pub drift: Option<Drift>,
-}
-
-/// What the LUN may show, being the one driver of its target.
-#[derive(Clone, Copy)]
-pub struct Shown {
-    pub status: bool,
-    pub register: bool,
-}
-
-/// What is known of the target, while no other LUN of it has the bus.
-#[derive(Clone, Copy)]
-pub struct KnownTarget {
-    pub tail: Place,
-    /// The column of the tail and the inputs after it, where the tail has a column.
-    pub column: Option<Span>,
-    /// The row of the tail, where it has one.
-    pub named: Option<NamedRow>,
-    /// None where others may drive too, or the LUN be off.
-    pub shows: Option<Shown>,
-}
-
-/// What the register of the LUN may hold.
-#[derive(Clone, Copy)]
-pub struct Held {
-    pub page: bool,
-    pub parameters: bool,
-    pub identifier: bool,
-}
-
-/// The column of the next output.
-#[derive(Clone, Copy)]
-pub struct OutputColumn {
-    pub at: Span,
-    /// Data may have been read since it was given.
-    pub read: bool,
-}
-
-/// The rows that wait in the queue of the LUN.
-#[derive(Clone, Copy)]
-pub enum QueuedRows {
-    NoRows,
-    /// Rows to erase, or to program, of these planes, and so far from the index register.
-    SomeRows {
-        erase: bool,
-        planes: Planes,
-        drift: Drift,
-    },
-    AnyRows,
-}
-
-/// What the last closer of the LUN may be: 30h, 31h, or another or none.
-#[derive(Clone, Copy)]
-pub struct LastCloser {
-    pub read: bool,
-    pub cache: bool,
-    pub other: bool,
-}
-
-/// The page that the array reads, where the last closer is 30h or 31h.
-#[derive(Clone, Copy)]
-pub struct CachedPage {
-    /// Its index, counted from the job's base.
-    pub index: Span,
-    /// Its place in its block.
-    pub page: Span,
-}
-
-/// What is known of the LUN, whoever has the bus.
-#[derive(Clone, Copy)]
-pub struct KnownLun {
-    /// It may be busy.
-    pub busy: bool,
-    /// None where it may be empty.
-    pub register: Option<Held>,
-    /// None where it may be lost.
-    pub column: Option<OutputColumn>,
-    pub queue: QueuedRows,
-    pub last: LastCloser,
-    pub cached: CachedPage,
-}
+use crate::queued_rows::QueuedRows;
+use crate::registers::Registers;
+use crate::span::{ANY_NUMBER, Span, column_in_loop};
 
 /// What is known before a word.
 #[derive(Clone, Copy)]
@@ -166,12 +28,172 @@ pub struct State {
     pub lun: KnownLun,
 }
 
-/// What is read off a text before its first word.
-#[derive(Clone, Copy)]
-pub struct Bounds {
-    pub rows: u32,
-    pub buffer: u32,
-    pub budget: u32,
-    /// Some word is 31h, so the job's base begins a block.
-    pub continues_cache_read: bool,
+impl State {
+    /// Before the first word: the registers are 0; nothing is open, the LUN is ready, its queue is empty and it reads no cache.
+    pub fn first() -> State
+        ensures { result ≡ first_state }
+    {
+        State {
+            registers: Registers {
+                column: Span::exactly(0),
+                planes: Planes::just(0),
+                index: Span::exactly(0),
+                page: PageRange { lo: 0, hi: 0 },
+                place: Span::exactly(0),
+                cost: Span::exactly(0),
+                polled: false,
+            },
+            target: KnownTarget::closed(None),
+            lun: KnownLun {
+                busy: false,
+                register: None,
+                column: None,
+                queue: QueuedRows::NoRows,
+                last: LastCloser {
+                    read: true,
+                    cache: false,
+                    other: true,
+                },
+                cached: NOT_CACHED,
+            },
+        }
+    }
+
+    /// Nothing is known.
+    pub fn unknown() -> State {
+        State {
+            registers: Registers {
+                column: ANY_NUMBER,
+                planes: Planes {
+                    zero: true,
+                    one: true,
+                    two: true,
+                    three: true,
+                },
+                index: ANY_NUMBER,
+                page: ANY_PAGE,
+                place: ANY_NUMBER,
+                cost: ANY_NUMBER,
+                polled: false,
+            },
+            target: KnownTarget {
+                tail: Place::Unknown,
+                column: None,
+                named: None,
+                shows: None,
+            },
+            lun: KnownLun {
+                busy: true,
+                register: None,
+                column: None,
+                queue: QueuedRows::AnyRows,
+                last: LastCloser {
+                    read: true,
+                    cache: true,
+                    other: true,
+                },
+                cached: CachedPage {
+                    index: ANY_NUMBER,
+                    page: ANY_NUMBER,
+                },
+            },
+        }
+    }
+
+    /// A sequence may be open.
+    pub fn may_be_open(&self) -> bool
+        ensures { result ≡ may_be_open self.now }
+    {
+        self.target.tail.is_open()
+    }
+
+    pub(crate) fn with_registers(self, registers: Registers) -> State
+        ensures { result ≡ with_registers self registers }
+    {
+        State { registers, ..self }
+    }
+
+    // After a command that the target alone minds.
+    pub(crate) fn with_target(self, target: KnownTarget) -> State
+        ensures { result ≡ with_target self target }
+    {
+        State { target, ..self }
+    }
+
+    /// It claims at least what the other claims.
+    #[tactic(auto, unfolding(crate::specs::Order::is_state_within))]
+    pub fn is_within(&self, other: &State) -> bool
+        ensures { result ≡ is_state_within self.now other.now }
+    {
+        self.registers.are_within(&other.registers)
+            && self.target.is_within(&other.target)
+            && self.lun.is_within(&other.lun)
+    }
+
+    // At a place of a loop that is entered from this state, and whose turns end with `end`: what doesn't grow is as the last turn left it.
+    fn in_loop(&self, end: &State, place: LoopPlace) -> State
+        ensures { result ≡ state_by (span_in_loop place) self.now end.now }
+    {
+        State {
+            registers: self.registers.in_loop(&end.registers, place),
+            target: KnownTarget {
+                column: column_in_loop(self.target.column, end.target.column, place),
+                ..end.target
+            },
+            lun: KnownLun {
+                column: output_in_loop(self.lun.column, end.lun.column, place),
+                cached: CachedPage {
+                    index: place.number(self.lun.cached.index, end.lun.cached.index),
+                    page: place.number(self.lun.cached.page, end.lun.cached.page),
+                },
+                ..end.lun
+            },
+        }
+    }
+
+    /// Where a turn of a loop begins that is entered from this state.
+    #[tactic(auto, unfolding(crate::specs::Order::state_at_head))]
+    pub fn at_head(&self) -> State
+        ensures { result ≡ state_at_head self.now }
+    {
+        self.in_loop(self, LoopPlace::Head)
+    }
+
+    /// Where a turn but the first begins.
+    #[tactic(auto, unfolding(crate::specs::Order::state_at_heads))]
+    pub fn at_heads(&self, end: &State, turns: u16) -> State
+        ensures { result ≡ state_at_heads self.now end.now turns }
+    {
+        self.in_loop(end, LoopPlace::Heads { turns })
+    }
+
+    /// After the last turn.
+    #[tactic(auto, unfolding(crate::specs::Order::state_after_turns))]
+    pub fn after_turns(&self, end: &State, turns: u16) -> State
+        ensures { result ≡ state_after_turns self.now end.now turns }
+    {
+        self.in_loop(end, LoopPlace::After { turns })
+    }
+
+    /// What both claim.
+    #[tactic(auto, unfolding(crate::specs::Joins::joined))]
+    pub fn join(&self, other: &State) -> State
+        ensures { result ≡ joined self.now other.now }
+    {
+        State {
+            registers: self.registers.join(&other.registers),
+            target: self.target.join(&other.target),
+            lun: self.lun.join(&other.lun),
+        }
+    }
+
+    /// What both claim, with no bound for a number that the other takes past it.
+    pub fn widen(&self, other: &State) -> State {
+        let joined = self.join(other);
+        State {
+            registers: self.registers.widen(&joined.registers),
+            target: self.target.widen(&joined.target),
+            lun: self.lun.widen(&joined.lun),
+        }
+    }
 }

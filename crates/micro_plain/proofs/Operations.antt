@@ -1,20 +1,20 @@
 -- From rest to rest: over each operation nothing is against the words.
 use Rattle.std.proofs.Common.{◌≡◌, ℕ, ◌+◌, ◌^◌, ◌≤◌, ◌<◌, ◌==◌, Bool, true, false, nat_le, nat_lt, List, ◌∷◌, Option, Some, arith}
-use Rattle.nand_geometry.specs.declared.Parts.{Parts}
+use Rattle.nand_geometry.specs.declared.parts.Parts.{Parts}
 use Rattle.nand_geometry.specs.Limits.{page_len, planes}
 use Rattle.onfi_cycle.specs.Command.{command}
 use Rattle.micro_word.specs.declared.word.Word.{Word}
 use Rattle.micro_word.specs.declared.word.Word.TheVariants.{Command, Address, Get, Put, Seek, Column, Row, Plane, Wait, BranchOnStatus}
 use Rattle.micro_word.specs.Text.{Microprogram}
 use Rattle.micro_claims.specs.declared.span.Span.{Span}
-use Rattle.micro_claims.specs.declared.span.Growth.{Growth}
+use Rattle.micro_claims.specs.declared.growth.Growth.{Growth}
 use Rattle.micro_claims.specs.declared.planes.Planes.{Planes}
-use Rattle.micro_claims.specs.declared.state.PageRange.{PageRange}
-use Rattle.micro_claims.specs.declared.state.Shown.{Shown}
-use Rattle.micro_claims.specs.declared.state.Held.{Held}
-use Rattle.micro_claims.specs.declared.state.OutputColumn.{OutputColumn}
-use Rattle.micro_claims.specs.declared.state.QueuedRows.TheVariants.{NoRows}
-use Rattle.micro_claims.specs.declared.state.CachedPage.{CachedPage}
+use Rattle.micro_claims.specs.declared.page_range.PageRange.{PageRange}
+use Rattle.micro_claims.specs.declared.shown.Shown.{Shown}
+use Rattle.micro_claims.specs.declared.held.Held.{Held}
+use Rattle.micro_claims.specs.declared.output_column.OutputColumn.{OutputColumn}
+use Rattle.micro_claims.specs.declared.queued_rows.QueuedRows.TheVariants.{NoRows}
+use Rattle.micro_claims.specs.declared.cached_page.CachedPage.{CachedPage}
 use Rattle.micro_claims.specs.declared.state.State.{State}
 use Rattle.micro_claims.specs.Spans.{greatest_bound}
 use Rattle.micro_claims.specs.Planes.{just_plane, are_below}

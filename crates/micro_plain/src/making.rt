@@ -153,6 +153,7 @@ pub fn plain<A: Allocator>(
     // A refusal tells their fault, or that there was no memory though they have none.
     ensures refused { IfErr result (λ refusal. Tells refusal (plain_fault geometry ops.now)) }
 {
+    // The call hands out what the proof needs: that the geometry is within its limits.
     let _ = geometry.parts();
     if let Some(fault) = first_fault(&geometry, ops) {
         return Err(PlainRefusal::Fault(fault));

@@ -4,14 +4,16 @@ ghost use Rattle.micro_word.specs.declared.word.Word.TheVariants.{BranchOnStatus
 ghost use Rattle.micro_plain.specs.declared.operation.PlainOp.TheVariants.{Read, Program, Erase};
 ghost use Rattle.micro_plain.specs.Plain.{operation_words, operation_len, row_of, buffer_end, operation_cost, is_row_outside, are_bytes_outside, is_outside};
 
+use micro_program::command_word;
 use micro_word::{Format, MAX_ROWS, Word};
 use nand_geometry::Geometry;
+use onfi_cycle::Command;
 use std::alloc::{AllocError, Allocator};
 
 /// One operation on a page or a block of a LUN.
 #[derive(Clone, Copy, Debug, PartialEq, Eq)]
 pub enum PlainOp {
-    /// Reads `len` bytes from `column` of a page into the buffer, from `place` on. The page is that of `plane`, `row` rows behind the
+    /// Reads `len` bytes from `column` of a page into the buffer, from `place` on. The page is that of `plane`, `row` rows after the
     /// base of the job.
     Read {
         row: u16,
@@ -61,20 +63,23 @@ fn read_words(row: u16, plane: u8, column: u16, place: u32, len: u32) -> [Word; 
         Word::Plane { plane },
         Word::Column { column },
         Word::Seek { place },
-        Word::Command { byte: 0x00 },
+        command_word(Command::Read),
         Word::Address { from: 0, count: 5 },
-        Word::Command { byte: 0x30 },
+        command_word(Command::ReadConfirm),
         Word::Wait,
-        Word::Command { byte: 0x00 },
+        command_word(Command::Read),
         Word::Get { len },
     ]
 }
+
+// The bit of the status byte that says failure.
+const FAIL: u8 = 0x01;
 
 // The branch to the failure, where the last status says so.
 fn on_failure(target: u16) -> Word
     ensures { result ≡ BranchOnStatus 0x01 target }
 {
-    Word::BranchOnStatus { mask: 0x01, target }
+    Word::BranchOnStatus { mask: FAIL, target }
 }
 
 // The words of a program.
@@ -86,10 +91,10 @@ fn program_words(row: u16, plane: u8, column: u16, place: u32, len: u32, failure
         Word::Plane { plane },
         Word::Column { column },
         Word::Seek { place },
-        Word::Command { byte: 0x80 },
+        command_word(Command::PageProgram),
         Word::Address { from: 0, count: 5 },
         Word::Put { len },
-        Word::Command { byte: 0x10 },
+        command_word(Command::ProgramConfirm),
         Word::Wait,
         on_failure(failure),
     ]
@@ -102,9 +107,9 @@ fn erase_words(row: u16, plane: u8, failure: u16) -> [Word; 7]
     [
         Word::Row { row },
         Word::Plane { plane },
-        Word::Command { byte: 0x60 },
+        command_word(Command::BlockErase),
         Word::Address { from: 2, count: 3 },
-        Word::Command { byte: 0xd0 },
+        command_word(Command::BlockEraseConfirm),
         Word::Wait,
         on_failure(failure),
     ]

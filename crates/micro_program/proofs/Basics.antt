@@ -1,8 +1,8 @@
 -- Small facts of tests.
-use Rattle.std.proofs.Common.{◌≡◌, ℕ, ◌<◌, ◌==◌, Bool, true, false, ◌&&◌, refl, ltb, eq-eqb, ltb-true}
-use Rattle.onfi_cycle.specs.declared.item.Lun.{Lun}
+use Rattle.std.proofs.Common.{◌≡◌, ℕ, ◌<◌, ◌==◌, true, refl, ltb, eq-eqb, ltb-true}
+use Rattle.onfi_cycle.specs.declared.lun.Lun.{Lun}
 use Rattle.onfi_cycle.specs.Channel.{Channel, is_there}
-use Rattle.nand_geometry.proofs.Booleans.{and_parts, and_true}
+use Rattle.nand_geometry.proofs.Booleans.{and_parts}
 
 pub eqb_self : (n : ℕ) → (n == n) ≡ true
 eqb_self n = eq-eqb n n refl

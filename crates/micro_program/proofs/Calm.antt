@@ -1,14 +1,14 @@
 -- Effects that leave the work, the register and the queue of a LUN, and change its latch and column at most.
 use Rattle.std.proofs.Common.{◌≡◌, ℕ, Bool, true, false, cond, List, ◌∷◌, Option, refl, sym, ap, ◌∙◌, subst}
-use Rattle.nand_geometry.specs.declared.Parts.{Parts}
-use Rattle.onfi_cycle.specs.declared.item.Lun.{Lun}
+use Rattle.nand_geometry.specs.declared.parts.Parts.{Parts}
+use Rattle.onfi_cycle.specs.declared.lun.Lun.{Lun}
 use Rattle.onfi_cycle.specs.declared.item.Item.{Item}
 use Rattle.onfi_cycle.specs.declared.item.Kind.{Kind}
 use Rattle.onfi_cycle.specs.declared.command.Command.{Command}
 use Rattle.onfi_cycle.specs.declared.target_cycle.TargetCycle.{TargetCycle}
-use Rattle.onfi_cycle.specs.declared.effect.PageAddress.{PageAddress}
-use Rattle.onfi_cycle.specs.declared.lun_facts.Register.{Register}
-use Rattle.onfi_cycle.specs.declared.lun_facts.Queued.{Queued}
+use Rattle.onfi_cycle.specs.declared.page_address.PageAddress.{PageAddress}
+use Rattle.onfi_cycle.specs.declared.register.Register.{Register}
+use Rattle.onfi_cycle.specs.declared.queued.Queued.{Queued}
 use Rattle.onfi_cycle.specs.declared.effect.Effect.{Effect}
 use Rattle.onfi_cycle.specs.declared.effect.Effect.TheVariants.{Unaffected, DataOutputEnabled, StatusSelected, StatusRowAwaited, SelectedForStatus, Deselected, DataOutput, ReadColumnChanged}
 use Rattle.onfi_cycle.specs.Sequence.{target_cycle, tail, facts_of}

@@ -1,6 +1,6 @@
 -- What is claimed of a program at each seat, and kept by all that may come, holds wherever it comes.
 use Rattle.std.proofs.Common.{◌≡◌, true, false, List, [], ◌∷◌, Some, None, sym, ◌∙◌, subst}
-use Rattle.onfi_cycle.specs.declared.item.Lun.{Lun}
+use Rattle.onfi_cycle.specs.declared.lun.Lun.{Lun}
 use Rattle.onfi_cycle.specs.declared.item.Item.{Item}
 use Rattle.onfi_cycle.specs.declared.item.Item.TheVariants.{Cyc}
 use Rattle.onfi_cycle.specs.declared.item.Cycle.{Cycle}

@@ -1,7 +1,7 @@
 -- The cost of a word of a text is the number of its cycles, and the buffer keeps its length.
 use Rattle.std.proofs.Common.{◌≡◌, ℕ, suc, ◌+◌, ◌%◌, ◌/◌, ◌≤◌, Bool, true, false, ◌&&◌, cond, List, [], ◌∷◌, ◌++◌, Option, Some, None, refl, sym, ap, ◌∙◌, arith, leb, leb-true, ltb, length, length-set, length-take, length-drop, replicate}
 use Rattle.std.proofs.lemmas.List.{length-replicate}
-use Rattle.nand_geometry.specs.declared.Parts.{Parts}
+use Rattle.nand_geometry.specs.declared.parts.Parts.{Parts}
 use Rattle.nand_geometry.specs.Limits.{indices, planes}
 use Rattle.nand_geometry.specs.Row.{row_bytes_of, row_cycles, row_number, indexed}
 use Rattle.onfi_cycle.specs.declared.item.Kind.{Kind}

@@ -1,15 +1,16 @@
 -- What a scene allows is permitted and the LUN's own.
+use Rattle.std.specs.List.{list_any}
 use Rattle.std.proofs.Common.{◌≡◌, ℕ, ◌<◌, Bool, true, false, ◌&&◌, ◌||◌, not, ltb, nat_le, Option, Some, None, List, refl, sym, ap, ◌∙◌, subst, arith, ltb-false, eqb-true}
-use Rattle.nand_geometry.specs.declared.Parts.{Parts}
+use Rattle.nand_geometry.specs.declared.parts.Parts.{Parts}
 use Rattle.nand_geometry.specs.Limits.{page_len}
 use Rattle.nand_geometry.specs.Row.{parts_of}
 use Rattle.onfi_cycle.specs.declared.command.Command.{Command}
 use Rattle.onfi_cycle.specs.declared.command.Command.TheVariants.{Read, ReadConfirm, ChangeReadColumn, ChangeReadColumnConfirm, BlockErase, BlockEraseConfirm, BlockErasePlane, ReadStatus, ReadStatusEnhanced, PageProgram, ChangeWriteColumn, ProgramConfirm, ProgramPlane, ReadId, ReadParameterPage, Reset, ReadCacheSequential, ReadCacheEnd, Unknown}
-use Rattle.onfi_cycle.specs.declared.item.Lun.{Lun}
+use Rattle.onfi_cycle.specs.declared.lun.Lun.{Lun}
 use Rattle.onfi_cycle.specs.declared.item.Item.{Item}
-use Rattle.onfi_cycle.specs.declared.tail_facts.Opening.{Opening}
-use Rattle.onfi_cycle.specs.declared.effect.PageAddress.{PageAddress}
-use Rattle.onfi_cycle.specs.declared.lun_facts.Queued.{Queued}
+use Rattle.onfi_cycle.specs.declared.opening.Opening.{Opening}
+use Rattle.onfi_cycle.specs.declared.page_address.PageAddress.{PageAddress}
+use Rattle.onfi_cycle.specs.declared.queued.Queued.{Queued}
 use Rattle.onfi_cycle.specs.declared.tail_facts.TailFacts.{TailFacts}
 use Rattle.onfi_cycle.specs.declared.target_cycle.TargetCycle.TheVariants.{CommandCycle, AddressCycle, InputCycle, OutputCycle}
 use Rattle.onfi_cycle.specs.LunView.{LunView}
@@ -17,7 +18,7 @@ use Rattle.onfi_cycle.specs.Command.{at_last_row, addresses_the_array, is_change
 use Rattle.onfi_cycle.specs.Sequence.{opened, is_open, takes_inputs, wants_command, wants_address, row_with, column_with, input_column}
 use Rattle.onfi_cycle.specs.Effect.{page_address}
 use Rattle.onfi_cycle.specs.Lun.{lun_view, luns_of, views_from}
-use Rattle.onfi_cycle.specs.Rules.{ends_row, some_lun_is, named_lun_is, is_some_and, driver, second_of_page, second_column, caching, continues_cache, ends_cache, may_change_column, has_some, is_refused_by, register_len, has_no_byte, is_past_register, breaks_command_unknown, breaks_sequence_open, breaks_several_luns, breaks_no_column_to_change, breaks_command_misplaced, breaks_address_misplaced, breaks_row_outside, breaks_lun_busy, breaks_queue_clash, breaks_input_misplaced, breaks_no_sole_driver, breaks_data_not_ready, breaks_column_outside, breaks_cache_read_misplaced}
+use Rattle.onfi_cycle.specs.Rules.{ends_row, named_lun_is, is_some_and, driver, second_of_page, second_column, caching, continues_cache, ends_cache, may_change_column, has_some, is_refused_by, register_len, has_no_byte, is_past_register, breaks_command_unknown, breaks_sequence_open, breaks_several_luns, breaks_no_column_to_change, breaks_command_misplaced, breaks_address_misplaced, breaks_row_outside, breaks_lun_busy, breaks_queue_clash, breaks_input_misplaced, breaks_no_sole_driver, breaks_data_not_ready, breaks_column_outside, breaks_cache_read_misplaced}
 use Rattle.onfi_cycle.specs.Permitted.{judge_cycle}
 use Rattle.onfi_cycle.specs.Channel.{Channel, is_there}
 use Rattle.micro_program.proofs.Below.{facts}
@@ -27,19 +28,19 @@ use Rattle.micro_program.proofs.Scenes.{Scene, IsScene, CommandAllowed, AddressA
 
 -- 1. commands
 
-judge_read : (g : Parts) (t : TailFacts) (luns : List LunView) → is_open t ≡ false → some_lun_is (λ v. not v.busy) luns ≡ true → judge_cycle g t luns (CommandCycle Read) ≡ None
+judge_read : (g : Parts) (t : TailFacts) (luns : List LunView) → is_open t ≡ false → list_any (λ v. not v.busy) luns ≡ true → judge_cycle g t luns (CommandCycle Read) ≡ None
 unfolding breaks_command_unknown breaks_sequence_open breaks_several_luns breaks_no_column_to_change breaks_command_misplaced breaks_address_misplaced breaks_row_outside breaks_lun_busy breaks_queue_clash breaks_input_misplaced breaks_no_sole_driver breaks_data_not_ready breaks_column_outside breaks_cache_read_misplaced
 judge_read g t luns closed ready = rw (closed, ready) refl
 
-judge_erase : (g : Parts) (t : TailFacts) (luns : List LunView) → is_open t ≡ false → some_lun_is (λ v. not v.busy) luns ≡ true → judge_cycle g t luns (CommandCycle BlockErase) ≡ None
+judge_erase : (g : Parts) (t : TailFacts) (luns : List LunView) → is_open t ≡ false → list_any (λ v. not v.busy) luns ≡ true → judge_cycle g t luns (CommandCycle BlockErase) ≡ None
 unfolding breaks_command_unknown breaks_sequence_open breaks_several_luns breaks_no_column_to_change breaks_command_misplaced breaks_address_misplaced breaks_row_outside breaks_lun_busy breaks_queue_clash breaks_input_misplaced breaks_no_sole_driver breaks_data_not_ready breaks_column_outside breaks_cache_read_misplaced
 judge_erase g t luns closed ready = rw (closed, ready) refl
 
-judge_program : (g : Parts) (t : TailFacts) (luns : List LunView) → is_open t ≡ false → some_lun_is (λ v. not v.busy) luns ≡ true → judge_cycle g t luns (CommandCycle PageProgram) ≡ None
+judge_program : (g : Parts) (t : TailFacts) (luns : List LunView) → is_open t ≡ false → list_any (λ v. not v.busy) luns ≡ true → judge_cycle g t luns (CommandCycle PageProgram) ≡ None
 unfolding breaks_command_unknown breaks_sequence_open breaks_several_luns breaks_no_column_to_change breaks_command_misplaced breaks_address_misplaced breaks_row_outside breaks_lun_busy breaks_queue_clash breaks_input_misplaced breaks_no_sole_driver breaks_data_not_ready breaks_column_outside breaks_cache_read_misplaced
 judge_program g t luns closed ready = rw (closed, ready) refl
 
-judge_read_column : (g : Parts) (t : TailFacts) (luns : List LunView) (v : LunView) → is_open t ≡ false → some_lun_is (λ w. not w.busy) luns ≡ true → driver luns ≡ Some v → may_change_column v ≡ true → judge_cycle g t luns (CommandCycle ChangeReadColumn) ≡ None
+judge_read_column : (g : Parts) (t : TailFacts) (luns : List LunView) (v : LunView) → is_open t ≡ false → list_any (λ w. not w.busy) luns ≡ true → driver luns ≡ Some v → may_change_column v ≡ true → judge_cycle g t luns (CommandCycle ChangeReadColumn) ≡ None
 unfolding breaks_command_unknown breaks_sequence_open breaks_several_luns breaks_no_column_to_change breaks_command_misplaced breaks_address_misplaced breaks_row_outside breaks_lun_busy breaks_queue_clash breaks_input_misplaced breaks_no_sole_driver breaks_data_not_ready breaks_column_outside breaks_cache_read_misplaced
 judge_read_column g t luns v closed ready one may = rw (closed, ready, one, may) refl
 
@@ -55,11 +56,11 @@ judge_reset : (g : Parts) (t : TailFacts) (luns : List LunView) → is_open t �
 unfolding breaks_command_unknown breaks_sequence_open breaks_several_luns breaks_no_column_to_change breaks_command_misplaced breaks_address_misplaced breaks_row_outside breaks_lun_busy breaks_queue_clash breaks_input_misplaced breaks_no_sole_driver breaks_data_not_ready breaks_column_outside breaks_cache_read_misplaced
 judge_reset g t luns closed one = rw (closed, one) refl
 
-judge_id : (g : Parts) (t : TailFacts) (luns : List LunView) → is_open t ≡ false → ltb 1 g.luns ≡ false → some_lun_is (λ v. not v.busy) luns ≡ true → some_lun_is (λ v. has_some v.queue) luns ≡ false → some_lun_is caching luns ≡ false → judge_cycle g t luns (CommandCycle ReadId) ≡ None
+judge_id : (g : Parts) (t : TailFacts) (luns : List LunView) → is_open t ≡ false → ltb 1 g.luns ≡ false → list_any (λ v. not v.busy) luns ≡ true → list_any (λ v. has_some v.queue) luns ≡ false → list_any caching luns ≡ false → judge_cycle g t luns (CommandCycle ReadId) ≡ None
 unfolding breaks_command_unknown breaks_sequence_open breaks_several_luns breaks_no_column_to_change breaks_command_misplaced breaks_address_misplaced breaks_row_outside breaks_lun_busy breaks_queue_clash breaks_input_misplaced breaks_no_sole_driver breaks_data_not_ready breaks_column_outside breaks_cache_read_misplaced
 judge_id g t luns closed one ready queue cache = rw (closed, one, ready, queue, cache) refl
 
-judge_parameters : (g : Parts) (t : TailFacts) (luns : List LunView) → is_open t ≡ false → ltb 1 g.luns ≡ false → some_lun_is (λ v. not v.busy) luns ≡ true → some_lun_is (λ v. has_some v.queue) luns ≡ false → some_lun_is caching luns ≡ false → judge_cycle g t luns (CommandCycle ReadParameterPage) ≡ None
+judge_parameters : (g : Parts) (t : TailFacts) (luns : List LunView) → is_open t ≡ false → ltb 1 g.luns ≡ false → list_any (λ v. not v.busy) luns ≡ true → list_any (λ v. has_some v.queue) luns ≡ false → list_any caching luns ≡ false → judge_cycle g t luns (CommandCycle ReadParameterPage) ≡ None
 unfolding breaks_command_unknown breaks_sequence_open breaks_several_luns breaks_no_column_to_change breaks_command_misplaced breaks_address_misplaced breaks_row_outside breaks_lun_busy breaks_queue_clash breaks_input_misplaced breaks_no_sole_driver breaks_data_not_ready breaks_column_outside breaks_cache_read_misplaced
 judge_parameters g t luns closed one ready queue cache = rw (closed, one, ready, queue, cache) refl
 
@@ -100,9 +101,9 @@ unfolding breaks_command_unknown breaks_sequence_open breaks_several_luns breaks
 judge_85 g t luns wants = rw wants refl
 
 -- the only LUN of its target
-some_of_one : (g : Parts) (past : List Item) (l : Lun) (test : LunView → Bool) → g.luns ≡ 1 → l.lun ≡ 0 → some_lun_is test (luns_of g past l.ce) ≡ (test (lun_view g past l) || false)
+some_of_one : (g : Parts) (past : List Item) (l : Lun) (test : LunView → Bool) → g.luns ≡ 1 → l.lun ≡ 0 → list_any test (luns_of g past l.ce) ≡ (test (lun_view g past l) || false)
 some_of_one g past l test one zero_is =
-    ap (λ (n : ℕ). some_lun_is test (views_from g past l.ce n 0)) one ∙ ap (λ (n : ℕ). test (lun_view g past (record { ce = l.ce; lun = n })) || false) (sym zero_is)
+    ap (λ (n : ℕ). list_any test (views_from g past l.ce n 0)) one ∙ ap (λ (n : ℕ). test (lun_view g past (record { ce = l.ce; lun = n })) || false) (sym zero_is)
 
 or_false : (b : Bool) → b ≡ false → (b || false) ≡ false
 or_false true h = cc
@@ -117,13 +118,13 @@ one_lun s l there one =
 pub command_judged : (s : Channel) (l : Lun) (past : List Item) (c : Scene) → is_there s l ≡ true → IsScene s l past c → (d : Command) → CommandAllowed s.geometry l.lun c d → judge_cycle s.geometry c.facts (luns_of s.geometry past l.ce) (CommandCycle d) ≡ None
 command_judged s l past c there k d a = by d a
   where
-    some_ready : c.view.busy ≡ false → some_lun_is (λ v. not v.busy) (luns_of s.geometry past l.ce) ≡ true
+    some_ready : c.view.busy ≡ false → list_any (λ v. not v.busy) (luns_of s.geometry past l.ce) ≡ true
     some_ready h = some_at s.geometry past l (λ v. not v.busy) (there_lun s l there) (ap (λ (v : LunView). not v.busy) k.view ∙ rw h refl)
 
     the_driver : c.sole ≡ true → driver (luns_of s.geometry past l.ce) ≡ Some c.view
     the_driver h = facts.sole_driver s.geometry past l (k.sole h) ∙ ap Some k.view
 
-    none_of : (test : LunView → Bool) → ltb 1 s.geometry.luns ≡ false → test c.view ≡ false → some_lun_is test (luns_of s.geometry past l.ce) ≡ false
+    none_of : (test : LunView → Bool) → ltb 1 s.geometry.luns ≡ false → test c.view ≡ false → list_any test (luns_of s.geometry past l.ce) ≡ false
     none_of test one h = let is = one_lun s l there one in some_of_one s.geometry past l test is.0 is.1 ∙ or_false (test (lun_view s.geometry past l)) (ap test k.view ∙ h)
 
     by : (d : Command) → CommandAllowed s.geometry l.lun c d → judge_cycle s.geometry c.facts (luns_of s.geometry past l.ce) (CommandCycle d) ≡ None

@@ -27,3 +27,5 @@ pub mod Scan
 pub mod Nested
 pub mod Shaped
 pub mod Leading
+pub mod CacheReads
+pub mod Bytes

@@ -1,12 +1,9 @@
 -- The test of a text's shape says what its shape is.
-use Rattle.std.proofs.Common.{◌≡◌, ℕ, zero, suc, ◌+◌, ◌<◌, ◌≤◌, ◌==◌, Bool, true, false, ◌&&◌, List, [], ◌∷◌, Option, Some, None, refl, ap, subst, arith, length, ◌⊎◌, inl, inr}
-use Rattle.std.specs.List.{slice_get}
+use Rattle.std.proofs.Common.{◌≡◌, ℕ, ◌+◌, ◌<◌, ◌≤◌, ◌==◌, true, ◌&&◌, List, Option, Some, None, refl, ap, arith, length}
 use Rattle.std.specs.Prelude.{nat_le, nat_lt}
 use Rattle.std.proofs.lemmas.Bool.Decides.{nat_tests}
 use Rattle.micro_word.specs.declared.word.Word.{Word}
-use Rattle.micro_word.specs.declared.word.Word.TheVariants.{BranchOnStatus, Loop, Jump}
-use Rattle.micro_program.specs.Nested.{loops, loops_at, closer, LeadsForward, StandsIn, IsNested, is_same, leads_forward}
-use Rattle.micro_program.proofs.Ways.{drop_past, word_here}
+use Rattle.micro_program.specs.Nested.{closer, LeadsForward, is_same, leads_forward}
 use Rattle.nand_geometry.proofs.Booleans.{and_parts}
 
 le_of : (a b : ℕ) → nat_le a b ≡ true → a ≤ b

@@ -1,6 +1,6 @@
 -- What one LUN adds to a trace passes the others by.
 use Rattle.std.proofs.Common.{◌≡◌, true, false, List, ◌∷◌, refl, ap, ◌∙◌, sym, subst}
-use Rattle.onfi_cycle.specs.declared.item.Lun.{Lun}
+use Rattle.onfi_cycle.specs.declared.lun.Lun.{Lun}
 use Rattle.onfi_cycle.specs.declared.item.Item.{Item}
 use Rattle.onfi_cycle.specs.declared.item.Item.TheVariants.{Cyc}
 use Rattle.onfi_cycle.specs.declared.item.Cycle.{Cycle}

@@ -1,6 +1,6 @@
 -- Worked runs, computed by the definitions. Traces are written in the order of time.
 use Rattle.std.specs.Prelude.{◌≡◌, ℕ, Bool, true, false, List, [], ◌∷◌, ◌++◌, reverse, replicate, refl, Option, Some, None}
-use Rattle.nand_geometry.specs.declared.Parts.{Parts}
+use Rattle.nand_geometry.specs.declared.parts.Parts.{Parts}
 use Rattle.nand_geometry.specs.Limits.{width}
 use Rattle.onfi_cycle.specs.declared.item.Kind.TheVariants.{Cmd, Adr, Dout}
 use Rattle.onfi_cycle.specs.declared.item.Item.{Item}

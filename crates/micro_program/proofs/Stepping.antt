@@ -1,14 +1,14 @@
 -- A cycle that a scene allows is own, and leads to the scene behind it.
 use Rattle.std.proofs.Common.{◌≡◌, ◌⊎◌, inl, inr, ℕ, zero, suc, ◌+◌, Bool, true, false, ◌&&◌, ◌||◌, cond, not, ltb, Option, Some, None, List, ◌∷◌, refl, sym, ap, ◌∙◌, subst, eqb-true, eq-eqb}
-use Rattle.nand_geometry.specs.declared.Parts.{Parts}
+use Rattle.nand_geometry.specs.declared.parts.Parts.{Parts}
 use Rattle.onfi_cycle.specs.declared.command.Command.{Command}
 use Rattle.onfi_cycle.specs.declared.command.Command.TheVariants.{Read, ReadConfirm, ChangeReadColumnConfirm, BlockEraseConfirm, BlockErasePlane, ReadStatus, ReadStatusEnhanced, ProgramConfirm, ProgramPlane, ReadId, ReadParameterPage, Reset, ReadCacheSequential, ReadCacheEnd}
-use Rattle.onfi_cycle.specs.declared.item.Lun.{Lun}
+use Rattle.onfi_cycle.specs.declared.lun.Lun.{Lun}
 use Rattle.onfi_cycle.specs.declared.item.Item.{Item}
 use Rattle.onfi_cycle.specs.declared.item.Kind.{Kind}
-use Rattle.onfi_cycle.specs.declared.lun_facts.Latch.{Latch}
-use Rattle.onfi_cycle.specs.declared.lun_facts.Latch.TheVariants.{Off, Status, Data}
-use Rattle.onfi_cycle.specs.declared.tail_facts.Opening.{Opening}
+use Rattle.onfi_cycle.specs.declared.latch.Latch.{Latch}
+use Rattle.onfi_cycle.specs.declared.latch.Latch.TheVariants.{Off, Status, Data}
+use Rattle.onfi_cycle.specs.declared.opening.Opening.{Opening}
 use Rattle.onfi_cycle.specs.declared.effect.Effect.{Effect}
 use Rattle.onfi_cycle.specs.declared.effect.Effect.TheVariants.{Unaffected, DataOutput, CacheReadContinued, CacheReadEnded}
 use Rattle.onfi_cycle.specs.declared.tail_facts.TailFacts.{TailFacts}

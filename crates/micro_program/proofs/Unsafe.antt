@@ -39,7 +39,8 @@ limits =
       several_enhanced = λ h. absurd (omega arith);
     }
 
-is_channel : IsChannel (on one_lun)
+-- the channel of one LUN of the small chip is one
+pub is_channel : IsChannel (on one_lun)
 is_channel = record { limits = limits; parameters = length-replicate {A = ℕ} 768 0; pages = λ l p. length-replicate {A = ℕ} 528 0xff }
 
 abbrev job_of : Microprogram → Job

@@ -1,8 +1,8 @@
 -- A job, and a program in progress: the words that it has done, the newest first. All that its next word depends on is
 -- looked up there, so there is no word index and no loop counter.
 use Rattle.std.specs.Prelude.{ℕ, ◌+◌, ◌==◌, Bool, true, ◌&&◌, not, nat_le, nat_lt, if◌then◌else◌, List, [], ◌∷◌, slice_set, bit_and}
-use Rattle.nand_geometry.specs.declared.Parts.{Parts}
-use Rattle.onfi_cycle.specs.declared.item.Lun.{Lun}
+use Rattle.nand_geometry.specs.declared.parts.Parts.{Parts}
+use Rattle.onfi_cycle.specs.declared.lun.Lun.{Lun}
 use Rattle.micro_word.specs.declared.word.Word.{Word}
 use Rattle.micro_word.specs.declared.word.Word.TheVariants.{Command, Address, Get, Put, Seek, Column, RowAdd, Row, Plane, ReadStatus}
 use Rattle.micro_word.specs.Text.{Microprogram}

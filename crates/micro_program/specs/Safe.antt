@@ -1,8 +1,8 @@
 -- What a verifier promises of a text, and all that whoever runs it may rest on: a program alone, whatever else the channel does.
 use Rattle.std.specs.Prelude.{◌≡◌, ℕ, ◌+◌, ◌%◌, ◌≤◌, Bool, true, false, ◌||◌, not, List, [], ◌∷◌, Some, None, length}
-use Rattle.nand_geometry.specs.declared.Parts.{Parts}
+use Rattle.nand_geometry.specs.declared.parts.Parts.{Parts}
 use Rattle.nand_geometry.specs.Limits.{indices}
-use Rattle.onfi_cycle.specs.declared.item.Lun.{Lun}
+use Rattle.onfi_cycle.specs.declared.lun.Lun.{Lun}
 use Rattle.onfi_cycle.specs.declared.item.Cycle.{Cycle}
 use Rattle.onfi_cycle.specs.declared.item.Kind.TheVariants.{Dout}
 use Rattle.onfi_cycle.specs.declared.item.Item.{Item}

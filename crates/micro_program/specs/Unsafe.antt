@@ -1,6 +1,6 @@
 -- Programs that aren't safe, so that the promise says something: each breaks it on a channel of one LUN.
 use Rattle.std.specs.Prelude.{ℕ, false, List, [], ◌∷◌}
-use Rattle.nand_geometry.specs.declared.Parts.{Parts}
+use Rattle.nand_geometry.specs.declared.parts.Parts.{Parts}
 use Rattle.micro_word.specs.declared.word.Word.{Word}
 use Rattle.micro_word.specs.declared.word.Word.TheVariants.{End, Command, Address, Get, Wait, Yield}
 use Rattle.micro_word.specs.Text.{Microprogram}

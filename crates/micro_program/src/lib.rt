@@ -6,7 +6,11 @@
 //! `Places`). [`Verified`] is a text of which that promise is proved; how that is found is told nowhere here.
 #![tactic(auto)]
 
+mod commands;
 pub mod laws;
+mod lines;
 mod verified;
 
+pub use commands::command_word;
+pub use lines::{all_lead_on, continues_cache_read};
 pub use verified::Verified;

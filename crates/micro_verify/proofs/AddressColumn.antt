@@ -1,9 +1,9 @@
 -- The two addresses of 85h: how they are judged, what they leave, and where they stop.
 use Rattle.std.proofs.Common.{◌≡◌, ℕ, zero, suc, ◌+◌, ◌*◌, ◌/◌, ◌%◌, ◌≤◌, ◌<◌, Bool, true, false, ◌&&◌, ◌||◌, cond, nat_le, List, ◌∷◌, Option, Some, None, refl, ap, ◌∙◌, arith, length, take, drop}
-use Rattle.nand_geometry.specs.declared.Parts.{Parts}
+use Rattle.nand_geometry.specs.declared.parts.Parts.{Parts}
 use Rattle.nand_geometry.specs.Limits.{page_len}
 use Rattle.onfi_cycle.specs.declared.forbidden.Forbidden.TheVariants.{AddressMisplaced, ColumnOutside}
-use Rattle.onfi_cycle.specs.declared.tail_facts.Opening.{Opening}
+use Rattle.onfi_cycle.specs.declared.opening.Opening.{Opening}
 use Rattle.onfi_cycle.specs.declared.target_cycle.TargetCycle.TheVariants.{AddressCycle}
 use Rattle.onfi_cycle.specs.declared.tail_facts.TailFacts.{TailFacts}
 use Rattle.onfi_cycle.specs.Command.{addresses_the_array, at_last_row}
@@ -15,7 +15,7 @@ use Rattle.micro_word.specs.Text.{Microprogram}
 use Rattle.micro_program.specs.Moves.{address}
 use Rattle.micro_program.specs.Program.{column_now}
 use Rattle.micro_claims.specs.Against.{is_inside_address}
-use Rattle.micro_claims.specs.declared.state.Place.TheVariants.{InColumn}
+use Rattle.micro_claims.specs.declared.place.Place.TheVariants.{InColumn}
 use Rattle.micro_claims.proofs.Fits.{Address, ColumnBegun, IsNow, now_of}
 use Rattle.micro_claims.proofs.Addressing.{carried_is}
 use Rattle.micro_claims.proofs.SoundAddress.{with_column, first_led, second_led}

@@ -1,7 +1,7 @@
 -- An address is exact: where it is refused its cause stands, and else it goes and what it leaves is mirrored.
 use Rattle.std.proofs.lemmas.Bool.Decides.{nat_tests}
 use Rattle.std.proofs.Common.{◌≡◌, ℕ, ◌+◌, ◌-◌, ◌≤◌, ◌==◌, Bool, true, false, ◌&&◌, ◌||◌, cond, not, ltb, nat_le, Some, length, refl, sym, ap, ◌∙◌, arith, eqb-true, ◌<◌}
-use Rattle.nand_geometry.specs.declared.Parts.{Parts}
+use Rattle.nand_geometry.specs.declared.parts.Parts.{Parts}
 use Rattle.nand_geometry.specs.Limits.{page_len, indices, planes}
 use Rattle.onfi_cycle.specs.declared.command.Command.{Command}
 use Rattle.onfi_cycle.specs.declared.command.Command.TheVariants.{ReadId, ReadParameterPage}
@@ -12,8 +12,8 @@ use Rattle.onfi_cycle.specs.Channel.{Channel}
 use Rattle.micro_word.specs.declared.word.Word.TheVariants.{Address as AddressWord}
 use Rattle.micro_word.specs.Text.{Microprogram}
 use Rattle.micro_claims.specs.declared.state.State.{State}
-use Rattle.micro_claims.specs.declared.state.Place.{Place}
-use Rattle.micro_claims.specs.declared.state.Place.TheVariants.{Closed, After, InData, InColumn, Unknown}
+use Rattle.micro_claims.specs.declared.place.Place.{Place}
+use Rattle.micro_claims.specs.declared.place.Place.TheVariants.{Closed, After, InData, InColumn, Unknown}
 use Rattle.micro_claims.specs.Spans.{only}
 use Rattle.micro_claims.specs.Against.{first_address, is_inside_address, byte_of_column, is_identity_byte, surely_past, identity_refused, row_refused, begins_elsewhere, address_out_of_place, column_past, row_outside}
 use Rattle.micro_claims.specs.Reasons.{breaks_cycle_forbidden, breaks_address_unaligned, breaks_row_or_plane_outside, breaks_column_too_large, reason_against, breaks_handover_in_sequence, breaks_buffer_passed, breaks_no_status, breaks_ends_too_soon, breaks_command_not_allowed}

@@ -1,7 +1,7 @@
 -- An address of an opener that nothing is against: its cycles pass, and where they lead.
 use Rattle.std.proofs.lemmas.Bool.Decides.{nat_tests}
 use Rattle.std.proofs.Common.{◌≡◌, ℕ, ◌+◌, ◌≤◌, ◌<◌, ◌==◌, Bool, true, false, ◌&&◌, ◌||◌, cond, not, ltb, nat_le, List, ◌∷◌, Option, Some, refl, sym, ap, ◌∙◌, subst, arith, take, drop, eqb-true}
-use Rattle.nand_geometry.specs.declared.Parts.{Parts}
+use Rattle.nand_geometry.specs.declared.parts.Parts.{Parts}
 use Rattle.onfi_cycle.specs.declared.command.Command.{Command}
 use Rattle.onfi_cycle.specs.declared.item.Kind.TheVariants.{Adr}
 use Rattle.onfi_cycle.specs.LunView.{LunView}
@@ -9,8 +9,8 @@ use Rattle.onfi_cycle.specs.Channel.{Channel}
 use Rattle.micro_word.specs.declared.word.Word.TheVariants.{Address as AddressWord}
 use Rattle.micro_word.specs.Text.{Microprogram}
 use Rattle.micro_claims.specs.declared.state.State.{State}
-use Rattle.micro_claims.specs.declared.state.Place.{Place}
-use Rattle.micro_claims.specs.declared.state.Place.TheVariants.{After}
+use Rattle.micro_claims.specs.declared.place.Place.{Place}
+use Rattle.micro_claims.specs.declared.place.Place.TheVariants.{After}
 use Rattle.micro_claims.specs.Spans.{greatest_bound, bound_plus, is_at_most}
 use Rattle.micro_claims.specs.Against.{addresses_left, next_address, takes_identity_at, column_limit, has_second_column, identity_refused, row_refused, begins_elsewhere, address_out_of_place, column_past}
 use Rattle.micro_claims.specs.Leaves.{with_target, with_registers, paid, target_after_addresses, address_leaves}

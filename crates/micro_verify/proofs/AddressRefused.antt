@@ -1,7 +1,7 @@
 -- Where a refused address stops, whatever the place of the tail.
 use Rattle.std.proofs.lemmas.Bool.Decides.{nat_tests}
 use Rattle.std.proofs.Common.{◌≡◌, ℕ, ◌+◌, ◌-◌, ◌≤◌, ◌<◌, ◌==◌, Bool, true, false, ◌&&◌, ◌||◌, cond, not, ltb, nat_le, Some, refl, sym, ap, ◌∙◌, subst, arith, drop, eqb-true}
-use Rattle.nand_geometry.specs.declared.Parts.{Parts}
+use Rattle.nand_geometry.specs.declared.parts.Parts.{Parts}
 use Rattle.nand_geometry.specs.Limits.{page_len}
 use Rattle.onfi_cycle.specs.declared.command.Command.{Command}
 use Rattle.onfi_cycle.specs.declared.command.Command.TheVariants.{Read, ChangeReadColumn, BlockErase, PageProgram}
@@ -14,8 +14,8 @@ use Rattle.onfi_cycle.specs.Channel.{Channel}
 use Rattle.micro_word.specs.declared.word.Word.TheVariants.{Address as AddressWord}
 use Rattle.micro_word.specs.Text.{Microprogram}
 use Rattle.micro_claims.specs.declared.state.State.{State}
-use Rattle.micro_claims.specs.declared.state.Place.{Place}
-use Rattle.micro_claims.specs.declared.state.Place.TheVariants.{Closed, After, InData, InColumn, Unknown}
+use Rattle.micro_claims.specs.declared.place.Place.{Place}
+use Rattle.micro_claims.specs.declared.place.Place.TheVariants.{Closed, After, InData, InColumn, Unknown}
 use Rattle.micro_claims.specs.Spans.{bound_plus, is_at_most, only}
 use Rattle.micro_claims.specs.Against.{addresses_left, first_address, next_address, takes_identity_at, is_inside_address, is_identity_byte, column_limit, has_second_column, surely_past, identity_refused, row_refused, begins_elsewhere, address_out_of_place, column_past}
 use Rattle.micro_program.specs.Program.{Job, column_now}

@@ -1,6 +1,6 @@
 -- The ready that a `wait` comes after.
 use Rattle.std.proofs.Common.{◌≡◌, ℕ, Bool, true, false, List, [], ◌∷◌, is_none, refl, sym, ap, ◌∙◌, subst}
-use Rattle.nand_geometry.specs.declared.Parts.{Parts}
+use Rattle.nand_geometry.specs.declared.parts.Parts.{Parts}
 use Rattle.onfi_cycle.specs.declared.item.Item.{Item}
 use Rattle.onfi_cycle.specs.declared.item.Item.TheVariants.{Rdy}
 use Rattle.onfi_cycle.specs.LunView.{LunView}

@@ -1,7 +1,7 @@
 -- The shape of the theorem: a claim that mirrors the lazy run goes on mirroring it, word by word, and where a word is refused the cause stands.
 use Rattle.std.proofs.Common.{◌≡◌, ℕ, suc, ◌+◌, ◌%◌, ◌≤◌, Bool, true, false, ◌&&◌, ◌||◌, cond, not, ltb, nat_le, List, [], ◌∷◌, Option, Some, None, refl, sym, ap, ◌∙◌, subst, arith, take, length}
 use Rattle.std.specs.List.{slice_get}
-use Rattle.nand_geometry.specs.declared.Parts.{Parts}
+use Rattle.nand_geometry.specs.declared.parts.Parts.{Parts}
 use Rattle.nand_geometry.specs.Limits.{indices}
 use Rattle.onfi_cycle.specs.declared.command.Command.{Command}
 use Rattle.onfi_cycle.specs.declared.command.Command.TheVariants.{ChangeWriteColumn, ProgramConfirm, ProgramPlane}
@@ -21,7 +21,7 @@ use Rattle.micro_program.specs.Program.{cost, cost_now}
 use Rattle.micro_program.specs.Moves.{and_then}
 use Rattle.micro_program.specs.Safe.{is_end}
 use Rattle.micro_claims.specs.declared.state.State.{State}
-use Rattle.micro_claims.specs.declared.state.PageRange.{PageRange}
+use Rattle.micro_claims.specs.declared.page_range.PageRange.{PageRange}
 use Rattle.micro_claims.specs.State.{first_state, bounds_of}
 use Rattle.micro_claims.specs.Spans.{greatest_bound, bound_plus, is_at_most}
 use Rattle.micro_claims.specs.Against.{may_be_unready}

@@ -2,8 +2,8 @@
 use Rattle.std.proofs.Math.Nat.{min-eq_left, min-eq_right}
 use Rattle.std.proofs.Common.{◌≡◌, ℕ, ◌+◌, ◌-◌, ◌%◌, ◌≤◌, ◌<◌, ◌==◌, Bool, true, false, ◌&&◌, nat_le, List, [], ◌∷◌, length, Option, Some, None, refl, sym, ap, ◌∙◌, subst, arith, min, eqb-true}
 use Rattle.std.proofs.lemmas.Bool.Decides.{nat_tests}
-use Rattle.nand_geometry.specs.declared.Parts.{Parts}
-use Rattle.onfi_cycle.specs.declared.lun_facts.Queued.{Queued}
+use Rattle.nand_geometry.specs.declared.parts.Parts.{Parts}
+use Rattle.onfi_cycle.specs.declared.queued.Queued.{Queued}
 use Rattle.onfi_cycle.specs.LunView.{LunView}
 use Rattle.onfi_cycle.specs.Channel.{Channel}
 use Rattle.micro_word.specs.declared.word.Word.TheVariants.{RowAdd, Row}
@@ -14,13 +14,13 @@ use Rattle.micro_program.specs.Program.{Job, index_now, cost_now}
 use Rattle.micro_claims.specs.Spans.{kept, saturated, greatest_bound, bound_plus, only, only_of}
 use Rattle.micro_claims.specs.declared.span.Span.{Span}
 use Rattle.micro_claims.specs.declared.state.State.{State}
-use Rattle.micro_claims.specs.declared.state.Drift.{Drift}
-use Rattle.micro_claims.specs.declared.state.NamedRow.{NamedRow}
-use Rattle.micro_claims.specs.declared.state.PageRange.{PageRange}
-use Rattle.micro_claims.specs.declared.state.KnownTarget.{KnownTarget}
-use Rattle.micro_claims.specs.declared.state.KnownLun.{KnownLun}
-use Rattle.micro_claims.specs.declared.state.QueuedRows.{QueuedRows}
-use Rattle.micro_claims.specs.declared.state.QueuedRows.TheVariants.{NoRows, SomeRows, AnyRows}
+use Rattle.micro_claims.specs.declared.drift.Drift.{Drift}
+use Rattle.micro_claims.specs.declared.named_row.NamedRow.{NamedRow}
+use Rattle.micro_claims.specs.declared.page_range.PageRange.{PageRange}
+use Rattle.micro_claims.specs.declared.known_target.KnownTarget.{KnownTarget}
+use Rattle.micro_claims.specs.declared.known_lun.KnownLun.{KnownLun}
+use Rattle.micro_claims.specs.declared.queued_rows.QueuedRows.{QueuedRows}
+use Rattle.micro_claims.specs.declared.queued_rows.QueuedRows.TheVariants.{NoRows, SomeRows, AnyRows}
 use Rattle.micro_claims.specs.Against.{is_inside_address, same_test}
 use Rattle.micro_claims.specs.Leaves.{drift_of, drift_more, drift_moved, drift_set, and_drift, named_moved, rows_moved, rows_at, page_plus, goes_along}
 use Rattle.micro_claims.specs.Reasons.{breaks_cycle_forbidden, breaks_address_unaligned, breaks_handover_in_sequence, breaks_buffer_passed, breaks_row_or_plane_outside, breaks_column_too_large, breaks_no_status, breaks_ends_too_soon, breaks_over_budget, breaks_command_not_allowed}

@@ -1,14 +1,14 @@
 -- Outputs are exact: at which one a `get` stops, and what it leaves.
 use Rattle.std.proofs.lemmas.Bool.Decides.{nat_tests}
 use Rattle.std.proofs.Common.{◌≡◌, ℕ, zero, suc, ◌+◌, ◌-◌, ◌≤◌, ◌<◌, Bool, true, false, ◌&&◌, ◌||◌, cond, not, ltb, nat_le, List, [], ◌∷◌, ◌++◌, Option, Some, None, refl, sym, ap, ◌∙◌, subst, arith, replicate, length, take}
-use Rattle.nand_geometry.specs.declared.Parts.{Parts}
+use Rattle.nand_geometry.specs.declared.parts.Parts.{Parts}
 use Rattle.onfi_cycle.specs.declared.forbidden.Forbidden.{Forbidden}
 use Rattle.onfi_cycle.specs.declared.forbidden.Forbidden.TheVariants.{NoSoleDriver, DataNotReady, ColumnOutside}
-use Rattle.onfi_cycle.specs.declared.lun_facts.Latch.{Latch}
-use Rattle.onfi_cycle.specs.declared.lun_facts.Latch.TheVariants.{Off, Status, Data}
-use Rattle.onfi_cycle.specs.declared.lun_facts.ReadColumn.{ReadColumn}
-use Rattle.onfi_cycle.specs.declared.lun_facts.Register.{Register}
-use Rattle.onfi_cycle.specs.declared.lun_facts.Register.TheVariants.{Empty, Page, ParameterPage, Identifier}
+use Rattle.onfi_cycle.specs.declared.latch.Latch.{Latch}
+use Rattle.onfi_cycle.specs.declared.latch.Latch.TheVariants.{Off, Status, Data}
+use Rattle.onfi_cycle.specs.declared.read_column.ReadColumn.{ReadColumn}
+use Rattle.onfi_cycle.specs.declared.register.Register.{Register}
+use Rattle.onfi_cycle.specs.declared.register.Register.TheVariants.{Empty, Page, ParameterPage, Identifier}
 use Rattle.onfi_cycle.specs.declared.tail_facts.TailFacts.{TailFacts}
 use Rattle.onfi_cycle.specs.declared.target_cycle.TargetCycle.TheVariants.{AddressCycle, OutputCycle}
 use Rattle.onfi_cycle.specs.LunView.{LunView}
@@ -23,10 +23,10 @@ use Rattle.micro_claims.specs.declared.refusal.Reason.TheVariants.{CycleForbidde
 use Rattle.micro_program.specs.Program.{Job, Answer, place_now, index_now, cost_now}
 use Rattle.micro_program.specs.Moves.{Move, Take}
 use Rattle.micro_claims.specs.declared.state.State.{State}
-use Rattle.micro_claims.specs.declared.state.Place.{Place}
-use Rattle.micro_claims.specs.declared.state.Place.TheVariants.{Closed, After, InData, InColumn, Unknown}
-use Rattle.micro_claims.specs.declared.state.OutputColumn.{OutputColumn}
-use Rattle.micro_claims.specs.declared.state.Shown.{Shown}
+use Rattle.micro_claims.specs.declared.place.Place.{Place}
+use Rattle.micro_claims.specs.declared.place.Place.TheVariants.{Closed, After, InData, InColumn, Unknown}
+use Rattle.micro_claims.specs.declared.output_column.OutputColumn.{OutputColumn}
+use Rattle.micro_claims.specs.declared.shown.Shown.{Shown}
 use Rattle.micro_claims.specs.State.{bounds_of}
 use Rattle.micro_claims.specs.Spans.{greatest_bound, kept, bound_plus, is_at_most, plus, plus_between}
 use Rattle.micro_claims.specs.Against.{drives, may_show_data, has_register, has_column, column_bound, least_length, output_refused, output_past}
@@ -36,7 +36,7 @@ use Rattle.micro_claims.specs.Accepts.{state_after}
 use Rattle.micro_claims.proofs.Fits.{Address, facts_behind, bytes_of, opener_facts}
 use Rattle.micro_claims.proofs.Sounding.{no_reasons}
 use Rattle.nand_geometry.proofs.Booleans.{or_parts}
-use Rattle.micro_claims.proofs.Transfers.{read_on}
+use Rattle.micro_claims.proofs.Transfers.{read_on, read_one}
 use Rattle.micro_verify.specs.Lazy.{lone_job, Run}
 use Rattle.micro_verify.specs.Cause.{Cause, WordStops, is_of_cycle_forbidden, is_of_column_too_large}
 use Rattle.micro_verify.proofs.Lone.{Lone, IsAlone, IsLone, MovesPass, lone_after, lone_behind, judged, stops_there}
@@ -133,17 +133,6 @@ status_outputs g (suc n) c k h =
     shut_on : (n : ℕ) (x : Lone) → Shut x.facts → (1 ≤ n → Shut (lone_after g (replicate n Take) x).facts) → Shut (lone_after g (replicate n Take) x).facts
     shut_on zero x s h = s
     shut_on (suc n) x s h = h (omega arith)
-
-read_one : (k : ReadColumn) (at : ℕ) → output_column k ≡ Some at → output_column (record k { outputs = k.outputs + 1 }) ≡ Some (at + 1)
-read_one k at h = by k.lost k.given h
-  where
-    by : (b : Bool) (o : Option ℕ) → cond b None (option_plus k.outputs o) ≡ Some at → cond b None (option_plus (k.outputs + 1) o) ≡ Some (at + 1)
-    by true o h = cc
-    by false None h = cc
-    by false (Some m) h =
-        let same : m + k.outputs ≡ at = cc in
-        let more : m + (k.outputs + 1) ≡ at + 1 = omega (arith, same) in
-        ap Some more
 
 data_outputs : (g : Parts) (n : ℕ) (c : Lone) (at : ℕ) → ShowsData c at → (c.facts.is_empty ≡ true → Shut c.facts) → at + n ≤ register_len g c.view.register → Outputs g n c (read_on n c.view)
 data_outputs g zero c at k h inside =

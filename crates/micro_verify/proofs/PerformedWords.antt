@@ -2,10 +2,10 @@
 use Rattle.std.proofs.Common.{◌≡◌, ℕ, zero, suc, ◌+◌, ◌*◌, ◌<◌, ◌≤◌, Bool, true, false, cond, leb, ltb, not, List, [], ◌∷◌, ◌++◌, Option, Some, None, is_none, refl, sym, ap, ◌∙◌, subst, arith, length, map, replicate, reverse, drop, get_or}
 use Rattle.std.proofs.Math.Seq.{drop-cons}
 use Rattle.std.proofs.lemmas.Bool.Decides.{nat_tests}
-use Rattle.nand_geometry.specs.declared.Parts.{Parts}
+use Rattle.nand_geometry.specs.declared.parts.Parts.{Parts}
 use Rattle.nand_geometry.specs.Row.{row_bytes_of}
 use Rattle.onfi_cycle.specs.declared.item.Item.{Item}
-use Rattle.onfi_cycle.specs.declared.item.Lun.{Lun}
+use Rattle.onfi_cycle.specs.declared.lun.Lun.{Lun}
 use Rattle.onfi_cycle.specs.declared.item.Item.TheVariants.{Cyc}
 use Rattle.onfi_cycle.specs.declared.item.Kind.TheVariants.{Adr, Din}
 use Rattle.onfi_cycle.specs.Channel.{Channel}
@@ -17,6 +17,7 @@ use Rattle.target_bus.specs.Bus.{Traced, channel_of}
 use Rattle.micro_program.specs.Program.{Job, Done as Past, column_now, plane_now, index_now, place_now, buffer_now, written}
 use Rattle.micro_program.specs.Moves.{Move, Give, Take, and_then, part, column_bytes, address, gives, put_bytes, poll, moves}
 use Rattle.micro_program.specs.Played.{Played, played}
+use Rattle.micro_program.proofs.Bytes.{short_part}
 use Rattle.micro_verify.specs.declared.moves.Move.{Move as Told}
 use Rattle.micro_verify.specs.declared.moves.Move.TheVariants.{Address as Addresses, Input, Output}
 use Rattle.micro_verify.specs.declared.registers.Registers.{Registers}
@@ -39,18 +40,6 @@ inputs_given (b ∷ bytes) = ap (λ (ms : List Move). Give Din b ∷ ms) (inputs
 outputs_taken : (n : ℕ) → map meant (replicate n Output) ≡ replicate n Take
 outputs_taken zero = refl
 outputs_taken (suc n) = ap (λ (ms : List Move). Take ∷ ms) (outputs_taken n)
-
-short_part : (a b from count : ℕ) → from + count ≤ 2 → part from count (a ∷ (b ∷ [])) ≡ part from count (a ∷ (b ∷ (0 ∷ (0 ∷ (0 ∷ [])))))
-short_part a b zero zero h = refl
-short_part a b zero (suc zero) h = refl
-short_part a b zero (suc (suc zero)) h = refl
-short_part a b zero (suc (suc (suc n))) h = absurd (omega arith)
-short_part a b (suc zero) zero h = refl
-short_part a b (suc zero) (suc zero) h = refl
-short_part a b (suc zero) (suc (suc n)) h = absurd (omega arith)
-short_part a b (suc (suc zero)) zero h = refl
-short_part a b (suc (suc zero)) (suc n) h = absurd (omega arith)
-short_part a b (suc (suc (suc m))) count h = absurd (omega arith)
 
 -- what the told moves mean
 abbrev pub all_meant : Option (List Told) → Option (List Move)

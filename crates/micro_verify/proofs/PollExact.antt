@@ -1,10 +1,10 @@
 -- A poll of a lone LUN: its cycles pass, and the claim behind mirrors what they leave.
 use Rattle.std.proofs.Common.{◌≡◌, Bool, true, false, ◌||◌, cond, ltb, List, [], ◌∷◌, Option, Some, None, refl, sym, ap, ◌∙◌, subst}
-use Rattle.nand_geometry.specs.declared.Parts.{Parts}
+use Rattle.nand_geometry.specs.declared.parts.Parts.{Parts}
 use Rattle.onfi_cycle.specs.declared.command.Command.{Command}
 use Rattle.onfi_cycle.specs.declared.command.Command.TheVariants.{ReadStatus as StatusCommand, ChangeWriteColumn, ProgramConfirm, ProgramPlane}
 use Rattle.onfi_cycle.specs.declared.item.Kind.TheVariants.{Cmd}
-use Rattle.onfi_cycle.specs.declared.lun_facts.ReadColumn.{ReadColumn}
+use Rattle.onfi_cycle.specs.declared.read_column.ReadColumn.{ReadColumn}
 use Rattle.onfi_cycle.specs.declared.tail_facts.TailFacts.{TailFacts}
 use Rattle.onfi_cycle.specs.declared.target_cycle.TargetCycle.TheVariants.{CommandCycle, OutputCycle}
 use Rattle.onfi_cycle.specs.Command.{command}
@@ -12,7 +12,7 @@ use Rattle.onfi_cycle.specs.Sequence.{facts_of, facts_after, is_open, wants_comm
 use Rattle.onfi_cycle.specs.Lun.{option_plus}
 use Rattle.onfi_cycle.specs.Rules.{breaks_command_unknown, breaks_sequence_open, breaks_several_luns, breaks_no_column_to_change, breaks_command_misplaced, breaks_address_misplaced, breaks_row_outside, breaks_lun_busy, breaks_queue_clash, breaks_input_misplaced, breaks_no_sole_driver, breaks_data_not_ready, breaks_column_outside, breaks_cache_read_misplaced}
 use Rattle.micro_program.specs.Moves.{Move, Give, Take}
-use Rattle.micro_claims.specs.declared.state.OutputColumn.{OutputColumn}
+use Rattle.micro_claims.specs.declared.output_column.OutputColumn.{OutputColumn}
 use Rattle.micro_claims.specs.Leaves.{unread}
 use Rattle.micro_program.proofs.Polls.{lost}
 use Rattle.micro_program.proofs.PollScenes.{polled_view}

@@ -1,12 +1,12 @@
 -- Each word of a straight text is exact, so that a refused one has its cause.
 use Rattle.std.proofs.Common.{◌≡◌, ℕ, zero, suc, ◌*◌, ◌/◌, ◌≤◌, ◌==◌, Bool, true, false, ◌||◌, not, cond, ltb, List, [], ◌∷◌, length, replicate, Option, Some, None, refl, sym, ap, ◌∙◌, subst, arith, take, eq-eqb}
 use Rattle.std.proofs.Math.Nat.{div-le_self, mul-le-mul_left, mul-le-mul_right}
-use Rattle.nand_geometry.specs.declared.Parts.{Parts}
+use Rattle.nand_geometry.specs.declared.parts.Parts.{Parts}
 use Rattle.nand_geometry.specs.Limits.{InLimits, indices, planes}
 use Rattle.onfi_cycle.specs.declared.command.Command.{Command}
 use Rattle.onfi_cycle.specs.declared.command.Command.TheVariants.{ReadCacheSequential, Unknown as UnknownCommand}
 use Rattle.onfi_cycle.specs.Command.{command, opcode}
-use Rattle.onfi_cycle.proofs.CommandBytes.{commands_have_bytes}
+use Rattle.micro_program.proofs.CacheReads.{its_byte}
 use Rattle.micro_program.specs.Lines.{is_command_31, continues_cache_read, leads_on, all_lead_on}
 use Rattle.micro_claims.specs.Against.{continues_unseen}
 use Rattle.std.specs.List.{slice_get}
@@ -43,14 +43,8 @@ use Rattle.micro_verify.proofs.AddressExact.{address_exact}
 seen_31 : (text : Microprogram) (byte : ℕ) → (is_command_31 (CommandWord byte) ≡ true → continues_cache_read text.words ≡ true) → continues_unseen (bounds_of text) (command byte) ≡ false
 seen_31 text byte seen = at (command byte) refl
   where
-    byte_is : command byte ≡ ReadCacheSequential → (byte == 0x31) ≡ true
-    byte_is e =
-        let some : Some 0x31 ≡ Some byte = ap opcode (sym e) ∙ commands_have_bytes.byte_of_command byte (λ n. let both : ReadCacheSequential ≡ UnknownCommand = sym e ∙ n in cc) in
-        let same : 0x31 ≡ byte = cc in
-        eq-eqb byte 0x31 (sym same)
-
     at : (d : Command) → command byte ≡ d → continues_unseen (bounds_of text) d ≡ false
-    at ReadCacheSequential e = ap not (seen (byte_is e))
+    at ReadCacheSequential e = ap not (seen (its_byte byte e))
     at _ e = refl
 
 word_exact : (s : Channel) (text : Microprogram) (format : Format) (words : ℕ) → IsFit s text → (word : Word) → IsInRange format words word → (is_command_31 word ≡ true → continues_cache_read text.words ≡ true) → leads_on word ≡ true → IsExact s text word

@@ -1,9 +1,9 @@
 -- Words that set a register are exact.
 use Rattle.std.proofs.Common.{◌≡◌, ℕ, suc, ◌*◌, ◌≤◌, ◌<◌, ◌==◌, Bool, true, false, ◌&&◌, ◌||◌, cond, ltb, [], ◌∷◌, length, Option, refl, sym, ap, ◌∙◌, subst, arith}
 use Rattle.std.proofs.lemmas.Bool.Decides.{nat_tests}
-use Rattle.nand_geometry.specs.declared.Parts.{Parts}
-use Rattle.onfi_cycle.specs.declared.tail_facts.DataPhase.TheVariants.{FirstColumn, SecondColumn}
-use Rattle.onfi_cycle.specs.declared.tail_facts.Opening.{Opening}
+use Rattle.nand_geometry.specs.declared.parts.Parts.{Parts}
+use Rattle.onfi_cycle.specs.declared.data_phase.DataPhase.TheVariants.{FirstColumn, SecondColumn}
+use Rattle.onfi_cycle.specs.declared.opening.Opening.{Opening}
 use Rattle.onfi_cycle.specs.declared.tail_facts.TailFacts.{TailFacts}
 use Rattle.onfi_cycle.specs.Command.{address_cycles}
 use Rattle.onfi_cycle.specs.Sequence.{opened, wants_second_column, is_open}
@@ -14,9 +14,9 @@ use Rattle.micro_claims.specs.declared.refusal.Reason.{Reason}
 use Rattle.micro_claims.specs.declared.refusal.Reason.TheVariants.{AddressUnaligned, HandoverInSequence, RowOrPlaneOutside}
 use Rattle.micro_program.specs.Program.{Job, index_now, cost_now}
 use Rattle.micro_claims.specs.declared.state.State.{State}
-use Rattle.micro_claims.specs.declared.state.KnownTarget.{KnownTarget}
-use Rattle.micro_claims.specs.declared.state.Place.{Place}
-use Rattle.micro_claims.specs.declared.state.Place.TheVariants.{Closed, After, InData, InColumn, Unknown}
+use Rattle.micro_claims.specs.declared.known_target.KnownTarget.{KnownTarget}
+use Rattle.micro_claims.specs.declared.place.Place.{Place}
+use Rattle.micro_claims.specs.declared.place.Place.TheVariants.{Closed, After, InData, InColumn, Unknown}
 use Rattle.micro_claims.specs.Against.{is_inside_address}
 use Rattle.micro_claims.specs.Reasons.{breaks_cycle_forbidden, breaks_address_unaligned, breaks_handover_in_sequence, breaks_buffer_passed, breaks_row_or_plane_outside, breaks_column_too_large, breaks_no_status, breaks_ends_too_soon, breaks_over_budget, breaks_command_not_allowed}
 use Rattle.micro_claims.specs.Leaves.{handed_over, with_registers, paid}

@@ -1,15 +1,15 @@
 -- Commands on a lone LUN: what the claim says against one is what the rules say, exactly.
 use Rattle.std.proofs.lemmas.Bool.Decides.{nat_tests}
 use Rattle.std.proofs.Common.{◌≡◌, ℕ, ◌+◌, ◌≤◌, ◌==◌, Bool, true, false, ◌&&◌, ◌||◌, cond, not, ltb, nat_le, List, Option, Some, None, refl, sym, ap, ◌∙◌, subst, arith}
-use Rattle.nand_geometry.specs.declared.Parts.{Parts}
+use Rattle.nand_geometry.specs.declared.parts.Parts.{Parts}
 use Rattle.onfi_cycle.specs.declared.command.Command.{Command}
 use Rattle.onfi_cycle.specs.declared.command.Command.TheVariants.{Read, ReadConfirm, ChangeReadColumn, ChangeReadColumnConfirm, BlockErase, BlockEraseConfirm, BlockErasePlane, ReadStatus, ReadStatusEnhanced, PageProgram, ChangeWriteColumn, ProgramConfirm, ProgramPlane, ReadId, ReadParameterPage, Reset, ReadCacheSequential, ReadCacheEnd, Unknown}
-use Rattle.onfi_cycle.specs.declared.tail_facts.DataPhase.TheVariants.{FirstColumn, SecondColumn}
+use Rattle.onfi_cycle.specs.declared.data_phase.DataPhase.TheVariants.{FirstColumn, SecondColumn}
 use Rattle.onfi_cycle.specs.declared.forbidden.Forbidden.{Forbidden}
-use Rattle.onfi_cycle.specs.declared.lun_facts.Latch.{Latch}
-use Rattle.onfi_cycle.specs.declared.lun_facts.Latch.TheVariants.{Off, Status, Data}
-use Rattle.onfi_cycle.specs.declared.lun_facts.Register.{Register}
-use Rattle.onfi_cycle.specs.declared.lun_facts.Register.TheVariants.{Empty, Page, ParameterPage, Identifier}
+use Rattle.onfi_cycle.specs.declared.latch.Latch.{Latch}
+use Rattle.onfi_cycle.specs.declared.latch.Latch.TheVariants.{Off, Status, Data}
+use Rattle.onfi_cycle.specs.declared.register.Register.{Register}
+use Rattle.onfi_cycle.specs.declared.register.Register.TheVariants.{Empty, Page, ParameterPage, Identifier}
 use Rattle.onfi_cycle.specs.declared.tail_facts.TailFacts.{TailFacts}
 use Rattle.onfi_cycle.specs.declared.target_cycle.TargetCycle.TheVariants.{CommandCycle}
 use Rattle.onfi_cycle.specs.Command.{closes, address_cycles, is_opener}
@@ -21,8 +21,8 @@ use Rattle.micro_claims.specs.Spans.{greatest_bound, bound_plus, is_at_most}
 use Rattle.onfi_cycle.specs.Rules.{has_some, may_change_column, is_page_or_parameters, breaks_command_unknown, breaks_sequence_open, breaks_several_luns, breaks_no_column_to_change, breaks_command_misplaced, breaks_address_misplaced, breaks_row_outside, breaks_lun_busy, breaks_queue_clash, breaks_input_misplaced, breaks_no_sole_driver, breaks_data_not_ready, breaks_column_outside, breaks_cache_read_misplaced}
 use Rattle.micro_program.specs.Program.{Job, Done}
 use Rattle.micro_claims.specs.declared.state.State.{State}
-use Rattle.micro_claims.specs.declared.state.Place.{Place}
-use Rattle.micro_claims.specs.declared.state.Place.TheVariants.{Closed, After, InData, InColumn, Unknown as UnknownPlace}
+use Rattle.micro_claims.specs.declared.place.Place.{Place}
+use Rattle.micro_claims.specs.declared.place.Place.TheVariants.{Closed, After, InData, InColumn, Unknown as UnknownPlace}
 use Rattle.micro_claims.specs.Against.{place_wants, is_data_command, may_be_open, shows_only_data, has_page_or_parameters, drives, is_unfit, opener_refused, closer_refused, command_out_of_place}
 use Rattle.micro_verify.specs.Cause.{is_of_cycle_forbidden}
 use Rattle.micro_claims.proofs.Fits.{Address}

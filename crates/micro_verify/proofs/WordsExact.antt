@@ -1,6 +1,6 @@
 -- Words whose claims are exact: where one is refused its cause stands, and else the claim behind it mirrors the lazy run.
 use Rattle.std.proofs.Common.{◌≡◌, ℕ, ◌+◌, ◌%◌, ◌≤◌, ◌<◌, ◌==◌, Bool, true, false, ◌&&◌, ◌||◌, cond, ltb, List, [], ◌∷◌, Option, Some, None, refl, sym, ap, ◌∙◌, subst, eqb-true, arith}
-use Rattle.nand_geometry.specs.declared.Parts.{Parts}
+use Rattle.nand_geometry.specs.declared.parts.Parts.{Parts}
 use Rattle.onfi_cycle.specs.declared.forbidden.Forbidden.{Forbidden}
 use Rattle.onfi_cycle.specs.declared.item.Item.{Item}
 use Rattle.onfi_cycle.specs.declared.item.Item.TheVariants.{Rdy}
@@ -19,9 +19,9 @@ use Rattle.micro_program.specs.Program.{Job, Done, Answer, cost, cost_now, index
 use Rattle.micro_program.specs.Moves.{Move, Give, Take, moves, and_then}
 use Rattle.micro_program.specs.Played.{Played, played}
 use Rattle.micro_claims.specs.declared.state.State.{State}
-use Rattle.micro_claims.specs.declared.state.Registers.{Registers}
-use Rattle.micro_claims.specs.declared.state.KnownLun.{KnownLun}
-use Rattle.micro_claims.specs.declared.state.Place.TheVariants.{Closed}
+use Rattle.micro_claims.specs.declared.registers.Registers.{Registers}
+use Rattle.micro_claims.specs.declared.known_lun.KnownLun.{KnownLun}
+use Rattle.micro_claims.specs.declared.place.Place.TheVariants.{Closed}
 use Rattle.micro_claims.specs.Spans.{greatest_bound, kept, bound_plus, plus}
 use Rattle.micro_claims.specs.declared.span.Span.{Span}
 use Rattle.micro_claims.specs.Against.{may_be_open}

@@ -1,6 +1,6 @@
 -- The counter of a text: the lazy run of the words before, as long as each cycle is permitted, and the first cycle that isn't.
 use Rattle.std.specs.Prelude.{◌==◌, ◌&&◌, Bool, true, false, if◌then◌else◌, nat_le, ℕ, List, [], ◌∷◌, Option, Some, None, is_none, slice_get, take}
-use Rattle.nand_geometry.specs.declared.Parts.{Parts}
+use Rattle.nand_geometry.specs.declared.parts.Parts.{Parts}
 use Rattle.nand_geometry.specs.Limits.{indices}
 use Rattle.nand_geometry.specs.Page.{parameter_bytes}
 use Rattle.onfi_cycle.specs.Channel.{Channel}

@@ -1,16 +1,16 @@
 -- The cause of a refusal: what stands behind the lazy run of the words before.
 use Rattle.std.specs.Prelude.{◌≡◌, ℕ, ◌+◌, ◌*◌, ◌/◌, ◌<◌, ◌≤◌, ◌==◌, Bool, true, false, ◌&&◌, ◌||◌, not, nat_lt, nat_le, if◌then◌else◌, List, [], ◌∷◌, ◌++◌, Option, Some, None, take, slice_get, length}
-use Rattle.nand_geometry.specs.declared.Parts.{Parts}
+use Rattle.nand_geometry.specs.declared.parts.Parts.{Parts}
 use Rattle.nand_geometry.specs.Limits.{InLimits, planes, indices}
 use Rattle.onfi_cycle.specs.declared.command.Command.{Command}
 use Rattle.onfi_cycle.specs.declared.command.Command.TheVariants.{ReadCacheSequential}
-use Rattle.onfi_cycle.specs.declared.tail_facts.DataPhase.{DataPhase}
-use Rattle.onfi_cycle.specs.declared.tail_facts.DataPhase.TheVariants.{FirstColumn, SecondColumn}
+use Rattle.onfi_cycle.specs.declared.data_phase.DataPhase.{DataPhase}
+use Rattle.onfi_cycle.specs.declared.data_phase.DataPhase.TheVariants.{FirstColumn, SecondColumn}
 use Rattle.onfi_cycle.specs.declared.forbidden.Forbidden.{Forbidden}
 use Rattle.onfi_cycle.specs.declared.forbidden.Forbidden.TheVariants.{SequenceOpen, NoColumnToChange, CommandMisplaced, AddressMisplaced, LunBusy, QueueClash, InputMisplaced, NoSoleDriver, DataNotReady, ColumnOutside, CacheReadMisplaced}
 use Rattle.onfi_cycle.specs.declared.item.Item.{Item}
-use Rattle.onfi_cycle.specs.declared.tail_facts.Opening.{Opening}
-use Rattle.onfi_cycle.specs.declared.effect.PageAddress.{PageAddress}
+use Rattle.onfi_cycle.specs.declared.opening.Opening.{Opening}
+use Rattle.onfi_cycle.specs.declared.page_address.PageAddress.{PageAddress}
 use Rattle.onfi_cycle.specs.declared.tail_facts.TailFacts.{TailFacts}
 use Rattle.onfi_cycle.specs.declared.target_cycle.TargetCycle.TheVariants.{CommandCycle}
 use Rattle.onfi_cycle.specs.Command.{command, address_cycles, reads_identity}

@@ -5,7 +5,7 @@ use Rattle.onfi_cycle.specs.declared.forbidden.Forbidden.{Forbidden}
 use Rattle.onfi_cycle.specs.declared.forbidden.Forbidden.TheVariants.{LunBusy, DataNotReady}
 use Rattle.onfi_cycle.specs.declared.item.Item.{Item}
 use Rattle.onfi_cycle.specs.declared.item.Item.TheVariants.{Rdy}
-use Rattle.nand_geometry.specs.declared.Parts.{Parts}
+use Rattle.nand_geometry.specs.declared.parts.Parts.{Parts}
 use Rattle.onfi_cycle.specs.Channel.{Channel, cycle}
 use Rattle.onfi_cycle.specs.Permitted.{broken}
 use Rattle.micro_word.specs.declared.word.Word.{Word}

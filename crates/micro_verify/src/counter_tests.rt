@@ -2,23 +2,13 @@ use crate::{Counter, VerifyRefusal, verify};
 use linked_list_allocator::LocalHeap;
 use micro_claims::Reason;
 use micro_word::{Text, Word};
-use nand_geometry::{Geometry, Parts};
+use nand_geometry::{Geometry, Parts, SMALL_CHIP};
 use onfi_cycle::{Cycle, Item, Kind};
 use std::alloc::{Allocator, Global};
 use std::test::Fail;
 
 // One LUN of 8 blocks of 4 pages of 512 + 16 bytes.
-const ONE_LUN: Parts = Parts {
-    page_bytes: 512,
-    spare_bytes: 16,
-    pages: 4,
-    blocks: 8,
-    luns: 1,
-    plane_bits: 0,
-    enhanced: false,
-    multi_plane: false,
-    cache: false,
-};
+const ONE_LUN: Parts = SMALL_CHIP;
 
 const TWO_LUNS: Parts = Parts {
     luns: 2,
@@ -96,7 +86,7 @@ fn refusal<A: Allocator + Copy>(
     };
     match verify(text, Geometry::of(parts)?) {
         Ok(_) => Err(Fail::from("the text is accepted")),
-        Err((refusal, _)) => match refusal {
+        Err(refused) => match refused.refusal {
             VerifyRefusal::OutOfMemory => Ok(None),
             VerifyRefusal::Refusal {
                 word,

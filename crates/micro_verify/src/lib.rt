@@ -14,7 +14,7 @@ mod registers;
 mod showing;
 mod verifying;
 
-pub use refusal::VerifyRefusal;
+pub use refusal::{TextRefused, VerifyRefusal};
 pub use showing::Counter;
 pub use verifying::verify;
 

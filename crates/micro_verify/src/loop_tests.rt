@@ -1,22 +1,12 @@
 use crate::{VerifyRefusal, verify};
 use micro_program::Verified;
 use micro_word::{Text, Word};
-use nand_geometry::{Geometry, Parts};
+use nand_geometry::{Geometry, Parts, SMALL_CHIP};
 use std::alloc::{AllocError, Global};
 use std::test::Fail;
 
 // One LUN of 8 blocks of 4 pages of 512 + 16 bytes, in one plane.
-const ONE_LUN: Parts = Parts {
-    page_bytes: 512,
-    spare_bytes: 16,
-    pages: 4,
-    blocks: 8,
-    luns: 1,
-    plane_bits: 0,
-    enhanced: false,
-    multi_plane: false,
-    cache: false,
-};
+const ONE_LUN: Parts = SMALL_CHIP;
 
 // Two of them, in two planes each.
 const TWO_LUNS: Parts = Parts {
@@ -142,8 +132,10 @@ fn made(alloc: Global, seed: &mut u32, rows: u32, planes: u32) -> Result<Text, F
 fn accepted(text: Text, parts: Parts) -> Result<Verified, Fail> {
     match verify(text, Geometry::of(parts)?) {
         Ok(verified) => Ok(verified),
-        Err((VerifyRefusal::Refusal { .. }, _)) => Err(Fail::from("refused")),
-        Err((VerifyRefusal::OutOfMemory, _)) => Err(Fail::from("out of memory")),
+        Err(refused) => match refused.refusal {
+            VerifyRefusal::Refusal { .. } => Err(Fail::from("refused")),
+            VerifyRefusal::OutOfMemory => Err(Fail::from("out of memory")),
+        },
     }
 }
 

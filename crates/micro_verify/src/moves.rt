@@ -82,12 +82,15 @@ fn buffer_inputs<A: Allocator>(
     Ok(Some(inputs(alloc, &buffer[place as usize..end as usize])?))
 }
 
+// 70h, Read Status.
+const READ_STATUS: u8 = 0x70;
+
 // A poll of the one LUN of a target.
 fn poll<A: Allocator>(alloc: A) -> Result<Vec<Move, A>, AllocError>
     ensures { IfOk result (λ v. v.items ≡ Commands 0x70 ∷ (Output ∷ [])) }
 {
     let mut moves = Vec::with_capacity(alloc, 2)?;
-    moves.push(Move::Command(0x70))?;
+    moves.push(Move::Command(READ_STATUS))?;
     moves.push(Move::Output)?;
     Ok(moves)
 }

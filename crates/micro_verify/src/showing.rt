@@ -14,7 +14,7 @@ use crate::playing::{Outcome, perform, perform_all};
 use crate::registers::Registers;
 use die_model::LunDie;
 use micro_claims::{Fault, Reason};
-use micro_walk::all_lead_on;
+use micro_program::all_lead_on;
 use micro_word::{Text, Word};
 use nand_geometry::Geometry;
 use onfi_cycle::{Cycle, Item, TailFacts};
@@ -42,9 +42,11 @@ fn lone_bus<A: Allocator + Copy>(alloc: A, geometry: Geometry) -> Result<Bus<A>,
     dies.push(LunDie::new(alloc, geometry)?)?;
     match Bus::new(alloc, geometry, dies) {
         Ok(bus) => Ok(bus),
-        Err((BusFault::OutOfMemory, _)) => Err(AllocError),
-        Err((BusFault::DiesMissing, _)) => unreachable!(),
-        Err((BusFault::DieUnfit, _)) => unreachable!(),
+        Err(refused) => match refused.fault {
+            BusFault::OutOfMemory => Err(AllocError),
+            BusFault::DiesMissing => unreachable!(),
+            BusFault::DieUnfit => unreachable!(),
+        },
     }
 }
 

@@ -5,7 +5,7 @@ use Rattle.std.specs.Prelude.{slice_set, replicate, is_none, is_some}
 use Rattle.std.specs.List.{slice_get}
 use Rattle.std.proofs.lemmas.List.{length-set}
 use Rattle.std.proofs.lemmas.Bool.Decides.{nat_tests}
-use Rattle.nand_geometry.specs.declared.Parts.{Parts}
+use Rattle.nand_geometry.specs.declared.parts.Parts.{Parts}
 use Rattle.nand_geometry.specs.Limits.{InLimits}
 use Rattle.micro_word.specs.declared.word.Word.{Word}
 use Rattle.micro_word.specs.declared.word.Word.TheVariants.{End, BranchOnStatus, Loop, Next, Jump}
@@ -15,7 +15,7 @@ use Rattle.micro_word.specs.Text.{Microprogram}
 use Rattle.micro_program.specs.Lines.{Line, Unrolling, word_before, unrolling, unrolled, lines_from}
 use Rattle.micro_program.specs.Safe.{is_end, IsSafe}
 use Rattle.micro_claims.specs.declared.state.State.{State}
-use Rattle.micro_claims.specs.declared.state.Bounds.{Bounds}
+use Rattle.micro_claims.specs.declared.bounds.Bounds.{Bounds}
 use Rattle.micro_claims.specs.State.{first_state, bounds_of}
 use Rattle.micro_claims.specs.Reasons.{reason_against}
 use Rattle.micro_claims.specs.Accepts.{state_after}

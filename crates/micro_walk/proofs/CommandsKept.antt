@@ -1,6 +1,6 @@
 -- Inputs, outputs, commands and pages: what they leave of a claim is claimed of what they leave of an actual claim.
 use Rattle.std.proofs.Common.{◌≡◌, ℕ, ◌≤◌, Bool, true, false, ◌&&◌, ◌||◌, cond, Option, Some, None, refl, sym, subst, arith, zero, suc}
-use Rattle.nand_geometry.specs.declared.Parts.{Parts}
+use Rattle.nand_geometry.specs.declared.parts.Parts.{Parts}
 use Rattle.nand_geometry.specs.Limits.{InLimits}
 use Rattle.onfi_cycle.specs.declared.command.Command.{Command}
 use Rattle.onfi_cycle.specs.declared.command.Command.TheVariants.{Read, ReadConfirm, ChangeReadColumn, ChangeReadColumnConfirm, BlockErase, BlockEraseConfirm, BlockErasePlane, PageProgram, ChangeWriteColumn, ProgramConfirm, ProgramPlane, ReadId, ReadParameterPage, Reset, ReadCacheSequential, ReadCacheEnd}
@@ -8,16 +8,16 @@ use Rattle.micro_claims.specs.declared.span.Span.{Span}
 use Rattle.micro_claims.specs.Spans.{plus, plus_between}
 use Rattle.micro_claims.specs.Planes.{has_plane, no_planes, either_plane}
 use Rattle.micro_claims.specs.declared.state.State.{State}
-use Rattle.micro_claims.specs.declared.state.Place.{Place}
-use Rattle.micro_claims.specs.declared.state.Place.TheVariants.{Closed, After, InColumn}
-use Rattle.micro_claims.specs.declared.state.Drift.{Drift}
-use Rattle.micro_claims.specs.declared.state.NamedRow.{NamedRow}
-use Rattle.micro_claims.specs.declared.state.Shown.{Shown}
-use Rattle.micro_claims.specs.declared.state.OutputColumn.{OutputColumn}
-use Rattle.micro_claims.specs.declared.state.QueuedRows.{QueuedRows}
-use Rattle.micro_claims.specs.declared.state.QueuedRows.TheVariants.{NoRows, SomeRows, AnyRows}
-use Rattle.micro_claims.specs.declared.state.LastCloser.{LastCloser}
-use Rattle.micro_claims.specs.declared.state.CachedPage.{CachedPage}
+use Rattle.micro_claims.specs.declared.place.Place.{Place}
+use Rattle.micro_claims.specs.declared.place.Place.TheVariants.{Closed, After, InColumn}
+use Rattle.micro_claims.specs.declared.drift.Drift.{Drift}
+use Rattle.micro_claims.specs.declared.named_row.NamedRow.{NamedRow}
+use Rattle.micro_claims.specs.declared.shown.Shown.{Shown}
+use Rattle.micro_claims.specs.declared.output_column.OutputColumn.{OutputColumn}
+use Rattle.micro_claims.specs.declared.queued_rows.QueuedRows.{QueuedRows}
+use Rattle.micro_claims.specs.declared.queued_rows.QueuedRows.TheVariants.{NoRows, SomeRows, AnyRows}
+use Rattle.micro_claims.specs.declared.last_closer.LastCloser.{LastCloser}
+use Rattle.micro_claims.specs.declared.cached_page.CachedPage.{CachedPage}
 use Rattle.micro_claims.specs.State.{other_closer, any_number}
 use Rattle.micro_claims.specs.Against.{same_test}
 use Rattle.micro_claims.specs.Leaves.{with_target, data_shown, rows_at, work_started, same_drift, queued_more, cache_read, command_leaves, column_read, get_leaves, span_more, put_leaves, page_register}

@@ -3,7 +3,7 @@ use Rattle.std.proofs.Common.{◌≡◌, ℕ, zero, suc, ◌+◌, ◌-◌, ◌*�
 use Rattle.std.proofs.lemmas.Bool.Decides.{nat_tests}
 use Rattle.std.proofs.lemmas.Nat.{pow_pos}
 use Rattle.std.specs.List.{slice_get}
-use Rattle.nand_geometry.specs.declared.Parts.{Parts}
+use Rattle.nand_geometry.specs.declared.parts.Parts.{Parts}
 use Rattle.nand_geometry.specs.Limits.{planes}
 use Rattle.onfi_cycle.specs.Command.{command}
 use Rattle.micro_word.specs.declared.word.Word.{Word}
@@ -11,10 +11,10 @@ use Rattle.micro_word.specs.declared.word.Word.TheVariants.{Command, Address, Wa
 use Rattle.micro_claims.specs.declared.refusal.Fault.{Fault}
 use Rattle.micro_claims.specs.Spans.{greatest_bound}
 use Rattle.micro_claims.specs.declared.state.State.{State}
-use Rattle.micro_claims.specs.declared.state.Bounds.{Bounds}
-use Rattle.micro_claims.specs.declared.state.Shown.{Shown}
-use Rattle.micro_claims.specs.declared.state.CachedPage.{CachedPage}
-use Rattle.micro_claims.specs.declared.state.QueuedRows.TheVariants.{NoRows}
+use Rattle.micro_claims.specs.declared.bounds.Bounds.{Bounds}
+use Rattle.micro_claims.specs.declared.shown.Shown.{Shown}
+use Rattle.micro_claims.specs.declared.cached_page.CachedPage.{CachedPage}
+use Rattle.micro_claims.specs.declared.queued_rows.QueuedRows.TheVariants.{NoRows}
 use Rattle.micro_claims.specs.State.{bounds_of, first_registers, first_state, not_cached, closed}
 use Rattle.micro_claims.specs.Reasons.{reason_against, breaks_cycle_forbidden, breaks_address_unaligned, breaks_handover_in_sequence, breaks_buffer_passed, breaks_row_or_plane_outside, breaks_column_too_large, breaks_no_status, breaks_ends_too_soon, breaks_over_budget, breaks_command_not_allowed}
 use Rattle.micro_claims.specs.Accepts.{state_after}

@@ -3,22 +3,22 @@ use Rattle.std.proofs.Common.{◌≡◌, ℕ, ◌≤◌, ◌==◌, Bool, true, f
 use Rattle.std.specs.Prelude.{nat_le, min, max}
 use Rattle.std.proofs.lemmas.Bool.Decides.{nat_tests}
 use Rattle.micro_claims.specs.declared.span.Span.{Span}
-use Rattle.micro_claims.specs.declared.span.Growth.{Growth}
+use Rattle.micro_claims.specs.declared.growth.Growth.{Growth}
 use Rattle.micro_claims.specs.declared.planes.Planes.{Planes}
 use Rattle.micro_claims.specs.Planes.{either_plane}
 use Rattle.micro_claims.specs.declared.state.State.{State}
-use Rattle.micro_claims.specs.declared.state.Registers.{Registers}
-use Rattle.micro_claims.specs.declared.state.KnownTarget.{KnownTarget}
-use Rattle.micro_claims.specs.declared.state.KnownLun.{KnownLun}
-use Rattle.micro_claims.specs.declared.state.Place.{Place}
-use Rattle.micro_claims.specs.declared.state.Place.TheVariants.{Closed, After, InData, InColumn, Unknown}
-use Rattle.micro_claims.specs.declared.state.Drift.{Drift}
-use Rattle.micro_claims.specs.declared.state.NamedRow.{NamedRow}
-use Rattle.micro_claims.specs.declared.state.Shown.{Shown}
-use Rattle.micro_claims.specs.declared.state.Held.{Held}
-use Rattle.micro_claims.specs.declared.state.OutputColumn.{OutputColumn}
-use Rattle.micro_claims.specs.declared.state.QueuedRows.{QueuedRows}
-use Rattle.micro_claims.specs.declared.state.QueuedRows.TheVariants.{NoRows, SomeRows, AnyRows}
+use Rattle.micro_claims.specs.declared.registers.Registers.{Registers}
+use Rattle.micro_claims.specs.declared.known_target.KnownTarget.{KnownTarget}
+use Rattle.micro_claims.specs.declared.known_lun.KnownLun.{KnownLun}
+use Rattle.micro_claims.specs.declared.place.Place.{Place}
+use Rattle.micro_claims.specs.declared.place.Place.TheVariants.{Closed, After, InData, InColumn, Unknown}
+use Rattle.micro_claims.specs.declared.drift.Drift.{Drift}
+use Rattle.micro_claims.specs.declared.named_row.NamedRow.{NamedRow}
+use Rattle.micro_claims.specs.declared.shown.Shown.{Shown}
+use Rattle.micro_claims.specs.declared.held.Held.{Held}
+use Rattle.micro_claims.specs.declared.output_column.OutputColumn.{OutputColumn}
+use Rattle.micro_claims.specs.declared.queued_rows.QueuedRows.{QueuedRows}
+use Rattle.micro_claims.specs.declared.queued_rows.QueuedRows.TheVariants.{NoRows, SomeRows, AnyRows}
 use Rattle.micro_claims.specs.Against.{same_test, is_open_place}
 use Rattle.micro_claims.specs.Order.{is_bound_within, is_growth_within, is_span_within, may_within, are_planes_within, same_place, is_place_within, same_drift_as, is_drift_within, are_registers_within, is_column_within, is_name_within, is_named_within, is_shows_within, is_target_within, is_register_within, is_output_within, are_rows_within, is_lun_within, is_state_within}
 use Rattle.micro_claims.specs.Joins.{greater_bound, joined_growth, joined_span, joined_pages, joined_registers, joined_place, both_know, joined_drift, joined_name, joined_shown, joined_target, joined_held, joined_output, joined_rows, joined_closer, joined_cached, joined_lun, joined, JoinsClaimLess}

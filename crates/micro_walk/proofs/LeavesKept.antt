@@ -1,25 +1,25 @@
 -- What a word leaves of a claim is claimed of what it leaves of an actual claim.
 use Rattle.std.proofs.Common.{◌≡◌, ℕ, ◌<◌, ◌≤◌, ◌==◌, Bool, true, false, cond, Option, Some, None, refl, sym, ap, subst, arith}
 use Rattle.std.specs.Prelude.{nat_lt}
-use Rattle.nand_geometry.specs.declared.Parts.{Parts}
+use Rattle.nand_geometry.specs.declared.parts.Parts.{Parts}
 use Rattle.nand_geometry.specs.Limits.{InLimits}
 use Rattle.micro_claims.specs.declared.planes.Planes.{Planes}
 use Rattle.micro_claims.specs.Planes.{just_plane}
 use Rattle.micro_claims.specs.declared.span.Span.{Span}
 use Rattle.micro_claims.specs.Spans.{exactly, plus, only, copied}
 use Rattle.micro_claims.specs.declared.state.State.{State}
-use Rattle.micro_claims.specs.declared.state.Registers.{Registers}
-use Rattle.micro_claims.specs.declared.state.KnownTarget.{KnownTarget}
-use Rattle.micro_claims.specs.declared.state.KnownLun.{KnownLun}
-use Rattle.micro_claims.specs.declared.state.PageRange.{PageRange}
-use Rattle.micro_claims.specs.declared.state.Place.{Place}
-use Rattle.micro_claims.specs.declared.state.Place.TheVariants.{Closed}
-use Rattle.micro_claims.specs.declared.state.Drift.{Drift}
-use Rattle.micro_claims.specs.declared.state.NamedRow.{NamedRow}
-use Rattle.micro_claims.specs.declared.state.Shown.{Shown}
-use Rattle.micro_claims.specs.declared.state.OutputColumn.{OutputColumn}
-use Rattle.micro_claims.specs.declared.state.QueuedRows.{QueuedRows}
-use Rattle.micro_claims.specs.declared.state.QueuedRows.TheVariants.{NoRows, SomeRows, AnyRows}
+use Rattle.micro_claims.specs.declared.registers.Registers.{Registers}
+use Rattle.micro_claims.specs.declared.known_target.KnownTarget.{KnownTarget}
+use Rattle.micro_claims.specs.declared.known_lun.KnownLun.{KnownLun}
+use Rattle.micro_claims.specs.declared.page_range.PageRange.{PageRange}
+use Rattle.micro_claims.specs.declared.place.Place.{Place}
+use Rattle.micro_claims.specs.declared.place.Place.TheVariants.{Closed}
+use Rattle.micro_claims.specs.declared.drift.Drift.{Drift}
+use Rattle.micro_claims.specs.declared.named_row.NamedRow.{NamedRow}
+use Rattle.micro_claims.specs.declared.shown.Shown.{Shown}
+use Rattle.micro_claims.specs.declared.output_column.OutputColumn.{OutputColumn}
+use Rattle.micro_claims.specs.declared.queued_rows.QueuedRows.{QueuedRows}
+use Rattle.micro_claims.specs.declared.queued_rows.QueuedRows.TheVariants.{NoRows, SomeRows, AnyRows}
 use Rattle.micro_claims.specs.State.{closed, any_number}
 use Rattle.micro_claims.specs.Leaves.{with_registers, status_shown, data_shown, resumed_shows, unread, given_at, cost_plus, paid, polled, found_ready, handed_over, drift_moved, and_drift, rows_at, named_moved, rows_moved, index_moved, drift_set, cached_at, shows_after_read}
 use Rattle.micro_claims.specs.Order.{SpanAt, SpanIs, AllAmong, May, DriftIs, RegistersAt, HasColumn, NamedIs, IsFineNamed, ShowsIs, TargetAt, HasOutput, RowsAre, LunAt, At, column_number, output_number, Exactly}

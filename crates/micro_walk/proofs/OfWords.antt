@@ -1,11 +1,11 @@
 -- The reasons against a word are none of the shape of a text.
 use Rattle.std.proofs.Common.{◌≡◌, Bool, true, false, cond, Option, Some, None, refl, subst}
-use Rattle.nand_geometry.specs.declared.Parts.{Parts}
+use Rattle.nand_geometry.specs.declared.parts.Parts.{Parts}
 use Rattle.micro_word.specs.declared.word.Word.{Word}
 use Rattle.micro_claims.specs.declared.refusal.Reason.{Reason}
 use Rattle.micro_claims.specs.declared.refusal.Reason.TheVariants.{CycleForbidden, AddressUnaligned, HandoverInSequence, BufferPassed, RowOrPlaneOutside, ColumnTooLarge, NoStatus, EndsTooSoon, OverBudget, CommandNotAllowed}
 use Rattle.micro_claims.specs.declared.state.State.{State}
-use Rattle.micro_claims.specs.declared.state.Bounds.{Bounds}
+use Rattle.micro_claims.specs.declared.bounds.Bounds.{Bounds}
 use Rattle.micro_claims.specs.Reasons.{reason_against, breaks_cycle_forbidden, breaks_address_unaligned, breaks_handover_in_sequence, breaks_buffer_passed, breaks_row_or_plane_outside, breaks_column_too_large, breaks_no_status, breaks_ends_too_soon, breaks_over_budget, breaks_command_not_allowed}
 use Rattle.micro_walk.specs.Faults.{reason_at}
 use Rattle.micro_walk.specs.Verdicts.{is_of_shape}

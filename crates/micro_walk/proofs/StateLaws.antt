@@ -2,7 +2,7 @@
 use Rattle.std.proofs.Common.{◌≡◌, Option, Some, None, refl, subst, cond, arith}
 use Rattle.std.specs.Prelude.{is_none}
 use Rattle.std.proofs.lemmas.Nat.{mod_below}
-use Rattle.nand_geometry.specs.declared.Parts.{Parts}
+use Rattle.nand_geometry.specs.declared.parts.Parts.{Parts}
 use Rattle.nand_geometry.specs.Limits.{InLimits}
 use Rattle.onfi_cycle.specs.Command.{command}
 use Rattle.micro_word.specs.declared.word.Word.{Word}
@@ -10,7 +10,7 @@ use Rattle.micro_word.specs.declared.word.Word.TheVariants.{Command, Address, Ge
 use Rattle.micro_claims.specs.declared.refusal.Reason.{Reason}
 use Rattle.micro_program.specs.Program.{cost}
 use Rattle.micro_claims.specs.declared.state.State.{State}
-use Rattle.micro_claims.specs.declared.state.Bounds.{Bounds}
+use Rattle.micro_claims.specs.declared.bounds.Bounds.{Bounds}
 use Rattle.micro_claims.specs.Reasons.{reason_against, breaks_cycle_forbidden}
 use Rattle.micro_claims.specs.Leaves.{drift_more}
 use Rattle.micro_claims.specs.Accepts.{word_leaves, state_after}

@@ -1,23 +1,23 @@
 -- The laws of claims that go field by field: all but `steps`.
 use Rattle.std.proofs.Common.{◌≡◌, ℕ, ◌<◌, ◌≤◌, Bool, true, false, not, Option, Some, None, refl, sym, ◌∙◌, subst, arith}
-use Rattle.nand_geometry.specs.declared.Parts.{Parts}
+use Rattle.nand_geometry.specs.declared.parts.Parts.{Parts}
 use Rattle.nand_geometry.specs.Limits.{InLimits}
 use Rattle.micro_claims.specs.Planes.{just_plane}
 use Rattle.micro_claims.specs.declared.span.Span.{Span}
 use Rattle.micro_claims.specs.declared.state.State.{State}
-use Rattle.micro_claims.specs.declared.state.Registers.{Registers}
-use Rattle.micro_claims.specs.declared.state.KnownTarget.{KnownTarget}
-use Rattle.micro_claims.specs.declared.state.KnownLun.{KnownLun}
-use Rattle.micro_claims.specs.declared.state.Place.TheVariants.{Closed, After, InData, InColumn, Unknown}
-use Rattle.micro_claims.specs.declared.state.NamedRow.{NamedRow}
-use Rattle.micro_claims.specs.declared.state.Shown.{Shown}
-use Rattle.micro_claims.specs.declared.state.Held.{Held}
-use Rattle.micro_claims.specs.declared.state.OutputColumn.{OutputColumn}
-use Rattle.micro_claims.specs.declared.state.QueuedRows.{QueuedRows}
-use Rattle.micro_claims.specs.declared.state.QueuedRows.TheVariants.{NoRows, SomeRows, AnyRows}
+use Rattle.micro_claims.specs.declared.registers.Registers.{Registers}
+use Rattle.micro_claims.specs.declared.known_target.KnownTarget.{KnownTarget}
+use Rattle.micro_claims.specs.declared.known_lun.KnownLun.{KnownLun}
+use Rattle.micro_claims.specs.declared.place.Place.TheVariants.{Closed, After, InData, InColumn, Unknown}
+use Rattle.micro_claims.specs.declared.named_row.NamedRow.{NamedRow}
+use Rattle.micro_claims.specs.declared.shown.Shown.{Shown}
+use Rattle.micro_claims.specs.declared.held.Held.{Held}
+use Rattle.micro_claims.specs.declared.output_column.OutputColumn.{OutputColumn}
+use Rattle.micro_claims.specs.declared.queued_rows.QueuedRows.{QueuedRows}
+use Rattle.micro_claims.specs.declared.queued_rows.QueuedRows.TheVariants.{NoRows, SomeRows, AnyRows}
 use Rattle.micro_claims.specs.State.{first_state, any_number}
-use Rattle.micro_claims.specs.declared.state.Place.{Place}
-use Rattle.micro_claims.specs.declared.state.Bounds.{Bounds}
+use Rattle.micro_claims.specs.declared.place.Place.{Place}
+use Rattle.micro_claims.specs.declared.bounds.Bounds.{Bounds}
 use Rattle.micro_claims.specs.Against.{same_test, is_open_place}
 use Rattle.micro_claims.specs.Order.{SpanAt, AllAmong, May, RegistersAt, HasColumn, NameIs, NamedIs, IsFineNamed, ShowsIs, TargetAt, RegisteredIs, HasOutput, RowsAre, LunAt, At, column_number, output_number, may_within, same_drift_as, is_span_within, span_at_head, span_at_heads, span_after_turns, are_registers_within, is_column_within, is_name_within, is_named_within, is_shows_within, is_target_within, is_register_within, is_output_within, are_rows_within, is_lun_within, is_state_within, column_by, output_by, state_by, state_at_head, state_at_heads, state_after_turns, machine, PlaceIs, Anywhere, NothingOpen, Exactly, are_planes_within, is_place_within}
 use Rattle.micro_claims.specs.Certificate.{Turned}

@@ -2,7 +2,7 @@
 use Rattle.std.proofs.Common.{◌≡◌, ℕ, ◌≤◌, ◌==◌, Bool, true, false, ◌&&◌, ◌||◌, cond, not, Option, Some, None, refl, sym, ap, ◌∙◌, subst, arith}
 use Rattle.std.specs.Prelude.{nat_le, nat_lt, min}
 use Rattle.std.proofs.lemmas.Bool.Decides.{nat_tests}
-use Rattle.nand_geometry.specs.declared.Parts.{Parts}
+use Rattle.nand_geometry.specs.declared.parts.Parts.{Parts}
 use Rattle.nand_geometry.specs.Limits.{InLimits, page_len}
 use Rattle.onfi_cycle.specs.declared.command.Command.{Command}
 use Rattle.onfi_cycle.specs.declared.command.Command.TheVariants.{Read}
@@ -12,15 +12,15 @@ use Rattle.micro_claims.specs.declared.refusal.Reason.TheVariants.{CycleForbidde
 use Rattle.micro_claims.specs.declared.span.Span.{Span}
 use Rattle.micro_claims.specs.Spans.{bound_plus, is_at_most, only}
 use Rattle.micro_claims.specs.declared.state.State.{State}
-use Rattle.micro_claims.specs.declared.state.Place.{Place}
-use Rattle.micro_claims.specs.declared.state.Shown.{Shown}
-use Rattle.micro_claims.specs.declared.state.Held.{Held}
-use Rattle.micro_claims.specs.declared.state.OutputColumn.{OutputColumn}
-use Rattle.micro_claims.specs.declared.state.QueuedRows.{QueuedRows}
-use Rattle.micro_claims.specs.declared.state.QueuedRows.TheVariants.{NoRows, SomeRows, AnyRows}
-use Rattle.micro_claims.specs.declared.state.Drift.{Drift}
-use Rattle.micro_claims.specs.declared.state.Bounds.{Bounds}
-use Rattle.micro_claims.specs.declared.state.Place.TheVariants.{Unknown, Closed, After, InData, InColumn}
+use Rattle.micro_claims.specs.declared.place.Place.{Place}
+use Rattle.micro_claims.specs.declared.shown.Shown.{Shown}
+use Rattle.micro_claims.specs.declared.held.Held.{Held}
+use Rattle.micro_claims.specs.declared.output_column.OutputColumn.{OutputColumn}
+use Rattle.micro_claims.specs.declared.queued_rows.QueuedRows.{QueuedRows}
+use Rattle.micro_claims.specs.declared.queued_rows.QueuedRows.TheVariants.{NoRows, SomeRows, AnyRows}
+use Rattle.micro_claims.specs.declared.drift.Drift.{Drift}
+use Rattle.micro_claims.specs.declared.bounds.Bounds.{Bounds}
+use Rattle.micro_claims.specs.declared.place.Place.TheVariants.{Unknown, Closed, After, InData, InColumn}
 use Rattle.micro_claims.specs.declared.planes.Planes.{Planes}
 use Rattle.micro_claims.specs.Against.{shows_only_data, drives, may_show_data, has_register, has_page_or_parameters, has_column, least_length, may_be_queued, is_read, is_erase, same_test, queue_refuses, is_identity_byte, is_open_place, place_wants, is_in_data, is_inside_address, address_out_of_place}
 use Rattle.micro_claims.specs.Reasons.{breaks_cycle_forbidden, breaks_address_unaligned, breaks_handover_in_sequence, breaks_buffer_passed, breaks_row_or_plane_outside, breaks_column_too_large, breaks_no_status, breaks_ends_too_soon, breaks_over_budget, breaks_command_not_allowed, reason_against}

@@ -2,7 +2,7 @@
 use Rattle.std.proofs.Common.{◌≡◌, ℕ, zero, suc, ◌+◌, ◌<◌, ◌≤◌, ◌==◌, Bool, true, false, ◌||◌, cond, List, [], ◌∷◌, Option, Some, None, refl, sym, ap, ◌∙◌, arith, length, drop, get_or}
 use Rattle.std.specs.Prelude.{replicate}
 use Rattle.std.proofs.Math.Seq.{drop-cons}
-use Rattle.nand_geometry.specs.declared.Parts.{Parts}
+use Rattle.nand_geometry.specs.declared.parts.Parts.{Parts}
 use Rattle.micro_word.specs.declared.word.Word.{Word}
 use Rattle.micro_word.specs.declared.word.Word.TheVariants.{End, BranchOnStatus, Loop, Next, Jump}
 use Rattle.micro_word.specs.Text.{Microprogram}
@@ -11,7 +11,7 @@ use Rattle.micro_claims.specs.declared.refusal.Fault.{Fault}
 use Rattle.micro_program.specs.Lines.{unrolled, leads_on, all_lead_on, lines_from}
 use Rattle.micro_program.specs.Safe.{is_end, IsSafe}
 use Rattle.micro_claims.specs.declared.state.State.{State}
-use Rattle.micro_claims.specs.declared.state.Bounds.{Bounds}
+use Rattle.micro_claims.specs.declared.bounds.Bounds.{Bounds}
 use Rattle.micro_claims.specs.State.{bounds_of, first_state}
 use Rattle.micro_claims.specs.Reasons.{reason_against}
 use Rattle.micro_claims.specs.Accepts.{state_after, goes_on, accepts}
@@ -113,7 +113,7 @@ straight_followed g b (word ∷ words) leads =
 
 -- 5. the fault of such a text
 
-no_loop : (words : List Word) → all_lead_on words ≡ true → has_loop words ≡ false
+pub no_loop : (words : List Word) → all_lead_on words ≡ true → has_loop words ≡ false
 no_loop [] h = refl
 no_loop (word ∷ words) h =
     let parts = and_parts (leads_on word) (all_lead_on words) h in

@@ -1,12 +1,12 @@
 -- The law: states meet what a certificate asks of a kind of state.
 use Rattle.std.specs.Prelude.{◌≡◌, ◌≤◌, Bool, true, ◌&&◌, List, Option, None, is_none}
-use Rattle.nand_geometry.specs.declared.Parts.{Parts}
+use Rattle.nand_geometry.specs.declared.parts.Parts.{Parts}
 use Rattle.nand_geometry.specs.Limits.{InLimits}
 use Rattle.micro_word.specs.declared.format.Format.TheVariants.{Two}
 use Rattle.micro_word.specs.Text.{Microprogram, FitsFormat}
 use Rattle.micro_program.specs.Safe.{IsSafe}
 use Rattle.micro_claims.specs.declared.state.State.{State}
-use Rattle.micro_claims.specs.declared.state.Bounds.{Bounds}
+use Rattle.micro_claims.specs.declared.bounds.Bounds.{Bounds}
 use Rattle.micro_claims.specs.State.{bounds_of}
 use Rattle.micro_program.specs.Nested.{IsNested}
 use Rattle.micro_walk.specs.Shape.{shape_fault}

@@ -1,6 +1,7 @@
 -- The fault of a text: of its shape; and where it has no loop, its lowest word with a reason against it.
 use Rattle.std.specs.Prelude.{ℕ, ◌+◌, ◌-◌, Bool, true, false, ◌||◌, if◌then◌else◌, List, [], ◌∷◌, Option, Some, None, length, replicate, slice_set}
-use Rattle.nand_geometry.specs.declared.Parts.{Parts}
+use Rattle.std.specs.List.{list_any}
+use Rattle.nand_geometry.specs.declared.parts.Parts.{Parts}
 use Rattle.micro_word.specs.declared.word.Word.{Word}
 use Rattle.micro_word.specs.declared.word.Word.TheVariants.{End, BranchOnStatus, Loop, Jump}
 use Rattle.micro_word.specs.Text.{Microprogram}
@@ -8,7 +9,7 @@ use Rattle.micro_claims.specs.declared.refusal.Reason.{Reason}
 use Rattle.micro_claims.specs.declared.refusal.Fault.{Fault}
 use Rattle.micro_program.specs.Safe.{is_end}
 use Rattle.micro_claims.specs.declared.state.State.{State}
-use Rattle.micro_claims.specs.declared.state.Bounds.{Bounds}
+use Rattle.micro_claims.specs.declared.bounds.Bounds.{Bounds}
 use Rattle.micro_claims.specs.State.{first_state, bounds_of}
 use Rattle.micro_claims.specs.Reasons.{reason_against}
 use Rattle.micro_claims.specs.Accepts.{state_after}
@@ -66,8 +67,7 @@ is_loop (Loop turns) = true
 is_loop _ = false
 
 abbrev pub has_loop : List Word → Bool
-has_loop [] = false
-has_loop (word ∷ rest) = is_loop word || has_loop rest
+has_loop words = list_any is_loop words
 
 -- the fault of the words of a text within these bounds. With loops, only that of its shape
 abbrev pub fault_within : Parts → Bounds → List Word → Option Fault

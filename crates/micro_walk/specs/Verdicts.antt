@@ -1,6 +1,6 @@
 -- What is found of a text: that it is safe, or what is against it.
 use Rattle.std.specs.Prelude.{◌≡◌, ℕ, ◌<◌, ◌⊎◌, Bool, true, false, List, Some, None, length}
-use Rattle.nand_geometry.specs.declared.Parts.{Parts}
+use Rattle.nand_geometry.specs.declared.parts.Parts.{Parts}
 use Rattle.micro_word.specs.declared.word.Word.{Word}
 use Rattle.micro_word.specs.Text.{Microprogram}
 use Rattle.micro_claims.specs.declared.refusal.Reason.{Reason}

@@ -42,6 +42,7 @@ impl<A: Allocator> Claims<A> {
     ) -> Result<Claims<A>, AllocError> {
         let words = text.words();
         let mut claims = vec![in alloc; None; words.len()]?;
+        // How far the search came and where it stopped says nothing of the claims.
         let _ = find(
             geometry,
             bounds_of(text),
@@ -75,6 +76,7 @@ fn shown_by<A: Allocator, B: Allocator>(
     requires { is_shown geometry text claims.now ≡ true }
     ensures { (result.text ≡ text) × (result.geometry ≡ geometry) }
 {
+    // The calls hand out what the proof needs: that the words fit their format, and that the geometry is within its limits.
     let _ = text.words();
     let _ = geometry.parts();
     Verified::of(text, geometry, 0)

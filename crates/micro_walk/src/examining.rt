@@ -1,7 +1,7 @@
 //! Examining a text: its shape first, and then, from its first word on, what is known before each word and whether anything is against it.
 ghost use Rattle.std.specs.Prelude.{◌≡◌, true, false, length, replicate, Option, Some, None, IfOk, IfErr};
 ghost use Rattle.micro_claims.specs.declared.refusal.Fault.{Fault};
-ghost use Rattle.micro_program.specs.Lines.{all_lead_on, leads_on, continues_cache_read, is_command_31};
+ghost use Rattle.micro_program.specs.Lines.{all_lead_on};
 ghost use Rattle.micro_claims.specs.declared.state.State.{State};
 ghost use Rattle.micro_claims.specs.State.{first_state, bounds_of};
 ghost use Rattle.micro_walk.specs.Shape.{shape_fault};
@@ -13,21 +13,10 @@ use crate::following::{follow, reason_at};
 use crate::looping::find_certificate;
 use crate::shape::shape_fault;
 use micro_claims::{Bounds, Fault, State};
+use micro_program::{all_lead_on, continues_cache_read};
 use micro_word::{Text, Word};
 use nand_geometry::Geometry;
 use std::alloc::{AllocError, Allocator};
-
-// Some word continues a cache read.
-fn continues_cache_read(words: &[Word]) -> bool
-    ensures { result ≡ continues_cache_read words.now }
-{
-    match words {
-        [] => false,
-        [first, rest @ ..] => {
-            matches!(first, Word::Command { byte: 0x31 }) || continues_cache_read(rest)
-        }
-    }
-}
 
 // What is read off a text before its first word.
 pub(crate) fn bounds_of<A: Allocator>(text: &Text<A>) -> Bounds
@@ -45,30 +34,7 @@ pub(crate) fn bounds_of<A: Allocator>(text: &Text<A>) -> Bounds
 fn has_loop(words: &[Word]) -> bool
     ensures { result ≡ has_loop words.now }
 {
-    match words {
-        [] => false,
-        [first, rest @ ..] => matches!(first, Word::Loop { .. }) || has_loop(rest),
-    }
-}
-
-// The word is no branch and no loop.
-fn leads_on(word: Word) -> bool
-    ensures { result ≡ leads_on word }
-{
-    !matches!(
-        word,
-        Word::BranchOnStatus { .. } | Word::Loop { .. } | Word::Next | Word::Jump { .. }
-    )
-}
-
-/// No word is a branch or a loop.
-pub fn all_lead_on(words: &[Word]) -> bool
-    ensures { result ≡ all_lead_on words.now }
-{
-    match words {
-        [] => true,
-        [first, rest @ ..] => leads_on(*first) && all_lead_on(rest),
-    }
+    words.iter().any(|word| matches!(word, Word::Loop { .. }))
 }
 
 // What is known after a word: nothing after an `end`.
@@ -124,6 +90,7 @@ fn examine_branches<A: Allocator>(
     ensures verified { IfOk result (λ walked. IsVerified text.now geometry.now walked) }
     ensures refused { IfErr result (λ e. MayFind e geometry.now text.now) }
 {
+    // The call hands out what the proof needs: that the geometry is within its limits.
     let _ = geometry.parts();
     let words = text.words();
     match follow(geometry, bounds_of(text), words, known) {
@@ -144,6 +111,7 @@ fn examine_loops<A: Allocator>(
     ensures verified { IfOk result (λ walked. IsVerified text.now geometry.now walked) }
     ensures refused { IfErr result (λ e. MayFind e geometry.now text.now) }
 {
+    // The call hands out what the proof needs: that the geometry is within its limits.
     let _ = geometry.parts();
     match find_certificate(geometry, bounds_of(text), text.words(), claims) {
         Ok(walked) => Ok(walked),

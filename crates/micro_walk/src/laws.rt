@@ -7,7 +7,7 @@ pub fn erase_is_safe()
     ensures { EraseIsSafe }
 {}
 
-/// A text of erases, with a `wait` after each and `end 0` behind them, is accepted on every geometry, however many there are, with
+/// A text of erases, with a `wait` after each and `end 0` after them, is accepted on every geometry, however many there are, with
 /// a budget of five cycles for each.
 pub fn erases_are_accepted()
     ensures { ErasesAreAccepted }

@@ -16,6 +16,6 @@ mod search;
 mod shape;
 
 pub use certifying::{Claims, certify};
-pub use examining::{all_lead_on, examine};
+pub use examining::examine;
 pub use finding::Finding;
 pub use proved::faultless;

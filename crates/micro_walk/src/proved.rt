@@ -13,6 +13,7 @@ pub fn faultless<A: Allocator>(text: Text<A>, geometry: Geometry) -> Verified<A>
     requires faultless { fault_of geometry text ≡ None }
     ensures { (result.text ≡ text) × (result.geometry ≡ geometry) }
 {
+    // The calls hand out what the proof needs: that the words fit their format, and that the geometry is within its limits.
     let _ = text.words();
     let _ = geometry.parts();
     Verified::of(text, geometry, 0)

@@ -3,12 +3,10 @@ ghost use Rattle.std.specs.Prelude.{◌≡◌, ◌≤◌, length};
 
 use crate::check::step;
 use crate::following::reach;
+use crate::shape::MAX_DEPTH;
 use micro_claims::{Bounds, State};
 use micro_word::Word;
 use nand_geometry::Geometry;
-
-// How deep loops are nested at most.
-const DEPTH: usize = 4;
 
 // A loop in which the walk is: its first place, the state that enters it, its turns, and how often it has been walked again.
 #[derive(Clone, Copy)]
@@ -69,6 +67,9 @@ fn lead(
     }
 }
 
+// How often a loop is walked again at most.
+const MOST_AGAIN: u8 = 13;
+
 // What a later turn may begin with, once more: from the eighth walk on numbers that still grow have no bound, and from the
 // twelfth nothing is known.
 fn wider(head: &State, heads: &State, again: u8) -> State {
@@ -91,7 +92,7 @@ fn once_more(claims: &mut [Option<State>], at: usize, walked: &Walked) -> Option
         return None;
     };
     let heads = entry.at_heads(&end, walked.turns);
-    if walked.turns <= 1 || walked.again >= 13 || heads.is_within(&head) {
+    if walked.turns <= 1 || walked.again >= MOST_AGAIN || heads.is_within(&head) {
         let after = entry.after_turns(&end, walked.turns);
         reach(claims, at.saturating_add(1), &after);
         return None;
@@ -116,7 +117,7 @@ pub(crate) struct Found {
 struct Walk {
     at: usize,
     depth: usize,
-    loops: [Walked; DEPTH],
+    loops: [Walked; MAX_DEPTH],
 }
 
 impl Walk {
@@ -124,7 +125,7 @@ impl Walk {
     fn enter(&mut self, claims: &mut [Option<State>], turns: u16) -> bool
         ensures { length claims.new ≡ length claims.old }
     {
-        if self.depth >= DEPTH || self.at >= claims.len() {
+        if self.depth >= MAX_DEPTH || self.at >= claims.len() {
             return false;
         }
         let entry = claims[self.at];
@@ -146,7 +147,7 @@ impl Walk {
     fn turn(&mut self, claims: &mut [Option<State>]) -> bool
         ensures { length claims.new ≡ length claims.old }
     {
-        if self.depth == 0 || self.depth > DEPTH {
+        if self.depth == 0 || self.depth > MAX_DEPTH {
             return false;
         }
         match once_more(claims, self.at, &self.loops[self.depth - 1]) {
@@ -206,7 +207,7 @@ pub(crate) fn find(
     let mut walk = Walk {
         at: 0,
         depth: 0,
-        loops: [NOT_WALKED; DEPTH],
+        loops: [NOT_WALKED; MAX_DEPTH],
     };
     for walked in 0..most {
         let at = walk.at;

@@ -29,17 +29,21 @@ pub(crate) fn closer(words: &[Word], at: usize) -> Option<usize>
     None
 }
 
-fn is_same(a: Option<usize>, b: Option<usize>) -> bool
-    ensures { result ≡ is_same a b }
+// Both are the same place, or both are none.
+fn is_same(first: Option<usize>, second: Option<usize>) -> bool
+    ensures { result ≡ is_same first second }
 {
-    match (a, b) {
+    match (first, second) {
         (None, None) => true,
-        (Some(a), Some(b)) => a == b,
+        (Some(first), Some(second)) => first == second,
         _ => false,
     }
 }
 
-// The places of the longest text, with the one behind its last word.
+/// How deep loops are nested at most.
+pub(crate) const MAX_DEPTH: usize = 4;
+
+// The places of the longest text, with the one after its last word.
 const PLACES: usize = MAX_WORDS + 1;
 
 // The place of the `next` of the innermost loop around a place, and how many loops are around it.
@@ -49,25 +53,25 @@ struct Around {
     depth: usize,
 }
 
-// What is around a word, by what is around the places behind it: around a `loop`, what is around the place behind its `next`.
+// What is around a word, by what is around the places after it: around a `loop`, what is around the place after its `next`.
 fn around_word(words: &[Word], at: usize, table: &[Around; PLACES]) -> Around
     requires inside { at < length words.now }
     requires few { length words.now ≤ 1024 }
     requires told { TellsFrom words.now (at + 1) table.now }
     ensures { result ≡ around words.now at }
 {
-    let behind = table[at + 1];
-    match (words[at], behind.next) {
+    let after = table[at + 1];
+    match (words[at], after.next) {
         (Word::Next, _) => Around {
             next: Some(at),
-            depth: behind.depth + 1,
+            depth: after.depth + 1,
         },
         (Word::Loop { .. }, Some(next)) => table[next + 1],
-        _ => behind,
+        _ => after,
     }
 }
 
-// What is around each place of a text, and behind it. It goes from the right, since a `next` stands behind the words of its loop.
+// What is around each place of a text, and after it. It goes from the right, since a `next` stands after the words of its loop.
 fn around_each(words: &[Word]) -> [Around; PLACES]
     requires { length words.now ≤ 1024 }
     ensures { TellsFrom words.now 0 result }
@@ -114,7 +118,7 @@ fn is_misshapen(
             _ => false,
         },
         Reason::LoopsTooDeep => match word {
-            Word::Loop { .. } => table[at + 1].depth > 4,
+            Word::Loop { .. } => table[at + 1].depth > MAX_DEPTH,
             _ => false,
         },
         Reason::BranchMisplaced => match word {

@@ -5,7 +5,7 @@ use Rattle.micro_word.specs.declared.refusal.WordFault.{WordFault}
 use Rattle.micro_word.specs.declared.refusal.WordFault.TheVariants.{TooShort, UnknownFormat, TooManyWords, UnknownCode, UnusedFieldSet, OutOfRange}
 use Rattle.micro_word.specs.declared.refusal.WordRefusal.{WordRefusal}
 use Rattle.micro_word.specs.declared.refusal.WordRefusal.TheVariants.{Fault, OutOfMemory}
-use Rattle.micro_word.specs.declared.reading.Header.{Header}
+use Rattle.micro_word.specs.declared.header.Header.{Header}
 use Rattle.micro_word.specs.Word.{is_in_range, word_of, has_stray}
 use Rattle.micro_word.specs.Reading.{◌>>=◌, Gives, u16_at, format_at, header_in, judged, header_at, word_at, words_at, reading}
 

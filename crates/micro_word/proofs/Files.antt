@@ -11,7 +11,7 @@ use Rattle.micro_word.specs.declared.word.Word.{Word}
 use Rattle.micro_word.specs.declared.refusal.WordFault.TheVariants.{TrailingBytes}
 use Rattle.micro_word.specs.declared.refusal.WordRefusal.{WordRefusal}
 use Rattle.micro_word.specs.declared.refusal.WordRefusal.TheVariants.{Fault}
-use Rattle.micro_word.specs.declared.reading.Header.{Header}
+use Rattle.micro_word.specs.declared.header.Header.{Header}
 use Rattle.micro_word.specs.Word.{limit, spelling, IsInRange}
 use Rattle.micro_word.specs.Text.{Microprogram, FitsFormat, magic, file, IsFileOf}
 use Rattle.micro_word.specs.Reading.{◌>>=◌, Gives, format_at, header_in, header_at, words_at, reading}

@@ -10,7 +10,7 @@ use Rattle.micro_word.specs.declared.format.Format.{Format}
 use Rattle.micro_word.specs.declared.format.Format.TheVariants.{One, Two}
 use Rattle.micro_word.specs.declared.refusal.WordFault.TheVariants.{TooShort, UnknownFormat, TooManyWords, OutOfRange}
 use Rattle.micro_word.specs.declared.refusal.WordRefusal.TheVariants.{Fault}
-use Rattle.micro_word.specs.declared.reading.Header.{Header}
+use Rattle.micro_word.specs.declared.header.Header.{Header}
 use Rattle.micro_word.specs.Word.{limit, is_header_in_range}
 use Rattle.micro_word.specs.Text.{magic}
 use Rattle.micro_word.specs.Reading.{◌>>=◌, u16_at, u32_at, format_at, lacks_words, header_in, judged, header_at}

@@ -4,7 +4,7 @@ use Rattle.std.specs.Prelude.{IsOk}
 use Rattle.std.proofs.lemmas.List.{append-nil}
 use Rattle.micro_word.specs.declared.word.Word.{Word}
 use Rattle.micro_word.specs.declared.refusal.WordRefusal.{WordRefusal}
-use Rattle.micro_word.specs.declared.reading.Header.{Header}
+use Rattle.micro_word.specs.declared.header.Header.{Header}
 use Rattle.micro_word.specs.Reading.{◌>>=◌, word_at, words_at}
 
 -- what was read before, and what is still read

@@ -7,7 +7,7 @@ use Rattle.micro_word.specs.declared.word.Word.{Word}
 use Rattle.micro_word.specs.declared.refusal.WordFault.TheVariants.{UnknownCode, UnusedFieldSet, OutOfRange}
 use Rattle.micro_word.specs.declared.refusal.WordRefusal.{WordRefusal}
 use Rattle.micro_word.specs.declared.refusal.WordRefusal.TheVariants.{Fault}
-use Rattle.micro_word.specs.declared.reading.Header.{Header}
+use Rattle.micro_word.specs.declared.header.Header.{Header}
 use Rattle.micro_word.specs.Word.{IsInRange, is_in_range, four, spelling, word_of, has_stray}
 use Rattle.micro_word.specs.Reading.{◌>>=◌, u16_at, word_at, words_at}
 use Rattle.micro_word.proofs.Ranges.{in_range, passes}

@@ -7,7 +7,7 @@ use Rattle.micro_word.specs.declared.word.Word.{Word}
 use Rattle.micro_word.specs.declared.refusal.WordFault.TheVariants.{TooShort, UnknownFormat, TooManyWords, UnknownCode, UnusedFieldSet, OutOfRange, TrailingBytes}
 use Rattle.micro_word.specs.declared.refusal.WordRefusal.{WordRefusal}
 use Rattle.micro_word.specs.declared.refusal.WordRefusal.TheVariants.{Fault, OutOfMemory}
-use Rattle.micro_word.specs.declared.reading.Header.{Header}
+use Rattle.micro_word.specs.declared.header.Header.{Header}
 use Rattle.micro_word.specs.Word.{is_header_in_range, is_in_range, word_of, has_stray}
 use Rattle.micro_word.specs.Text.{Microprogram, magic}
 

@@ -6,17 +6,19 @@
 //! written. The words and the two formats are this project's own.
 #![tactic(auto)]
 
+mod code;
 mod format;
+mod header;
 mod reading;
 mod refusal;
 mod text;
 mod word;
 mod writing;
 
-pub use format::{Format, MAX_ROWS, MAX_WORDS};
+pub use format::{Format, HEADER_BYTES, MAX_ROWS, MAX_WORDS, WORD_BYTES};
 pub use reading::read;
 pub use refusal::{WordFault, WordRefusal};
-pub use text::Text;
+pub use text::{Text, WordsRefused};
 pub use word::Word;
 pub use writing::{formats_differ_in_one_byte, write};
 

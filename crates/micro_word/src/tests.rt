@@ -269,19 +269,19 @@ fn order_of_the_faults_of_a_word(rt: HostRuntime) {
 #[test]
 fn texts_that_are_refused(rt: HostRuntime) -> Result<(), Fail> {
     let many = vec![in rt.alloc(); Word::Next; 1025]?;
-    let (refusal, words) = Text::of(0, 0, 0, many).err().ok_or("too many words")?;
+    let WordsRefused { refusal, words } = Text::of(0, 0, 0, many).err().ok_or("too many words")?;
     assert_eq!(rt;
         (Some(refusal), words.len()),
         (fault(WordFault::TooManyWords, 0), 1025)
     );
     for (rows, buffer) in [(0, 0), (4097, 0), (1, 16_777_216)] {
-        let (refusal, _) = Text::of(rows, buffer, 0, Vec::new(rt.alloc()))
+        let refused = Text::of(rows, buffer, 0, Vec::new(rt.alloc()))
             .err()
             .ok_or("a header out of range")?;
-        assert_eq!(rt; Some(refusal), fault(WordFault::OutOfRange, 0));
+        assert_eq!(rt; Some(refused.refusal), fault(WordFault::OutOfRange, 0));
     }
     let words = vec![in rt.alloc(); Word::Wait, Word::Jump { target: 2 }]?;
-    let (refusal, words) = Text::of(1, 0, 0, words)
+    let WordsRefused { refusal, words } = Text::of(1, 0, 0, words)
         .err()
         .ok_or("a target out of range")?;
     assert_eq!(rt; Some(refusal), fault(WordFault::OutOfRange, 1));

@@ -21,6 +21,13 @@ pub struct Text<A: Allocator = Global> {
     words: Vec<Word, A>,
 }
 
+/// Words that are no text: why, with the words handed back.
+#[derive(Debug, Drop)]
+pub struct WordsRefused<A: Allocator = Global> {
+    pub refusal: WordRefusal,
+    pub words: Vec<Word, A>,
+}
+
 impl<A: Allocator> Model for Text<A> {
     ghost use Rattle.micro_word.specs.declared.format.Format.TheVariants.{Two};
     ghost use Rattle.micro_word.specs.Text.{Microprogram, FitsFormat};
@@ -41,16 +48,17 @@ impl<A: Allocator> Text<A> {
         buffer: u32,
         budget: u32,
         words: Vec<Word, A>,
-    ) -> Result<Text<A>, (WordRefusal, Vec<Word, A>)>
+    ) -> Result<Text<A>, WordsRefused<A>>
         // Exactly what fits format 2 is a text.
         ensures accepted { let x : Microprogram = record { rows = rows; buffer = buffer; budget = budget; words = words.items } in
             IsOk result ↔ FitsFormat Two x }
         ensures value { let x : Microprogram = record { rows = rows; buffer = buffer; budget = budget; words = words.items } in
             IfOk result (λ text. text ≡ x) }
-        ensures refused { IfErr result (λ refused. (fault_of rows buffer words.items ≡ Some refused.0) × (refused.1.items ≡ words.items)) }
+        ensures refused { IfErr result (λ refused. (fault_of rows buffer words.items ≡ Some refused.refusal)
+            × (refused.words.items ≡ words.items)) }
     {
         match first_fault(rows, buffer, &words) {
-            Some(refusal) => Err((refusal, words)),
+            Some(refusal) => Err(WordsRefused { refusal, words }),
             None => Ok(Text::new(rows, buffer, budget, words)),
         }
     }

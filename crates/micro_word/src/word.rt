@@ -1,8 +1,18 @@
 ghost use Rattle.std.specs.Prelude.{◌≡◌, ◌↔◌, IsTrue};
 ghost use Rattle.micro_word.specs.Word.{is_in_range, IsInRange, uses_a, uses_b, has_stray, four, carrying, spelling, word_of};
 
-use crate::format::Format;
+use crate::code;
+use crate::format::{Format, MAX_ROWS, WORD_BYTES};
 use byteorder::{ByteOrder, LittleEndian};
+
+// The address bytes: two of the column and three of the row.
+const ADDRESS_BYTES: u8 = 5;
+
+// The greatest plane that a word can choose.
+const GREATEST_PLANE: u8 = 3;
+
+// The most turns of a loop.
+const MAX_TURNS: u16 = 4_096;
 
 /// One word of a microprogram. In a file it takes four bytes: a code, a field `a` of one byte and a
 /// field `b` of two, the lower byte first. Codes and mnemonics are our own choice; `cmd`, `addr`, `get`,
@@ -20,7 +30,7 @@ pub enum Word {
     /// `count` at least 1, and the last byte sent is still one of the five.
     Address { from: u8, count: u8 },
     /// `get` (03): takes `len` bytes, at least 1, from the die and stores them in the buffer, from the
-    /// current place on; the place ends behind them.
+    /// current place on; the place ends after them.
     Get { len: u32 },
     /// `put` (04): the other direction: sends `len` bytes of the buffer, at least 1, to the die, and
     /// moves the place alike.
@@ -31,7 +41,7 @@ pub enum Word {
     Column { column: u16 },
     /// `rowadd` (07): moves the row index on by `rows`, at least 1.
     RowAdd { rows: u16 },
-    /// `row` (08): sets the row index to `row` rows behind the job's base; below 4,096.
+    /// `row` (08): sets the row index to `row` rows after the job's base; below 4,096.
     Row { row: u16 },
     /// `plane` (09): chooses the plane of the addresses that follow, 0 to 3.
     Plane { plane: u8 },
@@ -60,14 +70,16 @@ impl Word {
         ensures meaning { IsTrue result ↔ IsInRange format words self }
     {
         match self {
-            Word::Address { from, count } => from <= 4 && 1 <= count && count <= 5 - from,
+            Word::Address { from, count } => {
+                from < ADDRESS_BYTES && 1 <= count && count <= ADDRESS_BYTES - from
+            },
             Word::Get { len } | Word::Put { len } => 1 <= len && len <= format.limit(),
             Word::Seek { place } => place <= format.limit(),
             Word::RowAdd { rows } => 1 <= rows,
-            Word::Row { row } => row < 4096,
-            Word::Plane { plane } => plane <= 3,
+            Word::Row { row } => row < MAX_ROWS,
+            Word::Plane { plane } => plane <= GREATEST_PLANE,
             Word::BranchOnStatus { mask, target } => 1 <= mask && usize::from(target) < words,
-            Word::Loop { turns } => 1 <= turns && turns <= 4096,
+            Word::Loop { turns } => 1 <= turns && turns <= MAX_TURNS,
             Word::Jump { target } => usize::from(target) < words,
             Word::End { .. }
             | Word::Command { .. }
@@ -80,10 +92,10 @@ impl Word {
     }
 
     // Whether a field that the word does not use is not 0.
-    pub(crate) fn has_stray(self, format: Format, a: u8, b: u16) -> bool
-        ensures { result ≡ has_stray format self a b }
+    pub(crate) fn has_stray(self, format: Format, field_a: u8, field_b: u16) -> bool
+        ensures { result ≡ has_stray format self field_a field_b }
     {
-        (!self.uses_a(format) && a != 0) || (!self.uses_b() && b != 0)
+        (!self.uses_a(format) && field_a != 0) || (!self.uses_b() && field_b != 0)
     }
 
     // Whether the word uses the field a.
@@ -122,75 +134,78 @@ impl Word {
 
     // The word of a code and its fields, whatever the ranges; none for an unknown code.
     #[tactic(auto, unfolding(crate::specs::Word::word_of))]
-    pub(crate) fn of(format: Format, code: u8, a: u8, b: u16) -> Option<Word>
-        ensures { result ≡ word_of format code a b }
+    pub(crate) fn of(format: Format, code: u8, field_a: u8, field_b: u16) -> Option<Word>
+        ensures { result ≡ word_of format code field_a field_b }
     {
         let number = match format {
-            Format::One => u32::from(b),
-            Format::Two => u32::from(a) * 65_536 + u32::from(b),
+            Format::One => u32::from(field_b),
+            Format::Two => u32::from(field_a) * 65_536 + u32::from(field_b),
         };
         match code {
-            0x00 => Some(Word::End { code: a }),
-            0x01 => Some(Word::Command { byte: a }),
-            0x02 => Some(Word::Address {
-                from: a,
-                count: b.min(255) as u8,
+            code::END => Some(Word::End { code: field_a }),
+            code::COMMAND => Some(Word::Command { byte: field_a }),
+            code::ADDRESS => Some(Word::Address {
+                from: field_a,
+                count: field_b.min(255) as u8,
             }),
-            0x03 => Some(Word::Get { len: number }),
-            0x04 => Some(Word::Put { len: number }),
-            0x05 => Some(Word::Seek { place: number }),
-            0x06 => Some(Word::Column { column: b }),
-            0x07 => Some(Word::RowAdd { rows: b }),
-            0x08 => Some(Word::Row { row: b }),
-            0x09 => Some(Word::Plane { plane: a }),
-            0x0a => Some(Word::Wait),
-            0x0b => Some(Word::Yield),
-            0x0c => Some(Word::ReadStatus),
-            0x0d => Some(Word::BranchOnStatus { mask: a, target: b }),
-            0x0e => Some(Word::Loop { turns: b }),
-            0x0f => Some(Word::Next),
-            0x10 => Some(Word::Jump { target: b }),
+            code::GET => Some(Word::Get { len: number }),
+            code::PUT => Some(Word::Put { len: number }),
+            code::SEEK => Some(Word::Seek { place: number }),
+            code::COLUMN => Some(Word::Column { column: field_b }),
+            code::ROW_ADD => Some(Word::RowAdd { rows: field_b }),
+            code::ROW => Some(Word::Row { row: field_b }),
+            code::PLANE => Some(Word::Plane { plane: field_a }),
+            code::WAIT => Some(Word::Wait),
+            code::YIELD => Some(Word::Yield),
+            code::READ_STATUS => Some(Word::ReadStatus),
+            code::BRANCH_ON_STATUS => Some(Word::BranchOnStatus {
+                mask: field_a,
+                target: field_b,
+            }),
+            code::LOOP => Some(Word::Loop { turns: field_b }),
+            code::NEXT => Some(Word::Next),
+            code::JUMP => Some(Word::Jump { target: field_b }),
             _ => None,
         }
     }
 
     // The word's four bytes.
-    pub(crate) fn to_bytes(self) -> [u8; 4]
+    pub(crate) fn to_bytes(self) -> [u8; WORD_BYTES]
         ensures { result ≡ spelling self }
     {
         match self {
-            Word::End { code } => four(0x00, code, 0),
-            Word::Command { byte } => four(0x01, byte, 0),
-            Word::Address { from, count } => four(0x02, from, u16::from(count)),
-            Word::Get { len } => carrying(0x03, len),
-            Word::Put { len } => carrying(0x04, len),
-            Word::Seek { place } => carrying(0x05, place),
-            Word::Column { column } => four(0x06, 0, column),
-            Word::RowAdd { rows } => four(0x07, 0, rows),
-            Word::Row { row } => four(0x08, 0, row),
-            Word::Plane { plane } => four(0x09, plane, 0),
-            Word::Wait => four(0x0a, 0, 0),
-            Word::Yield => four(0x0b, 0, 0),
-            Word::ReadStatus => four(0x0c, 0, 0),
-            Word::BranchOnStatus { mask, target } => four(0x0d, mask, target),
-            Word::Loop { turns } => four(0x0e, 0, turns),
-            Word::Next => four(0x0f, 0, 0),
-            Word::Jump { target } => four(0x10, 0, target),
+            Word::End { code } => four(code::END, code, 0),
+            Word::Command { byte } => four(code::COMMAND, byte, 0),
+            Word::Address { from, count } => four(code::ADDRESS, from, u16::from(count)),
+            Word::Get { len } => carrying(code::GET, len),
+            Word::Put { len } => carrying(code::PUT, len),
+            Word::Seek { place } => carrying(code::SEEK, place),
+            Word::Column { column } => four(code::COLUMN, 0, column),
+            Word::RowAdd { rows } => four(code::ROW_ADD, 0, rows),
+            Word::Row { row } => four(code::ROW, 0, row),
+            Word::Plane { plane } => four(code::PLANE, plane, 0),
+            Word::Wait => four(code::WAIT, 0, 0),
+            Word::Yield => four(code::YIELD, 0, 0),
+            Word::ReadStatus => four(code::READ_STATUS, 0, 0),
+            Word::BranchOnStatus { mask, target } => four(code::BRANCH_ON_STATUS, mask, target),
+            Word::Loop { turns } => four(code::LOOP, 0, turns),
+            Word::Next => four(code::NEXT, 0, 0),
+            Word::Jump { target } => four(code::JUMP, 0, target),
         }
     }
 }
 
 // A word's code and its fields as bytes.
-fn four(code: u8, a: u8, b: u16) -> [u8; 4]
-    ensures { result ≡ four code a b }
+fn four(code: u8, field_a: u8, field_b: u16) -> [u8; WORD_BYTES]
+    ensures { result ≡ four code field_a field_b }
 {
-    let mut bytes = [code, a, 0, 0];
-    LittleEndian::write_u16(&mut bytes[2..], b);
+    let mut bytes = [code, field_a, 0, 0];
+    LittleEndian::write_u16(&mut bytes[2..], field_b);
     bytes
 }
 
 // A word that carries a number in both its fields.
-fn carrying(code: u8, number: u32) -> [u8; 4]
+fn carrying(code: u8, number: u32) -> [u8; WORD_BYTES]
     ensures { result ≡ carrying code number }
 {
     four(

@@ -6,6 +6,7 @@ ghost use Rattle.micro_word.specs.declared.format.Format.TheVariants.{Two};
 ghost use Rattle.micro_word.specs.Text.{magic, file2, FormatsDifferInOneByte};
 ghost use Rattle.micro_word.specs.Reading.{reading};
 
+use crate::format::{HEADER_BYTES, WORD_BYTES};
 use crate::text::Text;
 use byteorder::{ByteOrder, LittleEndian};
 use std::alloc::{AllocError, Allocator};
@@ -17,7 +18,7 @@ pub fn write<A: Allocator, B: Allocator>(alloc: A, text: &Text<B>) -> Result<Vec
     ensures read_back { IfOk result (λ v. reading v.items ≡ Ok text.now) }
 {
     let words = text.words();
-    let mut bytes = Vec::with_capacity(alloc, 16 + 4 * words.len())?;
+    let mut bytes = Vec::with_capacity(alloc, HEADER_BYTES + WORD_BYTES * words.len())?;
     bytes.extend_from_slice(&header_of(
         words.len() as u16,
         text.rows(),
@@ -36,7 +37,7 @@ pub fn formats_differ_in_one_byte()
 {}
 
 // The 16 bytes of a header.
-fn header_of(words: u16, rows: u16, buffer: u32, budget: u32) -> [u8; 16]
+fn header_of(words: u16, rows: u16, buffer: u32, budget: u32) -> [u8; HEADER_BYTES]
     ensures { result ≡ magic Two ++ to_le_bytes w16 words ++ to_le_bytes w16 rows ++ to_le_bytes w32 buffer ++ to_le_bytes w32 budget }
 {
     let mut bytes = *b"NMP2............";

@@ -1,7 +1,7 @@
 -- Numbers have no fault exactly where they are inside the limits.
 use Rattle.std.proofs.Common.{◌≡◌, ◌+◌, ◌≤◌, Bool, true, false, cond, Option, Some, None, refl, arith}
 use Rattle.std.proofs.lemmas.Bool.Decides.{nat_tests}
-use Rattle.nand_geometry.specs.declared.Parts.{Parts}
+use Rattle.nand_geometry.specs.declared.parts.Parts.{Parts}
 use Rattle.nand_geometry.specs.Limits.{width, block_bits, page_bits, planes, has_size_fault, has_lun_fault, has_plane_fault, has_status_fault, fault_of, InLimits, FaultlessAreInLimits}
 
 -- where the answer is none, the first test was false and the rest is none

@@ -2,7 +2,7 @@
 use Rattle.std.proofs.Common.{◌≡◌, ℕ, ◌+◌, ◌*◌, ◌/◌, ◌%◌, ◌^◌, ◌<◌, ◌≤◌, Bool, true, false, not, cond, ◌&&◌, nat_lt, List, [], ◌∷◌, ◌++◌, All, length, None, Ok, refl, sym, ap, ◌∙◌, arith, eq-eqb, append_assoc, length-append}
 use Rattle.std.specs.List.{concat}
 use Rattle.std.proofs.lemmas.List.Elements.{All-head, All-tail, All-nil}
-use Rattle.nand_geometry.specs.declared.Parts.{Parts}
+use Rattle.nand_geometry.specs.declared.parts.Parts.{Parts}
 use Rattle.nand_geometry.specs.Limits.{fault_of, InLimits}
 use Rattle.nand_geometry.specs.Page.{flag, page_body, crc, page, parameter_bytes}
 use Rattle.nand_geometry.specs.Reading.{whole_copies, has_bit, is_signed, is_sound, declared_by, has_lun_operations, copy_fault, IsDamaged, PagesReadBack, ParametersReadBack}

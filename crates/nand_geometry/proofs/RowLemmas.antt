@@ -2,8 +2,8 @@
 use Rattle.std.proofs.Common.{◌≡◌, ℕ, suc, ◌+◌, ◌*◌, ◌/◌, ◌%◌, ◌^◌, ◌<◌, ◌≤◌, true, [], ◌∷◌, Some, refl, sym, ap, subst, ◌∙◌, arith, lt-ltb}
 use Rattle.std.proofs.lemmas.Nat.{pow-add, div-mul-add, mod-mul-add, mod-pow-add, shr_split, same_from_place, div-add-mod'}
 use Rattle.std.proofs.Math.Nat.{pow-le-pow_right, div-lt_iff_lt-mul, div-mul-le_self, mul-le-mul_right}
-use Rattle.nand_geometry.specs.declared.Parts.{Parts}
-use Rattle.nand_geometry.specs.declared.RowParts.{RowParts}
+use Rattle.nand_geometry.specs.declared.parts.Parts.{Parts}
+use Rattle.nand_geometry.specs.declared.row_parts.RowParts.{RowParts}
 use Rattle.nand_geometry.specs.Limits.{width, page_bits, block_bits, planes, indices, InLimits, KeepsWidths}
 use Rattle.nand_geometry.specs.Row.{row_number, indexed, row_of, parts_of, is_inside, RowsReadBack, PartsGiveTheRow, IndicesAreDistinct}
 use Rattle.nand_geometry.proofs.FieldLemmas.{width_fits, beside}

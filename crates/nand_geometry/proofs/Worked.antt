@@ -1,7 +1,7 @@
 -- Rows, faults and parameter pages worked by hand, on two geometries.
 use Rattle.std.proofs.Common.{◌≡◌, true, false, List, ℕ, [], ◌∷◌, ◌++◌, Some, None, Ok, slice_set, refl}
-use Rattle.nand_geometry.specs.declared.Parts.{Parts}
-use Rattle.nand_geometry.specs.declared.PageFault.TheVariants.{TooShort, NoSignature, WrongChecksum, LunsOutOfRange, PlanesOutOfRange, LunCommandsMissing}
+use Rattle.nand_geometry.specs.declared.parts.Parts.{Parts}
+use Rattle.nand_geometry.specs.declared.page_fault.PageFault.TheVariants.{TooShort, NoSignature, WrongChecksum, LunsOutOfRange, PlanesOutOfRange, LunCommandsMissing}
 use Rattle.nand_geometry.specs.Limits.{width, page_len, planes, indices, fault_of}
 use Rattle.nand_geometry.specs.Page.{crc_bits, page}
 use Rattle.nand_geometry.specs.Reading.{is_signed, is_sound, declared_by, copy_fault, page_fault, read_of}

@@ -1,7 +1,7 @@
 -- The codes under which faults are told.
 use Rattle.std.specs.Prelude.{ℕ, List, codes}
-use Rattle.nand_geometry.specs.declared.PageFault.{PageFault}
-use Rattle.nand_geometry.specs.declared.PageFault.TheVariants.{TooShort, NoSignature, WrongChecksum, WideBus, AddressCycles, SizeOutOfRange, LunsOutOfRange, PlanesOutOfRange, LunCommandsMissing}
+use Rattle.nand_geometry.specs.declared.page_fault.PageFault.{PageFault}
+use Rattle.nand_geometry.specs.declared.page_fault.PageFault.TheVariants.{TooShort, NoSignature, WrongChecksum, WideBus, AddressCycles, SizeOutOfRange, LunsOutOfRange, PlanesOutOfRange, LunCommandsMissing}
 
 -- the code under which a fault of a parameter page is told
 abbrev pub page_fault_code : PageFault → List ℕ

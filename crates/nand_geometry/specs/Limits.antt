@@ -1,8 +1,8 @@
 -- Which numbers a geometry may have, and how wide the fields of its rows are.
 use Rattle.std.specs.Prelude.{◌≡◌, ℕ, zero, suc, ◌+◌, ◌*◌, ◌/◌, ◌^◌, ◌≤◌, ◌↔◌, Bool, ◌||◌, ◌&&◌, not, if◌then◌else◌, nat_lt, nat_le, true, Option, Some, None}
-use Rattle.nand_geometry.specs.declared.Parts.{Parts}
-use Rattle.nand_geometry.specs.declared.PageFault.{PageFault}
-use Rattle.nand_geometry.specs.declared.PageFault.TheVariants.{SizeOutOfRange, LunsOutOfRange, PlanesOutOfRange, LunCommandsMissing}
+use Rattle.nand_geometry.specs.declared.parts.Parts.{Parts}
+use Rattle.nand_geometry.specs.declared.page_fault.PageFault.{PageFault}
+use Rattle.nand_geometry.specs.declared.page_fault.PageFault.TheVariants.{SizeOutOfRange, LunsOutOfRange, PlanesOutOfRange, LunCommandsMissing}
 
 -- how often n is halved, rounding up, until at most 1 is left; the first number bounds the steps
 abbrev pub halvings : ℕ → ℕ → ℕ

@@ -1,6 +1,6 @@
 -- The parameter page of a geometry (ONFI 4.x, Read Parameter Page Definition).
 use Rattle.std.specs.Prelude.{◌≡◌, ℕ, zero, suc, ◌+◌, ◌*◌, ◌/◌, ◌%◌, ◌^◌, ◌==◌, Bool, nat_lt, if◌then◌else◌, List, [], ◌∷◌, ◌++◌, replicate, bit_xor, length}
-use Rattle.nand_geometry.specs.declared.Parts.{Parts}
+use Rattle.nand_geometry.specs.declared.parts.Parts.{Parts}
 
 -- so many bytes of a number, the least significant first
 abbrev pub low_bytes : ℕ → ℕ → List ℕ

@@ -1,9 +1,9 @@
 -- How a parameter page is read (ONFI 4.x, Read Parameter Page Definition): which copy is used, what it declares, and the first fault.
 use Rattle.std.specs.Prelude.{◌≡◌, ℕ, zero, suc, ◌+◌, ◌*◌, ◌/◌, ◌%◌, ◌^◌, ◌==◌, Bool, true, false, ◌||◌, ◌&&◌, not, if◌then◌else◌, nat_eq, nat_lt, codes, List, [], ◌∷◌, ◌++◌, All, length, take, drop, slice_index, find, Option, Some, None, unwrap_or, Result, Ok, Err}
 use Rattle.std.specs.List.{concat, list_any, starts_with}
-use Rattle.nand_geometry.specs.declared.Parts.{Parts}
-use Rattle.nand_geometry.specs.declared.PageFault.{PageFault}
-use Rattle.nand_geometry.specs.declared.PageFault.TheVariants.{TooShort, NoSignature, WrongChecksum, WideBus, AddressCycles, SizeOutOfRange, LunsOutOfRange, PlanesOutOfRange, LunCommandsMissing}
+use Rattle.nand_geometry.specs.declared.parts.Parts.{Parts}
+use Rattle.nand_geometry.specs.declared.page_fault.PageFault.{PageFault}
+use Rattle.nand_geometry.specs.declared.page_fault.PageFault.TheVariants.{TooShort, NoSignature, WrongChecksum, WideBus, AddressCycles, SizeOutOfRange, LunsOutOfRange, PlanesOutOfRange, LunCommandsMissing}
 use Rattle.nand_geometry.specs.Limits.{is_within, has_size_fault, has_lun_fault, has_plane_fault, has_status_fault, InLimits}
 use Rattle.nand_geometry.specs.Page.{crc, page, parameter_bytes}
 

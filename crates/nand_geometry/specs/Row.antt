@@ -1,7 +1,7 @@
 -- Rows: the number that three address bytes carry, and what it names.
 use Rattle.std.specs.Prelude.{◌≡◌, ℕ, ◌+◌, ◌*◌, ◌/◌, ◌%◌, ◌^◌, ◌<◌, Bool, true, ◌&&◌, if◌then◌else◌, nat_lt, List, [], ◌∷◌, Option, Some, None}
-use Rattle.nand_geometry.specs.declared.Parts.{Parts}
-use Rattle.nand_geometry.specs.declared.RowParts.{RowParts}
+use Rattle.nand_geometry.specs.declared.parts.Parts.{Parts}
+use Rattle.nand_geometry.specs.declared.row_parts.RowParts.{RowParts}
 use Rattle.nand_geometry.specs.Limits.{page_bits, block_bits, planes, indices, InLimits}
 
 -- the number of a row: its LUN, block and page in fields beside one another, the page lowest

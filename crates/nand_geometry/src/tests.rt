@@ -4,17 +4,7 @@ use super::*;
 use std::test::Fail;
 
 /// One LUN of 8 blocks of 4 pages of 512 + 16 bytes, in one plane.
-pub(crate) const ONE_LUN: Parts = Parts {
-    page_bytes: 512,
-    spare_bytes: 16,
-    pages: 4,
-    blocks: 8,
-    luns: 1,
-    plane_bits: 0,
-    enhanced: false,
-    multi_plane: false,
-    cache: false,
-};
+pub(crate) const ONE_LUN: Parts = SMALL_CHIP;
 
 /// Two such LUNs, each in two planes.
 pub(crate) const TWO_LUNS: Parts = Parts {

@@ -1,17 +1,18 @@
 -- What an item makes of the LUNs of its target, by its parts.
+use Rattle.std.specs.List.{list_any}
 use Rattle.std.proofs.Common.{◌≡◌, ℕ, zero, suc, ◌+◌, ◌<◌, ◌==◌, ◌≢◌, ◌≤◌, length, Bool, true, false, ◌||◌, cond, Option, Some, None, List, [], ◌∷◌, refl, sym, ap, ◌∙◌, arith, set, get_or}
 use Rattle.std.proofs.lemmas.Bool.Decides.{nat_tests}
-use Rattle.nand_geometry.specs.declared.Parts.{Parts}
+use Rattle.nand_geometry.specs.declared.parts.Parts.{Parts}
 use Rattle.onfi_cycle.specs.declared.command.Command.{Command}
-use Rattle.onfi_cycle.specs.declared.tail_facts.Opening.{Opening}
+use Rattle.onfi_cycle.specs.declared.opening.Opening.{Opening}
 use Rattle.onfi_cycle.specs.declared.command.Command.TheVariants.{Read, ReadConfirm, ChangeReadColumn, ChangeReadColumnConfirm, BlockErase, BlockEraseConfirm, BlockErasePlane, ReadStatus, ReadStatusEnhanced, PageProgram, ChangeWriteColumn, ProgramConfirm, ProgramPlane, ReadId, ReadParameterPage, Reset, ReadCacheSequential, ReadCacheEnd, Unknown}
 use Rattle.onfi_cycle.specs.declared.item.Cycle.{Cycle}
 use Rattle.onfi_cycle.specs.declared.effect.Effect.{Effect}
 use Rattle.onfi_cycle.specs.declared.effect.Effect.TheVariants.{Unaffected, BecameReady, ArrayBecameReady}
 use Rattle.onfi_cycle.specs.declared.item.Item.{Item}
 use Rattle.onfi_cycle.specs.declared.item.Item.TheVariants.{Cyc, Rdy, Ard}
-use Rattle.onfi_cycle.specs.declared.lun_facts.Latch.{Latch}
-use Rattle.onfi_cycle.specs.declared.lun_facts.Latch.TheVariants.{Off}
+use Rattle.onfi_cycle.specs.declared.latch.Latch.{Latch}
+use Rattle.onfi_cycle.specs.declared.latch.Latch.TheVariants.{Off}
 use Rattle.onfi_cycle.specs.declared.tail_facts.TailFacts.{TailFacts}
 use Rattle.onfi_cycle.specs.declared.target_cycle.TargetCycle.{TargetCycle}
 use Rattle.onfi_cycle.specs.declared.target_cycle.TargetCycle.TheVariants.{CommandCycle, AddressCycle, InputCycle, OutputCycle}
@@ -19,7 +20,6 @@ use Rattle.onfi_cycle.specs.LunView.{LunView}
 use Rattle.onfi_cycle.specs.Applied.{luns_after_cycle, one_after, needs_no_row, acts_by_address, may_act}
 use Rattle.onfi_cycle.specs.Effect.{cycle_effect, command_effect, address_effect, opening_address_effect, is_data}
 use Rattle.onfi_cycle.specs.Lun.{view_after}
-use Rattle.onfi_cycle.specs.Rules.{some_lun_is}
 use Rattle.onfi_cycle.specs.Sequence.{target_cycle, facts_after, opened, wants_command}
 use Rattle.onfi_cycle.specs.State.{TargetView, luns_after, effect_alone, has_driver, target_after, target}
 use Rattle.std.proofs.lemmas.Bool.{eq-eqb}
@@ -100,7 +100,7 @@ luns_rest g t sole (AddressCycle byte) n (v ∷ vs) h =
 luns_rest g t sole (InputCycle byte) n (v ∷ vs) h =
     goes_on g t sole (InputCycle byte) n v vs (refl) (luns_rest g t sole (InputCycle byte) (n + 1) vs h)
 luns_rest g t sole OutputCycle n (v ∷ vs) h =
-    goes_on g t sole OutputCycle n v vs (output_rests g t sole v.latch n (neither (is_data v.latch) (some_lun_is (λ (w : LunView). is_data w.latch) vs) h).0) (luns_rest g t sole OutputCycle (n + 1) vs (neither (is_data v.latch) (some_lun_is (λ (w : LunView). is_data w.latch) vs) h).1)
+    goes_on g t sole OutputCycle n v vs (output_rests g t sole v.latch n (neither (is_data v.latch) (list_any (λ (w : LunView). is_data w.latch) vs) h).0) (luns_rest g t sole OutputCycle (n + 1) vs (neither (is_data v.latch) (list_any (λ (w : LunView). is_data w.latch) vs) h).1)
 
 -- 2. a ready
 

@@ -1,11 +1,13 @@
 -- The one driver, as a number and as what the rules see of it.
-use Rattle.std.proofs.Common.{◌≡◌, ℕ, zero, suc, ◌+◌, ◌==◌, Bool, true, false, cond, List, [], ◌∷◌, Some, refl, ap, arith}
+use Rattle.std.specs.List.{list_all}
+use Rattle.std.proofs.Common.{◌≡◌, ℕ, zero, suc, ◌+◌, ◌==◌, ◌&&◌, Bool, true, false, cond, List, [], ◌∷◌, Some, refl, ap, arith}
 use Rattle.std.proofs.lemmas.Bool.Decides.{nat_tests}
-use Rattle.nand_geometry.specs.declared.Parts.{Parts}
+use Rattle.nand_geometry.specs.declared.parts.Parts.{Parts}
 use Rattle.onfi_cycle.specs.declared.item.Item.{Item}
 use Rattle.onfi_cycle.specs.Effect.{is_off}
 use Rattle.onfi_cycle.specs.Lun.{latch, drivers, drivers_from, is_only, lun_view, views_from, luns_of}
-use Rattle.onfi_cycle.specs.Rules.{driving, only, driver}
+use Rattle.onfi_cycle.specs.LunView.{LunView}
+use Rattle.onfi_cycle.specs.Rules.{driving, are_none, only, driver}
 
 -- where no number is left, no view is
 none_driving : (g : Parts) (past : List Item) (ce count n : ℕ) → drivers_from (λ m. latch g past (record { ce = ce; lun = m })) count n ≡ [] → driving (views_from g past ce count n) ≡ []
@@ -35,3 +37,12 @@ sole_driver_view g past ce (suc count) n m h = at (is_off (latch g past (record 
 -- of a target
 pub driver_of_target : (g : Parts) (past : List Item) (ce m : ℕ) → is_only (drivers g past ce) m ≡ true → driver (luns_of g past ce) ≡ Some (lun_view g past (record { ce = ce; lun = m }))
 driver_of_target g past ce m h = sole_driver_view g past ce g.luns 0 m h
+
+-- where all are off, none drives
+pub none_drive : (luns : List LunView) → list_all (λ v. is_off v.latch) luns ≡ are_none (driving luns)
+none_drive [] = refl
+none_drive (v ∷ vs) = at (is_off v.latch) (none_drive vs)
+  where
+    at : (b : Bool) → list_all (λ w. is_off w.latch) vs ≡ are_none (driving vs) → (b && list_all (λ w. is_off w.latch) vs) ≡ are_none (cond b (driving vs) (v ∷ driving vs))
+    at true ih = ih
+    at false ih = refl

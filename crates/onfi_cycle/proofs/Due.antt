@@ -3,7 +3,7 @@ use Rattle.std.proofs.Common.{◌≡◌, ℕ, zero, suc, ◌+◌, ◌≤◌, ◌
 use Rattle.std.proofs.lemmas.Bool.Decides.{nat_tests}
 use Rattle.std.proofs.lemmas.Option.{slice_get_within, get_or_from_slice_get}
 use Rattle.std.specs.List.{slice_get, All}
-use Rattle.nand_geometry.specs.declared.Parts.{Parts}
+use Rattle.nand_geometry.specs.declared.parts.Parts.{Parts}
 use Rattle.onfi_cycle.specs.declared.command.Command.{Command}
 use Rattle.onfi_cycle.specs.declared.command.Command.TheVariants.{Read, ChangeReadColumnConfirm, ReadStatus, ReadStatusEnhanced, ReadConfirm, BlockEraseConfirm, BlockErasePlane, ProgramConfirm, ProgramPlane, ReadId, ReadParameterPage, Reset, ReadCacheSequential, ReadCacheEnd}
 use Rattle.onfi_cycle.specs.declared.item.Cycle.{Cycle}
@@ -12,9 +12,9 @@ use Rattle.onfi_cycle.specs.declared.effect.Effect.TheVariants.{Unaffected, Sele
 use Rattle.onfi_cycle.specs.declared.forbidden.Forbidden.TheVariants.{NotThere}
 use Rattle.onfi_cycle.specs.declared.item.Item.{Item}
 use Rattle.onfi_cycle.specs.declared.item.Item.TheVariants.{Cyc, Rdy, Ard}
-use Rattle.onfi_cycle.specs.declared.lun_facts.Latch.{Latch}
-use Rattle.onfi_cycle.specs.declared.lun_facts.Latch.TheVariants.{Off}
-use Rattle.onfi_cycle.specs.declared.tail_facts.Opening.{Opening}
+use Rattle.onfi_cycle.specs.declared.latch.Latch.{Latch}
+use Rattle.onfi_cycle.specs.declared.latch.Latch.TheVariants.{Off}
+use Rattle.onfi_cycle.specs.declared.opening.Opening.{Opening}
 use Rattle.onfi_cycle.specs.declared.tail_facts.TailFacts.{TailFacts}
 use Rattle.onfi_cycle.specs.declared.target_cycle.TargetCycle.{TargetCycle}
 use Rattle.onfi_cycle.specs.declared.target_cycle.TargetCycle.TheVariants.{CommandCycle, AddressCycle, InputCycle, OutputCycle}

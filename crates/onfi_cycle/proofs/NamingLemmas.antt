@@ -5,10 +5,10 @@ use Rattle.std.proofs.lemmas.List.{reverse-reverse}
 use Rattle.nand_geometry.specs.Row.{row_of}
 use Rattle.onfi_cycle.specs.declared.command.Command.{Command}
 use Rattle.onfi_cycle.specs.declared.command.Command.TheVariants.{Read, ChangeReadColumn, BlockErase, ReadStatusEnhanced, PageProgram, ChangeWriteColumn, ReadId, ReadParameterPage}
-use Rattle.onfi_cycle.specs.declared.tail_facts.Opening.{Opening}
-use Rattle.onfi_cycle.specs.declared.tail_facts.RowBytes.{RowBytes}
-use Rattle.onfi_cycle.specs.declared.tail_facts.DataPhase.{DataPhase}
-use Rattle.onfi_cycle.specs.declared.tail_facts.DataPhase.TheVariants.{Outside, Inputs, FirstColumn, SecondColumn}
+use Rattle.onfi_cycle.specs.declared.opening.Opening.{Opening}
+use Rattle.onfi_cycle.specs.declared.row_bytes.RowBytes.{RowBytes}
+use Rattle.onfi_cycle.specs.declared.data_phase.DataPhase.{DataPhase}
+use Rattle.onfi_cycle.specs.declared.data_phase.DataPhase.TheVariants.{Outside, Inputs, FirstColumn, SecondColumn}
 use Rattle.onfi_cycle.specs.declared.target_cycle.TargetCycle.{TargetCycle}
 use Rattle.onfi_cycle.specs.declared.target_cycle.TargetCycle.TheVariants.{CommandCycle, AddressCycle, InputCycle, OutputCycle}
 use Rattle.onfi_cycle.specs.Command.{is_opener, address_cycles, takes_address, is_page_program}

@@ -1,12 +1,12 @@
 -- Effects that leave all of a LUN but its latch and column.
 use Rattle.std.proofs.Common.{◌≡◌, ℕ, Bool, true, false, ◌||◌, List, Option, refl, ap, inl, inr, ltb}
-use Rattle.nand_geometry.specs.declared.Parts.{Parts}
-use Rattle.onfi_cycle.specs.declared.item.Lun.{Lun}
+use Rattle.nand_geometry.specs.declared.parts.Parts.{Parts}
+use Rattle.onfi_cycle.specs.declared.lun.Lun.{Lun}
 use Rattle.onfi_cycle.specs.declared.item.Item.{Item}
-use Rattle.onfi_cycle.specs.declared.effect.PageAddress.{PageAddress}
-use Rattle.onfi_cycle.specs.declared.lun_facts.Queued.{Queued}
-use Rattle.onfi_cycle.specs.declared.lun_facts.Register.{Register}
-use Rattle.onfi_cycle.specs.declared.lun_facts.ReadColumn.{ReadColumn}
+use Rattle.onfi_cycle.specs.declared.page_address.PageAddress.{PageAddress}
+use Rattle.onfi_cycle.specs.declared.queued.Queued.{Queued}
+use Rattle.onfi_cycle.specs.declared.register.Register.{Register}
+use Rattle.onfi_cycle.specs.declared.read_column.ReadColumn.{ReadColumn}
 use Rattle.onfi_cycle.specs.declared.effect.Effect.{Effect}
 use Rattle.onfi_cycle.specs.declared.effect.Effect.TheVariants.{Unaffected, DataOutputEnabled, StatusRowAwaited, Deselected}
 use Rattle.onfi_cycle.specs.Lun.{effect_on, read_column_after, busy_after, closer_after, array_busy_after, array_page_after, register_after, queue_after}

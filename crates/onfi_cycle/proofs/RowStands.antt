@@ -1,21 +1,22 @@
 -- The row that a tail names is inside the geometry and its LUN ready, from its last address to its closer.
+use Rattle.std.specs.List.{list_any}
 use Rattle.std.proofs.Common.{◌≡◌, ℕ, suc, ◌+◌, ◌==◌, ◌≤◌, Bool, true, false, ◌&&◌, ◌||◌, cond, not, List, [], ◌∷◌, Option, Some, None, refl, sym, ap, ◌∙◌, arith, length, ltb, subst, zero}
 use Rattle.std.proofs.lemmas.Bool.Decides.{nat_tests}
 use Rattle.std.specs.List.{slice_get}
-use Rattle.nand_geometry.specs.declared.Parts.{Parts}
+use Rattle.nand_geometry.specs.declared.parts.Parts.{Parts}
 use Rattle.nand_geometry.specs.Row.{row_of, parts_of, is_inside}
 use Rattle.onfi_cycle.specs.declared.command.Command.{Command}
 use Rattle.onfi_cycle.specs.declared.command.Command.TheVariants.{Read, BlockErase, PageProgram, ChangeWriteColumn, ReadId, ReadParameterPage}
-use Rattle.onfi_cycle.specs.declared.tail_facts.DataPhase.{DataPhase}
-use Rattle.onfi_cycle.specs.declared.tail_facts.DataPhase.TheVariants.{Outside, Inputs, FirstColumn, SecondColumn}
+use Rattle.onfi_cycle.specs.declared.data_phase.DataPhase.{DataPhase}
+use Rattle.onfi_cycle.specs.declared.data_phase.DataPhase.TheVariants.{Outside, Inputs, FirstColumn, SecondColumn}
 use Rattle.onfi_cycle.specs.declared.effect.Effect.{Effect}
 use Rattle.onfi_cycle.specs.declared.effect.Effect.TheVariants.{Unaffected, BecameReady, ArrayBecameReady}
 use Rattle.onfi_cycle.specs.declared.forbidden.Forbidden.TheVariants.{NotThere}
 use Rattle.onfi_cycle.specs.declared.item.Item.{Item}
 use Rattle.onfi_cycle.specs.declared.item.Item.TheVariants.{Cyc, Rdy, Ard}
-use Rattle.onfi_cycle.specs.declared.lun_facts.Latch.{Latch}
-use Rattle.onfi_cycle.specs.declared.lun_facts.Latch.TheVariants.{Off}
-use Rattle.onfi_cycle.specs.declared.tail_facts.Opening.{Opening}
+use Rattle.onfi_cycle.specs.declared.latch.Latch.{Latch}
+use Rattle.onfi_cycle.specs.declared.latch.Latch.TheVariants.{Off}
+use Rattle.onfi_cycle.specs.declared.opening.Opening.{Opening}
 use Rattle.onfi_cycle.specs.declared.tail_facts.TailFacts.{TailFacts}
 use Rattle.onfi_cycle.specs.declared.target_cycle.TargetCycle.{TargetCycle}
 use Rattle.onfi_cycle.specs.declared.target_cycle.TargetCycle.TheVariants.{CommandCycle, AddressCycle, InputCycle, OutputCycle}
@@ -24,7 +25,7 @@ use Rattle.onfi_cycle.specs.Command.{is_page_program, at_last_row, addresses_the
 use Rattle.onfi_cycle.specs.Sequence.{target_cycle, begins_sequence, facts_of, facts_after, extended_facts, opened, one_address_more, row_after_address, takes_inputs, wants_column, wants_command, phase_after_command, phase_after_address, phase_after_input, row, row_with}
 use Rattle.onfi_cycle.specs.Effect.{names_lun, page_address, cycle_effect, address_effect, opening_address_effect}
 use Rattle.onfi_cycle.specs.Lun.{busy_after, view_after}
-use Rattle.onfi_cycle.specs.Rules.{some_lun_is, named_lun_is, ends_row, breaks_not_there, breaks_several_luns, breaks_row_outside, breaks_lun_busy}
+use Rattle.onfi_cycle.specs.Rules.{named_lun_is, ends_row, breaks_not_there, breaks_several_luns, breaks_row_outside, breaks_lun_busy}
 use Rattle.onfi_cycle.specs.Permitted.{judge, judge_cycle}
 use Rattle.onfi_cycle.specs.State.{tail_after, effect_alone, has_driver}
 use Rattle.onfi_cycle.specs.Bounds.{TailFits, RowStands, is_read, is_block_erase, names_read, names_erase, names_program, names_row, names_identity, is_row}
@@ -56,7 +57,7 @@ not_true false h = refl
 
 -- ---- where there is one LUN alone
 
-some_of_one : (test : LunView → Bool) (luns : List LunView) (n : ℕ) (v : LunView) → length luns ≤ 1 → slice_get luns n ≡ Some v → some_lun_is test luns ≡ true → test v ≡ true
+some_of_one : (test : LunView → Bool) (luns : List LunView) (n : ℕ) (v : LunView) → length luns ≤ 1 → slice_get luns n ≡ Some v → list_any test luns ≡ true → test v ≡ true
 some_of_one test [] n v one found h = cc
 some_of_one test (x ∷ []) zero v one found h = let same : x ≡ v = cc in ap test (sym same) ∙ (sym (or_false (test x)) ∙ h)
   where
@@ -85,7 +86,7 @@ identity_stands g t luns n v c keeps count found h = of c h keeps.f4 keeps.f9
     few : ltb 1 g.luns ≡ false → length luns ≤ 1
     few e = grind (arith, nat_tests, count)
 
-    when : ltb 1 g.luns ≡ false → not (some_lun_is (λ v. not v.busy) luns) ≡ false → Identity v n
+    when : ltb 1 g.luns ≡ false → not (list_any (λ v. not v.busy) luns) ≡ false → Identity v n
     when one f9 = record { ready = not_true v.busy (some_of_one (λ v. not v.busy) luns n v (few one) found (not_false _ f9)); alone = number_of_one luns n v (few one) found }
 
     of : (c : Command) → reads_identity c ≡ true → breaks_several_luns g (CommandCycle c) ≡ false → breaks_lun_busy g t luns (CommandCycle c) ≡ false → Identity v n

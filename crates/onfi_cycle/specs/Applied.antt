@@ -1,17 +1,17 @@
 -- What the parts of an item make of the LUNs of its target.
+use Rattle.std.specs.List.{list_any}
 use Rattle.std.specs.Prelude.{ℕ, zero, suc, ◌+◌, Bool, true, false, ◌||◌, List, [], ◌∷◌, if◌then◌else◌}
-use Rattle.nand_geometry.specs.declared.Parts.{Parts}
+use Rattle.nand_geometry.specs.declared.parts.Parts.{Parts}
 use Rattle.onfi_cycle.specs.declared.command.Command.{Command}
 use Rattle.onfi_cycle.specs.declared.command.Command.TheVariants.{Read, ReadStatus, ReadStatusEnhanced, ReadId, ReadParameterPage, Reset, ChangeReadColumnConfirm, ReadCacheSequential, ReadCacheEnd}
 use Rattle.onfi_cycle.specs.declared.effect.Effect.{Effect}
-use Rattle.onfi_cycle.specs.declared.lun_facts.Latch.TheVariants.{Off}
+use Rattle.onfi_cycle.specs.declared.latch.Latch.TheVariants.{Off}
 use Rattle.onfi_cycle.specs.declared.tail_facts.TailFacts.{TailFacts}
 use Rattle.onfi_cycle.specs.declared.target_cycle.TargetCycle.{TargetCycle}
 use Rattle.onfi_cycle.specs.declared.target_cycle.TargetCycle.TheVariants.{CommandCycle, AddressCycle, InputCycle, OutputCycle}
 use Rattle.onfi_cycle.specs.LunView.{LunView}
 use Rattle.onfi_cycle.specs.Effect.{cycle_effect, is_data}
 use Rattle.onfi_cycle.specs.Lun.{view_after}
-use Rattle.onfi_cycle.specs.Rules.{some_lun_is}
 use Rattle.onfi_cycle.specs.Sequence.{opened, wants_command}
 
 -- what a cycle makes of them, from number n on; sole tells whether one of them is the one driver
@@ -57,4 +57,4 @@ abbrev pub may_act : TailFacts → List LunView → TargetCycle → Bool
 may_act t luns (CommandCycle c) = needs_no_row c || wants_command t c
 may_act t luns (AddressCycle byte) = opened (λ c n. acts_by_address c) t.opening
 may_act t luns (InputCycle byte) = false
-may_act t luns OutputCycle = some_lun_is (λ v. is_data v.latch) luns
+may_act t luns OutputCycle = list_any (λ v. is_data v.latch) luns

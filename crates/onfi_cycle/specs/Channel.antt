@@ -1,9 +1,9 @@
 -- A channel with its targets, and what its bus and its LUNs show.
 use Rattle.std.specs.Prelude.{◌≡◌, ℕ, ◌==◌, ◌&&◌, Bool, true, false, nat_lt, List, [], ◌∷◌, Option, None, length}
-use Rattle.nand_geometry.specs.declared.Parts.{Parts}
+use Rattle.nand_geometry.specs.declared.parts.Parts.{Parts}
 use Rattle.nand_geometry.specs.Limits.{InLimits, page_len}
-use Rattle.onfi_cycle.specs.declared.item.Lun.{Lun}
-use Rattle.onfi_cycle.specs.declared.effect.PageAddress.{PageAddress}
+use Rattle.onfi_cycle.specs.declared.lun.Lun.{Lun}
+use Rattle.onfi_cycle.specs.declared.page_address.PageAddress.{PageAddress}
 use Rattle.onfi_cycle.specs.declared.item.Kind.{Kind}
 use Rattle.onfi_cycle.specs.declared.item.Item.{Item}
 use Rattle.onfi_cycle.specs.declared.item.Item.TheVariants.{Cyc, Rdy, Ard}

@@ -1,21 +1,21 @@
 -- What decides each fact of a LUN, in the words of the trace: the newest item that says something of it.
 use Rattle.std.specs.Prelude.{◌≡◌, ℕ, ◌+◌, ◌<◌, ◌==◌, Bool, true, false, ◌||◌, ◌&&◌, nat_lt, if◌then◌else◌, List, [], ◌∷◌, Option, Some, None, unwrap_or}
-use Rattle.nand_geometry.specs.declared.Parts.{Parts}
+use Rattle.nand_geometry.specs.declared.parts.Parts.{Parts}
 use Rattle.onfi_cycle.specs.declared.command.Command.{Command}
 use Rattle.onfi_cycle.specs.declared.command.Command.TheVariants.{Read, ReadConfirm, ChangeReadColumnConfirm, BlockEraseConfirm, BlockErasePlane, ReadStatus, ReadStatusEnhanced, ProgramConfirm, ProgramPlane, ReadId, ReadParameterPage, Reset, ReadCacheSequential, ReadCacheEnd}
-use Rattle.onfi_cycle.specs.declared.item.Lun.{Lun}
-use Rattle.onfi_cycle.specs.declared.lun_facts.Latch.{Latch}
-use Rattle.onfi_cycle.specs.declared.lun_facts.Latch.TheVariants.{Off, Status, Data}
+use Rattle.onfi_cycle.specs.declared.lun.Lun.{Lun}
+use Rattle.onfi_cycle.specs.declared.latch.Latch.{Latch}
+use Rattle.onfi_cycle.specs.declared.latch.Latch.TheVariants.{Off, Status, Data}
 use Rattle.onfi_cycle.specs.declared.item.Item.{Item}
 use Rattle.onfi_cycle.specs.declared.item.Item.TheVariants.{Cyc, Rdy, Ard}
-use Rattle.onfi_cycle.specs.declared.tail_facts.Opening.{Opening}
+use Rattle.onfi_cycle.specs.declared.opening.Opening.{Opening}
 use Rattle.onfi_cycle.specs.declared.target_cycle.TargetCycle.{TargetCycle}
 use Rattle.onfi_cycle.specs.declared.target_cycle.TargetCycle.TheVariants.{CommandCycle, AddressCycle, InputCycle, OutputCycle}
-use Rattle.onfi_cycle.specs.declared.effect.PageAddress.{PageAddress}
-use Rattle.onfi_cycle.specs.declared.lun_facts.Queued.{Queued}
-use Rattle.onfi_cycle.specs.declared.lun_facts.Queued.TheVariants.{Erase, Program}
-use Rattle.onfi_cycle.specs.declared.lun_facts.Register.{Register}
-use Rattle.onfi_cycle.specs.declared.lun_facts.Register.TheVariants.{Empty, Page, ParameterPage, Identifier}
+use Rattle.onfi_cycle.specs.declared.page_address.PageAddress.{PageAddress}
+use Rattle.onfi_cycle.specs.declared.queued.Queued.{Queued}
+use Rattle.onfi_cycle.specs.declared.queued.Queued.TheVariants.{Erase, Program}
+use Rattle.onfi_cycle.specs.declared.register.Register.{Register}
+use Rattle.onfi_cycle.specs.declared.register.Register.TheVariants.{Empty, Page, ParameterPage, Identifier}
 use Rattle.onfi_cycle.specs.declared.tail_facts.TailFacts.{TailFacts}
 use Rattle.onfi_cycle.specs.Sequence.{target_cycle, tail, facts_of, row, row_with, wants_command, wants_address}
 use Rattle.onfi_cycle.specs.Effect.{is_data, page_address, names_lun}

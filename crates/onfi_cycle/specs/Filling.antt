@@ -1,10 +1,10 @@
 -- What an item does to the page registers of a LUN.
 use Rattle.std.specs.Prelude.{ℕ, ◌%◌, ◌==◌, ◌&&◌, if◌then◌else◌, List, [], replicate, slice_set, slice_index_or}
-use Rattle.nand_geometry.specs.declared.Parts.{Parts}
+use Rattle.nand_geometry.specs.declared.parts.Parts.{Parts}
 use Rattle.nand_geometry.specs.Limits.{page_len, planes}
 use Rattle.onfi_cycle.specs.declared.item.Item.{Item}
 use Rattle.onfi_cycle.specs.declared.item.Item.TheVariants.{Cyc, Rdy, Ard}
-use Rattle.onfi_cycle.specs.declared.item.Lun.{Lun}
+use Rattle.onfi_cycle.specs.declared.lun.Lun.{Lun}
 use Rattle.onfi_cycle.specs.declared.tail_facts.TailFacts.{TailFacts}
 use Rattle.onfi_cycle.specs.declared.target_cycle.TargetCycle.{TargetCycle}
 use Rattle.onfi_cycle.specs.declared.target_cycle.TargetCycle.TheVariants.{CommandCycle, AddressCycle, InputCycle, OutputCycle}
@@ -12,8 +12,8 @@ use Rattle.onfi_cycle.specs.Command.{is_page_program}
 use Rattle.onfi_cycle.specs.Sequence.{target_cycle, takes_inputs, row, row_with, input_column}
 use Rattle.onfi_cycle.specs.Effect.{names_lun, page_address}
 use Rattle.onfi_cycle.specs.Rules.{ends_row}
-use Rattle.onfi_cycle.specs.declared.fillings.Filling.{Filling}
-use Rattle.onfi_cycle.specs.declared.fillings.Filling.TheVariants.{Leaves, Clears, Fills}
+use Rattle.onfi_cycle.specs.declared.filling.Filling.{Filling}
+use Rattle.onfi_cycle.specs.declared.filling.Filling.TheVariants.{Leaves, Clears, Fills}
 
 -- the last row cycle of 80 clears the register of its plane, an input of its data fills it
 abbrev pub cycle_filling : Parts → TailFacts → TargetCycle → ℕ → Filling

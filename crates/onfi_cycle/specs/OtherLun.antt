@@ -1,15 +1,15 @@
 -- What the work of one LUN leaves of the other LUNs.
 use Rattle.std.specs.Prelude.{◌≡◌, ◌≢◌, ◌⊎◌, ℕ, ◌<◌, ◌==◌, Bool, true, false, ◌&&◌, nat_lt, if◌then◌else◌, List, ◌∷◌, None}
-use Rattle.nand_geometry.specs.declared.Parts.{Parts}
+use Rattle.nand_geometry.specs.declared.parts.Parts.{Parts}
 use Rattle.onfi_cycle.specs.declared.command.Command.{Command}
 use Rattle.onfi_cycle.specs.declared.command.Command.TheVariants.{ProgramConfirm, ProgramPlane, ReadConfirm, ReadCacheSequential, ReadCacheEnd, BlockEraseConfirm, BlockErasePlane, ChangeReadColumnConfirm}
-use Rattle.onfi_cycle.specs.declared.item.Lun.{Lun}
+use Rattle.onfi_cycle.specs.declared.lun.Lun.{Lun}
 use Rattle.onfi_cycle.specs.declared.item.Item.{Item}
 use Rattle.onfi_cycle.specs.declared.item.Item.TheVariants.{Cyc, Rdy, Ard}
 use Rattle.onfi_cycle.specs.declared.target_cycle.TargetCycle.{TargetCycle}
 use Rattle.onfi_cycle.specs.declared.target_cycle.TargetCycle.TheVariants.{CommandCycle, AddressCycle, InputCycle, OutputCycle}
-use Rattle.onfi_cycle.specs.declared.effect.PageAddress.{PageAddress}
-use Rattle.onfi_cycle.specs.declared.lun_facts.ReadColumn.{ReadColumn}
+use Rattle.onfi_cycle.specs.declared.page_address.PageAddress.{PageAddress}
+use Rattle.onfi_cycle.specs.declared.read_column.ReadColumn.{ReadColumn}
 use Rattle.onfi_cycle.specs.Sequence.{target_of, target_cycle, tail, facts_of, row, row_with}
 use Rattle.onfi_cycle.specs.Effect.{names_lun}
 use Rattle.onfi_cycle.specs.Lun.{latch, drivers, is_only, is_busy, closer, is_array_busy, array_page, register, read_column, queue}

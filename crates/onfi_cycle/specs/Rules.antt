@@ -1,6 +1,7 @@
 -- The rules F1 to F15: what each forbids, by the facts of the tail and of the LUNs of one target.
 use Rattle.std.specs.Prelude.{ℕ, ◌+◌, ◌/◌, ◌%◌, ◌==◌, Bool, true, false, ◌||◌, ◌&&◌, not, nat_lt, nat_le, if◌then◌else◌, List, [], ◌∷◌, Option, Some, None, slice_get}
-use Rattle.nand_geometry.specs.declared.Parts.{Parts}
+use Rattle.std.specs.List.{list_any}
+use Rattle.nand_geometry.specs.declared.parts.Parts.{Parts}
 use Rattle.nand_geometry.specs.Limits.{page_len, planes}
 use Rattle.nand_geometry.specs.Row.{parts_of, is_inside}
 use Rattle.onfi_cycle.specs.declared.command.Command.{Command}
@@ -10,12 +11,12 @@ use Rattle.onfi_cycle.specs.declared.item.Item.TheVariants.{Cyc, Rdy, Ard}
 use Rattle.onfi_cycle.specs.Command.{is_known, is_opener, at_last_row, is_change_read_column, addresses_the_array, addresses_a_page, reads_identity, wants_ready, wants_one_lun}
 use Rattle.onfi_cycle.specs.declared.target_cycle.TargetCycle.{TargetCycle}
 use Rattle.onfi_cycle.specs.declared.target_cycle.TargetCycle.TheVariants.{CommandCycle, AddressCycle, InputCycle, OutputCycle}
-use Rattle.onfi_cycle.specs.declared.effect.PageAddress.{PageAddress}
-use Rattle.onfi_cycle.specs.declared.lun_facts.Queued.{Queued}
-use Rattle.onfi_cycle.specs.declared.lun_facts.Queued.TheVariants.{Erase, Program}
-use Rattle.onfi_cycle.specs.declared.lun_facts.Register.{Register}
-use Rattle.onfi_cycle.specs.declared.lun_facts.Register.TheVariants.{Empty, Page, ParameterPage, Identifier}
-use Rattle.onfi_cycle.specs.declared.tail_facts.Opening.{Opening}
+use Rattle.onfi_cycle.specs.declared.page_address.PageAddress.{PageAddress}
+use Rattle.onfi_cycle.specs.declared.queued.Queued.{Queued}
+use Rattle.onfi_cycle.specs.declared.queued.Queued.TheVariants.{Erase, Program}
+use Rattle.onfi_cycle.specs.declared.register.Register.{Register}
+use Rattle.onfi_cycle.specs.declared.register.Register.TheVariants.{Empty, Page, ParameterPage, Identifier}
+use Rattle.onfi_cycle.specs.declared.opening.Opening.{Opening}
 use Rattle.onfi_cycle.specs.declared.tail_facts.TailFacts.{TailFacts}
 use Rattle.onfi_cycle.specs.Sequence.{opened, takes_inputs, wants_second_column, wants_command, wants_address, is_open, row_with, column_with, input_column}
 use Rattle.onfi_cycle.specs.Effect.{is_off, is_data, page_address}
@@ -47,11 +48,6 @@ is_some_and test (Some v) = test v
 -- a test of the one driver; false where there is none, or more
 abbrev pub driver_is : (LunView → Bool) → List LunView → Bool
 driver_is test luns = is_some_and test (driver luns)
-
--- some LUN passes
-abbrev pub some_lun_is : (LunView → Bool) → List LunView → Bool
-some_lun_is test [] = false
-some_lun_is test (v ∷ vs) = test v || some_lun_is test vs
 
 -- the LUN of this number is there and passes
 abbrev pub lun_is : (LunView → Bool) → List LunView → ℕ → Bool
@@ -109,8 +105,7 @@ queued_clashes g erase p (Erase q) = not erase || planes_clash g p q
 queued_clashes g erase p (Program q) = erase || planes_clash g p q
 
 abbrev pub some_queued_clashes : Parts → (erase : Bool) → PageAddress → List Queued → Bool
-some_queued_clashes g erase p [] = false
-some_queued_clashes g erase p (c ∷ cs) = queued_clashes g erase p c || some_queued_clashes g erase p cs
+some_queued_clashes g erase p queue = list_any (queued_clashes g erase p) queue
 
 abbrev pub has_some : List Queued → Bool
 has_some [] = false
@@ -163,7 +158,7 @@ breaks_row_outside g t _ = false
 
 -- F9: an opener that wants a ready LUN where there is none; the last row cycle of 00, 60 or 80 names a busy LUN
 unfoldable pub breaks_lun_busy : Parts → TailFacts → List LunView → TargetCycle → Bool
-breaks_lun_busy g t luns (CommandCycle c) = wants_ready c && not (some_lun_is (λ v. not v.busy) luns)
+breaks_lun_busy g t luns (CommandCycle c) = wants_ready c && not (list_any (λ v. not v.busy) luns)
 breaks_lun_busy g t luns (AddressCycle byte) = ends_row addresses_the_array t && named_lun_is g (row_with t byte) (λ v. v.busy) luns
 breaks_lun_busy g t luns _ = false
 
@@ -179,7 +174,7 @@ is_refused_by g o p q = opened (λ c n. at_last_row c n && refused_by g c p q) o
 
 -- F10: 90, EC or the last row cycle of 00 on a LUN with a queue; the last row cycle of 60 or 80 that doesn't go together with it
 unfoldable pub breaks_queue_clash : Parts → TailFacts → List LunView → TargetCycle → Bool
-breaks_queue_clash g t luns (CommandCycle c) = reads_identity c && some_lun_is (λ v. has_some v.queue) luns
+breaks_queue_clash g t luns (CommandCycle c) = reads_identity c && list_any (λ v. has_some v.queue) luns
 breaks_queue_clash g t luns (AddressCycle byte) =
     named_lun_is g (row_with t byte) (λ v. is_refused_by g t.opening (page_address g (row_with t byte)) v.queue) luns
 breaks_queue_clash g t luns _ = false
@@ -238,6 +233,6 @@ ends_cache v = not v.busy && caching v
 unfoldable pub breaks_cache_read_misplaced : Parts → TailFacts → List LunView → TargetCycle → Bool
 breaks_cache_read_misplaced g t luns (CommandCycle ReadCacheSequential) = not (driver_is (continues_cache g) luns)
 breaks_cache_read_misplaced g t luns (CommandCycle ReadCacheEnd) = not (driver_is ends_cache luns)
-breaks_cache_read_misplaced g t luns (CommandCycle c) = reads_identity c && some_lun_is caching luns
+breaks_cache_read_misplaced g t luns (CommandCycle c) = reads_identity c && list_any caching luns
 breaks_cache_read_misplaced g t luns (AddressCycle byte) = ends_row addresses_the_array t && named_lun_is g (row_with t byte) caching luns
 breaks_cache_read_misplaced g t luns _ = false

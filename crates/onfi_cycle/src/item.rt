@@ -24,13 +24,6 @@ pub struct Cycle {
     pub byte: u8,
 }
 
-/// A LUN by its chip enable and its number on the target, both from 0.
-#[derive(Clone, Copy, Debug, PartialEq, Eq)]
-pub struct Lun {
-    pub ce: u8,
-    pub lun: u8,
-}
-
 /// What happens on a channel. A trace is a list of items.
 #[derive(Clone, Copy, Debug, PartialEq, Eq)]
 pub enum Item {

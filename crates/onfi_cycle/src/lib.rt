@@ -1,36 +1,63 @@
 //! The cycles of a NAND channel, and which cycle is permitted after which trace.
 //!
-//! The definitions stand in `specs/`: they look back over a whole trace. The code here judges an item by
-//! the facts of its target alone: the facts of the tail ([`TailFacts`]) and those of each LUN ([`LunFacts`]).
+//! The definitions stand in `specs/`: they look back over a whole trace. The code here judges an item by the facts of its target
+//! alone, those of the tail ([`TailFacts`]) and those of each LUN ([`LunFacts`]):
+//!
+//! - what happens: [`Item`], [`Cycle`], [`Kind`], [`Lun`], and a cycle as its target sees it: [`TargetCycle`], [`Command`];
+//! - the facts of a tail: [`Opening`], [`DataPhase`], [`RowBytes`]; those of a LUN: [`Latch`], [`Register`], [`ReadColumn`], [`Queued`];
+//! - the rules: [`judge`] tells the first that an item breaks, a [`Forbidden`];
+//! - what an item does to a LUN, an [`Effect`] ([`item_effect`]), and to its page registers, a [`Filling`];
+//! - the running state of a channel: [`BusState`], which judges an item and goes on by it. Its parts are one `TargetState` a target
+//!   and one `LunFacts` a LUN; [`LunState`] is a look at one from outside.
 #![tactic(auto)]
 
 mod bus_state;
 mod command;
+mod data_phase;
 mod effect;
-mod fillings;
+mod filling;
 mod forbidden;
 mod item;
+mod item_effects;
+mod latch;
 pub mod laws;
+mod lun;
 mod lun_facts;
+mod lun_state;
+mod opening;
+mod page_address;
+mod queued;
+mod read_column;
 mod readies;
+mod register;
+mod row_bytes;
 mod rules;
-mod status_byte;
+mod running_lun;
+mod status;
 mod tail_facts;
 mod target_cycle;
+mod target_state;
 
-pub use bus_state::{BusState, LunState, RowQueue};
+pub use bus_state::BusState;
 pub use command::Command;
-pub use effect::{
-    Effect, PageAddress, array_busy_after, array_page_after, busy_after, closer_after,
-    cycle_effect, is_cache_read, is_page_read, item_effect, latch_after, names_lun, output_column,
-    page_address, read_column_after, register_after,
-};
-pub use fillings::{Filling, filling_of};
+pub use data_phase::DataPhase;
+pub use effect::Effect;
+pub use filling::Filling;
 pub use forbidden::Forbidden;
-pub use item::{Cycle, Item, Kind, Lun};
-pub use lun_facts::{Latch, LunFacts, Queued, ReadColumn, Register, WorkQueue};
+pub use item::{Cycle, Item, Kind};
+pub use item_effects::{cycle_effect, item_effect};
+pub use latch::Latch;
+pub use lun::{Lun, MAX_CHANNEL_LUNS, MAX_TARGETS};
+pub use lun_facts::{LunFacts, is_cache_read, is_page_read};
+pub use lun_state::LunState;
+pub use opening::Opening;
+pub use page_address::PageAddress;
+pub use queued::{Queued, RowQueue, WorkQueue};
+pub use read_column::ReadColumn;
 pub use readies::{readies_are_due, starts_work};
-pub use rules::{driver, is_undeclared, judge, judge_cycle, judge_known_cycle, register_len};
-pub use status_byte::{Status, has_failed, is_ready};
-pub use tail_facts::{DataPhase, Opening, RowBytes, TailFacts};
+pub use register::{IDENTIFIER_BYTES, PARAMETER_BYTES, Register};
+pub use row_bytes::RowBytes;
+pub use rules::{driver, is_undeclared, judge, judge_cycle, judge_known_cycle};
+pub use status::Status;
+pub use tail_facts::TailFacts;
 pub use target_cycle::TargetCycle;

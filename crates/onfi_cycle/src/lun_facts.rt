@@ -1,80 +1,27 @@
 //! What the rules see of a LUN.
-ghost use Rattle.std.specs.Prelude.{◌≡◌, List};
-ghost use Rattle.onfi_cycle.specs.Effect.{is_off, is_data};
+ghost use Rattle.std.specs.Prelude.{◌≡◌, ◌^◌, ◌<◌, ◌≤◌};
+ghost use Rattle.onfi_cycle.specs.Lun.{is_cache_read, is_page_read};
+ghost use Rattle.onfi_cycle.specs.Rules.{caching, may_change_column, has_no_byte, is_past_register, continues_cache, ends_cache};
 
-use crate::{Command, PageAddress};
+use crate::{Command, Latch, PageAddress, ReadColumn, Register, WorkQueue};
+use nand_geometry::Geometry;
 use std::marker::Model;
 
-/// A row in the queue of a multi-plane operation.
-#[derive(Clone, Copy, Debug, PartialEq, Eq)]
-pub enum Queued {
-    Erase(PageAddress),
-    Program(PageAddress),
+/// A cache read goes on: the last closer is Read Cache Sequential.
+pub fn is_cache_read(closer: Option<Command>) -> bool
+    ensures { result ≡ is_cache_read closer }
+{
+    closer == Some(Command::ReadCacheSequential)
 }
 
-/// What a LUN's register holds.
-#[derive(Clone, Copy, Debug, PartialEq, Eq)]
-pub enum Register {
-    Empty,
-    /// A page of the array.
-    Page(PageAddress),
-    /// Three copies of the parameter page.
-    ParameterPage,
-    /// The identifier, 4F 4E 46 49.
-    Identifier,
-}
-
-/// Where the next data output of a LUN reads its register.
-#[derive(Clone, Copy, Debug, PartialEq, Eq)]
-pub struct ReadColumn {
-    /// The column last given, if one was.
-    pub given: Option<u32>,
-    /// The data outputs since.
-    pub outputs: usize,
-    /// A status command has followed one of these outputs.
-    pub lost: bool,
-}
-
-/// What a LUN drives the bus with when its target is read.
-#[derive(Clone, Copy, Debug, PartialEq, Eq)]
-pub enum Latch {
-    Off,
-    Status,
-    Data,
-}
-
-impl Latch {
-    /// The LUN doesn't drive the bus.
-    pub fn is_off(self) -> bool
-        ensures { result ≡ is_off self }
-    {
-        matches!(self, Latch::Off)
-    }
-
-    /// The LUN drives the bus with its register.
-    pub fn is_data(self) -> bool
-        ensures { result ≡ is_data self }
-    {
-        matches!(self, Latch::Data)
-    }
-}
-
-/// The queue of a LUN, however it is kept, the newest member first.
-pub trait WorkQueue: Drop {
-    ghost use Rattle.onfi_cycle.specs.declared.lun_facts.Queued.{Queued};
-
-    ghost members: { Self → List Queued };
-
-    fn works(&self) -> &[Queued]
-        ensures { result.now ≡ members self.now };
-}
-
-impl WorkQueue for Vec<Queued> {
-    ghost members = { λ v. v.items };
-
-    fn works(&self) -> &[Queued] {
-        self.as_slice()
-    }
+/// The last closer has read a page of the array, so that a cache read may go on from it.
+pub fn is_page_read(closer: Option<Command>) -> bool
+    ensures { result ≡ is_page_read closer }
+{
+    matches!(
+        closer,
+        Some(Command::ReadConfirm | Command::ReadCacheSequential)
+    )
 }
 
 /// What the rules see of a LUN.
@@ -102,4 +49,54 @@ impl<Q: WorkQueue> Model for LunFacts<Q> {
     ghost use Rattle.std.specs.Prelude.{◌<◌, ◌^◌};
 
     ghost invariant = { λ f. f.column.outputs < 2 ^ 63 };
+}
+
+impl<Q: WorkQueue> LunFacts<Q> {
+    /// A cache read goes on.
+    pub(crate) fn is_caching(&self) -> bool
+        ensures { result ≡ caching self.now }
+    {
+        is_cache_read(self.closer)
+    }
+
+    /// Read Cache Sequential may come: a page of the array was read, and the block has a page after it.
+    pub(crate) fn continues_cache(&self, geometry: &Geometry) -> bool
+        ensures { result ≡ continues_cache geometry.now self.now }
+    {
+        let pages = geometry.parts().pages;
+        !self.busy && is_page_read(self.closer) && self.array_page.page < u64::from(pages) - 1
+    }
+
+    /// Read Cache End may come.
+    pub(crate) fn ends_cache(&self) -> bool
+        ensures { result ≡ ends_cache self.now }
+    {
+        !self.busy && self.is_caching()
+    }
+
+    /// Change Read Column may come.
+    pub(crate) fn may_change_column(&self) -> bool
+        ensures { result ≡ may_change_column self.now }
+    {
+        self.latch.is_data() && !self.busy && self.register.has_columns()
+    }
+
+    /// It shows data, and is busy, has no register or has lost its column.
+    pub(crate) fn has_no_byte(&self) -> bool
+        ensures { result ≡ has_no_byte self.now }
+    {
+        self.latch.is_data()
+            && (self.busy || self.register.is_empty() || self.column.output_column().is_none())
+    }
+
+    /// It shows data, and its column is past its register.
+    pub(crate) fn is_past_register(&self, geometry: &Geometry) -> bool
+        ensures { result ≡ is_past_register geometry.now self.now }
+    {
+        let is_outside = match self.column.output_column() {
+            None => false,
+            Some(column) => u64::from(self.register.len(geometry)) <= column,
+        };
+        self.latch.is_data() && is_outside
+    }
 }

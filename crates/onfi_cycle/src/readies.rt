@@ -2,8 +2,7 @@
 ghost use Rattle.std.specs.Prelude.{◌≡◌, ◌≤◌, ◌*◌, length};
 ghost use Rattle.onfi_cycle.specs.Readies.{starts, starts_work, awaits_parameters, due_at, due_of, ReadiesAreDue};
 
-use crate::bus_state::RowQueue;
-use crate::{Command, Item, LunFacts, Opening, TailFacts, TargetCycle, is_cache_read};
+use crate::{Command, Item, LunFacts, Opening, RowQueue, TailFacts, TargetCycle};
 
 // The command starts work, or its address does.
 fn starts(command: Command) -> bool
@@ -55,7 +54,7 @@ fn due_at(tail: &TailFacts, lun: &LunFacts<RowQueue>) -> usize
     ensures value { result ≡ due_at tail.now lun.now }
     ensures most { result ≤ 4 }
 {
-    let of_cache = lun.busy && is_cache_read(lun.closer);
+    let of_cache = lun.busy && lun.is_caching();
     usize::from(lun.busy)
         + (usize::from(lun.array_busy)
             + (usize::from(of_cache) + usize::from(awaits_parameters(tail))))

@@ -1,26 +1,29 @@
 //! The rules F1 to F15, and the judge that tries them in order, by the facts of one target.
 ghost use Rattle.std.specs.Prelude.{◌≡◌, ◌+◌, ◌^◌, ◌<◌, ◌≤◌, length, true, false, not, slice_get};
+ghost use Rattle.std.specs.List.{list_all, list_any};
 ghost use Rattle.std.specs.Option.{option_copied};
 ghost use Rattle.nand_geometry.specs.Row.{parts_of};
 ghost use Rattle.onfi_cycle.specs.declared.target_cycle.TargetCycle.{TargetCycle};
-ghost use Rattle.onfi_cycle.specs.Command.{addresses_the_array, is_change_read_column};
-ghost use Rattle.onfi_cycle.specs.Rules.{breaks_not_there, breaks_command_unknown, breaks_sequence_open, breaks_several_luns, breaks_no_column_to_change, breaks_command_misplaced, breaks_address_misplaced, breaks_row_outside, breaks_lun_busy, breaks_queue_clash, breaks_input_misplaced, breaks_no_sole_driver, breaks_data_not_ready, breaks_column_outside, breaks_cache_read_misplaced, driving, are_none, driver, some_lun_is, ends_row, is_undeclared, register_len, planes_clash, some_queued_clashes, refused_by, is_refused_by, may_change_column, has_no_byte, is_past_register, second_column, second_of_page, caching, continues_cache, ends_cache, has_some};
+ghost use Rattle.onfi_cycle.specs.Effect.{is_off};
+ghost use Rattle.onfi_cycle.specs.Rules.{breaks_not_there, breaks_command_unknown, breaks_sequence_open, breaks_several_luns, breaks_no_column_to_change, breaks_command_misplaced, breaks_address_misplaced, breaks_row_outside, breaks_lun_busy, breaks_queue_clash, breaks_input_misplaced, breaks_no_sole_driver, breaks_data_not_ready, breaks_column_outside, breaks_cache_read_misplaced, driving, are_none, driver, is_undeclared, planes_clash, queued_clashes, some_queued_clashes, refused_by, is_refused_by, caching, has_some};
 ghost use Rattle.onfi_cycle.specs.Permitted.{judge, judge_cycle, judge_known_cycle};
 
 use crate::{
-    Command, DataPhase, Forbidden, Item, LunFacts, PageAddress, Queued, Register, TailFacts,
-    TargetCycle, WorkQueue, is_cache_read, is_page_read, output_column, page_address,
+    Command, Forbidden, Item, LunFacts, PageAddress, Queued, TailFacts, TargetCycle, WorkQueue,
 };
 use nand_geometry::Geometry;
+
+fn all_are_off<Q: WorkQueue>(luns: &[LunFacts<Q>]) -> bool
+    ensures { result ≡ list_all (λ v. is_off v.latch) luns.now }
+{
+    luns.iter().all(|lun| lun.latch.is_off())
+}
 
 /// No LUN drives the bus.
 fn drives_none<Q: WorkQueue>(luns: &[LunFacts<Q>]) -> bool
     ensures { result ≡ are_none (driving luns.now) }
 {
-    match luns {
-        [] => true,
-        [first, rest @ ..] => first.latch.is_off() && drives_none(rest),
-    }
+    all_are_off(luns)
 }
 
 /// The one LUN that drives the bus, None where none does, or more than one.
@@ -29,20 +32,14 @@ pub fn driver<Q: WorkQueue>(luns: &[LunFacts<Q>]) -> Option<&LunFacts<Q>>
 {
     match luns {
         [] => None,
-        [first, rest @ ..] => {
-            if first.latch.is_off() {
-                driver(rest)
-            } else if drives_none(rest) {
-                Some(first)
-            } else {
-                None
-            }
-        }
+        [first, rest @ ..] if first.latch.is_off() => driver(rest),
+        [first, rest @ ..] if drives_none(rest) => Some(first),
+        _ => None,
     }
 }
 
 /// The LUN that a row names.
-fn named<'a, Q: WorkQueue>(
+fn find_named<'a, Q: WorkQueue>(
     geometry: &Geometry,
     row: u32,
     luns: &'a [LunFacts<Q>],
@@ -57,19 +54,19 @@ fn breaks_not_there<Q: WorkQueue>(targets: u8, luns: &[LunFacts<Q>], item: Item)
     ensures { result ≡ breaks_not_there targets luns.now item }
 {
     match item {
-        Item::Cyc(c) => targets <= c.ce,
+        Item::Cyc(cycle) => targets <= cycle.ce,
         Item::Rdy { ce, lun, .. } => {
             targets <= ce
                 || match luns.get(lun as usize) {
                     None => true,
-                    Some(v) => !v.busy,
+                    Some(lun) => !lun.busy,
                 }
         }
         Item::Ard { ce, lun } => {
             targets <= ce
                 || match luns.get(lun as usize) {
                     None => true,
-                    Some(v) => !v.array_busy,
+                    Some(lun) => !lun.array_busy,
                 }
         }
     }
@@ -93,17 +90,18 @@ fn breaks_command_unknown(geometry: &Geometry, cycle: TargetCycle) -> bool
     ensures { result ≡ breaks_command_unknown geometry.now cycle }
 {
     match cycle {
-        TargetCycle::CommandCycle(c) => !c.is_known() || is_undeclared(geometry, c),
+        TargetCycle::CommandCycle(command) => !command.is_known()
+            || is_undeclared(geometry, command),
         _ => false,
     }
 }
 
 #[tactic(auto, unfolding(crate::specs::Rules::breaks_sequence_open))]
-fn breaks_sequence_open(t: TailFacts, cycle: TargetCycle) -> bool
-    ensures { result ≡ breaks_sequence_open t cycle }
+fn breaks_sequence_open(tail: TailFacts, cycle: TargetCycle) -> bool
+    ensures { result ≡ breaks_sequence_open tail cycle }
 {
     match cycle {
-        TargetCycle::CommandCycle(c) => c.is_opener() && t.is_open(),
+        TargetCycle::CommandCycle(command) => command.is_opener() && tail.is_open(),
         _ => false,
     }
 }
@@ -113,17 +111,9 @@ fn breaks_several_luns(geometry: &Geometry, cycle: TargetCycle) -> bool
     ensures { result ≡ breaks_several_luns geometry.now cycle }
 {
     match cycle {
-        TargetCycle::CommandCycle(c) => c.wants_one_lun() && 1 < geometry.parts().luns,
+        TargetCycle::CommandCycle(command) => command.wants_one_lun() && 1 < geometry.parts().luns,
         _ => false,
     }
-}
-
-fn may_change_column<Q: WorkQueue>(v: &LunFacts<Q>) -> bool
-    ensures { result ≡ may_change_column v.now }
-{
-    v.latch.is_data()
-        && !v.busy
-        && matches!(v.register, Register::Page(_) | Register::ParameterPage)
 }
 
 #[tactic(auto, unfolding(crate::specs::Rules::breaks_no_column_to_change))]
@@ -133,163 +123,149 @@ fn breaks_no_column_to_change<Q: WorkQueue>(luns: &[LunFacts<Q>], cycle: TargetC
     match cycle {
         TargetCycle::CommandCycle(Command::ChangeReadColumn) => match driver(luns) {
             None => true,
-            Some(v) => !may_change_column(v),
+            Some(lun) => !lun.may_change_column(),
         },
         _ => false,
     }
 }
 
 #[tactic(auto, unfolding(crate::specs::Rules::breaks_command_misplaced))]
-fn breaks_command_misplaced(t: TailFacts, cycle: TargetCycle) -> bool
-    ensures { result ≡ breaks_command_misplaced t cycle }
+fn breaks_command_misplaced(tail: TailFacts, cycle: TargetCycle) -> bool
+    ensures { result ≡ breaks_command_misplaced tail cycle }
 {
     match cycle {
-        TargetCycle::CommandCycle(c) => !c.is_opener() && !t.wants_command(c),
+        TargetCycle::CommandCycle(command) => !command.is_opener() && !tail.wants_command(command),
         _ => false,
     }
 }
 
 #[tactic(auto, unfolding(crate::specs::Rules::breaks_address_misplaced))]
-fn breaks_address_misplaced(t: TailFacts, cycle: TargetCycle) -> bool
-    ensures { result ≡ breaks_address_misplaced t cycle }
+fn breaks_address_misplaced(tail: TailFacts, cycle: TargetCycle) -> bool
+    ensures { result ≡ breaks_address_misplaced tail cycle }
 {
     match cycle {
-        TargetCycle::AddressCycle(byte) => !t.wants_address(byte),
+        TargetCycle::AddressCycle(byte) => !tail.wants_address(byte),
         _ => false,
     }
 }
 
-/// The next address is the last of a row.
-fn ends_row(t: TailFacts) -> bool
-    ensures { result ≡ ends_row (λ c. true) t }
-{
-    match t.opening {
-        None => false,
-        Some(o) => o.opener.at_last_row(o.addresses),
-    }
-}
-
-/// The next address is the last of a row of the array.
-fn ends_array_row(t: TailFacts) -> bool
-    ensures { result ≡ ends_row addresses_the_array t }
-{
-    match t.opening {
-        None => false,
-        Some(o) => o.opener.addresses_the_array() && o.opener.at_last_row(o.addresses),
-    }
-}
-
 #[tactic(auto, unfolding(crate::specs::Rules::breaks_row_outside))]
-fn breaks_row_outside(geometry: &Geometry, t: TailFacts, cycle: TargetCycle) -> bool
-    ensures { result ≡ breaks_row_outside geometry.now t cycle }
+fn breaks_row_outside(geometry: &Geometry, tail: TailFacts, cycle: TargetCycle) -> bool
+    ensures { result ≡ breaks_row_outside geometry.now tail cycle }
 {
     match cycle {
         TargetCycle::AddressCycle(byte) => {
-            ends_row(t) && !geometry.is_inside(geometry.parts_of(t.row_with(byte)))
+            tail.ends_row() && !geometry.is_inside(geometry.parts_of(tail.row_with(byte)))
         }
         _ => false,
     }
 }
 
 fn some_ready<Q: WorkQueue>(luns: &[LunFacts<Q>]) -> bool
-    ensures { result ≡ some_lun_is (λ v. not v.busy) luns.now }
+    ensures { result ≡ list_any (λ v. not v.busy) luns.now }
 {
-    match luns {
-        [] => false,
-        [first, rest @ ..] => !first.busy || some_ready(rest),
-    }
+    luns.iter().any(|lun| !lun.busy)
 }
 
 #[tactic(auto, unfolding(crate::specs::Rules::breaks_lun_busy))]
 fn breaks_lun_busy<Q: WorkQueue>(
     geometry: &Geometry,
-    t: TailFacts,
+    tail: TailFacts,
     luns: &[LunFacts<Q>],
     cycle: TargetCycle,
 ) -> bool
-    ensures { result ≡ breaks_lun_busy geometry.now t luns.now cycle }
+    ensures { result ≡ breaks_lun_busy geometry.now tail luns.now cycle }
 {
     match cycle {
-        TargetCycle::CommandCycle(c) => c.wants_ready() && !some_ready(luns),
+        TargetCycle::CommandCycle(command) => command.wants_ready() && !some_ready(luns),
         TargetCycle::AddressCycle(byte) => {
-            ends_array_row(t)
-                && match named(geometry, t.row_with(byte), luns) {
+            tail.ends_array_row()
+                && match find_named(geometry, tail.row_with(byte), luns) {
                     None => false,
-                    Some(v) => v.busy,
+                    Some(lun) => lun.busy,
                 }
         }
         _ => false,
     }
 }
 
-fn planes_clash(geometry: &Geometry, p: PageAddress, q: PageAddress) -> bool
-    ensures { result ≡ planes_clash geometry.now p q }
+/// Two pages of one queue don't go together: the same plane, another page, or other block bits above the plane.
+fn planes_clash(geometry: &Geometry, page: PageAddress, other: PageAddress) -> bool
+    ensures { result ≡ planes_clash geometry.now page other }
 {
     let planes = geometry.planes();
-    p.block % planes == q.block % planes || p.page != q.page || p.block / planes != q.block / planes
+    page.block % planes == other.block % planes
+        || page.page != other.page
+        || page.block / planes != other.block / planes
 }
 
-fn some_queued_clashes(geometry: &Geometry, erase: bool, p: PageAddress, queue: &[Queued]) -> bool
-    ensures { result ≡ some_queued_clashes geometry.now erase p queue.now }
+/// A queued row doesn't go together with an erase of this page, or with a program of it.
+fn queued_clashes(geometry: &Geometry, is_erase: bool, page: PageAddress, queued: Queued) -> bool
+    ensures { result ≡ queued_clashes geometry.now is_erase page queued }
 {
-    match queue {
-        [] => false,
-        [first, rest @ ..] => {
-            let here = match first {
-                Queued::Erase(q) => !erase || planes_clash(geometry, p, *q),
-                Queued::Program(q) => erase || planes_clash(geometry, p, *q),
-            };
-            here || some_queued_clashes(geometry, erase, p, rest)
-        }
+    match queued {
+        Queued::Erase(other) => !is_erase || planes_clash(geometry, page, other),
+        Queued::Program(other) => is_erase || planes_clash(geometry, page, other),
     }
 }
 
+fn some_queued_clashes(
+    geometry: &Geometry,
+    is_erase: bool,
+    page: PageAddress,
+    queue: &[Queued],
+) -> bool
+    ensures { result ≡ some_queued_clashes geometry.now is_erase page queue.now }
+{
+    queue
+        .iter()
+        .any(|queued| queued_clashes(geometry, is_erase, page, *queued))
+}
+
 /// The queue refuses the last row cycle of this opener, with this page.
-fn refused_by(geometry: &Geometry, opener: Command, p: PageAddress, queue: &[Queued]) -> bool
-    ensures { result ≡ refused_by geometry.now opener p queue.now }
+fn refused_by(geometry: &Geometry, opener: Command, page: PageAddress, queue: &[Queued]) -> bool
+    ensures { result ≡ refused_by geometry.now opener page queue.now }
 {
     match opener {
         Command::Read => !queue.is_empty(),
-        Command::BlockErase => some_queued_clashes(geometry, true, p, queue),
-        Command::PageProgram => some_queued_clashes(geometry, false, p, queue),
+        Command::BlockErase => some_queued_clashes(geometry, true, page, queue),
+        Command::PageProgram => some_queued_clashes(geometry, false, page, queue),
         _ => false,
     }
 }
 
-fn is_refused_by(geometry: &Geometry, t: TailFacts, p: PageAddress, queue: &[Queued]) -> bool
-    ensures { result ≡ is_refused_by geometry.now t.opening p queue.now }
+fn is_refused_by(geometry: &Geometry, tail: TailFacts, page: PageAddress, queue: &[Queued]) -> bool
+    ensures { result ≡ is_refused_by geometry.now tail.opening page queue.now }
 {
-    match t.opening {
+    match tail.opening {
         None => false,
-        Some(o) => o.opener.at_last_row(o.addresses) && refused_by(geometry, o.opener, p, queue),
+        Some(opening) => opening.is_at_last_row()
+            && refused_by(geometry, opening.opener, page, queue),
     }
 }
 
 fn some_queue<Q: WorkQueue>(luns: &[LunFacts<Q>]) -> bool
-    ensures { result ≡ some_lun_is (λ v. has_some v.queue) luns.now }
+    ensures { result ≡ list_any (λ v. has_some v.queue) luns.now }
 {
-    match luns {
-        [] => false,
-        [first, rest @ ..] => !first.queue.works().is_empty() || some_queue(rest),
-    }
+    luns.iter().any(|lun| !lun.queue.works().is_empty())
 }
 
 #[tactic(auto, unfolding(crate::specs::Rules::breaks_queue_clash))]
 fn breaks_queue_clash<Q: WorkQueue>(
     geometry: &Geometry,
-    t: TailFacts,
+    tail: TailFacts,
     luns: &[LunFacts<Q>],
     cycle: TargetCycle,
 ) -> bool
-    ensures { result ≡ breaks_queue_clash geometry.now t luns.now cycle }
+    ensures { result ≡ breaks_queue_clash geometry.now tail luns.now cycle }
 {
     match cycle {
-        TargetCycle::CommandCycle(c) => c.reads_identity() && some_queue(luns),
-        TargetCycle::AddressCycle(byte) => match named(geometry, t.row_with(byte), luns) {
+        TargetCycle::CommandCycle(command) => command.reads_identity() && some_queue(luns),
+        TargetCycle::AddressCycle(byte) => match find_named(geometry, tail.row_with(byte), luns) {
             None => false,
-            Some(v) => {
-                let page = page_address(geometry, t.row_with(byte));
-                is_refused_by(geometry, t, page, v.queue.works())
+            Some(lun) => {
+                let page = PageAddress::of_row(geometry, tail.row_with(byte));
+                is_refused_by(geometry, tail, page, lun.queue.works())
             }
         },
         _ => false,
@@ -297,35 +273,27 @@ fn breaks_queue_clash<Q: WorkQueue>(
 }
 
 #[tactic(auto, unfolding(crate::specs::Rules::breaks_input_misplaced))]
-fn breaks_input_misplaced(t: TailFacts, cycle: TargetCycle) -> bool
-    ensures { result ≡ breaks_input_misplaced t cycle }
+fn breaks_input_misplaced(tail: TailFacts, cycle: TargetCycle) -> bool
+    ensures { result ≡ breaks_input_misplaced tail cycle }
 {
     match cycle {
-        TargetCycle::InputCycle(_) => !t.phase.takes_inputs(),
+        TargetCycle::InputCycle(_) => !tail.phase.takes_inputs(),
         _ => false,
     }
 }
 
 #[tactic(auto, unfolding(crate::specs::Rules::breaks_no_sole_driver))]
 fn breaks_no_sole_driver<Q: WorkQueue>(
-    t: TailFacts,
+    tail: TailFacts,
     luns: &[LunFacts<Q>],
     cycle: TargetCycle,
 ) -> bool
-    ensures { result ≡ breaks_no_sole_driver t luns.now cycle }
+    ensures { result ≡ breaks_no_sole_driver tail luns.now cycle }
 {
     match cycle {
-        TargetCycle::OutputCycle => t.is_open() || driver(luns).is_none(),
+        TargetCycle::OutputCycle => tail.is_open() || driver(luns).is_none(),
         _ => false,
     }
-}
-
-/// The LUN shows data, and is busy, has no register or has lost its column.
-fn has_no_byte<Q: WorkQueue>(v: &LunFacts<Q>) -> bool
-    ensures { result ≡ has_no_byte v.now }
-{
-    v.latch.is_data()
-        && (v.busy || matches!(v.register, Register::Empty) || output_column(v.column).is_none())
 }
 
 #[tactic(auto, unfolding(crate::specs::Rules::breaks_data_not_ready))]
@@ -335,138 +303,72 @@ fn breaks_data_not_ready<Q: WorkQueue>(luns: &[LunFacts<Q>], cycle: TargetCycle)
     match cycle {
         TargetCycle::OutputCycle => match driver(luns) {
             None => false,
-            Some(v) => has_no_byte(v),
+            Some(lun) => lun.has_no_byte(),
         },
         _ => false,
-    }
-}
-
-/// How many bytes a register has.
-pub fn register_len(geometry: &Geometry, register: Register) -> u32
-    ensures { result ≡ register_len geometry.now register }
-{
-    match register {
-        Register::Empty => 0,
-        Register::Page(_) => geometry.page_len(),
-        Register::ParameterPage => 768,
-        Register::Identifier => 4,
-    }
-}
-
-/// The LUN shows data, and its column is past its register.
-fn is_past_register<Q: WorkQueue>(geometry: &Geometry, v: &LunFacts<Q>) -> bool
-    ensures { result ≡ is_past_register geometry.now v.now }
-{
-    let outside = match output_column(v.column) {
-        None => false,
-        Some(column) => register_len(geometry, v.register) as u64 <= column,
-    };
-    v.latch.is_data() && outside
-}
-
-/// The next address is the second column cycle of a Read, a Page Program or a Change Write Column.
-fn is_second_of_page(t: TailFacts) -> bool
-    ensures { result ≡ second_of_page t }
-{
-    let opens = match t.opening {
-        None => false,
-        Some(o) => matches!(o.opener, Command::Read | Command::PageProgram) && o.addresses == 1,
-    };
-    opens || matches!(t.phase, DataPhase::SecondColumn)
-}
-
-/// The next address is the second column cycle of a Change Read Column.
-fn is_second_of_register(t: TailFacts) -> bool
-    ensures { result ≡ second_column is_change_read_column t }
-{
-    match t.opening {
-        None => false,
-        Some(o) => matches!(o.opener, Command::ChangeReadColumn) && o.addresses == 1,
     }
 }
 
 #[tactic(auto, unfolding(crate::specs::Rules::breaks_column_outside))]
 fn breaks_column_outside<Q: WorkQueue>(
     geometry: &Geometry,
-    t: TailFacts,
+    tail: TailFacts,
     luns: &[LunFacts<Q>],
     cycle: TargetCycle,
 ) -> bool
-    requires { (t.column < 2 ^ 16) × (t.inputs < 2 ^ 63) }
-    ensures { result ≡ breaks_column_outside geometry.now t luns.now cycle }
+    requires { (tail.column < 2 ^ 16) × (tail.inputs < 2 ^ 63) }
+    ensures { result ≡ breaks_column_outside geometry.now tail luns.now cycle }
 {
     match cycle {
         TargetCycle::CommandCycle(_) => false,
         TargetCycle::AddressCycle(byte) => {
-            let column = t.column_with(byte);
-            let past_page = is_second_of_page(t) && geometry.page_len() <= column;
-            let past_register = is_second_of_register(t)
+            let column = tail.column_with(byte);
+            let past_page = tail.is_at_second_column_of_page() && geometry.page_len() <= column;
+            let past_register = tail.is_at_second_column_of_register()
                 && match driver(luns) {
                     None => false,
-                    Some(v) => register_len(geometry, v.register) <= column,
+                    Some(lun) => lun.register.len(geometry) <= column,
                 };
             past_page || past_register
         }
-        TargetCycle::InputCycle(_) => geometry.page_len() as u64 <= t.input_column(),
+        TargetCycle::InputCycle(_) => geometry.page_len() as u64 <= tail.input_column(),
         TargetCycle::OutputCycle => match driver(luns) {
             None => false,
-            Some(v) => is_past_register(geometry, v),
+            Some(lun) => lun.is_past_register(geometry),
         },
     }
 }
 
-fn is_caching<Q: WorkQueue>(v: &LunFacts<Q>) -> bool
-    ensures { result ≡ caching v.now }
-{
-    is_cache_read(v.closer)
-}
-
 fn some_caching<Q: WorkQueue>(luns: &[LunFacts<Q>]) -> bool
-    ensures { result ≡ some_lun_is caching luns.now }
+    ensures { result ≡ list_any caching luns.now }
 {
-    match luns {
-        [] => false,
-        [first, rest @ ..] => is_caching(first) || some_caching(rest),
-    }
-}
-
-fn continues_cache<Q: WorkQueue>(geometry: &Geometry, v: &LunFacts<Q>) -> bool
-    ensures { result ≡ continues_cache geometry.now v.now }
-{
-    let parts = geometry.parts();
-    !v.busy && is_page_read(v.closer) && v.array_page.page < parts.pages as u64 - 1
-}
-
-fn ends_cache<Q: WorkQueue>(v: &LunFacts<Q>) -> bool
-    ensures { result ≡ ends_cache v.now }
-{
-    !v.busy && is_caching(v)
+    luns.iter().any(|lun| lun.is_caching())
 }
 
 #[tactic(auto, unfolding(crate::specs::Rules::breaks_cache_read_misplaced))]
 fn breaks_cache_read_misplaced<Q: WorkQueue>(
     geometry: &Geometry,
-    t: TailFacts,
+    tail: TailFacts,
     luns: &[LunFacts<Q>],
     cycle: TargetCycle,
 ) -> bool
-    ensures { result ≡ breaks_cache_read_misplaced geometry.now t luns.now cycle }
+    ensures { result ≡ breaks_cache_read_misplaced geometry.now tail luns.now cycle }
 {
     match cycle {
         TargetCycle::CommandCycle(Command::ReadCacheSequential) => match driver(luns) {
             None => true,
-            Some(v) => !continues_cache(geometry, v),
+            Some(lun) => !lun.continues_cache(geometry),
         },
         TargetCycle::CommandCycle(Command::ReadCacheEnd) => match driver(luns) {
             None => true,
-            Some(v) => !ends_cache(v),
+            Some(lun) => !lun.ends_cache(),
         },
-        TargetCycle::CommandCycle(c) => c.reads_identity() && some_caching(luns),
+        TargetCycle::CommandCycle(command) => command.reads_identity() && some_caching(luns),
         TargetCycle::AddressCycle(byte) => {
-            ends_array_row(t)
-                && match named(geometry, t.row_with(byte), luns) {
+            tail.ends_array_row()
+                && match find_named(geometry, tail.row_with(byte), luns) {
                     None => false,
-                    Some(v) => is_caching(v),
+                    Some(lun) => lun.is_caching(),
                 }
         }
         _ => false,
@@ -477,30 +379,30 @@ fn breaks_cache_read_misplaced<Q: WorkQueue>(
 #[tactic(auto, unfolding(crate::specs::Rules::breaks_sequence_open, crate::specs::Rules::breaks_several_luns, crate::specs::Rules::breaks_no_column_to_change, crate::specs::Rules::breaks_command_misplaced, crate::specs::Rules::breaks_address_misplaced, crate::specs::Rules::breaks_row_outside, crate::specs::Rules::breaks_lun_busy, crate::specs::Rules::breaks_queue_clash, crate::specs::Rules::breaks_input_misplaced, crate::specs::Rules::breaks_no_sole_driver, crate::specs::Rules::breaks_data_not_ready, crate::specs::Rules::breaks_column_outside, crate::specs::Rules::breaks_cache_read_misplaced))]
 fn judge_command<Q: WorkQueue>(
     geometry: &Geometry,
-    t: TailFacts,
+    tail: TailFacts,
     luns: &[LunFacts<Q>],
     command: Command,
 ) -> Option<Forbidden>
-    ensures { result ≡ judge_known_cycle geometry.now t luns.now (TargetCycle.CommandCycle command) }
+    ensures { result ≡ judge_known_cycle geometry.now tail luns.now (TargetCycle.CommandCycle command) }
 {
     let cycle = TargetCycle::CommandCycle(command);
     if !command.is_opener() {
-        if breaks_command_misplaced(t, cycle) {
+        if breaks_command_misplaced(tail, cycle) {
             Some(Forbidden::CommandMisplaced)
         } else {
             None
         }
-    } else if breaks_sequence_open(t, cycle) {
+    } else if breaks_sequence_open(tail, cycle) {
         Some(Forbidden::SequenceOpen)
     } else if breaks_several_luns(geometry, cycle) {
         Some(Forbidden::SeveralLuns)
     } else if breaks_no_column_to_change(luns, cycle) {
         Some(Forbidden::NoColumnToChange)
-    } else if breaks_lun_busy(geometry, t, luns, cycle) {
+    } else if breaks_lun_busy(geometry, tail, luns, cycle) {
         Some(Forbidden::LunBusy)
-    } else if breaks_queue_clash(geometry, t, luns, cycle) {
+    } else if breaks_queue_clash(geometry, tail, luns, cycle) {
         Some(Forbidden::QueueClash)
-    } else if breaks_cache_read_misplaced(geometry, t, luns, cycle) {
+    } else if breaks_cache_read_misplaced(geometry, tail, luns, cycle) {
         Some(Forbidden::CacheReadMisplaced)
     } else {
         None
@@ -511,24 +413,24 @@ fn judge_command<Q: WorkQueue>(
 #[tactic(auto, unfolding(crate::specs::Rules::breaks_sequence_open, crate::specs::Rules::breaks_several_luns, crate::specs::Rules::breaks_no_column_to_change, crate::specs::Rules::breaks_command_misplaced, crate::specs::Rules::breaks_input_misplaced, crate::specs::Rules::breaks_no_sole_driver, crate::specs::Rules::breaks_data_not_ready))]
 fn judge_end_of_row<Q: WorkQueue>(
     geometry: &Geometry,
-    t: TailFacts,
+    tail: TailFacts,
     luns: &[LunFacts<Q>],
     byte: u8,
 ) -> Option<Forbidden>
-    requires small { (t.column < 2 ^ 16) × (t.inputs < 2 ^ 63) }
-    requires wanted { breaks_address_misplaced t (TargetCycle.AddressCycle byte) ≡ false }
-    ensures { result ≡ judge_known_cycle geometry.now t luns.now (TargetCycle.AddressCycle byte) }
+    requires small { (tail.column < 2 ^ 16) × (tail.inputs < 2 ^ 63) }
+    requires wanted { breaks_address_misplaced tail (TargetCycle.AddressCycle byte) ≡ false }
+    ensures { result ≡ judge_known_cycle geometry.now tail luns.now (TargetCycle.AddressCycle byte) }
 {
     let cycle = TargetCycle::AddressCycle(byte);
-    if breaks_row_outside(geometry, t, cycle) {
+    if breaks_row_outside(geometry, tail, cycle) {
         Some(Forbidden::RowOutside)
-    } else if breaks_lun_busy(geometry, t, luns, cycle) {
+    } else if breaks_lun_busy(geometry, tail, luns, cycle) {
         Some(Forbidden::LunBusy)
-    } else if breaks_queue_clash(geometry, t, luns, cycle) {
+    } else if breaks_queue_clash(geometry, tail, luns, cycle) {
         Some(Forbidden::QueueClash)
-    } else if breaks_column_outside(geometry, t, luns, cycle) {
+    } else if breaks_column_outside(geometry, tail, luns, cycle) {
         Some(Forbidden::ColumnOutside)
-    } else if breaks_cache_read_misplaced(geometry, t, luns, cycle) {
+    } else if breaks_cache_read_misplaced(geometry, tail, luns, cycle) {
         Some(Forbidden::CacheReadMisplaced)
     } else {
         None
@@ -539,19 +441,19 @@ fn judge_end_of_row<Q: WorkQueue>(
 #[tactic(auto, unfolding(crate::specs::Rules::breaks_sequence_open, crate::specs::Rules::breaks_several_luns, crate::specs::Rules::breaks_no_column_to_change, crate::specs::Rules::breaks_command_misplaced, crate::specs::Rules::breaks_row_outside, crate::specs::Rules::breaks_lun_busy, crate::specs::Rules::breaks_queue_clash, crate::specs::Rules::breaks_input_misplaced, crate::specs::Rules::breaks_no_sole_driver, crate::specs::Rules::breaks_data_not_ready, crate::specs::Rules::breaks_cache_read_misplaced))]
 fn judge_address<Q: WorkQueue>(
     geometry: &Geometry,
-    t: TailFacts,
+    tail: TailFacts,
     luns: &[LunFacts<Q>],
     byte: u8,
 ) -> Option<Forbidden>
-    requires { (t.column < 2 ^ 16) × (t.inputs < 2 ^ 63) }
-    ensures { result ≡ judge_known_cycle geometry.now t luns.now (TargetCycle.AddressCycle byte) }
+    requires { (tail.column < 2 ^ 16) × (tail.inputs < 2 ^ 63) }
+    ensures { result ≡ judge_known_cycle geometry.now tail luns.now (TargetCycle.AddressCycle byte) }
 {
     let cycle = TargetCycle::AddressCycle(byte);
-    if breaks_address_misplaced(t, cycle) {
+    if breaks_address_misplaced(tail, cycle) {
         Some(Forbidden::AddressMisplaced)
-    } else if ends_row(t) {
-        judge_end_of_row(geometry, t, luns, byte)
-    } else if breaks_column_outside(geometry, t, luns, cycle) {
+    } else if tail.ends_row() {
+        judge_end_of_row(geometry, tail, luns, byte)
+    } else if breaks_column_outside(geometry, tail, luns, cycle) {
         Some(Forbidden::ColumnOutside)
     } else {
         None
@@ -562,17 +464,17 @@ fn judge_address<Q: WorkQueue>(
 #[tactic(auto, unfolding(crate::specs::Rules::breaks_sequence_open, crate::specs::Rules::breaks_several_luns, crate::specs::Rules::breaks_no_column_to_change, crate::specs::Rules::breaks_command_misplaced, crate::specs::Rules::breaks_address_misplaced, crate::specs::Rules::breaks_row_outside, crate::specs::Rules::breaks_lun_busy, crate::specs::Rules::breaks_queue_clash, crate::specs::Rules::breaks_no_sole_driver, crate::specs::Rules::breaks_data_not_ready, crate::specs::Rules::breaks_cache_read_misplaced))]
 fn judge_input<Q: WorkQueue>(
     geometry: &Geometry,
-    t: TailFacts,
+    tail: TailFacts,
     luns: &[LunFacts<Q>],
     byte: u8,
 ) -> Option<Forbidden>
-    requires { (t.column < 2 ^ 16) × (t.inputs < 2 ^ 63) }
-    ensures { result ≡ judge_known_cycle geometry.now t luns.now (TargetCycle.InputCycle byte) }
+    requires { (tail.column < 2 ^ 16) × (tail.inputs < 2 ^ 63) }
+    ensures { result ≡ judge_known_cycle geometry.now tail luns.now (TargetCycle.InputCycle byte) }
 {
     let cycle = TargetCycle::InputCycle(byte);
-    if breaks_input_misplaced(t, cycle) {
+    if breaks_input_misplaced(tail, cycle) {
         Some(Forbidden::InputMisplaced)
-    } else if breaks_column_outside(geometry, t, luns, cycle) {
+    } else if breaks_column_outside(geometry, tail, luns, cycle) {
         Some(Forbidden::ColumnOutside)
     } else {
         None
@@ -583,18 +485,18 @@ fn judge_input<Q: WorkQueue>(
 #[tactic(auto, unfolding(crate::specs::Rules::breaks_sequence_open, crate::specs::Rules::breaks_several_luns, crate::specs::Rules::breaks_no_column_to_change, crate::specs::Rules::breaks_command_misplaced, crate::specs::Rules::breaks_address_misplaced, crate::specs::Rules::breaks_row_outside, crate::specs::Rules::breaks_lun_busy, crate::specs::Rules::breaks_queue_clash, crate::specs::Rules::breaks_input_misplaced, crate::specs::Rules::breaks_cache_read_misplaced))]
 fn judge_output<Q: WorkQueue>(
     geometry: &Geometry,
-    t: TailFacts,
+    tail: TailFacts,
     luns: &[LunFacts<Q>],
 ) -> Option<Forbidden>
-    requires { (t.column < 2 ^ 16) × (t.inputs < 2 ^ 63) }
-    ensures { result ≡ judge_known_cycle geometry.now t luns.now TargetCycle.OutputCycle }
+    requires { (tail.column < 2 ^ 16) × (tail.inputs < 2 ^ 63) }
+    ensures { result ≡ judge_known_cycle geometry.now tail luns.now TargetCycle.OutputCycle }
 {
     let cycle = TargetCycle::OutputCycle;
-    if breaks_no_sole_driver(t, luns, cycle) {
+    if breaks_no_sole_driver(tail, luns, cycle) {
         Some(Forbidden::NoSoleDriver)
     } else if breaks_data_not_ready(luns, cycle) {
         Some(Forbidden::DataNotReady)
-    } else if breaks_column_outside(geometry, t, luns, cycle) {
+    } else if breaks_column_outside(geometry, tail, luns, cycle) {
         Some(Forbidden::ColumnOutside)
     } else {
         None
@@ -605,18 +507,18 @@ fn judge_output<Q: WorkQueue>(
 #[inline(always)]
 pub fn judge_known_cycle<Q: WorkQueue>(
     geometry: &Geometry,
-    t: TailFacts,
+    tail: TailFacts,
     luns: &[LunFacts<Q>],
     cycle: TargetCycle,
 ) -> Option<Forbidden>
-    requires { (t.column < 2 ^ 16) × (t.inputs < 2 ^ 63) }
-    ensures { result ≡ judge_known_cycle geometry.now t luns.now cycle }
+    requires { (tail.column < 2 ^ 16) × (tail.inputs < 2 ^ 63) }
+    ensures { result ≡ judge_known_cycle geometry.now tail luns.now cycle }
 {
     match cycle {
-        TargetCycle::CommandCycle(command) => judge_command(geometry, t, luns, command),
-        TargetCycle::AddressCycle(byte) => judge_address(geometry, t, luns, byte),
-        TargetCycle::InputCycle(byte) => judge_input(geometry, t, luns, byte),
-        TargetCycle::OutputCycle => judge_output(geometry, t, luns),
+        TargetCycle::CommandCycle(command) => judge_command(geometry, tail, luns, command),
+        TargetCycle::AddressCycle(byte) => judge_address(geometry, tail, luns, byte),
+        TargetCycle::InputCycle(byte) => judge_input(geometry, tail, luns, byte),
+        TargetCycle::OutputCycle => judge_output(geometry, tail, luns),
     }
 }
 
@@ -624,17 +526,17 @@ pub fn judge_known_cycle<Q: WorkQueue>(
 #[inline(always)]
 pub fn judge_cycle<Q: WorkQueue>(
     geometry: &Geometry,
-    t: TailFacts,
+    tail: TailFacts,
     luns: &[LunFacts<Q>],
     cycle: TargetCycle,
 ) -> Option<Forbidden>
-    requires { (t.column < 2 ^ 16) × (t.inputs < 2 ^ 63) }
-    ensures { result ≡ judge_cycle geometry.now t luns.now cycle }
+    requires { (tail.column < 2 ^ 16) × (tail.inputs < 2 ^ 63) }
+    ensures { result ≡ judge_cycle geometry.now tail luns.now cycle }
 {
     if breaks_command_unknown(geometry, cycle) {
         Some(Forbidden::CommandUnknown)
     } else {
-        judge_known_cycle(geometry, t, luns, cycle)
+        judge_known_cycle(geometry, tail, luns, cycle)
     }
 }
 
@@ -644,19 +546,23 @@ pub fn judge_cycle<Q: WorkQueue>(
 pub fn judge<Q: WorkQueue>(
     geometry: &Geometry,
     targets: u8,
-    t: TailFacts,
+    tail: TailFacts,
     luns: &[LunFacts<Q>],
     item: Item,
 ) -> Option<Forbidden>
-    requires { (t.column < 2 ^ 16) × (t.inputs < 2 ^ 63) }
-    ensures { result ≡ judge geometry.now targets t luns.now item }
+    requires { (tail.column < 2 ^ 16) × (tail.inputs < 2 ^ 63) }
+    ensures { result ≡ judge geometry.now targets tail luns.now item }
 {
     if breaks_not_there(targets, luns, item) {
         return Some(Forbidden::NotThere);
     }
     match item {
-        Item::Cyc(c) => judge_cycle(geometry, t, luns, TargetCycle::of(c.kind, c.byte)),
-        Item::Rdy { .. } => None,
-        Item::Ard { .. } => None,
+        Item::Cyc(cycle) => judge_cycle(
+            geometry,
+            tail,
+            luns,
+            TargetCycle::of(cycle.kind, cycle.byte),
+        ),
+        Item::Rdy { .. } | Item::Ard { .. } => None,
     }
 }

@@ -1,7 +1,7 @@
 -- The opening content of the dies, by a list of the pages that aren't all FF, and the works on pages as code keeps them.
 use Rattle.std.specs.Prelude.{ℕ, ◌==◌, Bool, ◌&&◌, if◌then◌else◌, List, [], ◌∷◌, replicate}
-use Rattle.onfi_cycle.specs.declared.item.Lun.{Lun}
-use Rattle.onfi_cycle.specs.declared.effect.PageAddress.{PageAddress}
+use Rattle.onfi_cycle.specs.declared.lun.Lun.{Lun}
+use Rattle.onfi_cycle.specs.declared.page_address.PageAddress.{PageAddress}
 use Rattle.onfi_cycle.specs.Content.{ArrayWork, same_page}
 use Rattle.onfi_cycle.specs.Content.ArrayWork.{ErasesBlock, ProgramsPage}
 use Rattle.onfi_lookback.specs.declared.WorkKind.{WorkKind}

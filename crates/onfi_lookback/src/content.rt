@@ -15,19 +15,8 @@ use crate::past::{
 };
 use crate::{ArrayWork, WorkKind, WrittenPage};
 use nand_geometry::Geometry;
-use onfi_cycle::{
-    Effect, Item, Latch, Lun, PageAddress, Register, Status, TailFacts, TargetCycle, output_column,
-};
+use onfi_cycle::{Effect, Item, Latch, Lun, PageAddress, Register, Status, TailFacts, TargetCycle};
 use std::alloc::{AllocError, Global};
-
-/// The status of a busy LUN: WP_N alone.
-const BUSY: Status = Status::WP_N;
-/// RDY too: the LUN takes commands while its array works.
-const ARRAY_BUSY: Status = Status(BUSY.0 | Status::RDY.0);
-/// ARDY too: the array rests.
-const READY: Status = Status(ARRAY_BUSY.0 | Status::ARDY.0);
-/// FAIL too: the last work failed.
-const FAILED: Status = Status(READY.0 | Status::FAIL.0);
 
 /// A page of FF.
 fn erased_page(alloc: Global, geometry: &Geometry) -> Result<Vec<u8>, AllocError>
@@ -41,17 +30,17 @@ fn filled_after(
     alloc: Global,
     geometry: &Geometry,
     cycle: TargetCycle,
-    t: TailFacts,
+    tail: TailFacts,
     before: Vec<u8>,
 ) -> Result<Vec<u8>, AllocError>
-    requires { (t.column < 2 ^ 16) × (t.inputs < 2 ^ 63) }
-    ensures { IfOk result (λ v. v.items ≡ filled_after (page_len geometry.now) cycle t before.items) }
+    requires { (tail.column < 2 ^ 16) × (tail.inputs < 2 ^ 63) }
+    ensures { IfOk result (λ v. v.items ≡ filled_after (page_len geometry.now) cycle tail before.items) }
 {
     match cycle {
         TargetCycle::CommandCycle(command) if command.is_opener() => erased_page(alloc, geometry),
-        TargetCycle::InputCycle(byte) if !t.is_empty => {
+        TargetCycle::InputCycle(byte) if !tail.is_empty => {
             let mut bytes = before;
-            let column = t.input_column();
+            let column = tail.input_column();
             if column < bytes.len() as u64 {
                 bytes[column as usize] = byte;
             }
@@ -142,16 +131,16 @@ pub fn queued_work(
     alloc: Global,
     geometry: &Geometry,
     past: &[Item],
-    l: Lun,
+    lun: Lun,
 ) -> Result<Vec<ArrayWork>, AllocError>
-    ensures { IfOk result (λ v. v.items ≡ queued_work geometry.now past.now l) }
+    ensures { IfOk result (λ v. v.items ≡ queued_work geometry.now past.now lun) }
 {
     match past {
         [] => Ok(Vec::new(alloc)),
         [item, rest @ ..] => {
-            let before = queued_work(alloc, geometry, rest, l)?;
-            let effect = effect_on(alloc, geometry, rest, *item, l)?;
-            let bytes = filled(alloc, geometry, rest, l.ce)?;
+            let before = queued_work(alloc, geometry, rest, lun)?;
+            let effect = effect_on(alloc, geometry, rest, *item, lun)?;
+            let bytes = filled(alloc, geometry, rest, lun.ce)?;
             queued_work_after(alloc, effect, bytes, before)
         }
     }
@@ -197,32 +186,32 @@ pub fn pending_work(
     alloc: Global,
     geometry: &Geometry,
     past: &[Item],
-    l: Lun,
+    lun: Lun,
 ) -> Result<Vec<ArrayWork>, AllocError>
-    ensures { IfOk result (λ v. v.items ≡ pending_work geometry.now past.now l) }
+    ensures { IfOk result (λ v. v.items ≡ pending_work geometry.now past.now lun) }
 {
     match past {
         [] => Ok(Vec::new(alloc)),
         [item, rest @ ..] => {
-            let before = pending_work(alloc, geometry, rest, l)?;
-            let effect = effect_on(alloc, geometry, rest, *item, l)?;
-            let bytes = filled(alloc, geometry, rest, l.ce)?;
-            let works = queued_work(alloc, geometry, rest, l)?;
+            let before = pending_work(alloc, geometry, rest, lun)?;
+            let effect = effect_on(alloc, geometry, rest, *item, lun)?;
+            let bytes = filled(alloc, geometry, rest, lun.ce)?;
+            let works = queued_work(alloc, geometry, rest, lun)?;
             pending_work_after(alloc, effect, bytes, works, before)
         }
     }
 }
 
-fn same_page(p: PageAddress, q: PageAddress) -> bool
-    ensures { result ≡ same_page p q }
+fn same_page(page: PageAddress, other: PageAddress) -> bool
+    ensures { result ≡ same_page page other }
 {
-    p.block == q.block && p.page == q.page
+    page == other
 }
 
-fn same_lun(l: Lun, m: Lun) -> bool
-    ensures { result ≡ same_lun l m }
+fn same_lun(lun: Lun, other: Lun) -> bool
+    ensures { result ≡ same_lun lun other }
 {
-    l.ce == m.ce && l.lun == m.lun
+    lun == other
 }
 
 /// Each old byte AND the new one in its place, as far as both reach.
@@ -238,14 +227,14 @@ fn left_by(
     alloc: Global,
     geometry: &Geometry,
     work: &ArrayWork,
-    p: PageAddress,
+    page: PageAddress,
     old: Vec<u8>,
 ) -> Result<Vec<u8>, AllocError>
-    ensures { IfOk result (λ v. v.items ≡ left_by (page_len geometry.now) work.now p old.items) }
+    ensures { IfOk result (λ v. v.items ≡ left_by (page_len geometry.now) work.now page old.items) }
 {
     match work.kind {
-        WorkKind::Erase if p.block == work.at.block => erased_page(alloc, geometry),
-        WorkKind::Program if same_page(p, work.at) => and_bytes(alloc, &old, &work.bytes),
+        WorkKind::Erase if page.block == work.at.block => erased_page(alloc, geometry),
+        WorkKind::Program if same_page(page, work.at) => and_bytes(alloc, &old, &work.bytes),
         _ => Ok(old),
     }
 }
@@ -255,16 +244,16 @@ fn left_by_all(
     alloc: Global,
     geometry: &Geometry,
     works: &[ArrayWork],
-    p: PageAddress,
+    page: PageAddress,
     old: Vec<u8>,
 ) -> Result<Vec<u8>, AllocError>
-    ensures { IfOk result (λ v. v.items ≡ left_by_all (page_len geometry.now) works.now p old.items) }
+    ensures { IfOk result (λ v. v.items ≡ left_by_all (page_len geometry.now) works.now page old.items) }
 {
     match works {
         [] => Ok(old),
         [last, rest @ ..] => {
-            let before = left_by_all(alloc, geometry, rest, p, old)?;
-            left_by(alloc, geometry, last, p, before)
+            let before = left_by_all(alloc, geometry, rest, page, old)?;
+            left_by(alloc, geometry, last, page, before)
         }
     }
 }
@@ -274,18 +263,18 @@ fn opening_of(
     alloc: Global,
     geometry: &Geometry,
     opening: &[WrittenPage],
-    l: Lun,
-    p: PageAddress,
+    lun: Lun,
+    page: PageAddress,
 ) -> Result<Vec<u8>, AllocError>
-    ensures { IfOk result (λ v. v.items ≡ opening_of (page_len geometry.now) opening.now l p) }
+    ensures { IfOk result (λ v. v.items ≡ opening_of (page_len geometry.now) opening.now lun page) }
 {
     match opening {
         [] => erased_page(alloc, geometry),
         [entry, rest @ ..] => {
-            if same_lun(entry.lun, l) && same_page(entry.at, p) {
+            if same_lun(entry.lun, lun) && same_page(entry.at, page) {
                 entry.bytes.to_vec(alloc)
             } else {
-                opening_of(alloc, geometry, rest, l, p)
+                opening_of(alloc, geometry, rest, lun, page)
             }
         }
     }
@@ -298,19 +287,19 @@ pub fn content(
     geometry: &Geometry,
     opening: &[WrittenPage],
     past: &[Item],
-    l: Lun,
-    p: PageAddress,
+    lun: Lun,
+    page: PageAddress,
 ) -> Result<Vec<u8>, AllocError>
-    ensures { IfOk result (λ v. v.items ≡ content geometry.now (opening_of (page_len geometry.now) opening.now) past.now l p) }
+    ensures { IfOk result (λ v. v.items ≡ content geometry.now (opening_of (page_len geometry.now) opening.now) past.now lun page) }
 {
     match past {
-        [] => opening_of(alloc, geometry, opening, l, p),
+        [] => opening_of(alloc, geometry, opening, lun, page),
         [item, rest @ ..] => {
-            let before = content(alloc, geometry, opening, rest, l, p)?;
-            match effect_on(alloc, geometry, rest, *item, l)? {
+            let before = content(alloc, geometry, opening, rest, lun, page)?;
+            match effect_on(alloc, geometry, rest, *item, lun)? {
                 Effect::BecameReady { failed: false } => {
-                    let pending = pending_work(alloc, geometry, rest, l)?;
-                    left_by_all(alloc, geometry, &pending, p, before)
+                    let pending = pending_work(alloc, geometry, rest, lun)?;
+                    left_by_all(alloc, geometry, &pending, page, before)
                 }
                 _ => Ok(before),
             }
@@ -323,18 +312,18 @@ pub fn has_failed(
     alloc: Global,
     geometry: &Geometry,
     past: &[Item],
-    l: Lun,
+    lun: Lun,
 ) -> Result<bool, AllocError>
-    ensures { IfOk result (λ a. a ≡ has_failed geometry.now past.now l) }
+    ensures { IfOk result (λ a. a ≡ has_failed geometry.now past.now lun) }
 {
     match past {
         [] => Ok(false),
-        [item, rest @ ..] => match effect_on(alloc, geometry, rest, *item, l)? {
+        [item, rest @ ..] => match effect_on(alloc, geometry, rest, *item, lun)? {
             Effect::BecameReady { failed } => {
-                let pending = pending_work(alloc, geometry, rest, l)?;
+                let pending = pending_work(alloc, geometry, rest, lun)?;
                 Ok(failed && !pending.is_empty())
             }
-            _ => has_failed(alloc, geometry, rest, l),
+            _ => has_failed(alloc, geometry, rest, lun),
         },
     }
 }
@@ -344,18 +333,18 @@ pub fn status(
     alloc: Global,
     geometry: &Geometry,
     past: &[Item],
-    l: Lun,
+    lun: Lun,
 ) -> Result<Status, AllocError>
-    ensures { IfOk result (λ s. s.0 ≡ status geometry.now past.now l) }
+    ensures { IfOk result (λ s. s.0 ≡ status geometry.now past.now lun) }
 {
-    if is_busy(alloc, geometry, past, l)? {
-        Ok(BUSY)
-    } else if is_array_busy(alloc, geometry, past, l)? {
-        Ok(ARRAY_BUSY)
-    } else if has_failed(alloc, geometry, past, l)? {
-        Ok(FAILED)
+    if is_busy(alloc, geometry, past, lun)? {
+        Ok(Status::BUSY)
+    } else if is_array_busy(alloc, geometry, past, lun)? {
+        Ok(Status::ARRAY_BUSY)
+    } else if has_failed(alloc, geometry, past, lun)? {
+        Ok(Status::FAILED)
     } else {
-        Ok(READY)
+        Ok(Status::READY)
     }
 }
 
@@ -366,14 +355,14 @@ pub fn register_bytes(
     parameters: &[u8],
     opening: &[WrittenPage],
     past: &[Item],
-    l: Lun,
+    lun: Lun,
 ) -> Result<Vec<u8>, AllocError>
     ensures { IfOk result (λ v. v.items ≡ register_bytes parameters.now
-        (content geometry.now (opening_of (page_len geometry.now) opening.now) past.now l) (register geometry.now past.now l)) }
+        (content geometry.now (opening_of (page_len geometry.now) opening.now) past.now lun) (register geometry.now past.now lun)) }
 {
-    match register(alloc, geometry, past, l)? {
+    match register(alloc, geometry, past, lun)? {
         Register::Empty => Ok(Vec::new(alloc)),
-        Register::Page(p) => content(alloc, geometry, opening, past, l, p),
+        Register::Page(p) => content(alloc, geometry, opening, past, lun, p),
         Register::ParameterPage => parameters.to_vec(alloc),
         Register::Identifier => b"ONFI".to_vec(alloc),
     }
@@ -386,16 +375,16 @@ fn data_byte(
     parameters: &[u8],
     opening: &[WrittenPage],
     past: &[Item],
-    l: Lun,
+    lun: Lun,
 ) -> Result<Option<u8>, AllocError>
     ensures { IfOk result (λ b. b ≡ byte_at (register_bytes parameters.now
-        (content geometry.now (opening_of (page_len geometry.now) opening.now) past.now l) (register geometry.now past.now l))
-        (output_column (read_column geometry.now past.now l))) }
+        (content geometry.now (opening_of (page_len geometry.now) opening.now) past.now lun) (register geometry.now past.now lun))
+        (output_column (read_column geometry.now past.now lun))) }
 {
-    match output_column(read_column(alloc, geometry, past, l)?) {
+    match read_column(alloc, geometry, past, lun)?.output_column() {
         None => Ok(None),
         Some(column) => {
-            let bytes = register_bytes(alloc, geometry, parameters, opening, past, l)?;
+            let bytes = register_bytes(alloc, geometry, parameters, opening, past, lun)?;
             Ok(bytes.get(column as usize).copied())
         }
     }
@@ -408,14 +397,14 @@ pub fn shown(
     parameters: &[u8],
     opening: &[WrittenPage],
     past: &[Item],
-    l: Lun,
+    lun: Lun,
 ) -> Result<Option<u8>, AllocError>
-    ensures { IfOk result (λ b. b ≡ shown geometry.now parameters.now (opening_of (page_len geometry.now) opening.now) past.now l) }
+    ensures { IfOk result (λ b. b ≡ shown geometry.now parameters.now (opening_of (page_len geometry.now) opening.now) past.now lun) }
 {
-    match latch(alloc, geometry, past, l)? {
+    match latch(alloc, geometry, past, lun)? {
         Latch::Off => Ok(None),
-        Latch::Status => Ok(Some(status(alloc, geometry, past, l)?.0)),
-        Latch::Data => data_byte(alloc, geometry, parameters, opening, past, l),
+        Latch::Status => Ok(Some(status(alloc, geometry, past, lun)?.0)),
+        Latch::Data => data_byte(alloc, geometry, parameters, opening, past, lun),
     }
 }
 

@@ -1,6 +1,6 @@
 //! The facts of a target and of its LUNs, by looking back over a past, the newest item first.
 ghost use Rattle.std.specs.Prelude.{[], ◌≡◌, ◌+◌, ◌^◌, ◌<◌, ◌≤◌, ◌∷◌, IfOk, length};
-ghost use Rattle.onfi_cycle.specs.declared.item.Lun.{Lun};
+ghost use Rattle.onfi_cycle.specs.declared.lun.Lun.{Lun};
 ghost use Rattle.onfi_cycle.specs.Effect.{IsSmallEffect};
 ghost use Rattle.onfi_cycle.specs.Sequence.{AreSmall, tail, facts_of};
 ghost use Rattle.onfi_cycle.specs.Lun.{latch, drivers, drivers_from, is_only, latch_alone, effect_on, is_busy, closer, is_caching, is_array_busy, array_page, register, read_column, queue, queue_after, lun_view, views_from, luns_of};
@@ -8,8 +8,7 @@ ghost use Rattle.onfi_cycle.specs.Lun.{latch, drivers, drivers_from, is_only, la
 use nand_geometry::Geometry;
 use onfi_cycle::{
     Command, Effect, Item, Latch, Lun, LunFacts, PageAddress, Queued, ReadColumn, Register,
-    TailFacts, TargetCycle, array_busy_after, array_page_after, busy_after, closer_after,
-    is_cache_read, item_effect, latch_after, read_column_after, register_after,
+    TailFacts, TargetCycle, is_cache_read, item_effect,
 };
 use std::alloc::{AllocError, Global};
 
@@ -38,15 +37,20 @@ pub fn tail_facts(past: &[Item], ce: u8) -> TailFacts
 }
 
 /// What a LUN shows when it is read.
-pub fn latch(alloc: Global, geometry: &Geometry, past: &[Item], l: Lun) -> Result<Latch, AllocError>
-    ensures { IfOk result (λ a. a ≡ latch geometry.now past.now l) }
+pub fn latch(
+    alloc: Global,
+    geometry: &Geometry,
+    past: &[Item],
+    lun: Lun,
+) -> Result<Latch, AllocError>
+    ensures { IfOk result (λ a. a ≡ latch geometry.now past.now lun) }
 {
     match past {
         [] => Ok(Latch::Off),
         [item, rest @ ..] => {
-            let before = latch(alloc, geometry, rest, l)?;
-            let effect = item_effect(geometry, tail_facts(rest, l.ce), before, *item, l);
-            Ok(latch_after(effect, before))
+            let before = latch(alloc, geometry, rest, lun)?;
+            let effect = item_effect(geometry, tail_facts(rest, lun.ce), before, *item, lun);
+            Ok(effect.latch_after(before))
         }
     }
 }
@@ -58,19 +62,19 @@ fn drivers_from(
     past: &[Item],
     ce: u8,
     count: u8,
-    n: u8,
+    number: u8,
 ) -> Result<Vec<u8>, AllocError>
-    requires { count + n < 256 }
-    ensures { IfOk result (λ v. v.items ≡ drivers_from (λ m. latch geometry.now past.now (record { ce = ce; lun = m })) count n) }
+    requires { count + number < 256 }
+    ensures { IfOk result (λ v. v.items ≡ drivers_from (λ m. latch geometry.now past.now (record { ce = ce; lun = m })) count number) }
 {
     if count == 0 {
         return Ok(Vec::new(alloc));
     }
-    let rest = drivers_from(alloc, geometry, past, ce, count - 1, n + 1)?;
-    if (latch(alloc, geometry, past, Lun { ce, lun: n })?).is_off() {
+    let rest = drivers_from(alloc, geometry, past, ce, count - 1, number + 1)?;
+    if (latch(alloc, geometry, past, Lun { ce, lun: number })?).is_off() {
         return Ok(rest);
     }
-    let mut numbers = vec![in alloc; n]?;
+    let mut numbers = vec![in alloc; number]?;
     numbers.extend_from_slice(&rest)?;
     Ok(numbers)
 }
@@ -87,12 +91,12 @@ pub fn drivers(
     drivers_from(alloc, geometry, past, ce, geometry.parts().luns, 0)
 }
 
-fn is_only(numbers: &[u8], n: u8) -> bool
-    ensures { result ≡ is_only numbers.now n }
+fn is_only(numbers: &[u8], number: u8) -> bool
+    ensures { result ≡ is_only numbers.now number }
 {
     match numbers {
         [] => false,
-        [first, rest @ ..] => rest.is_empty() && *first == n,
+        [first, rest @ ..] => rest.is_empty() && *first == number,
     }
 }
 
@@ -101,13 +105,13 @@ pub fn latch_alone(
     alloc: Global,
     geometry: &Geometry,
     past: &[Item],
-    l: Lun,
+    lun: Lun,
 ) -> Result<Latch, AllocError>
-    ensures { IfOk result (λ a. a ≡ latch_alone geometry.now past.now l) }
+    ensures { IfOk result (λ a. a ≡ latch_alone geometry.now past.now lun) }
 {
-    let numbers = drivers(alloc, geometry, past, l.ce)?;
-    if is_only(&numbers, l.lun) {
-        latch(alloc, geometry, past, l)
+    let numbers = drivers(alloc, geometry, past, lun.ce)?;
+    if is_only(&numbers, lun.lun) {
+        latch(alloc, geometry, past, lun)
     } else {
         Ok(Latch::Off)
     }
@@ -120,13 +124,13 @@ pub fn effect_on(
     geometry: &Geometry,
     past: &[Item],
     item: Item,
-    l: Lun,
+    lun: Lun,
 ) -> Result<Effect, AllocError>
-    ensures value { IfOk result (λ a. a ≡ effect_on geometry.now past.now item l) }
+    ensures value { IfOk result (λ a. a ≡ effect_on geometry.now past.now item lun) }
     ensures small { IfOk result IsSmallEffect }
 {
-    let latch = latch_alone(alloc, geometry, past, l)?;
-    Ok(item_effect(geometry, tail_facts(past, l.ce), latch, item, l))
+    let latch = latch_alone(alloc, geometry, past, lun)?;
+    Ok(item_effect(geometry, tail_facts(past, lun.ce), latch, item, lun))
 }
 
 /// Work was started on the LUN, and no ready of it came since.
@@ -134,15 +138,15 @@ pub fn is_busy(
     alloc: Global,
     geometry: &Geometry,
     past: &[Item],
-    l: Lun,
+    lun: Lun,
 ) -> Result<bool, AllocError>
-    ensures { IfOk result (λ a. a ≡ is_busy geometry.now past.now l) }
+    ensures { IfOk result (λ a. a ≡ is_busy geometry.now past.now lun) }
 {
     match past {
         [] => Ok(false),
         [item, rest @ ..] => {
-            let before = is_busy(alloc, geometry, rest, l)?;
-            Ok(busy_after(effect_on(alloc, geometry, rest, *item, l)?, before))
+            let before = is_busy(alloc, geometry, rest, lun)?;
+            Ok(effect_on(alloc, geometry, rest, *item, lun)?.busy_after(before))
         }
     }
 }
@@ -152,15 +156,15 @@ pub fn closer(
     alloc: Global,
     geometry: &Geometry,
     past: &[Item],
-    l: Lun,
+    lun: Lun,
 ) -> Result<Option<Command>, AllocError>
-    ensures { IfOk result (λ a. a ≡ closer geometry.now past.now l) }
+    ensures { IfOk result (λ a. a ≡ closer geometry.now past.now lun) }
 {
     match past {
         [] => Ok(None),
         [item, rest @ ..] => {
-            let before = closer(alloc, geometry, rest, l)?;
-            Ok(closer_after(effect_on(alloc, geometry, rest, *item, l)?, before))
+            let before = closer(alloc, geometry, rest, lun)?;
+            Ok(effect_on(alloc, geometry, rest, *item, lun)?.closer_after(before))
         }
     }
 }
@@ -170,11 +174,11 @@ pub fn is_caching(
     alloc: Global,
     geometry: &Geometry,
     past: &[Item],
-    l: Lun,
+    lun: Lun,
 ) -> Result<bool, AllocError>
-    ensures { IfOk result (λ a. a ≡ is_caching geometry.now past.now l) }
+    ensures { IfOk result (λ a. a ≡ is_caching geometry.now past.now lun) }
 {
-    let last = closer(alloc, geometry, past, l)?;
+    let last = closer(alloc, geometry, past, lun)?;
     Ok(is_cache_read(last))
 }
 
@@ -183,18 +187,18 @@ pub fn is_array_busy(
     alloc: Global,
     geometry: &Geometry,
     past: &[Item],
-    l: Lun,
+    lun: Lun,
 ) -> Result<bool, AllocError>
-    ensures { IfOk result (λ a. a ≡ is_array_busy geometry.now past.now l) }
+    ensures { IfOk result (λ a. a ≡ is_array_busy geometry.now past.now lun) }
 {
     match past {
         [] => Ok(false),
         [item, rest @ ..] => {
-            let before = is_array_busy(alloc, geometry, rest, l)?;
-            let busy = is_busy(alloc, geometry, rest, l)?;
-            let caching = is_caching(alloc, geometry, rest, l)?;
-            let effect = effect_on(alloc, geometry, rest, *item, l)?;
-            Ok(array_busy_after(effect, busy, caching, before))
+            let before = is_array_busy(alloc, geometry, rest, lun)?;
+            let busy = is_busy(alloc, geometry, rest, lun)?;
+            let caching = is_caching(alloc, geometry, rest, lun)?;
+            let effect = effect_on(alloc, geometry, rest, *item, lun)?;
+            Ok(effect.array_busy_after(busy, caching, before))
         }
     }
 }
@@ -204,9 +208,9 @@ pub fn read_column(
     alloc: Global,
     geometry: &Geometry,
     past: &[Item],
-    l: Lun,
+    lun: Lun,
 ) -> Result<ReadColumn, AllocError>
-    ensures value { IfOk result (λ a. a ≡ read_column geometry.now past.now l) }
+    ensures value { IfOk result (λ a. a ≡ read_column geometry.now past.now lun) }
     ensures small { IfOk result (λ a. a.outputs ≤ length past.now) }
 {
     match past {
@@ -216,8 +220,8 @@ pub fn read_column(
             lost: false,
         }),
         [item, rest @ ..] => {
-            let before = read_column(alloc, geometry, rest, l)?;
-            Ok(read_column_after(effect_on(alloc, geometry, rest, *item, l)?, before))
+            let before = read_column(alloc, geometry, rest, lun)?;
+            Ok(effect_on(alloc, geometry, rest, *item, lun)?.read_column_after(before))
         }
     }
 }
@@ -247,15 +251,15 @@ pub fn queue(
     alloc: Global,
     geometry: &Geometry,
     past: &[Item],
-    l: Lun,
+    lun: Lun,
 ) -> Result<Vec<Queued>, AllocError>
-    ensures { IfOk result (λ v. v.items ≡ queue geometry.now past.now l) }
+    ensures { IfOk result (λ v. v.items ≡ queue geometry.now past.now lun) }
 {
     match past {
         [] => Ok(Vec::new(alloc)),
         [item, rest @ ..] => {
-            let before = queue(alloc, geometry, rest, l)?;
-            queue_after(alloc, effect_on(alloc, geometry, rest, *item, l)?, before)
+            let before = queue(alloc, geometry, rest, lun)?;
+            queue_after(alloc, effect_on(alloc, geometry, rest, *item, lun)?, before)
         }
     }
 }
@@ -265,16 +269,16 @@ pub fn array_page(
     alloc: Global,
     geometry: &Geometry,
     past: &[Item],
-    l: Lun,
+    lun: Lun,
 ) -> Result<PageAddress, AllocError>
-    ensures value { IfOk result (λ a. a ≡ array_page geometry.now past.now l) }
+    ensures value { IfOk result (λ a. a ≡ array_page geometry.now past.now lun) }
     ensures small { IfOk result (λ a. a.page ≤ 2 ^ 32 + length past.now) }
 {
     match past {
         [] => Ok(PageAddress { block: 0, page: 0 }),
         [item, rest @ ..] => {
-            let before = array_page(alloc, geometry, rest, l)?;
-            Ok(array_page_after(effect_on(alloc, geometry, rest, *item, l)?, before))
+            let before = array_page(alloc, geometry, rest, lun)?;
+            Ok(effect_on(alloc, geometry, rest, *item, lun)?.array_page_after(before))
         }
     }
 }
@@ -284,16 +288,16 @@ pub fn register(
     alloc: Global,
     geometry: &Geometry,
     past: &[Item],
-    l: Lun,
+    lun: Lun,
 ) -> Result<Register, AllocError>
-    ensures { IfOk result (λ a. a ≡ register geometry.now past.now l) }
+    ensures { IfOk result (λ a. a ≡ register geometry.now past.now lun) }
 {
     match past {
         [] => Ok(Register::Empty),
         [item, rest @ ..] => {
-            let before = register(alloc, geometry, rest, l)?;
-            let page = array_page(alloc, geometry, rest, l)?;
-            Ok(register_after(effect_on(alloc, geometry, rest, *item, l)?, page, before))
+            let before = register(alloc, geometry, rest, lun)?;
+            let page = array_page(alloc, geometry, rest, lun)?;
+            Ok(effect_on(alloc, geometry, rest, *item, lun)?.register_after(page, before))
         }
     }
 }
@@ -303,18 +307,18 @@ pub fn lun_facts(
     alloc: Global,
     geometry: &Geometry,
     past: &[Item],
-    l: Lun,
+    lun: Lun,
 ) -> Result<LunFacts<Vec<Queued>>, AllocError>
-    ensures { IfOk result (λ v. v ≡ lun_view geometry.now past.now l) }
+    ensures { IfOk result (λ v. v ≡ lun_view geometry.now past.now lun) }
 {
-    let latch = latch(alloc, geometry, past, l)?;
-    let busy = is_busy(alloc, geometry, past, l)?;
-    let closer = closer(alloc, geometry, past, l)?;
-    let array_busy = is_array_busy(alloc, geometry, past, l)?;
-    let array_page = array_page(alloc, geometry, past, l)?;
-    let register = register(alloc, geometry, past, l)?;
-    let column = read_column(alloc, geometry, past, l)?;
-    let queue = queue(alloc, geometry, past, l)?;
+    let latch = latch(alloc, geometry, past, lun)?;
+    let busy = is_busy(alloc, geometry, past, lun)?;
+    let closer = closer(alloc, geometry, past, lun)?;
+    let array_busy = is_array_busy(alloc, geometry, past, lun)?;
+    let array_page = array_page(alloc, geometry, past, lun)?;
+    let register = register(alloc, geometry, past, lun)?;
+    let column = read_column(alloc, geometry, past, lun)?;
+    let queue = queue(alloc, geometry, past, lun)?;
     Ok(LunFacts {
         latch,
         busy,
@@ -333,16 +337,16 @@ fn facts_from(
     past: &[Item],
     ce: u8,
     count: u8,
-    n: u8,
+    number: u8,
 ) -> Result<Vec<LunFacts<Vec<Queued>>>, AllocError>
-    requires { count + n < 256 }
-    ensures { IfOk result (λ v. v.items ≡ views_from geometry.now past.now ce count n) }
+    requires { count + number < 256 }
+    ensures { IfOk result (λ v. v.items ≡ views_from geometry.now past.now ce count number) }
 {
     if count == 0 {
         return Ok(Vec::new(alloc));
     }
-    let mut rest = facts_from(alloc, geometry, past, ce, count - 1, n + 1)?;
-    let first = lun_facts(alloc, geometry, past, Lun { ce, lun: n })?;
+    let mut rest = facts_from(alloc, geometry, past, ce, count - 1, number + 1)?;
+    let first = lun_facts(alloc, geometry, past, Lun { ce, lun: number })?;
     rest.insert(0, first)?;
     Ok(rest)
 }

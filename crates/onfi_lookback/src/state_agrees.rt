@@ -3,7 +3,7 @@ use crate::past::{is_caching, lun_facts};
 use crate::trace::broken;
 use crate::worked::{ONE_LUN, TWO_LUNS, trace};
 use nand_geometry::Geometry;
-use onfi_cycle::{BusState, Item, Lun, WorkQueue, output_column};
+use onfi_cycle::{BusState, Item, Lun, WorkQueue};
 use std::alloc::Global;
 use std::process::Abort;
 use std::test::Fail;
@@ -88,7 +88,7 @@ fn luns_agree(
             assert_eq!(rt; told.busy, facts.busy);
             assert_eq!(rt; told.latch, facts.latch);
             assert_eq!(rt; told.register, facts.register);
-            assert_eq!(rt; told.column.map(u64::from), output_column(facts.column));
+            assert_eq!(rt; told.column.map(u64::from), facts.column.output_column());
             assert_eq!(rt; told.queued, facts.queue.works().len());
             assert_eq!(rt; told.caching, is_caching(alloc, geometry, past, l)?);
             assert_eq!(rt; told.array_busy, facts.array_busy);

@@ -2,24 +2,14 @@
 ghost use Rattle.std.specs.Prelude.{◌<◌, IfOk};
 
 use crate::past::{luns_of, tail_facts};
-use nand_geometry::{Geometry, Parts};
+use nand_geometry::{Geometry, Parts, SMALL_CHIP};
 use onfi_cycle::{Cycle, Forbidden, Item, Kind, TargetCycle, judge, judge_known_cycle};
 use std::alloc::{AllocError, Global};
 use std::process::Abort;
 use std::test::Fail;
 
 /// One LUN of 8 blocks of 4 pages of 512 + 16 bytes, in one plane.
-pub const ONE_LUN: Parts = Parts {
-    page_bytes: 512,
-    spare_bytes: 16,
-    pages: 4,
-    blocks: 8,
-    luns: 1,
-    plane_bits: 0,
-    enhanced: false,
-    multi_plane: false,
-    cache: false,
-};
+pub const ONE_LUN: Parts = SMALL_CHIP;
 
 /// Two such LUNs, each in two planes.
 pub const TWO_LUNS: Parts = Parts {

@@ -56,14 +56,14 @@ pub(crate) fn optional_path(field: &[u8]) -> Result<Option<&str>, RunFault>
 // A decimal number in a range.
 #[tactic(auto, unfolding(crate::specs::Line::number_in))]
 pub(crate) fn number_in(least: u32, greatest: u32, field: &[u8]) -> Result<u32, RunFault>
-    ensures ok { IfOk result (λ n. number_in least greatest field.now ≡ Ok n) }
-    ensures least { IfOk result (λ n. least ≤ n) }
-    ensures greatest { IfOk result (λ n. n ≤ greatest) }
+    ensures ok { IfOk result (λ number. number_in least greatest field.now ≡ Ok number) }
+    ensures least { IfOk result (λ number. least ≤ number) }
+    ensures greatest { IfOk result (λ number. number ≤ greatest) }
     ensures err { IfErr result (λ e. number_in least greatest field.now ≡ Err e) }
 {
-    let n = number_of(field).ok_or(RunFault::BadNumber)?;
-    if u64::from(least) <= n && n <= u64::from(greatest) {
-        Ok(n as u32)
+    let number = number_of(field).ok_or(RunFault::BadNumber)?;
+    if u64::from(least) <= number && number <= u64::from(greatest) {
+        Ok(number as u32)
     } else {
         Err(RunFault::BadNumber)
     }

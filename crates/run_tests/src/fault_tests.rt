@@ -1,9 +1,9 @@
 // Runs of which a call, or a write to an output, fails.
 use crate::tests::{Played, ask, make_files, make_image, play};
-use seq_files::{FileError, MapFiles};
+use seq_files::{FileError, FullWriter, MapFiles};
 use seq_run::{RunEnd, RunRequest, run_on};
 use std::alloc::Global;
-use std::io::{self, Write};
+use std::io;
 use std::process::Abort;
 use std::sync::Wait;
 use std::test::Fail;
@@ -142,35 +142,13 @@ fn no_call_fails(rt: HostRuntime) -> Result<(), Fail> {
     Ok(())
 }
 
-// Takes so many bytes, and then nothing.
-#[derive(Drop)]
-struct Full {
-    room: usize,
-    kind: io::ErrorKind,
-}
-
-impl Write for Full {
-    fn write(&mut self, buf: &[u8]) -> io::Result<usize> {
-        let taken = buf.len().min(self.room);
-        if taken == 0 {
-            return Err(io::Error::from(self.kind));
-        }
-        self.room = self.room.saturating_sub(taken);
-        Ok(taken)
-    }
-
-    fn flush(&mut self) -> io::Result<()> {
-        Ok(())
-    }
-}
-
 // How a run ends whose standard output is full, and what standard error says.
 fn play_full<R: Threads + Wait + Sync + AllocGlobal>(
     rt: &R,
     files: &mut MapFiles,
     kind: io::ErrorKind,
 ) -> Played {
-    let mut output = Full { room: 9, kind };
+    let mut output = FullWriter { room: 9, kind };
     let mut errors = Vec::new(rt.alloc());
     let end = run_on(rt, rt.alloc(), files, &mut output, &mut errors, ask_trace());
     Played {

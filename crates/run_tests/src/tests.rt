@@ -1,4 +1,4 @@
-use nand_geometry::{Geometry, Parts};
+use nand_geometry::{Geometry, Parts, SMALL_CHIP};
 use seq_files::MapFiles;
 use seq_run::{RunEnd, RunRequest, run_on};
 use std::alloc::{AllocError, Global};
@@ -8,17 +8,7 @@ use std::test::Fail;
 use std::thread::Threads;
 
 // One LUN of 8 blocks of 4 pages of 512 + 16 bytes, in one plane.
-pub(crate) const ONE_LUN: Parts = Parts {
-    page_bytes: 512,
-    spare_bytes: 16,
-    pages: 4,
-    blocks: 8,
-    luns: 1,
-    plane_bits: 0,
-    enhanced: false,
-    multi_plane: false,
-    cache: false,
-};
+pub(crate) const ONE_LUN: Parts = SMALL_CHIP;
 
 // Two such LUNs, each in two planes.
 pub(crate) const TWO_LUNS: Parts = Parts {

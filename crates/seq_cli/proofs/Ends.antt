@@ -1,12 +1,12 @@
 -- A job that was loaded alone runs to its end.
 use Rattle.std.proofs.Common.{◌≡◌, ℕ, zero, suc, ◌+◌, ◌*◌, ◌≤◌, cond, ◌&&◌, not, is_some, List, [], ◌∷◌, length, get_or, replicate, Option, Some, None, refl, sym, ap, ◌∙◌, subst, arith}
 use Rattle.std.proofs.lemmas.List.{length-replicate}
-use Rattle.nand_geometry.specs.declared.Parts.{Parts}
+use Rattle.nand_geometry.specs.declared.parts.Parts.{Parts}
 use Rattle.nand_geometry.specs.Limits.{InLimits, width, page_len}
 use Rattle.nand_geometry.proofs.LimitLemmas.{faultless}
 use Rattle.nand_geometry.proofs.PageLemmas.{parameters_have_their_length}
-use Rattle.onfi_cycle.specs.declared.item.Lun.{Lun}
-use Rattle.onfi_cycle.specs.declared.effect.PageAddress.{PageAddress}
+use Rattle.onfi_cycle.specs.declared.lun.Lun.{Lun}
+use Rattle.onfi_cycle.specs.declared.page_address.PageAddress.{PageAddress}
 use Rattle.onfi_cycle.specs.Channel.{Channel, IsChannel, is_there, same_lun}
 use Rattle.die_model.specs.Pages.{page_in}
 use Rattle.target_bus.specs.Bus.{Entries, number_of}
@@ -16,9 +16,9 @@ use Rattle.micro_program.specs.Lines.{unrolled}
 use Rattle.micro_program.specs.Places.{IsShaped}
 use Rattle.micro_program.proofs.Lengths.{lines_are_few}
 use Rattle.micro_program.specs.Program.{Job}
-use Rattle.seq_core.specs.declared.answers.LoadFault.{LoadFault}
-use Rattle.seq_core.specs.declared.answers.LoadFault.TheVariants.{SlotTaken, OtherLun, OtherGeometry}
-use Rattle.seq_core.specs.declared.answers.UnloadFault.{UnloadFault}
+use Rattle.seq_core.specs.declared.load_fault.LoadFault.{LoadFault}
+use Rattle.seq_core.specs.declared.load_fault.LoadFault.TheVariants.{SlotTaken, OtherLun, OtherGeometry}
+use Rattle.seq_core.specs.declared.unload_fault.UnloadFault.{UnloadFault}
 use Rattle.seq_core.specs.World.{Slot, World, slot_of, fresh, fresh_slot}
 use Rattle.seq_core.specs.Event.{Load, Unload}
 use Rattle.seq_core.specs.Reply.{Reply, ToLoad, ToUnload, Loaded, NotLoaded, Unloaded, NotUnloaded}

@@ -2,8 +2,8 @@
 use Rattle.std.proofs.Common.{◌≡◌, ℕ, suc, ◌+◌, ◌-◌, ◌<◌, ◌≤◌, Bool, true, false, Option, Some, None, refl, sym, ap, ◌∙◌, subst, arith}
 use Rattle.onfi_cycle.specs.Channel.{Channel}
 use Rattle.micro_program.specs.Moves.{and_then}
-use Rattle.seq_core.specs.declared.answers.Stepped.{Stepped}
-use Rattle.seq_core.specs.declared.answers.Stepped.TheVariants.{Ended, NotReady}
+use Rattle.seq_core.specs.declared.stepped.Stepped.{Stepped}
+use Rattle.seq_core.specs.declared.stepped.Stepped.TheVariants.{Ended, NotReady}
 use Rattle.seq_core.specs.World.{World}
 use Rattle.seq_core.specs.Event.{Step, Ready}
 use Rattle.seq_core.specs.Reply.{Reply, ToStep, ToReady}

@@ -1,7 +1,7 @@
 -- What running a word file once comes to: the line of its refusal, or the text of its run.
 use Rattle.std.specs.Prelude.{◌≡◌, ℕ, true, false, List, [], ◌∷◌, ◌++◌, ◌⊎◌, ⊤, Option, Some, None, Result, Ok, Err, replicate, reverse}
-use Rattle.nand_geometry.specs.declared.Parts.{Parts}
-use Rattle.onfi_cycle.specs.declared.item.Lun.{Lun}
+use Rattle.nand_geometry.specs.declared.parts.Parts.{Parts}
+use Rattle.onfi_cycle.specs.declared.lun.Lun.{Lun}
 use Rattle.onfi_cycle.specs.Permitted.{is_legal}
 use Rattle.onfi_cycle.specs.Channel.{Channel}
 use Rattle.micro_word.specs.declared.refusal.WordRefusal.{WordRefusal}
@@ -13,7 +13,7 @@ use Rattle.micro_walk.specs.Faults.{fault_of}
 use Rattle.micro_program.specs.Program.{Job}
 use Rattle.micro_program.specs.Verified.{VerifiedText}
 use Rattle.micro_walk.specs.Verdicts.{IsOfLoops}
-use Rattle.seq_core.specs.declared.answers.JobFault.{JobFault}
+use Rattle.seq_core.specs.declared.job_fault.JobFault.{JobFault}
 use Rattle.seq_core.specs.World.{Slot, World, slot_of, fresh}
 use Rattle.seq_core.specs.Event.{Load}
 use Rattle.seq_core.specs.Reply.{ToLoad, Loaded}

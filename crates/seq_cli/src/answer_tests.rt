@@ -1,12 +1,12 @@
 ghost use Rattle.std.specs.Prelude.{◌<◌};
 
-use crate::tests::{ERASE, RUN, reader, writer};
+use crate::tests::{ERASE, RUN};
 use crate::{Refusal, answer, run_file};
 use linked_list_allocator::LocalHeap;
 use micro_claims::Reason;
 use micro_word::WordFault;
 use seq_core::JobFault;
-use seq_files::MapFiles;
+use seq_files::{MapFiles, SlowReader, SlowWriter};
 use std::alloc::{AllocError, Global};
 use std::io;
 use std::process::Abort;
@@ -389,7 +389,7 @@ fn streams_that_fail_are_told(rt: HostRuntime) {
     let alloc = rt.alloc();
     let mut output = Vec::new(alloc);
     let mut errors = Vec::new(alloc);
-    let mut input = reader(&ERASE, 5, io::ErrorKind::Other);
+    let mut input = SlowReader::new(&ERASE, 5, io::ErrorKind::Other);
     assert_eq!(rt;
         run_file(&alloc, 4, &mut input, &mut output, &mut errors),
         2
@@ -399,7 +399,7 @@ fn streams_that_fail_are_told(rt: HostRuntime) {
 
     let mut errors = Vec::new(alloc);
     let mut file = ERASE.as_slice();
-    let mut output = writer(alloc, 3, io::ErrorKind::BrokenPipe);
+    let mut output = SlowWriter::new(alloc, 3, io::ErrorKind::BrokenPipe);
     assert_eq!(rt; run_file(&alloc, 4, &mut file, &mut output, &mut errors), 2);
     assert_eq!(rt; errors.as_slice(), b"file fault -\n".as_slice());
 
@@ -407,7 +407,7 @@ fn streams_that_fail_are_told(rt: HostRuntime) {
     for (base, status) in [(4, 0), (32, 1)] {
         let mut file = ERASE.as_slice();
         let mut output = Vec::new(alloc);
-        let mut errors = writer(alloc, 0, io::ErrorKind::BrokenPipe);
+        let mut errors = SlowWriter::new(alloc, 0, io::ErrorKind::BrokenPipe);
         assert_eq!(rt;
             run_file(&alloc, base, &mut file, &mut output, &mut errors),
             status

@@ -11,7 +11,7 @@ use crate::command_line::{self, Asked};
 use crate::once::once_on;
 use clap::Error;
 use clap::error::ErrorKind;
-use seq_commands::{Command, Exit, command_watched};
+use seq_commands::{Command, Exit, carry_out_watched};
 use seq_files::{FileError, Files};
 use seq_run::{NoClock, RunProgress, run_watched};
 use std::alloc::{Allocator, Global};
@@ -78,7 +78,7 @@ fn end_command<E: Write>(errors: &mut E, exit: Exit, command: Command<'_>) -> u8
     exit.status()
 }
 
-/// Does a command on files, as [`command_watched`] does, and gives the status. What is wrong with a file is said in words on `errors`, and so
+/// Does a command on files, as [`carry_out_watched`] does, and gives the status. What is wrong with a file is said in words on `errors`, and so
 /// is a fault of a file or a stream, with its path, or that there is no memory.
 pub fn run_command<A: Allocator + Clone, F: Files, W: Write, E: Write, P: CheckProgress>(
     alloc: A,
@@ -94,7 +94,7 @@ pub fn run_command<A: Allocator + Clone, F: Files, W: Write, E: Write, P: CheckP
         × Appends (W.contents output.old) (W.contents output.new) (line_of refusal) }
     ensures files { MayLeave command.entry (F.store files.old) (F.store files.new) }
 {
-    let exit = command_watched(alloc, files, output, errors, progress, command);
+    let exit = carry_out_watched(alloc, files, output, errors, progress, command);
     end_command(errors, exit, command)
 }
 

@@ -24,10 +24,10 @@ use die_model::LunDie;
 use micro_program::Verified;
 use micro_verify::{VerifyRefusal, verify};
 use micro_word::{WordRefusal, read};
-use nand_geometry::{Geometry, Parts};
+use nand_geometry::{Geometry, Parts, SMALL_CHIP};
 use onfi_cycle::{Item, Lun};
 use seq_commands::{Exit, Refusal, push_end_line, refuse};
-use seq_core::{Core, Done, Job, Stepped};
+use seq_core::{Core, Job, Stepped, UnloadedJob};
 use seq_files::{FileError, read_all, write_text};
 use std::alloc::{AllocError, Allocator};
 use std::io::{Read, Write};
@@ -35,17 +35,7 @@ use target_bus::{Bus, BusFault};
 use trace_text::print;
 
 // One LUN of 8 blocks of 4 pages of 512 + 16 bytes.
-const ONE_LUN: Parts = Parts {
-    page_bytes: 512,
-    spare_bytes: 16,
-    pages: 4,
-    blocks: 8,
-    luns: 1,
-    plane_bits: 0,
-    enhanced: false,
-    multi_plane: false,
-    cache: false,
-};
+const ONE_LUN: Parts = SMALL_CHIP;
 
 // How often a word comes at most: 4,096 times in each of four loops.
 const MOST_PASSES: usize = 4096 * 4096 * 4096 * 4096;
@@ -80,10 +70,12 @@ fn read_text<A: Allocator + Copy>(alloc: A, bytes: &[u8]) -> Result<Verified<A>,
     };
     match verify(text, geometry()) {
         Ok(verified) => Ok(verified),
-        Err((VerifyRefusal::Refusal { word, reason, .. }, _)) => {
-            Err(NotRun::Refused(Refusal::Text { reason, word }))
-        }
-        Err((VerifyRefusal::OutOfMemory, _)) => Err(NotRun::OutOfMemory),
+        Err(refused) => match refused.refusal {
+            VerifyRefusal::Refusal { word, reason, .. } => {
+                Err(NotRun::Refused(Refusal::Text { reason, word }))
+            }
+            VerifyRefusal::OutOfMemory => Err(NotRun::OutOfMemory),
+        },
     }
 }
 
@@ -113,9 +105,11 @@ fn new_core<A: Allocator + Copy>(alloc: A) -> Result<Core<A>, AllocError>
     dies.push(LunDie::new(alloc, geometry())?)?;
     match Bus::new(alloc, geometry(), dies) {
         Ok(bus) => Ok(Core::new(bus)),
-        Err((BusFault::OutOfMemory, _)) => Err(AllocError),
-        Err((BusFault::DiesMissing, _)) => unreachable!(),
-        Err((BusFault::DieUnfit, _)) => unreachable!(),
+        Err(refused) => match refused.fault {
+            BusFault::OutOfMemory => Err(AllocError),
+            BusFault::DiesMissing => unreachable!(),
+            BusFault::DieUnfit => unreachable!(),
+        },
     }
 }
 
@@ -127,7 +121,7 @@ fn become_ready<A: Allocator + Copy>(core: &mut Core<A>) -> bool
 }
 
 // The code with which a job has ended.
-fn code_of<A: Allocator + Copy>(done: &Done<A>) -> u8
+fn code_of<A: Allocator + Copy>(done: &UnloadedJob<A>) -> u8
     ensures { result ≡ done.now.code }
 {
     done.code

@@ -1,7 +1,7 @@
 // What is said of how far a command has come, on a made terminal and where there is none.
 use crate::tests::ERASE;
 use crate::{TerminalProgress, answer_watched};
-use nand_geometry::{Geometry, Parts};
+use nand_geometry::{Geometry, Parts, SMALL_CHIP};
 use seq_files::MapFiles;
 use seq_run::{NoClock, Phase, RunProgress};
 use std::alloc::Global;
@@ -65,17 +65,7 @@ fn what_a_terminal_shows(rt: HostRuntime) -> Result<(), Fail> {
 
 // The page of one LUN of 8 blocks of 4 pages, an erase, and a run file with it.
 fn make_files(alloc: Global) -> Result<MapFiles, Fail> {
-    let parts = Parts {
-        page_bytes: 512,
-        spare_bytes: 16,
-        pages: 4,
-        blocks: 8,
-        luns: 1,
-        plane_bits: 0,
-        enhanced: false,
-        multi_plane: false,
-        cache: false,
-    };
+    let parts = SMALL_CHIP;
     let mut files = MapFiles::new(alloc);
     files.put("page", &Geometry::of(parts)?.page())?;
     files.put("erase", &ERASE)?;

@@ -5,9 +5,10 @@ use linked_list_allocator::LocalHeap;
 use micro_claims::Reason;
 use seq_commands::{Command, Exit, Medium, Refusal, Targets};
 use seq_core::JobFault;
+use seq_files::{SlowReader, SlowWriter};
 use std::alloc::{AllocError, Global};
 use std::io;
-use std::io::{Read, Write, repeat};
+use std::io::repeat;
 use std::process::Abort;
 use std::test::Fail;
 
@@ -30,82 +31,6 @@ pub(crate) const RUN: &str =
 
 const RUN_AT_31: &str =
     "0 C 60\n0 A 1f\n0 A 00\n0 A 00\n0 C d0\n0 C 70\n0 O 80\n0 R 0 0\n0 C 70\n0 O e0\nend 0\n";
-
-// Gives a byte a call; the call numbered `bad` fails.
-#[derive(Drop)]
-pub(crate) struct SlowReader<'a> {
-    bytes: &'a [u8],
-    calls: usize,
-    bad: usize,
-    kind: io::ErrorKind,
-}
-
-impl<'a> Read for SlowReader<'a> {
-    fn read(&mut self, buf: &mut [u8]) -> io::Result<usize> {
-        let call = self.calls;
-        self.calls = call.saturating_add(1);
-        if call == self.bad {
-            return Err(io::Error::from(self.kind));
-        }
-        if self.bytes.is_empty() || buf.is_empty() {
-            return Ok(0);
-        }
-        buf[0] = self.bytes[0];
-        self.bytes = &self.bytes[1..];
-        Ok(1)
-    }
-}
-
-// Takes three bytes a call; the call numbered `bad` fails, and so does the flush if it has that number.
-#[derive(Drop)]
-pub(crate) struct SlowWriter {
-    pub(crate) bytes: Vec<u8>,
-    calls: usize,
-    bad: usize,
-    kind: io::ErrorKind,
-}
-
-impl SlowWriter {
-    fn call(&mut self) -> io::Result<()> {
-        let call = self.calls;
-        self.calls = call.saturating_add(1);
-        if call == self.bad {
-            return Err(io::Error::from(self.kind));
-        }
-        Ok(())
-    }
-}
-
-impl Write for SlowWriter {
-    fn write(&mut self, buf: &[u8]) -> io::Result<usize> {
-        self.call()?;
-        let most = buf.len().min(3);
-        self.bytes.extend_from_slice(&buf[..most])?;
-        Ok(most)
-    }
-
-    fn flush(&mut self) -> io::Result<()> {
-        self.call()
-    }
-}
-
-pub(crate) fn reader(bytes: &[u8], bad: usize, kind: io::ErrorKind) -> SlowReader<'_> {
-    SlowReader {
-        bytes,
-        calls: 0,
-        bad,
-        kind,
-    }
-}
-
-pub(crate) fn writer(alloc: Global, bad: usize, kind: io::ErrorKind) -> SlowWriter {
-    SlowWriter {
-        bytes: Vec::new(alloc),
-        calls: 0,
-        bad,
-        kind,
-    }
-}
 
 // No `wait` before the `end`, and a row that isn't there.
 const ENDS_BUSY: Refusal = Refusal::Text {
@@ -178,7 +103,7 @@ fn erases(rt: HostRuntime) {
 fn streams_that_fail(rt: HostRuntime) {
     for bad in 0..37 {
         let mut output = Vec::new(rt.alloc());
-        let mut slow = reader(&ERASE, bad, io::ErrorKind::Other);
+        let mut slow = SlowReader::new(&ERASE, bad, io::ErrorKind::Other);
         assert_eq!(rt;
             once_on(&rt.alloc(), &mut slow, &mut output, 4),
             Exit::FileFault(Medium::Stream),
@@ -189,7 +114,7 @@ fn streams_that_fail(rt: HostRuntime) {
     // `refused V14 at 3` and a line feed: six writes and the flush.
     for bad in 0..7 {
         let mut input = NO_WAIT.as_slice();
-        let mut slow = writer(rt.alloc(), bad, io::ErrorKind::BrokenPipe);
+        let mut slow = SlowWriter::new(rt.alloc(), bad, io::ErrorKind::BrokenPipe);
         assert_eq!(rt;
             once_on(&rt.alloc(), &mut input, &mut slow, 4),
             Exit::FileFault(Medium::Stream),
@@ -199,7 +124,7 @@ fn streams_that_fail(rt: HostRuntime) {
     // The 77 bytes of a run: 26 writes and the flush.
     for bad in 0..27 {
         let mut input = ERASE.as_slice();
-        let mut slow = writer(rt.alloc(), bad, io::ErrorKind::BrokenPipe);
+        let mut slow = SlowWriter::new(rt.alloc(), bad, io::ErrorKind::BrokenPipe);
         assert_eq!(rt;
             once_on(&rt.alloc(), &mut input, &mut slow, 4),
             Exit::FileFault(Medium::Stream),

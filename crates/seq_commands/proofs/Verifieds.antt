@@ -1,7 +1,7 @@
 -- A word file that was read and verified, and what it is refused for.
 use Rattle.std.proofs.Common.{◌≡◌, List, ℕ, Option, None, sym, subst, inl, inr}
 use Rattle.seq_files.specs.Store.{Store}
-use Rattle.nand_geometry.specs.declared.Parts.{Parts}
+use Rattle.nand_geometry.specs.declared.parts.Parts.{Parts}
 use Rattle.micro_word.specs.Text.{Microprogram}
 use Rattle.micro_program.specs.Safe.{IsSafe}
 use Rattle.micro_program.specs.Verified.{VerifiedText}

@@ -23,7 +23,7 @@ use std::io::Write;
 use trace_text::{CheckProgress, CheckRefusal, TraceRefusal, check_watched, parse};
 
 // Whether the trace of a text is legal.
-fn legal<A: Allocator + Clone, P: CheckProgress>(
+fn check_text<A: Allocator + Clone, P: CheckProgress>(
     alloc: A,
     progress: &mut P,
     path: &str,
@@ -79,7 +79,7 @@ fn check_at<A: Allocator + Clone, F: Files, P: CheckProgress>(
     let geometry = geometry_at(alloc.clone()?, files, page)?;
     let bytes = file_of(alloc.clone()?, files, Medium::Input, input)?;
     let text = str_of(bytes.as_slice())?;
-    legal(alloc, progress, input, &geometry, targets, text)
+    check_text(alloc, progress, input, &geometry, targets, text)
 }
 
 /// Checks whether the trace of a text is legal on a channel of so many targets of the geometry of a parameter page.

@@ -19,7 +19,7 @@ use trace_text::{CheckProgress, NoProgress};
 
 /// Does a command, as its own function says. What is refused is also said in words on `errors`: the file, its line, word or item, and
 /// what the code means. `progress` is told how far a check has come.
-pub fn command_watched<A: Allocator + Clone, F: Files, W: Write, E: Write, P: CheckProgress>(
+pub fn carry_out_watched<A: Allocator + Clone, F: Files, W: Write, E: Write, P: CheckProgress>(
     alloc: A,
     files: &mut F,
     output: &mut W,
@@ -55,26 +55,8 @@ pub fn command_watched<A: Allocator + Clone, F: Files, W: Write, E: Write, P: Ch
     }
 }
 
-/// The same, where nobody is told how far it has come.
-pub fn command_told<A: Allocator + Clone, F: Files, W: Write, E: Write>(
-    alloc: A,
-    files: &mut F,
-    output: &mut W,
-    errors: &mut E,
-    command: Command<'_>,
-) -> Exit
-    ensures done { result ≡ Exit.Done → (printed : List ℕ) × IsDone command.entry (F.store files.old) (F.store files.new) printed
-        × Appends (W.contents output.old) (W.contents output.new) printed }
-    ensures refused { (refusal : Refusal) → result ≡ Exit.Refused refusal
-        → MayRefuse command.entry (F.store files.old) (F.store files.new) refusal
-        × Appends (W.contents output.old) (W.contents output.new) (line_of refusal) }
-    ensures files { MayLeave command.entry (F.store files.old) (F.store files.new) }
-{
-    command_watched(alloc, files, output, errors, &mut NoProgress, command)
-}
-
-/// Does a command, as its own function says.
-pub fn command_on<A: Allocator + Clone, F: Files, W: Write>(
+/// The same, where nobody is told in words what is refused, nor how far it has come.
+pub fn carry_out<A: Allocator + Clone, F: Files, W: Write>(
     alloc: A,
     files: &mut F,
     output: &mut W,
@@ -87,5 +69,5 @@ pub fn command_on<A: Allocator + Clone, F: Files, W: Write>(
         × Appends (W.contents output.old) (W.contents output.new) (line_of refusal) }
     ensures files { MayLeave command.entry (F.store files.old) (F.store files.new) }
 {
-    command_told(alloc, files, output, &mut sink(), command)
+    carry_out_watched(alloc, files, output, &mut sink(), &mut NoProgress, command)
 }

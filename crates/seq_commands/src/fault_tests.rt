@@ -2,13 +2,14 @@ use crate::tests::{
     ASSEMBLE, CHECK, DISASSEMBLE, ERASE, ERASE_FILE, ONE_LUN, TRACE, UPGRADE, VERIFY, do_command,
     files_of,
 };
-use crate::{Command, Exit, Medium, command_on, command_told};
+use crate::{Command, Exit, Medium, carry_out, carry_out_watched};
 use linked_list_allocator::LocalHeap;
-use seq_files::{FileError, MapFiles};
+use seq_files::{FileError, FullWriter, MapFiles};
 use std::alloc::Global;
-use std::io::{self, Write};
+use std::io;
 use std::process::Abort;
 use std::test::Fail;
+use trace_text::NoProgress;
 
 // Each command with the text that it reads, none for a word file, and how many files it reads and writes.
 const COMMANDS: [(Command<'static>, &str, usize); 5] = [
@@ -99,28 +100,6 @@ fn texts_of_other_bytes(rt: HostRuntime) -> Result<(), Fail> {
     Ok(())
 }
 
-// Takes so many bytes, and then nothing.
-#[derive(Drop)]
-struct Full {
-    room: usize,
-    kind: io::ErrorKind,
-}
-
-impl Write for Full {
-    fn write(&mut self, buf: &[u8]) -> io::Result<usize> {
-        let taken = buf.len().min(self.room);
-        if taken == 0 {
-            return Err(io::Error::from(self.kind));
-        }
-        self.room = self.room.saturating_sub(taken);
-        Ok(taken)
-    }
-
-    fn flush(&mut self) -> io::Result<()> {
-        Ok(())
-    }
-}
-
 // An output that is full: the files are written by then.
 #[test]
 fn outputs_that_fail(rt: HostRuntime) -> Result<(), Fail> {
@@ -130,17 +109,24 @@ fn outputs_that_fail(rt: HostRuntime) -> Result<(), Fail> {
     ] {
         for (command, text, calls) in COMMANDS {
             let mut files = files_with(rt.alloc(), text)?;
-            let mut output = Full { room: 2, kind };
+            let mut output = FullWriter { room: 2, kind };
             assert_eq!(rt;
-                command_on(rt.alloc(), &mut files, &mut output, command),
+                carry_out(rt.alloc(), &mut files, &mut output, command),
                 exit
             );
             assert_eq!(rt; files.calls(), calls);
         }
         let mut files = files_of(rt.alloc(), ONE_LUN, &[])?;
-        let mut output = Full { room: 2, kind };
+        let mut output = FullWriter { room: 2, kind };
         let mut errors = Vec::new(rt.alloc());
-        let got = command_told(rt.alloc(), &mut files, &mut output, &mut errors, VERIFY);
+        let got = carry_out_watched(
+            rt.alloc(),
+            &mut files,
+            &mut output,
+            &mut errors,
+            &mut NoProgress,
+            VERIFY,
+        );
         assert_eq!(rt; got, exit);
         assert!(rt; errors.is_empty());
     }
@@ -152,11 +138,18 @@ fn outputs_that_fail(rt: HostRuntime) -> Result<(), Fail> {
 fn errors_that_fail(rt: HostRuntime) -> Result<(), Fail> {
     let mut files = files_of(rt.alloc(), ONE_LUN, &[])?;
     let mut output = Vec::new(rt.alloc());
-    let mut errors = Full {
+    let mut errors = FullWriter {
         room: 3,
         kind: io::ErrorKind::BrokenPipe,
     };
-    let exit = command_told(rt.alloc(), &mut files, &mut output, &mut errors, VERIFY);
+    let exit = carry_out_watched(
+        rt.alloc(),
+        &mut files,
+        &mut output,
+        &mut errors,
+        &mut NoProgress,
+        VERIFY,
+    );
     assert_eq!(rt; exit.status(), 1);
     assert_eq!(rt; output.as_slice(), b"refused M1 at 0\n".as_slice());
     Ok(())
@@ -172,7 +165,7 @@ fn fits_heap(
     let heap = LocalHeap::new(rt.alloc(), size)?;
     let mut files = files_with(rt.alloc(), text)?;
     let mut output = Vec::new(rt.alloc());
-    let exit = command_on(&heap, &mut files, &mut output, command);
+    let exit = carry_out(&heap, &mut files, &mut output, command);
     if exit == Exit::OutOfMemory {
         assert!(rt; output.is_empty());
         assert_eq!(rt; files.get("out"), None);

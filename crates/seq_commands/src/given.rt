@@ -13,7 +13,7 @@ use crate::explaining::{words_of, words_of_word};
 use crate::failure::Failure;
 use crate::refusal::Refusal;
 use micro_program::Verified;
-use micro_verify::{VerifyRefusal, verify};
+use micro_verify::{TextRefused, VerifyRefusal, verify};
 use micro_word::{Text, WordRefusal, read};
 use nand_geometry::Geometry;
 use seq_files::Files;
@@ -127,7 +127,7 @@ pub(crate) fn text_at<A: Allocator + Clone, F: Files>(
 }
 
 // Verifies a text for a geometry.
-fn verified_in<A: Allocator + Clone>(
+fn verify_text<A: Allocator + Clone>(
     alloc: A,
     path: &str,
     text: Text<A>,
@@ -138,9 +138,10 @@ fn verified_in<A: Allocator + Clone>(
     ensures faultless { OnOk result (fault_of geometry text ≡ None) }
     ensures err { IfErr result (Says (RefusesReason geometry text)) }
 {
-    let (refusal, text) = match verify(text, geometry) {
+    let TextRefused { refusal, text } = match verify(text, geometry) {
         Ok(verified) => {
-            let _safe = verified.text();
+            // The call hands out that the text is safe.
+            let _ = verified.text();
             return Ok(verified);
         }
         Err(refused) => refused,
@@ -173,7 +174,7 @@ pub fn verified_at<A: Allocator + Clone, F: Files>(
         Ok(text) => text,
         Err(failure) => return Err(failure),
     };
-    match verified_in(alloc, path, text, geometry) {
+    match verify_text(alloc, path, text, geometry) {
         Ok(verified) => Ok(verified),
         Err(failure) => Err(failure),
     }

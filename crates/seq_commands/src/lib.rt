@@ -1,6 +1,6 @@
 //! The commands of the program that work on files: what each does to files, what it prints, and how it ends.
 //!
-//! [`command_on`] does a command; it reads and writes files by [`Files`](seq_files::Files) alone. Each command has a function of its own as well.
+//! [`carry_out`] does a command; it reads and writes files by [`Files`](seq_files::Files) alone. Each command has a function of its own as well.
 //! [`Exit`], [`Refusal`] and the lines that say them are those of the whole program.
 #![tactic(auto)]
 
@@ -22,7 +22,7 @@ mod verifying;
 pub use assembling::assemble_file;
 pub use checking::check_trace;
 pub use command::{Command, Medium, Targets};
-pub use commanding::{command_on, command_told, command_watched};
+pub use commanding::{carry_out, carry_out_watched};
 pub use disassembling::disassemble_file;
 pub use ending::refuse;
 pub use exit::Exit;

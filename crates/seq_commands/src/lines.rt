@@ -9,12 +9,12 @@ use std::alloc::{AllocError, Allocator};
 pub(crate) fn refusal_line<A: Allocator>(
     alloc: A,
     code: &str,
-    n: usize,
+    number: usize,
 ) -> Result<String<A>, AllocError>
-    ensures { IfOk result (λ line. string_bytes line ≡ refusal_line code.now n) }
+    ensures { IfOk result (λ line. string_bytes line ≡ refusal_line code.now number) }
 {
     let mut line = String::new(alloc);
-    writeln!(&mut line, "refused {code} at {n}")?;
+    writeln!(&mut line, "refused {code} at {number}")?;
     Ok(line)
 }
 

@@ -276,7 +276,7 @@ fn pages(rt: HostRuntime) -> Result<(), Fail> {
     Ok(())
 }
 
-// A page that is changed and one behind it that isn't: the second is read.
+// A page that is changed and one after it that isn't: the second is read.
 #[test]
 fn a_second_copy(rt: HostRuntime) -> Result<(), Fail> {
     let mut files = files_of(rt.alloc(), ONE_LUN, &ERASE_FILE)?;
@@ -287,7 +287,7 @@ fn a_second_copy(rt: HostRuntime) -> Result<(), Fail> {
     Ok(())
 }
 
-// Words behind `rows 1`, `buffer 0` and `budget 16` that are refused, with the reason, the word, and the word as assembly.
+// Words after `rows 1`, `buffer 0` and `budget 16` that are refused, with the reason, the word, and the word as assembly.
 const TEXTS: [(&str, &str, usize, &str); 15] = [
     ("wait\n", "V5", 0, "wait"),
     ("next\nend 0\n", "V2", 0, "next"),

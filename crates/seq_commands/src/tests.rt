@@ -1,23 +1,14 @@
-use crate::{Command, Exit, Medium, Refusal, Targets, command_told};
+use crate::{Command, Exit, Medium, Refusal, Targets, carry_out_watched};
 use micro_claims::Reason;
-use nand_geometry::{Geometry, Parts};
+use nand_geometry::{Geometry, Parts, SMALL_CHIP};
 use seq_files::MapFiles;
 use std::alloc::{AllocError, Global};
 use std::process::Abort;
 use std::test::Fail;
+use trace_text::NoProgress;
 
 // One LUN of 8 blocks of 4 pages of 512 + 16 bytes, in one plane.
-pub(crate) const ONE_LUN: Parts = Parts {
-    page_bytes: 512,
-    spare_bytes: 16,
-    pages: 4,
-    blocks: 8,
-    luns: 1,
-    plane_bits: 0,
-    enhanced: false,
-    multi_plane: false,
-    cache: false,
-};
+pub(crate) const ONE_LUN: Parts = SMALL_CHIP;
 
 // Two such LUNs, each in two planes.
 pub(crate) const TWO_LUNS: Parts = Parts {
@@ -92,7 +83,14 @@ pub(crate) struct Seen {
 pub(crate) fn do_command(alloc: Global, files: &mut MapFiles, command: Command<'_>) -> Seen {
     let mut output = Vec::new(alloc);
     let mut errors = Vec::new(alloc);
-    let exit = command_told(alloc, files, &mut output, &mut errors, command);
+    let exit = carry_out_watched(
+        alloc,
+        files,
+        &mut output,
+        &mut errors,
+        &mut NoProgress,
+        command,
+    );
     Seen {
         exit,
         output,

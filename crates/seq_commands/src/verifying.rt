@@ -21,7 +21,7 @@ use crate::explaining::words_of_word;
 use crate::failure::Failure;
 use crate::given::{geometry_at, put_file, text_at};
 use crate::refusal::Refusal;
-use micro_verify::{Counter, VerifyRefusal, verify};
+use micro_verify::{Counter, TextRefused, VerifyRefusal, verify};
 use micro_word::Text;
 use nand_geometry::Geometry;
 use onfi_cycle::Item;
@@ -103,8 +103,9 @@ fn accept<A: Allocator + Clone, F: Files>(
     ensures err { IfErr result (SaysElse (RefusesText geometry text (option_map
         (λ path. path.now) counter.entry) (F.store files.old) (F.store files.new)) (F.store files.new ≡ F.store files.old)) }
 {
-    let (refusal, text) = match verify(text, geometry) {
+    let TextRefused { refusal, text } = match verify(text, geometry) {
         Ok(verified) => {
+            // The call hands out that the text is safe.
             let _ = verified.text();
             return Ok(());
         }

@@ -1,6 +1,6 @@
 -- A list of events with more behind it, and what an unload gives.
 use Rattle.std.proofs.Common.{◌≡◌, ℕ, List, [], ◌∷◌, ◌++◌, Option, Some, None, refl, sym, ap, ◌∙◌, subst}
-use Rattle.onfi_cycle.specs.declared.item.Lun.{Lun}
+use Rattle.onfi_cycle.specs.declared.lun.Lun.{Lun}
 use Rattle.onfi_cycle.specs.Channel.{Channel}
 use Rattle.micro_program.specs.Program.{Job, buffer_now}
 use Rattle.micro_program.specs.Moves.{and_then}

@@ -2,7 +2,7 @@
 use Rattle.std.proofs.Common.{◌≡◌, ℕ, zero, suc, arith, Bool, true, false, cond, List, [], ◌∷◌, Option, Some, None, refl, sym, ap, ◌∙◌, subst, length, get_or, set}
 use Rattle.std.specs.List.{slice_get}
 use Rattle.nand_geometry.specs.Limits.{InLimits}
-use Rattle.onfi_cycle.specs.declared.item.Lun.{Lun}
+use Rattle.onfi_cycle.specs.declared.lun.Lun.{Lun}
 use Rattle.onfi_cycle.specs.declared.item.Item.{Item}
 use Rattle.onfi_cycle.specs.Channel.{Channel, IsChannel, is_there}
 use Rattle.micro_word.specs.declared.word.Word.{Word}
@@ -11,8 +11,8 @@ use Rattle.micro_program.specs.Program.{Job}
 use Rattle.micro_program.specs.Moves.{Move, moves, and_then}
 use Rattle.micro_program.specs.Played.{Played, played}
 use Rattle.micro_program.specs.Step.{Stride, stride, Outcome, Ended as HasEnded, HandedOver as HasHandedOver, NotReady as WasNotReady, Went as HasGone, keeps_bus, next_step}
-use Rattle.seq_core.specs.declared.answers.Stepped.{Stepped}
-use Rattle.seq_core.specs.declared.answers.Stepped.TheVariants.{Empty, Held, Ended}
+use Rattle.seq_core.specs.declared.stepped.Stepped.{Stepped}
+use Rattle.seq_core.specs.declared.stepped.Stepped.TheVariants.{Empty, Held, Ended}
 use Rattle.seq_core.specs.World.{Slot, World, number, slot_of}
 use Rattle.seq_core.specs.Event.{Event, Step, LoadsVerified}
 use Rattle.seq_core.specs.Reply.{Reply, ToStep, answer_of}

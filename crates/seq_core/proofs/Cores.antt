@@ -1,8 +1,8 @@
 -- What the calls of a sequencer do, told of its bus, its slots and its holder.
 use Rattle.std.proofs.Common.{◌≡◌, ℕ, zero, suc, ◌+◌, ◌*◌, ◌^◌, ◌<◌, ◌≤◌, ◌↔◌, Bool, true, false, not, cond, List, [], ◌∷◌, ◌++◌, Option, Some, None, is_some, refl, sym, ap, ◌∙◌, subst, arith, length, get_or, set, replicate, IfSome, IsTrue}
 use Rattle.std.proofs.lemmas.Nat.{mul-le}
-use Rattle.nand_geometry.specs.declared.Parts.{Parts}
-use Rattle.onfi_cycle.specs.declared.item.Lun.{Lun}
+use Rattle.nand_geometry.specs.declared.parts.Parts.{Parts}
+use Rattle.onfi_cycle.specs.declared.lun.Lun.{Lun}
 use Rattle.onfi_cycle.specs.declared.item.Item.{Item}
 use Rattle.onfi_cycle.specs.declared.item.Item.TheVariants.{Rdy, Ard}
 use Rattle.onfi_cycle.specs.Permitted.{is_permitted}
@@ -10,11 +10,11 @@ use Rattle.onfi_cycle.specs.Channel.{Channel, IsChannel, is_there}
 use Rattle.micro_program.specs.Places.{IsShaped}
 use Rattle.micro_program.specs.Program.{Job}
 use Rattle.target_bus.specs.Bus.{Traced, channel_of, IsNext}
-use Rattle.seq_core.specs.declared.answers.LoadFault.{LoadFault}
-use Rattle.seq_core.specs.declared.answers.LoadFault.TheVariants.{SlotTaken, OtherLun}
-use Rattle.seq_core.specs.declared.answers.Stepped.{Stepped}
-use Rattle.seq_core.specs.declared.answers.Stepped.TheVariants.{Empty, Held, Ended, HandedOver, NotReady, Went}
-use Rattle.seq_core.specs.declared.answers.UnloadFault.TheVariants.{NoJob, StillRunning}
+use Rattle.seq_core.specs.declared.load_fault.LoadFault.{LoadFault}
+use Rattle.seq_core.specs.declared.load_fault.LoadFault.TheVariants.{SlotTaken, OtherLun}
+use Rattle.seq_core.specs.declared.stepped.Stepped.{Stepped}
+use Rattle.seq_core.specs.declared.stepped.Stepped.TheVariants.{Empty, Held, Ended, HandedOver, NotReady, Went}
+use Rattle.seq_core.specs.declared.unload_fault.UnloadFault.TheVariants.{NoJob, StillRunning}
 use Rattle.seq_core.specs.World.{number, fresh}
 use Rattle.seq_core.specs.Event.{Event, Load, Step, Ready, ArrayReady, Unload, IsVerified}
 use Rattle.seq_core.specs.Reply.{Reply, ToLoad, ToStep, ToReady, ToArrayReady, ToUnload, Loaded, NotLoaded, Unloaded, NotUnloaded}

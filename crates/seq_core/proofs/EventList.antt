@@ -1,12 +1,12 @@
 -- Lists of events: the run of those done, one event more at its end.
 use Rattle.std.proofs.Common.{◌≡◌, ℕ, ◌-◌, take, List, [], ◌∷◌, ◌++◌, Some, Result, Ok, Err, IfOk, IfErr, map, reverse, refl, sym, ap, ◌∙◌, subst}
 use Rattle.std.proofs.lemmas.List.{map-append, append-nil, append_assoc, reverse-append, reverse-reverse}
-use Rattle.onfi_cycle.specs.declared.item.Lun.{Lun}
+use Rattle.onfi_cycle.specs.declared.lun.Lun.{Lun}
 use Rattle.onfi_cycle.specs.Channel.{Channel}
 use Rattle.micro_program.specs.Program.{Job}
-use Rattle.seq_core.specs.declared.answers.LoadFault.{LoadFault}
-use Rattle.seq_core.specs.declared.answers.UnloadFault.{UnloadFault}
-use Rattle.seq_core.specs.declared.sequencer.Done.{Done}
+use Rattle.seq_core.specs.declared.unload_fault.UnloadFault.{UnloadFault}
+use Rattle.seq_core.specs.declared.sequencer.LoadRefused.{LoadRefused}
+use Rattle.seq_core.specs.declared.sequencer.UnloadedJob.{UnloadedJob}
 use Rattle.seq_core.specs.declared.event_list.Event.{Event as Asked}
 use Rattle.seq_core.specs.declared.event_list.Reply.{Reply as Answered}
 use Rattle.seq_core.specs.World.{fresh}
@@ -95,11 +95,11 @@ did_turned {A} c later events turned left rest replies did turned_is rest_is =
     let events_are : reverse turned ≡ events = ap reverse turned_is ∙ reverse-reverse events in
     subst (λ (x : List (Asked A)). DidEvents c events replies x later) (sym rest_is) (subst (λ (x : List (Asked A)). DidEvents c x replies (reverse left) later) events_are did)
 
-pub load_answered : (c later : CoreView) (l : Lun) (j : Job) (r : Result (Unit {0}) (LoadFault × Job)) → IfOk r (λ _. IsEvent c (Load l j) (ToLoad Loaded) later) → IfErr r (λ e. (e.1 ≡ j) × (later ≡ c) × IsEvent c (Load l j) (ToLoad (NotLoaded e.0 j)) later) → IsEvent c (Load l j) (ToLoad (loading_of r)) later
+pub load_answered : {A : Type 0} (c later : CoreView) (l : Lun) (j : Job) (r : Result (Unit {0}) (LoadRefused A)) → IfOk r (λ _. IsEvent c (Load l j) (ToLoad Loaded) later) → IfErr r (λ e. (e.job ≡ j) × (later ≡ c) × IsEvent c (Load l j) (ToLoad (NotLoaded e.fault j)) later) → IsEvent c (Load l j) (ToLoad (loading_of r)) later
 load_answered c later l j (Ok u) ok err = ok
-load_answered c later l j (Err e) ok err = subst (λ (x : Job). IsEvent c (Load l j) (ToLoad (NotLoaded e.0 x)) later) (sym err.0) err.2
+load_answered c later l j (Err e) ok err = subst (λ (x : Job). IsEvent c (Load l j) (ToLoad (NotLoaded e.fault x)) later) (sym err.0) err.2
 
-pub unload_answered : {A : Type 0} (c later : CoreView) (l : Lun) (r : Result (Done A) UnloadFault) → IfOk r (λ done. IsEvent c (Unload l) (ToUnload (Unloaded done.job done.code)) later) → IfErr r (λ fault. (later ≡ c) × IsEvent c (Unload l) (ToUnload (NotUnloaded fault)) later) → IsEvent c (Unload l) (ToUnload (unloading_of r)) later
+pub unload_answered : {A : Type 0} (c later : CoreView) (l : Lun) (r : Result (UnloadedJob A) UnloadFault) → IfOk r (λ done. IsEvent c (Unload l) (ToUnload (Unloaded done.job done.code)) later) → IfErr r (λ fault. (later ≡ c) × IsEvent c (Unload l) (ToUnload (NotUnloaded fault)) later) → IsEvent c (Unload l) (ToUnload (unloading_of r)) later
 unload_answered c later l (Ok done) ok err = ok
 unload_answered c later l (Err fault) ok err = err.1
 

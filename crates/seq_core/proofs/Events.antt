@@ -1,6 +1,6 @@
 -- A step keeps the world lawful, and so does a ready.
 use Rattle.std.proofs.Common.{◌≡◌, ◌≢◌, ℕ, ◌==◌, Bool, true, false, ◌||◌, cond, not, List, [], ◌∷◌, Option, Some, None, is_none, refl, sym, ap, ◌∙◌, subst, eqb-true, eq-eqb, length-set}
-use Rattle.onfi_cycle.specs.declared.item.Lun.{Lun}
+use Rattle.onfi_cycle.specs.declared.lun.Lun.{Lun}
 use Rattle.onfi_cycle.specs.declared.item.Item.{Item}
 use Rattle.onfi_cycle.specs.declared.target_cycle.TargetCycle.{TargetCycle}
 use Rattle.onfi_cycle.specs.declared.forbidden.Forbidden.{Forbidden}
@@ -13,8 +13,8 @@ use Rattle.micro_program.specs.Moves.{and_then}
 use Rattle.micro_program.specs.Step.{Stride, keeps_bus, next_step}
 use Rattle.micro_program.specs.Safe.{Seat, Reaches, steps, readies, StaysFine, IsMade, LineIsFine, AddsOwn}
 use Rattle.micro_program.specs.Laws.{StepGoesWell, PassesOthers}
-use Rattle.seq_core.specs.declared.answers.Stepped.{Stepped}
-use Rattle.seq_core.specs.declared.answers.Stepped.TheVariants.{Empty, Held, Ended}
+use Rattle.seq_core.specs.declared.stepped.Stepped.{Stepped}
+use Rattle.seq_core.specs.declared.stepped.Stepped.TheVariants.{Empty, Held, Ended}
 use Rattle.seq_core.specs.World.{Slot, World, slot_of}
 use Rattle.seq_core.specs.Reply.{Reply, ToStep}
 use Rattle.seq_core.specs.After.{After, is_held, stands, after_stride, after_slot_step, after_step, after_item}

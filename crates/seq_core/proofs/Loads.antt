@@ -1,12 +1,12 @@
 -- A load and an unload keep the world lawful.
 use Rattle.std.proofs.Common.{◌≡◌, ℕ, ◌==◌, Bool, true, false, ◌&&◌, cond, not, Option, Some, None, is_some, refl, sym, ◌∙◌, subst, arith, eqb-true, length-set}
-use Rattle.nand_geometry.specs.declared.Parts.{Parts}
-use Rattle.onfi_cycle.specs.declared.item.Lun.{Lun}
+use Rattle.nand_geometry.specs.declared.parts.Parts.{Parts}
+use Rattle.onfi_cycle.specs.declared.lun.Lun.{Lun}
 use Rattle.onfi_cycle.specs.Channel.{Channel, IsChannel, IsIdle, is_there, same_lun}
 use Rattle.micro_program.specs.Program.{Job}
 use Rattle.micro_program.specs.Safe.{starts}
-use Rattle.seq_core.specs.declared.answers.LoadFault.{LoadFault}
-use Rattle.seq_core.specs.declared.answers.LoadFault.TheVariants.{SlotTaken, OtherLun, OtherGeometry}
+use Rattle.seq_core.specs.declared.load_fault.LoadFault.{LoadFault}
+use Rattle.seq_core.specs.declared.load_fault.LoadFault.TheVariants.{SlotTaken, OtherLun, OtherGeometry}
 use Rattle.seq_core.specs.World.{Slot, World, slot_of, with_slot, fresh_slot}
 use Rattle.seq_core.specs.Event.{IsVerified}
 use Rattle.seq_core.specs.After.{same_bool, same_parts, load_fault, after_load, after_unload, after_slot_unload}

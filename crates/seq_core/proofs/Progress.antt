@@ -4,7 +4,7 @@ use Rattle.std.proofs.lemmas.Bool.Decides.{nat_tests}
 use Rattle.std.proofs.lemmas.Nat.{mul-le}
 use Rattle.std.specs.List.{slice_get}
 use Rattle.std.proofs.Math.Nat.{div-le_self}
-use Rattle.nand_geometry.specs.declared.Parts.{Parts}
+use Rattle.nand_geometry.specs.declared.parts.Parts.{Parts}
 use Rattle.nand_geometry.specs.Limits.{InLimits, indices, planes}
 use Rattle.nand_geometry.specs.Row.{row_bytes_of}
 use Rattle.onfi_cycle.specs.declared.item.Kind.TheVariants.{Adr, Din}
@@ -15,6 +15,7 @@ use Rattle.micro_program.specs.Program.{Job, Done, written, buffer_now, column_n
 use Rattle.micro_program.specs.Moves.{Move, and_then, part, column_bytes, address, gives, put_bytes, moves}
 use Rattle.micro_program.specs.Played.{Played}
 use Rattle.micro_program.specs.Step.{Stride, stride, first_byte}
+use Rattle.micro_program.proofs.Bytes.{short_part}
 use Rattle.seq_core.specs.declared.registers.Registers.{Registers}
 use Rattle.seq_core.specs.Reply.{answer_of}
 use Rattle.seq_core.specs.World.{Slot}
@@ -50,18 +51,6 @@ index_stops g limits lun index plane = at (leb index (2 ^ 32 - 1)) refl
         let a : ltb (stopped index) (indices g) ≡ false = grind (arith, nat_tests) in
         let b : ltb index (indices g) ≡ false = grind (arith, nat_tests) in
         no_row g lun (stopped index) plane a ∙ sym (no_row g lun index plane b)
-
-short_part : (a b from count : ℕ) → from + count ≤ 2 → part from count (a ∷ (b ∷ [])) ≡ part from count (a ∷ (b ∷ (0 ∷ (0 ∷ (0 ∷ [])))))
-short_part a b zero zero h = refl
-short_part a b zero (suc zero) h = refl
-short_part a b zero (suc (suc zero)) h = refl
-short_part a b zero (suc (suc (suc n))) h = absurd (omega arith)
-short_part a b (suc zero) zero h = refl
-short_part a b (suc zero) (suc zero) h = refl
-short_part a b (suc zero) (suc (suc n)) h = absurd (omega arith)
-short_part a b (suc (suc zero)) zero h = refl
-short_part a b (suc (suc zero)) (suc n) h = absurd (omega arith)
-short_part a b (suc (suc (suc m))) count h = absurd (omega arith)
 
 -- the address of these registers
 abbrev given_address : Parts → ℕ → Registers → ℕ → ℕ → Option (List Move)

@@ -1,6 +1,6 @@
 -- An event that was refused changes nothing.
 use Rattle.std.proofs.Common.{◌≡◌, ℕ, Bool, true, false, cond, Option, Some, None, refl, subst}
-use Rattle.onfi_cycle.specs.declared.item.Lun.{Lun}
+use Rattle.onfi_cycle.specs.declared.lun.Lun.{Lun}
 use Rattle.onfi_cycle.specs.declared.item.Item.{Item}
 use Rattle.onfi_cycle.specs.declared.item.Item.TheVariants.{Rdy, Ard}
 use Rattle.onfi_cycle.specs.Permitted.{is_permitted}
@@ -8,8 +8,8 @@ use Rattle.onfi_cycle.specs.Channel.{Channel}
 use Rattle.micro_program.specs.Program.{Job}
 use Rattle.micro_program.specs.Moves.{and_then}
 use Rattle.micro_program.specs.Step.{Outcome, Ended as HasEnded, HandedOver as HasHandedOver, NotReady as WasNotReady, Went as HasGone, Stride, next_step}
-use Rattle.seq_core.specs.declared.answers.LoadFault.{LoadFault}
-use Rattle.seq_core.specs.declared.answers.Stepped.TheVariants.{Held}
+use Rattle.seq_core.specs.declared.load_fault.LoadFault.{LoadFault}
+use Rattle.seq_core.specs.declared.stepped.Stepped.TheVariants.{Held}
 use Rattle.seq_core.specs.World.{Slot, World, slot_of}
 use Rattle.seq_core.specs.Event.{Load, Step, Ready, ArrayReady, Unload}
 use Rattle.seq_core.specs.Reply.{ToStep, ToReady, ToArrayReady, answer_of}

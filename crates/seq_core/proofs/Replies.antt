@@ -1,7 +1,7 @@
 -- Loads, readies and unloads are events of the world that is kept; and where a slot goes on, its next word can be played.
 use Rattle.std.proofs.Common.{◌≡◌, ℕ, ◌^◌, ◌<◌, Bool, true, false, ◌||◌, not, List, [], ◌∷◌, Option, Some, None, is_some, refl, sym, ap, ◌∙◌, subst, arith, length}
 use Rattle.std.specs.List.{slice_get}
-use Rattle.onfi_cycle.specs.declared.item.Lun.{Lun}
+use Rattle.onfi_cycle.specs.declared.lun.Lun.{Lun}
 use Rattle.onfi_cycle.specs.declared.item.Item.{Item}
 use Rattle.onfi_cycle.specs.declared.item.Item.TheVariants.{Rdy, Ard}
 use Rattle.onfi_cycle.specs.Permitted.{is_permitted}
@@ -11,8 +11,8 @@ use Rattle.micro_program.specs.Lines.{Line}
 use Rattle.micro_program.specs.Places.{IsShaped}
 use Rattle.micro_program.specs.Program.{Job, fits}
 use Rattle.micro_program.specs.Safe.{Seat, Reaches, MovesAreOwn, may_step, WordIsFine, LineIsFine}
-use Rattle.seq_core.specs.declared.answers.LoadFault.{LoadFault}
-use Rattle.seq_core.specs.declared.answers.UnloadFault.TheVariants.{NoJob, StillRunning}
+use Rattle.seq_core.specs.declared.load_fault.LoadFault.{LoadFault}
+use Rattle.seq_core.specs.declared.unload_fault.UnloadFault.TheVariants.{NoJob, StillRunning}
 use Rattle.seq_core.specs.World.{Slot, World, number, slot_of, fresh_slot}
 use Rattle.seq_core.specs.Event.{Event, Load, Ready, ArrayReady, Unload, IsVerified}
 use Rattle.seq_core.specs.Reply.{Reply, ToLoad, ToReady, ToArrayReady, ToUnload, Loaded, NotLoaded, Unloaded, NotUnloaded}

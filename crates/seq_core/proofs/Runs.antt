@@ -1,9 +1,9 @@
 -- Worked runs, computed by the definitions. Traces are written in the order of time.
 use Rattle.std.specs.Prelude.{◌≡◌, ℕ, true, false, List, [], ◌∷◌, ◌++◌, reverse, replicate, refl, Option, Some, None}
-use Rattle.nand_geometry.specs.declared.Parts.{Parts}
+use Rattle.nand_geometry.specs.declared.parts.Parts.{Parts}
 use Rattle.nand_geometry.specs.Limits.{width}
 use Rattle.onfi_cycle.specs.declared.item.Kind.TheVariants.{Cmd, Adr, Dout}
-use Rattle.onfi_cycle.specs.declared.item.Lun.{Lun}
+use Rattle.onfi_cycle.specs.declared.lun.Lun.{Lun}
 use Rattle.onfi_cycle.specs.declared.item.Item.{Item}
 use Rattle.onfi_cycle.specs.declared.item.Item.TheVariants.{Cyc, Rdy, Ard}
 use Rattle.onfi_cycle.specs.Command.{command}
@@ -15,9 +15,9 @@ use Rattle.micro_word.specs.Text.{Microprogram}
 use Rattle.micro_program.specs.Lines.{unrolled}
 use Rattle.micro_program.specs.Program.{Job, Done, Nothing, Got, buffer_now}
 use Rattle.micro_walk.specs.Erase.{erase_words}
-use Rattle.seq_core.specs.declared.answers.LoadFault.TheVariants.{SlotTaken, OtherLun, OtherGeometry}
-use Rattle.seq_core.specs.declared.answers.Stepped.TheVariants.{Empty, Held, Ended, HandedOver, NotReady, Went}
-use Rattle.seq_core.specs.declared.answers.UnloadFault.TheVariants.{NoJob, StillRunning}
+use Rattle.seq_core.specs.declared.load_fault.LoadFault.TheVariants.{SlotTaken, OtherLun, OtherGeometry}
+use Rattle.seq_core.specs.declared.stepped.Stepped.TheVariants.{Empty, Held, Ended, HandedOver, NotReady, Went}
+use Rattle.seq_core.specs.declared.unload_fault.UnloadFault.TheVariants.{NoJob, StillRunning}
 use Rattle.seq_core.specs.World.{fresh}
 use Rattle.seq_core.specs.Event.{Event, Load, Step, Ready, ArrayReady, Unload}
 use Rattle.seq_core.specs.Reply.{Reply, ToLoad, ToStep, ToReady, ToArrayReady, ToUnload, Loaded, NotLoaded, Unloaded, NotUnloaded}

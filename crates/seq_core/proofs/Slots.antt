@@ -2,7 +2,7 @@
 use Rattle.std.proofs.Common.{◌≡◌, ◌≢◌, ℕ, zero, suc, ◌+◌, ◌*◌, ◌/◌, ◌<◌, ◌≤◌, ◌==◌, Bool, true, false, cond, List, Option, Some, None, refl, sym, ap, ◌∙◌, subst, arith, ltb, ltb-true, eq-eqb, eqb-true, length, get_or, replicate, get_or-set_same, get_or-set_other}
 use Rattle.std.proofs.lemmas.Nat.{div-mul-add}
 use Rattle.std.proofs.Math.Nat.{mul-le-mul_right}
-use Rattle.onfi_cycle.specs.declared.item.Lun.{Lun}
+use Rattle.onfi_cycle.specs.declared.lun.Lun.{Lun}
 use Rattle.onfi_cycle.specs.declared.item.Item.{Item}
 use Rattle.onfi_cycle.specs.Channel.{Channel, is_there, same_lun}
 use Rattle.seq_core.specs.World.{Slot, World, number, slot_of, with_slot}

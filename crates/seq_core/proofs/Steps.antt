@@ -7,7 +7,7 @@ use Rattle.onfi_cycle.specs.Channel.{Channel}
 use Rattle.micro_word.specs.declared.word.Word.{Word}
 use Rattle.micro_word.specs.declared.word.Word.TheVariants.{Get, Put}
 use Rattle.micro_program.specs.Program.{fits}
-use Rattle.seq_core.specs.declared.answers.Stepped.{Stepped}
+use Rattle.seq_core.specs.declared.stepped.Stepped.{Stepped}
 use Rattle.seq_core.specs.Progress.{Progress, reaches, buffer_behind, with_buffer, behind_word, outcome_of}
 use Rattle.seq_core.specs.Calls.{DidPlay, Steps}
 

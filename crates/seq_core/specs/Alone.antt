@@ -1,9 +1,9 @@
 -- A program that runs alone, and that it ends.
 use Rattle.std.specs.Prelude.{◌≡◌, ℕ, zero, suc, ◌+◌, ◌*◌, ◌≤◌, false, Option, Some, None, length}
-use Rattle.onfi_cycle.specs.declared.item.Lun.{Lun}
+use Rattle.onfi_cycle.specs.declared.lun.Lun.{Lun}
 use Rattle.onfi_cycle.specs.Channel.{Channel, IsChannel}
 use Rattle.micro_program.specs.Moves.{and_then}
-use Rattle.seq_core.specs.declared.answers.Stepped.TheVariants.{NotReady, Ended}
+use Rattle.seq_core.specs.declared.stepped.Stepped.TheVariants.{NotReady, Ended}
 use Rattle.seq_core.specs.World.{Slot, World, slot_of}
 use Rattle.seq_core.specs.Event.{Step, Ready}
 use Rattle.seq_core.specs.Reply.{Reply, ToStep}

@@ -1,7 +1,8 @@
 -- What a call of a sequencer is: an event of the world that it keeps.
 use Rattle.std.specs.Prelude.{◌≡◌, ℕ, ◌≤◌, Bool, true, false, ◌&&◌, not, if◌then◌else◌, List, [], ◌∷◌, Option, Some, None, is_some, length, slice_get, get_or, set}
-use Rattle.nand_geometry.specs.declared.Parts.{Parts}
-use Rattle.onfi_cycle.specs.declared.item.Lun.{Lun}
+use Rattle.std.specs.List.{list_all}
+use Rattle.nand_geometry.specs.declared.parts.Parts.{Parts}
+use Rattle.onfi_cycle.specs.declared.lun.Lun.{Lun}
 use Rattle.onfi_cycle.specs.declared.item.Item.{Item}
 use Rattle.onfi_cycle.specs.Channel.{Channel, IsChannel, is_there, same_lun}
 use Rattle.micro_word.specs.declared.word.Word.{Word}
@@ -9,10 +10,10 @@ use Rattle.micro_program.specs.Program.{Job, fits}
 use Rattle.micro_program.specs.Moves.{Move}
 use Rattle.micro_program.specs.Played.{played}
 use Rattle.micro_program.specs.Safe.{MovesAreOwn}
-use Rattle.seq_core.specs.declared.answers.LoadFault.{LoadFault}
-use Rattle.seq_core.specs.declared.answers.LoadFault.TheVariants.{SlotTaken, OtherLun, OtherGeometry}
-use Rattle.seq_core.specs.declared.answers.Stepped.{Stepped}
-use Rattle.seq_core.specs.declared.answers.Stepped.TheVariants.{Ended, HandedOver, NotReady, Went}
+use Rattle.seq_core.specs.declared.load_fault.LoadFault.{LoadFault}
+use Rattle.seq_core.specs.declared.load_fault.LoadFault.TheVariants.{SlotTaken, OtherLun, OtherGeometry}
+use Rattle.seq_core.specs.declared.stepped.Stepped.{Stepped}
+use Rattle.seq_core.specs.declared.stepped.Stepped.TheVariants.{Ended, HandedOver, NotReady, Went}
 use Rattle.seq_core.specs.declared.registers.Registers.{Registers}
 use Rattle.seq_core.specs.declared.slot_state.SlotState.{SlotState}
 use Rattle.seq_core.specs.declared.slot_state.SlotState.TheVariants as state
@@ -143,9 +144,7 @@ has_job (state.Ended code) = true
 
 -- no slot has a job
 abbrev pub all_are_empty : List (Option Progress) → Bool
-all_are_empty [] = true
-all_are_empty (None ∷ slots) = all_are_empty slots
-all_are_empty (Some v ∷ slots) = false
+all_are_empty slots = list_all (λ slot. not (is_some slot)) slots
 
 -- a LUN has a program that goes on, and no other LUN has the bus: its next word can be stepped
 pub record CanGoOn (c : CoreView) (l : Lun) : Type 0 where

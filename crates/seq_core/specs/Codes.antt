@@ -1,11 +1,11 @@
 -- The codes under which faults are told.
 use Rattle.std.specs.Prelude.{ℕ, List, codes}
-use Rattle.seq_core.specs.declared.answers.JobFault.{JobFault}
-use Rattle.seq_core.specs.declared.answers.JobFault.TheVariants as job
-use Rattle.seq_core.specs.declared.answers.LoadFault.{LoadFault}
-use Rattle.seq_core.specs.declared.answers.LoadFault.TheVariants as load
-use Rattle.seq_core.specs.declared.answers.UnloadFault.{UnloadFault}
-use Rattle.seq_core.specs.declared.answers.UnloadFault.TheVariants.{NoJob, StillRunning}
+use Rattle.seq_core.specs.declared.job_fault.JobFault.{JobFault}
+use Rattle.seq_core.specs.declared.job_fault.JobFault.TheVariants as job
+use Rattle.seq_core.specs.declared.load_fault.LoadFault.{LoadFault}
+use Rattle.seq_core.specs.declared.load_fault.LoadFault.TheVariants as load
+use Rattle.seq_core.specs.declared.unload_fault.UnloadFault.{UnloadFault}
+use Rattle.seq_core.specs.declared.unload_fault.UnloadFault.TheVariants.{NoJob, StillRunning}
 
 -- the code under which a fault of a job is told
 abbrev pub job_fault_code : JobFault → List ℕ

@@ -1,6 +1,6 @@
 -- What happens on a channel that runs programs.
 use Rattle.std.specs.Prelude.{Bool, List, [], ◌∷◌}
-use Rattle.onfi_cycle.specs.declared.item.Lun.{Lun}
+use Rattle.onfi_cycle.specs.declared.lun.Lun.{Lun}
 use Rattle.micro_program.specs.Program.{Job}
 use Rattle.micro_program.specs.Safe.{IsMade, IsSafe}
 

@@ -1,9 +1,8 @@
 -- What doing a list of events is: the run of the events that were done.
 use Rattle.std.specs.Prelude.{◌≡◌, List, [], ◌∷◌, ◌++◌, map, Result, Ok, Err, Option, Some, None}
-use Rattle.micro_program.specs.Program.{Job}
-use Rattle.seq_core.specs.declared.answers.LoadFault.{LoadFault}
-use Rattle.seq_core.specs.declared.answers.UnloadFault.{UnloadFault}
-use Rattle.seq_core.specs.declared.sequencer.Done.{Done}
+use Rattle.seq_core.specs.declared.unload_fault.UnloadFault.{UnloadFault}
+use Rattle.seq_core.specs.declared.sequencer.LoadRefused.{LoadRefused}
+use Rattle.seq_core.specs.declared.sequencer.UnloadedJob.{UnloadedJob}
 use Rattle.seq_core.specs.declared.event_list.Event.{Event as Asked}
 use Rattle.seq_core.specs.declared.event_list.Event.TheVariants.{Load as AskLoad, Step as AskStep, Ready as AskReady, ArrayReady as AskArrayReady, Unload as AskUnload}
 use Rattle.seq_core.specs.declared.event_list.Reply.{Reply as Answered}
@@ -27,11 +26,11 @@ event_of (AskReady l fail) = Ready l fail
 event_of (AskArrayReady l) = ArrayReady l
 event_of (AskUnload l) = Unload l
 
-abbrev pub loading_of : Result (Unit {0}) (LoadFault × Job) → Loading
+abbrev pub loading_of : {A : Type 0} → Result (Unit {0}) (LoadRefused A) → Loading
 loading_of (Ok u) = Loaded
-loading_of (Err e) = NotLoaded e.0 e.1
+loading_of (Err e) = NotLoaded e.fault e.job
 
-abbrev pub unloading_of : {A : Type 0} → Result (Done A) UnloadFault → Unloading
+abbrev pub unloading_of : {A : Type 0} → Result (UnloadedJob A) UnloadFault → Unloading
 unloading_of (Ok done) = Unloaded done.job done.code
 unloading_of (Err fault) = NotUnloaded fault
 

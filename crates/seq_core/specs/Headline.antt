@@ -1,13 +1,13 @@
 -- The laws of events and of runs, the main theorem last.
 use Rattle.std.specs.Prelude.{◌≡◌, ◌⊎◌, ℕ, Bool, true, false, not, List, [], ◌∷◌, ◌++◌, Some, None}
-use Rattle.onfi_cycle.specs.declared.item.Lun.{Lun}
+use Rattle.onfi_cycle.specs.declared.lun.Lun.{Lun}
 use Rattle.onfi_cycle.specs.declared.item.Item.{Item}
 use Rattle.onfi_cycle.specs.declared.item.Item.TheVariants.{Rdy, Ard}
 use Rattle.onfi_cycle.specs.Permitted.{is_legal}
 use Rattle.onfi_cycle.specs.Channel.{Channel, IsChannel, is_there}
 use Rattle.micro_program.specs.Program.{Job, buffer_now}
 use Rattle.micro_program.specs.Safe.{AddsOwn}
-use Rattle.seq_core.specs.declared.answers.Stepped.TheVariants.{Empty, Held}
+use Rattle.seq_core.specs.declared.stepped.Stepped.TheVariants.{Empty, Held}
 use Rattle.seq_core.specs.World.{Slot, World, slot_of, fresh}
 use Rattle.seq_core.specs.Event.{Event, Load, Step, Ready, ArrayReady, Unload, LoadsVerified, AllLoadVerified}
 use Rattle.seq_core.specs.Reply.{Reply, ToLoad, ToStep, ToReady, ToArrayReady, ToUnload, NotLoaded, Unloaded, NotUnloaded}

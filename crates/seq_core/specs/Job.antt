@@ -1,13 +1,13 @@
 -- Which jobs are made.
 use Rattle.std.specs.Prelude.{ℕ, ◌+◌, ◌%◌, ◌==◌, ◌&&◌, not, nat_lt, nat_le, if◌then◌else◌, List, Option, Some, None}
-use Rattle.nand_geometry.specs.declared.Parts.{Parts}
+use Rattle.nand_geometry.specs.declared.parts.Parts.{Parts}
 use Rattle.nand_geometry.specs.Limits.{indices}
-use Rattle.onfi_cycle.specs.declared.item.Lun.{Lun}
+use Rattle.onfi_cycle.specs.declared.lun.Lun.{Lun}
 use Rattle.micro_program.specs.Lines.{continues_cache_read}
 use Rattle.micro_program.specs.Program.{Job}
 use Rattle.micro_program.specs.Verified.{VerifiedText}
-use Rattle.seq_core.specs.declared.answers.JobFault.{JobFault}
-use Rattle.seq_core.specs.declared.answers.JobFault.TheVariants.{NoSuchLun, RowsOutside, BufferLength, OtherGeometry, NotAtBlock}
+use Rattle.seq_core.specs.declared.job_fault.JobFault.{JobFault}
+use Rattle.seq_core.specs.declared.job_fault.JobFault.TheVariants.{NoSuchLun, RowsOutside, BufferLength, OtherGeometry, NotAtBlock}
 use Rattle.seq_core.specs.After.{same_parts}
 
 -- the job of a verified text

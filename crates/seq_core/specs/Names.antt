@@ -1,7 +1,7 @@
 -- How answers are shown.
 use Rattle.std.specs.Prelude.{ℕ, List, codes}
-use Rattle.seq_core.specs.declared.answers.Stepped.{Stepped}
-use Rattle.seq_core.specs.declared.answers.Stepped.TheVariants.{Empty, Ended, Held, HandedOver, NotReady, Went}
+use Rattle.seq_core.specs.declared.stepped.Stepped.{Stepped}
+use Rattle.seq_core.specs.declared.stepped.Stepped.TheVariants.{Empty, Ended, Held, HandedOver, NotReady, Went}
 
 -- how a step went
 abbrev pub step_name : Stepped → List ℕ

@@ -1,7 +1,7 @@
 -- A program in progress as a running channel keeps it: its job with the buffer as it is now, the place of its next word in
 -- the text, the loops around it, and registers.
 use Rattle.std.specs.Prelude.{ℕ, ◌+◌, ◌-◌, ◌^◌, min, Bool, true, false, nat_le, nat_lt, if◌then◌else◌, List, [], ◌∷◌, ◌++◌, Option, Some, None, length, replicate}
-use Rattle.nand_geometry.specs.declared.Parts.{Parts}
+use Rattle.nand_geometry.specs.declared.parts.Parts.{Parts}
 use Rattle.nand_geometry.specs.Row.{row_bytes_of}
 use Rattle.onfi_cycle.specs.declared.item.Kind.TheVariants.{Cmd, Adr, Din}
 use Rattle.micro_word.specs.declared.word.Word.{Word}
@@ -9,8 +9,8 @@ use Rattle.micro_word.specs.declared.word.Word.TheVariants.{End, Command, Addres
 use Rattle.micro_program.specs.Program.{Job, written, is_ready_status}
 use Rattle.micro_program.specs.Moves.{Move, Give, Take, and_then, part, column_bytes, gives}
 use Rattle.micro_program.specs.Step.{first_byte}
-use Rattle.seq_core.specs.declared.answers.Stepped.{Stepped}
-use Rattle.seq_core.specs.declared.answers.Stepped.TheVariants.{Ended, HandedOver, NotReady, Went}
+use Rattle.seq_core.specs.declared.stepped.Stepped.{Stepped}
+use Rattle.seq_core.specs.declared.stepped.Stepped.TheVariants.{Ended, HandedOver, NotReady, Went}
 use Rattle.seq_core.specs.declared.registers.Registers.{Registers}
 use Rattle.seq_core.specs.declared.loops.OpenLoop.{OpenLoop}
 use Rattle.seq_core.specs.Loops.{place_behind, loops_behind}

@@ -1,9 +1,9 @@
 -- How events are answered.
 use Rattle.std.specs.Prelude.{ℕ, Bool}
-use Rattle.seq_core.specs.declared.answers.LoadFault.{LoadFault}
-use Rattle.seq_core.specs.declared.answers.Stepped.{Stepped}
-use Rattle.seq_core.specs.declared.answers.Stepped.TheVariants.{Ended, HandedOver, NotReady, Went}
-use Rattle.seq_core.specs.declared.answers.UnloadFault.{UnloadFault}
+use Rattle.seq_core.specs.declared.load_fault.LoadFault.{LoadFault}
+use Rattle.seq_core.specs.declared.stepped.Stepped.{Stepped}
+use Rattle.seq_core.specs.declared.stepped.Stepped.TheVariants.{Ended, HandedOver, NotReady, Went}
+use Rattle.seq_core.specs.declared.unload_fault.UnloadFault.{UnloadFault}
 use Rattle.micro_program.specs.Program.{Job}
 use Rattle.micro_program.specs.Step.{Outcome, Ended as HasEnded, HandedOver as HasHandedOver, NotReady as WasNotReady, Went as HasGone}
 

@@ -1,6 +1,6 @@
 -- A channel whose LUNs have slots, each for one program in progress.
 use Rattle.std.specs.Prelude.{ℕ, ◌+◌, ◌*◌, if◌then◌else◌, List, [], Option, None, get_or, set, replicate}
-use Rattle.onfi_cycle.specs.declared.item.Lun.{Lun}
+use Rattle.onfi_cycle.specs.declared.lun.Lun.{Lun}
 use Rattle.onfi_cycle.specs.declared.item.Item.{Item}
 use Rattle.onfi_cycle.specs.Channel.{Channel, is_there}
 use Rattle.micro_program.specs.Lines.{Line, unrolled}

@@ -4,9 +4,10 @@ ghost use Rattle.std.specs.Vec.{vec_len, vec_capacity};
 ghost use Rattle.seq_core.specs.Calls.{IsEvent};
 ghost use Rattle.seq_core.specs.EventList.{event_of, reply_of, WantsMemory, StopsAt, LeftFor, DidEvents, shortage_of};
 
-use crate::answers::{LoadFault, Stepped, UnloadFault};
 use crate::job::Job;
-use crate::sequencer::{Core, Done};
+use crate::sequencer::{Core, LoadRefused, UnloadedJob};
+use crate::stepped::Stepped;
+use crate::unload_fault::UnloadFault;
 use onfi_cycle::Lun;
 use std::alloc::{Allocator, Global};
 
@@ -19,7 +20,7 @@ pub enum Event<A: Allocator = Global> {
     Step(Lun),
     /// A LUN becomes ready, with failure or without.
     Ready(Lun, bool),
-    /// The array of a LUN becomes ready behind a cache read.
+    /// The array of a LUN becomes ready after a cache read.
     ArrayReady(Lun),
     /// The job of a LUN is taken away.
     Unload(Lun),
@@ -29,7 +30,7 @@ pub enum Event<A: Allocator = Global> {
 #[derive(Drop)]
 pub enum Reply<A: Allocator = Global> {
     /// As [`Core::load`] answers.
-    Load(Result<(), (LoadFault, Job<A>)>),
+    Load(Result<(), LoadRefused<A>>),
     /// As [`Core::step`] answers.
     Step(Stepped),
     /// As [`Core::ready`] answers.
@@ -37,7 +38,7 @@ pub enum Reply<A: Allocator = Global> {
     /// As [`Core::array_ready`] answers.
     ArrayReady(bool),
     /// As [`Core::unload`] answers.
-    Unload(Result<Done<A>, UnloadFault>),
+    Unload(Result<UnloadedJob<A>, UnloadFault>),
 }
 
 /// What there was no memory for, where a list of events wasn't done to its end.
@@ -71,14 +72,14 @@ pub fn do_event<A: Allocator + Copy>(
     ensures memory { IfErr result (λ undone. WantsMemory core.old undone) }
 {
     match event {
-        Event::Load(l, job) => Ok(Reply::Load(core.load(l, job))),
-        Event::Step(l) => match core.step(l) {
+        Event::Load(lun, job) => Ok(Reply::Load(core.load(lun, job))),
+        Event::Step(lun) => match core.step(lun) {
             Ok(answer) => Ok(Reply::Step(answer)),
-            Err(_) => Err(Event::Step(l)),
+            Err(_) => Err(Event::Step(lun)),
         },
-        Event::Ready(l, fail) => Ok(Reply::Ready(core.ready(l, fail))),
-        Event::ArrayReady(l) => Ok(Reply::ArrayReady(core.array_ready(l))),
-        Event::Unload(l) => Ok(Reply::Unload(core.unload(l))),
+        Event::Ready(lun, fail) => Ok(Reply::Ready(core.ready(lun, fail))),
+        Event::ArrayReady(lun) => Ok(Reply::ArrayReady(core.array_ready(lun))),
+        Event::Unload(lun) => Ok(Reply::Unload(core.unload(lun))),
     }
 }
 

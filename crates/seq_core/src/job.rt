@@ -1,15 +1,14 @@
 //! A job: a verified text that is to run on a LUN, from a base on, with its buffer.
 ghost use Rattle.std.specs.Prelude.{◌≡◌, ◌↔◌, ◌≤◌, IsOk, IfOk, IfErr, Some, None, length, true};
-ghost use Rattle.micro_program.specs.Lines.{continues_cache_read, is_command_31};
 ghost use Rattle.micro_program.specs.Places.{IsShaped};
 ghost use Rattle.micro_program.specs.Safe.{IsSafe};
 ghost use Rattle.micro_program.specs.Program.{Job as JobValue};
 ghost use Rattle.seq_core.specs.Job.{job_fault, job_of};
 ghost use Rattle.seq_core.specs.Event.{IsVerified};
 
-use crate::answers::JobFault;
-use micro_program::Verified;
-use micro_word::{Text, Word};
+use crate::job_fault::JobFault;
+use micro_program::{Verified, continues_cache_read};
+use micro_word::Text;
 use nand_geometry::Geometry;
 use onfi_cycle::Lun;
 use std::alloc::{Allocator, Global};
@@ -43,18 +42,6 @@ impl<A: Allocator> Model for Job<A> {
     ghost view = { λ j. job_of j.lun j.base j.verified j.buffer.items };
 
     ghost invariant = { λ j. IsVerified (job_of j.lun j.base j.verified j.buffer.items) × IsShaped j.verified.text.words };
-}
-
-// Some word continues a cache read.
-fn continues_cache_read(words: &[Word]) -> bool
-    ensures { result ≡ continues_cache_read words.now }
-{
-    match words {
-        [] => false,
-        [first, rest @ ..] => {
-            matches!(first, Word::Command { byte: 0x31 }) || continues_cache_read(rest)
-        }
-    }
 }
 
 // The first fault of a job.

@@ -7,20 +7,26 @@
 //! makes have their own definitions (`Buffer`, `Made`).
 #![tactic(auto)]
 
-mod answers;
 mod event_list;
 mod job;
+mod job_fault;
 pub mod laws;
+mod load_fault;
 mod loops;
 mod playing;
 mod registers;
 mod sequencer;
 mod slot;
 mod slot_state;
+mod stepped;
 #[cfg(test)]
 mod tests;
+mod unload_fault;
 
-pub use answers::{JobFault, LoadFault, Stepped, UnloadFault};
 pub use event_list::{Event, Ran, Reply, Shortage, do_event, run_events};
 pub use job::{Job, JobRefused};
-pub use sequencer::{Core, Done};
+pub use job_fault::JobFault;
+pub use load_fault::LoadFault;
+pub use sequencer::{Core, LoadRefused, UnloadedJob};
+pub use stepped::Stepped;
+pub use unload_fault::UnloadFault;

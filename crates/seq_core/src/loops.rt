@@ -1,4 +1,4 @@
-//! The loops of a program that go on, and the place behind a word.
+//! The loops of a program that go on, and the place after a word.
 ghost use Rattle.std.specs.Prelude.{◌≡◌, ◌<◌, ◌≤◌, length, reverse};
 ghost use Rattle.seq_core.specs.Loops.{next_place, next_loops, place_behind, loops_behind};
 
@@ -8,14 +8,14 @@ use micro_word::Word;
 /// How deep loops are nested at most.
 pub(crate) const DEPTH: usize = 4;
 
-/// A loop that goes on: the place of its first word, and how many turns are left behind this one.
+/// A loop that goes on: the place of its first word, and how many turns are left after this one.
 #[derive(Clone, Copy, Debug, Default, PartialEq, Eq)]
 pub(crate) struct OpenLoop {
     pub start: usize,
     pub left: u16,
 }
 
-// Behind the last word of a loop: its first word if a turn is left, else the word behind it.
+// After the last word of a loop: its first word if a turn is left, else the word that follows.
 fn next(at: usize, loops: &mut ArrayVec<OpenLoop, DEPTH>) -> usize
     requires { at < 1024 }
     ensures place { result ≡ next_place at (reverse loops.old.items) }
@@ -36,7 +36,7 @@ fn next(at: usize, loops: &mut ArrayVec<OpenLoop, DEPTH>) -> usize
     }
 }
 
-/// Goes behind a word: the place that follows, while `loops` become those around it, the innermost last. The status is that of
+/// Goes past a word: the place that follows, while `loops` become those around it, the innermost last. The status is that of
 /// the last poll.
 pub(crate) fn go_behind(
     at: usize,

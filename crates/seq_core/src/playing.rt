@@ -17,6 +17,12 @@ use onfi_cycle::{Cycle, Kind, Lun};
 use std::alloc::{AllocError, Allocator};
 use target_bus::{Bus, BusRefusal};
 
+// The command that asks the one LUN of a target for its status.
+const READ_STATUS: u8 = 0x70;
+
+// The command that asks a LUN for its status by a row of it.
+const READ_STATUS_ENHANCED: u8 = 0x78;
+
 // Gives one byte, by a cycle that starts no work and has its place.
 fn give<A: Allocator + Copy>(bus: &mut Bus<A>, lun: Lun, kind: Kind, byte: u8)
     requires quiet { IsQuiet lun.ce kind byte }
@@ -91,30 +97,31 @@ fn take_all<A: Allocator + Copy>(
     ensures { (bytes : List ℕ) × HasPlayed bus.old bus.new lun.ce (replicate len Take) bytes len
         × (buffer.new ≡ written bytes place buffer.old) }
 {
-    for k in 0..len {
-        buffer[place + k] = take(bus, lun);
+    for index in 0..len {
+        buffer[place + index] = take(bus, lun);
     }
 }
 
 // Asks the one LUN of a target for its status.
 fn poll_one<A: Allocator + Copy>(bus: &mut Bus<A>, lun: Lun) -> Result<u8, AllocError>
-    requires own { MovesAreOwn (channel_of bus.old) lun (Give Cmd 0x70 ∷ (Take ∷ [])) bus.old.past }
-    ensures ok { IfOk result (λ status. HasPolled bus.old bus.new lun.ce (Give Cmd 0x70 ∷ (Take ∷ [])) status) }
+    requires own { MovesAreOwn (channel_of bus.old) lun (Give Cmd READ_STATUS ∷ (Take ∷ [])) bus.old.past }
+    ensures ok { IfOk result (λ status. HasPolled bus.old bus.new lun.ce (Give Cmd READ_STATUS ∷ (Take ∷ [])) status) }
     ensures err { OnErr result (IsUntouched bus.old bus.new) }
 {
     bus.reserve(2)?;
-    give(bus, lun, Kind::Cmd, 0x70);
+    give(bus, lun, Kind::Cmd, READ_STATUS);
     Ok(take(bus, lun))
 }
 
 // Asks a LUN for its status by a row of it.
 fn poll_row<A: Allocator + Copy>(bus: &mut Bus<A>, lun: Lun, row: [u8; 3]) -> Result<u8, AllocError>
-    requires own { MovesAreOwn (channel_of bus.old) lun (Give Cmd 0x78 ∷ (gives Adr row ++ (Take ∷ []))) bus.old.past }
-    ensures ok { IfOk result (λ status. HasPolled bus.old bus.new lun.ce (Give Cmd 0x78 ∷ (gives Adr row ++ (Take ∷ []))) status) }
+    requires own { MovesAreOwn (channel_of bus.old) lun (Give Cmd READ_STATUS_ENHANCED ∷ (gives Adr row ++ (Take ∷ []))) bus.old.past }
+    ensures ok { IfOk result (λ status. HasPolled bus.old bus.new lun.ce
+        (Give Cmd READ_STATUS_ENHANCED ∷ (gives Adr row ++ (Take ∷ []))) status) }
     ensures err { OnErr result (IsUntouched bus.old bus.new) }
 {
     bus.reserve(5)?;
-    give(bus, lun, Kind::Cmd, 0x78);
+    give(bus, lun, Kind::Cmd, READ_STATUS_ENHANCED);
     give_all(bus, lun, Kind::Adr, &row);
     Ok(take(bus, lun))
 }

@@ -33,16 +33,16 @@ impl Registers {
     pub(crate) fn five_bytes(self, geometry: &Geometry, lun: u8, last: u8) -> Option<[u8; 5]>
         ensures { result ≡ five_bytes geometry.now lun self last }
     {
-        let c1 = (self.column % 256) as u8;
-        let c2 = (self.column / 256) as u8;
+        let low = (self.column % 256) as u8;
+        let high = (self.column / 256) as u8;
         if last <= 2 {
-            return Some([c1, c2, 0, 0, 0]);
+            return Some([low, high, 0, 0, 0]);
         }
         let row = geometry.row_bytes(lun, self.index, self.plane)?;
-        Some([c1, c2, row[0], row[1], row[2]])
+        Some([low, high, row[0], row[1], row[2]])
     }
 
-    /// Behind a word of a job with this base; a poll has brought this status.
+    /// After a word of a job with this base; a poll has brought this status.
     pub(crate) fn after(self, base: u32, word: Word, status: u8) -> Registers
         requires { reaches self.place word < 2 ^ 32 }
         ensures { result ≡ registers_after base self word status }

@@ -1,5 +1,5 @@
 //! The sequencer: it runs a program on each LUN, and hands the bus from one to another.
-ghost use Rattle.std.specs.Prelude.{◌≡◌, ◌↔◌, ℕ, ◌*◌, ◌<◌, ◌≤◌, ◌∷◌, List, [], Some, None, if◌then◌else◌, IfOk, OnErr, IfErr, IfSome, IfNone, length, replicate, reverse, get_or, set, true, false};
+ghost use Rattle.std.specs.Prelude.{◌≡◌, ◌↔◌, ℕ, ◌*◌, ◌<◌, ◌≤◌, ◌∷◌, List, [], Some, None, if◌then◌else◌, IfOk, OnErr, IfErr, IfSome, IfNone, length, replicate, reverse, get_or, set, is_some, not, true, false};
 ghost use Rattle.onfi_cycle.specs.Permitted.{is_legal};
 ghost use Rattle.onfi_cycle.specs.Channel.{Channel, is_there};
 ghost use Rattle.target_bus.specs.Bus.{Traced, channel_of};
@@ -14,13 +14,15 @@ ghost use Rattle.seq_core.specs.declared.slot_state.SlotState.{SlotState};
 ghost use Rattle.seq_core.specs.Calls.{IsCore, IsEvent, CanGoOn, CanStep, Steps, slot_at, slot_state, all_are_empty, holder_after, TellsBus, fault_by, load_fault_at};
 ghost use Rattle.seq_core.specs.Playing.{IsSame, IsUntouched};
 
-use crate::answers::{LoadFault, Stepped, UnloadFault};
 use crate::job::Job;
+use crate::load_fault::LoadFault;
 use crate::slot::Slot;
 use crate::slot_state::SlotState;
+use crate::stepped::Stepped;
+use crate::unload_fault::UnloadFault;
 use arrayvec::ArrayVec;
 use nand_geometry::Geometry;
-use onfi_cycle::{Item, Lun};
+use onfi_cycle::{Item, Lun, MAX_CHANNEL_LUNS};
 use std::alloc::{AllocError, Allocator, Global};
 use std::marker::Model;
 use target_bus::Bus;
@@ -29,7 +31,7 @@ use target_bus::Bus;
 #[derive(Drop)]
 pub struct Core<A: Allocator = Global> {
     bus: Bus<A>,
-    slots: ArrayVec<Option<Slot<A>>, 16>,
+    slots: ArrayVec<Option<Slot<A>>, MAX_CHANNEL_LUNS>,
     holder: Option<Lun>,
 }
 
@@ -44,9 +46,16 @@ impl<A: Allocator> Model for Core<A> {
     ghost invariant = { λ c. IsCore (record { geometry = c.bus.geometry; targets = c.bus.targets; opened = c.bus.opened; past = c.bus.past; slots = c.slots.items; holder = c.holder }) };
 }
 
-/// A job that has ended, and its code.
+/// A job that isn't loaded: why, and the job again.
 #[derive(Drop)]
-pub struct Done<A: Allocator = Global> {
+pub struct LoadRefused<A: Allocator = Global> {
+    pub fault: LoadFault,
+    pub job: Job<A>,
+}
+
+/// A job that has ended and was taken from its LUN, and its code.
+#[derive(Drop)]
+pub struct UnloadedJob<A: Allocator = Global> {
     pub job: Job<A>,
     pub code: u8,
 }
@@ -61,11 +70,11 @@ fn lun_count(targets: u8, geometry: &Geometry) -> usize
 }
 
 // So many slots without a job.
-fn empty_slots<A: Allocator>(count: usize) -> ArrayVec<Option<Slot<A>>, 16>
+fn empty_slots<A: Allocator>(count: usize) -> ArrayVec<Option<Slot<A>>, MAX_CHANNEL_LUNS>
     requires { count ≤ 16 }
     ensures { result.items ≡ replicate count None }
 {
-    let mut slots: ArrayVec<Option<Slot<A>>, 16> = ArrayVec::new();
+    let mut slots: ArrayVec<Option<Slot<A>>, MAX_CHANNEL_LUNS> = ArrayVec::new();
     for _ in 0..count {
         slots.push(None);
     }
@@ -73,22 +82,23 @@ fn empty_slots<A: Allocator>(count: usize) -> ArrayVec<Option<Slot<A>>, 16>
 }
 
 // The number of a LUN of a channel, if it is there.
-fn number_of(targets: u8, luns: u8, l: Lun) -> Option<usize>
-    ensures { (s : Channel) → s.targets ≡ targets → s.geometry.luns ≡ luns → result ≡ (if is_there s l then Some (number s l) else None) }
+fn number_of(targets: u8, luns: u8, lun: Lun) -> Option<usize>
+    ensures { (s : Channel) → s.targets ≡ targets → s.geometry.luns ≡ luns
+        → result ≡ (if is_there s lun then Some (number s lun) else None) }
 {
-    if l.ce < targets && l.lun < luns {
-        Some(usize::from(l.ce) * usize::from(luns) + usize::from(l.lun))
+    if lun.ce < targets && lun.lun < luns {
+        Some(lun.place(luns))
     } else {
         None
     }
 }
 
 // What a slot holds.
-fn state_in<A: Allocator>(slots: &[Option<Slot<A>>], k: usize) -> SlotState
-    requires { k < length slots.now }
-    ensures { result ≡ slot_state (get_or slots.now k None) }
+fn state_in<A: Allocator>(slots: &[Option<Slot<A>>], place: usize) -> SlotState
+    requires { place < length slots.now }
+    ensures { result ≡ slot_state (get_or slots.now place None) }
 {
-    match &slots[k] {
+    match &slots[place] {
         None => SlotState::Empty,
         Some(slot) => SlotState::of(slot.code()),
     }
@@ -98,16 +108,16 @@ fn state_in<A: Allocator>(slots: &[Option<Slot<A>>], k: usize) -> SlotState
 fn step_in<A: Allocator + Copy>(
     bus: &mut Bus<A>,
     slots: &mut [Option<Slot<A>>],
-    k: usize,
+    place: usize,
 ) -> Result<Stepped, AllocError>
-    requires inside { k < length slots.old }
-    requires can { (v : Progress) × (get_or slots.old k None ≡ Some v) × CanStep (channel_of bus.old) bus.old.past v }
+    requires inside { place < length slots.old }
+    requires can { (v : Progress) × (get_or slots.old place None ≡ Some v) × CanStep (channel_of bus.old) bus.old.past v }
     ensures same { IsSame bus.old bus.new }
-    ensures ok { IfOk result (λ answer. (v : Progress) × (u : Progress) × (get_or slots.old k None ≡ Some v)
-        × Steps (channel_of bus.old) bus.old.past v answer bus.new.past u × (slots.new ≡ set slots.old k (Some u))) }
+    ensures ok { IfOk result (λ answer. (v : Progress) × (u : Progress) × (get_or slots.old place None ≡ Some v)
+        × Steps (channel_of bus.old) bus.old.past v answer bus.new.past u × (slots.new ≡ set slots.old place (Some u))) }
     ensures err { OnErr result (IsUntouched bus.old bus.new × (slots.new ≡ slots.old)) }
 {
-    match &mut slots[k] {
+    match &mut slots[place] {
         Some(slot) => slot.step(bus),
         None => unreachable!(),
     }
@@ -117,21 +127,31 @@ fn step_in<A: Allocator + Copy>(
 fn load_fault(
     has_job: bool,
     there: bool,
-    l: Lun,
-    at: Lun,
+    lun: Lun,
+    job_lun: Lun,
     geometry: &Geometry,
-    of: &Geometry,
+    job_geometry: &Geometry,
 ) -> Option<LoadFault>
-    ensures { result ≡ fault_by has_job there l at geometry.now of.now }
+    ensures { result ≡ fault_by has_job there lun job_lun geometry.now job_geometry.now }
 {
     if has_job {
         Some(LoadFault::SlotTaken)
-    } else if !(there && l.ce == at.ce && l.lun == at.lun) {
+    } else if !there || lun != job_lun {
         Some(LoadFault::OtherLun)
-    } else if geometry.parts() != of.parts() {
+    } else if geometry.parts() != job_geometry.parts() {
         Some(LoadFault::OtherGeometry)
     } else {
         None
+    }
+}
+
+// A slot has no job.
+fn is_empty<A: Allocator>(slot: &Option<Slot<A>>) -> bool
+    ensures { result ≡ not (is_some slot.now) }
+{
+    match slot {
+        None => true,
+        Some(_) => false,
     }
 }
 
@@ -139,45 +159,39 @@ fn load_fault(
 fn all_are_empty<A: Allocator>(slots: &[Option<Slot<A>>]) -> bool
     ensures { result ≡ all_are_empty slots.now }
 {
-    match slots {
-        [] => true,
-        [first, rest @ ..] => first.is_none() && all_are_empty(rest),
-    }
+    slots.iter().all(|slot| is_empty(slot))
 }
 
 // Puts another slot at a number.
-fn put_in<A: Allocator>(slots: &mut [Option<Slot<A>>], k: usize, slot: Option<Slot<A>>)
-    requires { k < length slots.old }
-    ensures { slots.new ≡ set slots.old k slot }
+fn put_in<A: Allocator>(slots: &mut [Option<Slot<A>>], place: usize, slot: Option<Slot<A>>)
+    requires { place < length slots.old }
+    ensures { slots.new ≡ set slots.old place slot }
 {
-    slots[k] = slot;
+    slots[place] = slot;
 }
 
 // Takes the slot of a number.
-fn take_in<A: Allocator>(slots: &mut [Option<Slot<A>>], k: usize) -> Option<Slot<A>>
-    requires { k < length slots.old }
-    ensures value { result ≡ get_or slots.old k None }
-    ensures slots { slots.new ≡ set slots.old k None }
+fn take_in<A: Allocator>(slots: &mut [Option<Slot<A>>], place: usize) -> Option<Slot<A>>
+    requires { place < length slots.old }
+    ensures value { result ≡ get_or slots.old place None }
+    ensures slots { slots.new ≡ set slots.old place None }
 {
-    slots[k].take()
+    slots[place].take()
 }
 
 // Another LUN has the bus.
-fn is_held(holder: Option<Lun>, l: Lun) -> bool
-    ensures { result ≡ is_held holder l }
+fn is_held(holder: Option<Lun>, lun: Lun) -> bool
+    ensures { result ≡ is_held holder lun }
 {
-    match holder {
-        None => false,
-        Some(m) => !(m.ce == l.ce && m.lun == l.lun),
-    }
+    holder.is_some_and(|holder| holder != lun)
 }
 
 // The LUN that has the bus after a step of this one.
-fn holder_after(answer: Stepped, l: Lun) -> Option<Lun>
-    ensures { result ≡ holder_after answer l }
+fn holder_after(answer: Stepped, lun: Lun) -> Option<Lun>
+    ensures { result ≡ holder_after answer lun }
 {
     match answer {
-        Stepped::Went => Some(l),
+        Stepped::Went => Some(lun),
         _ => None,
     }
 }
@@ -191,7 +205,8 @@ impl<A: Allocator + Copy> Core<A> {
         ensures lawful { LawfulWorld (channel_in result) (fresh (channel_in result)) }
     {
         let slots = empty_slots(lun_count(bus.targets(), &bus.geometry()));
-        let _ = bus.trace();
+        // Its contract says that the bus is that of a channel, which the new sequencer keeps.
+        let _trace = bus.trace();
         Core {
             bus,
             slots,
@@ -207,32 +222,32 @@ impl<A: Allocator + Copy> Core<A> {
     }
 
     // The number of a LUN, if it is there.
-    fn place(&self, l: Lun) -> Option<usize>
-        ensures value { result ≡ (if is_there (channel_in self.now) l then Some (number (channel_in self.now) l) else None) }
+    fn place(&self, lun: Lun) -> Option<usize>
+        ensures value { result ≡ (if is_there (channel_in self.now) lun then Some (number (channel_in self.now) lun) else None) }
         ensures inside { IfSome result (λ k. (k < length self.now.slots) × (k < 16)) }
     {
-        number_of(self.bus.targets(), self.bus.geometry().parts().luns, l)
+        number_of(self.bus.targets(), self.bus.geometry().parts().luns, lun)
     }
 
     /// The number of a LUN, counted from LUN 0 of target 0 on, or None where it isn't there.
-    pub fn number(&self, l: Lun) -> Option<u32>
-        ensures value { result ≡ (if is_there (channel_in self.now) l then Some (number (channel_in self.now) l) else None) }
+    pub fn number(&self, lun: Lun) -> Option<u32>
+        ensures value { result ≡ (if is_there (channel_in self.now) lun then Some (number (channel_in self.now) lun) else None) }
         ensures small { IfSome result (λ k. k < 16) }
     {
-        match self.place(l) {
+        match self.place(lun) {
             None => None,
-            Some(k) => Some(k as u32),
+            Some(place) => Some(place as u32),
         }
     }
 
     // What the slot of a LUN holds.
-    fn state_at(&self, l: Lun) -> SlotState
-        ensures value { result ≡ slot_state (slot_at self.now l) }
+    fn state_at(&self, lun: Lun) -> SlotState
+        ensures value { result ≡ slot_state (slot_at self.now lun) }
         ensures core { IsCore self.now }
     {
-        match self.place(l) {
+        match self.place(lun) {
             None => SlotState::Empty,
-            Some(k) => state_in(self.slots.as_slice(), k),
+            Some(place) => state_in(self.slots.as_slice(), place),
         }
     }
 
@@ -264,47 +279,47 @@ impl<A: Allocator + Copy> Core<A> {
     /// the bus is let go. `NotReady`: the word was `wait` and its poll says busy; it comes again, and the bus is let go.
     /// `Went`: any other word; the LUN has the bus. Without memory for it all stays as it was; that comes after every other
     /// answer, so the program goes on and no other LUN has the bus.
-    pub fn step(&mut self, l: Lun) -> Result<Stepped, AllocError>
-        ensures came { IfOk result (λ answer. IsEvent self.old (Step l) (ToStep answer) self.new) }
-        ensures bus { IfOk result (λ answer. TellsBus answer self.new.holder l) }
-        ensures err { OnErr result ((self.new ≡ self.old) × CanGoOn self.old l) }
+    pub fn step(&mut self, lun: Lun) -> Result<Stepped, AllocError>
+        ensures came { IfOk result (λ answer. IsEvent self.old (Step lun) (ToStep answer) self.new) }
+        ensures bus { IfOk result (λ answer. TellsBus answer self.new.holder lun) }
+        ensures err { OnErr result ((self.new ≡ self.old) × CanGoOn self.old lun) }
     {
-        match self.answer_at_rest(l) {
+        match self.answer_at_rest(lun) {
             Some(answer) => Ok(answer),
-            None => self.step_on(l),
+            None => self.step_on(lun),
         }
     }
 
     // The answer of a step that changes nothing: the LUN has no program that goes on, or another LUN has the bus.
-    fn answer_at_rest(&self, l: Lun) -> Option<Stepped>
-        ensures came { IfSome result (λ answer. IsEvent self.now (Step l) (ToStep answer) self.now) }
-        ensures bus { IfSome result (λ answer. TellsBus answer self.now.holder l) }
-        ensures running { IfNone result (SlotState.Running ≡ slot_state (slot_at self.now l)) }
-        ensures free { IfNone result (is_held self.now.holder l ≡ false) }
+    fn answer_at_rest(&self, lun: Lun) -> Option<Stepped>
+        ensures came { IfSome result (λ answer. IsEvent self.now (Step lun) (ToStep answer) self.now) }
+        ensures bus { IfSome result (λ answer. TellsBus answer self.now.holder lun) }
+        ensures running { IfNone result (SlotState.Running ≡ slot_state (slot_at self.now lun)) }
+        ensures free { IfNone result (is_held self.now.holder lun ≡ false) }
     {
-        match self.state_at(l) {
+        match self.state_at(lun) {
             SlotState::Empty => Some(Stepped::Empty),
             SlotState::Ended(_) => Some(Stepped::Ended),
-            SlotState::Running if is_held(self.holder, l) => Some(Stepped::Held),
+            SlotState::Running if is_held(self.holder, lun) => Some(Stepped::Held),
             SlotState::Running => None,
         }
     }
 
     // Steps a LUN whose program goes on and may have the bus.
-    fn step_on(&mut self, l: Lun) -> Result<Stepped, AllocError>
-        requires running { SlotState.Running ≡ slot_state (slot_at self.old l) }
-        requires free { is_held self.old.holder l ≡ false }
-        ensures came { IfOk result (λ answer. IsEvent self.old (Step l) (ToStep answer) self.new) }
-        ensures bus { IfOk result (λ answer. TellsBus answer self.new.holder l) }
-        ensures err { OnErr result ((self.new ≡ self.old) × CanGoOn self.old l) }
+    fn step_on(&mut self, lun: Lun) -> Result<Stepped, AllocError>
+        requires running { SlotState.Running ≡ slot_state (slot_at self.old lun) }
+        requires free { is_held self.old.holder lun ≡ false }
+        ensures came { IfOk result (λ answer. IsEvent self.old (Step lun) (ToStep answer) self.new) }
+        ensures bus { IfOk result (λ answer. TellsBus answer self.new.holder lun) }
+        ensures err { OnErr result ((self.new ≡ self.old) × CanGoOn self.old lun) }
     {
-        match self.place(l) {
+        match self.place(lun) {
             None => unreachable!(),
-            Some(k) => {
-                match step_in(&mut self.bus, self.slots.as_mut_slice(), k) {
+            Some(place) => {
+                match step_in(&mut self.bus, self.slots.as_mut_slice(), place) {
                     Err(error) => Err(error),
                     Ok(answer) => {
-                        self.holder = holder_after(answer, l);
+                        self.holder = holder_after(answer, lun);
                         Ok(answer)
                     }
                 }
@@ -313,16 +328,16 @@ impl<A: Allocator + Copy> Core<A> {
     }
 
     /// What [`load`](Core::load) would answer.
-    pub fn admits(&self, l: Lun, job: &Job<A>) -> Result<(), LoadFault>
-        ensures ok { IfOk result (λ _. load_fault_at self.now l job.now ≡ None) }
-        ensures err { IfErr result (λ fault. load_fault_at self.now l job.now ≡ Some fault) }
+    pub fn admits(&self, lun: Lun, job: &Job<A>) -> Result<(), LoadFault>
+        ensures ok { IfOk result (λ _. load_fault_at self.now lun job.now ≡ None) }
+        ensures err { IfErr result (λ fault. load_fault_at self.now lun job.now ≡ Some fault) }
         ensures verified { IsVerified job.now }
         ensures core { IsCore self.now }
     {
-        let has_job = self.state_at(l).has_job();
-        let there = self.place(l).is_some();
+        let has_job = self.state_at(lun).has_job();
+        let there = self.place(lun).is_some();
         let geometry = self.bus.geometry();
-        match load_fault(has_job, there, l, job.lun(), &geometry, job.geometry()) {
+        match load_fault(has_job, there, lun, job.lun(), &geometry, job.geometry()) {
             Some(fault) => Err(fault),
             None => Ok(()),
         }
@@ -330,73 +345,74 @@ impl<A: Allocator + Copy> Core<A> {
 
     /// Loads a job onto its LUN. Errors, the first that stands, with the job handed back and all as it was: `S1` the LUN
     /// has a job; `S2` the LUN isn't there, or isn't the job's; `S5` the job is of another geometry. Takes no memory.
-    pub fn load(&mut self, l: Lun, job: Job<A>) -> Result<(), (LoadFault, Job<A>)>
-        ensures ok { IfOk result (λ _. IsEvent self.old (Load l job) (ToLoad Loaded) self.new) }
-        ensures err { IfErr result (λ e. (e.1 ≡ job) × (self.new ≡ self.old)
-            × IsEvent self.old (Load l job) (ToLoad (NotLoaded e.0 job)) self.new) }
-        ensures refused { IfErr result (λ e. load_fault_at self.old l job ≡ Some e.0) }
+    pub fn load(&mut self, lun: Lun, job: Job<A>) -> Result<(), LoadRefused<A>>
+        ensures ok { IfOk result (λ _. IsEvent self.old (Load lun job) (ToLoad Loaded) self.new) }
+        ensures err { IfErr result (λ e. (e.job ≡ job) × (self.new ≡ self.old)
+            × IsEvent self.old (Load lun job) (ToLoad (NotLoaded e.fault job)) self.new) }
+        ensures refused { IfErr result (λ e. load_fault_at self.old lun job ≡ Some e.fault) }
     {
-        match self.admits(l, &job) {
-            Err(fault) => Err((fault, job)),
+        match self.admits(lun, &job) {
+            Err(fault) => Err(LoadRefused { fault, job }),
             Ok(()) => {
-                self.fill(l, job);
+                self.fill(lun, job);
                 Ok(())
             }
         }
     }
 
     // Puts a job that is admitted into its slot.
-    fn fill(&mut self, l: Lun, job: Job<A>)
-        requires { load_fault_at self.old l job ≡ None }
-        ensures { IsEvent self.old (Load l job) (ToLoad Loaded) self.new }
+    fn fill(&mut self, lun: Lun, job: Job<A>)
+        requires { load_fault_at self.old lun job ≡ None }
+        ensures { IsEvent self.old (Load lun job) (ToLoad Loaded) self.new }
     {
-        match self.place(l) {
+        match self.place(lun) {
             None => unreachable!(),
-            Some(k) => put_in(self.slots.as_mut_slice(), k, Some(Slot::new(job))),
+            Some(place) => put_in(self.slots.as_mut_slice(), place, Some(Slot::new(job))),
         }
     }
 
     /// A LUN becomes ready, with failure or without; false, with all as it was, where it isn't there or isn't busy. Takes no
     /// memory.
-    pub fn ready(&mut self, l: Lun, fail: bool) -> bool
-        ensures came { IsEvent self.old (Ready l fail) (ToReady result) self.new }
+    pub fn ready(&mut self, lun: Lun, fail: bool) -> bool
+        ensures came { IsEvent self.old (Ready lun fail) (ToReady result) self.new }
         ensures no { result ≡ false → self.new ≡ self.old }
     {
-        self.bus.ready(l, fail)
+        self.bus.ready(lun, fail)
     }
 
-    /// The array of a LUN becomes ready behind a cache read; false, with all as it was, where none goes on. Takes no memory.
-    pub fn array_ready(&mut self, l: Lun) -> bool
-        ensures came { IsEvent self.old (ArrayReady l) (ToArrayReady result) self.new }
+    /// The array of a LUN becomes ready after a cache read; false, with all as it was, where none goes on. Takes no memory.
+    pub fn array_ready(&mut self, lun: Lun) -> bool
+        ensures came { IsEvent self.old (ArrayReady lun) (ToArrayReady result) self.new }
         ensures no { result ≡ false → self.new ≡ self.old }
     {
-        self.bus.array_ready(l)
+        self.bus.array_ready(lun)
     }
 
     /// Takes a job that has ended from its LUN, with its buffer as the program left it. Errors, with all as it was: `U1` the
     /// LUN has no job, or isn't there; `U2` its job hasn't ended. Takes no memory.
-    pub fn unload(&mut self, l: Lun) -> Result<Done<A>, UnloadFault>
-        ensures ok { IfOk result (λ done. IsEvent self.old (Unload l) (ToUnload (Unloaded done.job done.code)) self.new) }
-        ensures err { IfErr result (λ fault. (self.new ≡ self.old) × IsEvent self.old (Unload l) (ToUnload (NotUnloaded fault)) self.new) }
+    pub fn unload(&mut self, lun: Lun) -> Result<UnloadedJob<A>, UnloadFault>
+        ensures ok { IfOk result (λ done. IsEvent self.old (Unload lun) (ToUnload (Unloaded done.job done.code)) self.new) }
+        ensures err { IfErr result (λ fault. (self.new ≡ self.old)
+            × IsEvent self.old (Unload lun) (ToUnload (NotUnloaded fault)) self.new) }
     {
-        match self.state_at(l) {
+        match self.state_at(lun) {
             SlotState::Empty => Err(UnloadFault::NoJob),
             SlotState::Running => Err(UnloadFault::StillRunning),
-            SlotState::Ended(code) => Ok(Done {
-                job: self.empty(l, code),
+            SlotState::Ended(code) => Ok(UnloadedJob {
+                job: self.empty(lun, code),
                 code,
             }),
         }
     }
 
     // Takes the job of a LUN that has ended with this code.
-    fn empty(&mut self, l: Lun, code: u8) -> Job<A>
-        requires { SlotState.Ended code ≡ slot_state (slot_at self.old l) }
-        ensures { IsEvent self.old (Unload l) (ToUnload (Unloaded result code)) self.new }
+    fn empty(&mut self, lun: Lun, code: u8) -> Job<A>
+        requires { SlotState.Ended code ≡ slot_state (slot_at self.old lun) }
+        ensures { IsEvent self.old (Unload lun) (ToUnload (Unloaded result code)) self.new }
     {
-        match self.place(l) {
+        match self.place(lun) {
             None => unreachable!(),
-            Some(k) => match take_in(self.slots.as_mut_slice(), k) {
+            Some(place) => match take_in(self.slots.as_mut_slice(), place) {
                 None => unreachable!(),
                 Some(slot) => slot.into_job(),
             },

@@ -11,11 +11,11 @@ ghost use Rattle.seq_core.specs.Progress.{fresh_progress, reaches, outcome_of, i
 ghost use Rattle.seq_core.specs.Calls.{CanStep, DidPlay, Steps};
 ghost use Rattle.seq_core.specs.Playing.{EndsWithFive, IsSame, IsUntouched};
 
-use crate::answers::Stepped;
 use crate::job::Job;
 use crate::loops::{DEPTH, OpenLoop, go_behind};
 use crate::playing::play;
 use crate::registers::Registers;
+use crate::stepped::Stepped;
 use arrayvec::ArrayVec;
 use micro_program::Verified;
 use micro_word::Word;
@@ -41,6 +41,13 @@ pub(crate) struct Slot<A: Allocator> {
     verified: Verified<A>,
     buffer: Vec<u8, A>,
     position: Position,
+}
+
+// A word that was played, and the status that its poll brought, 0 for a word without a poll.
+#[derive(Clone, Copy)]
+struct PlayedWord {
+    word: Word,
+    status: u8,
 }
 
 impl<A: Allocator> Model for Slot<A> {
@@ -144,7 +151,7 @@ impl<A: Allocator> Slot<A> {
         self.verified.text().words()[self.position.at]
     }
 
-    // Goes on behind a word that brought this status, if that is done.
+    // Goes on after a word that brought this status, if that is done.
     fn go_on(&mut self, word: Word, status: u8) -> Stepped
         requires place { reaches self.old.registers.place word < 2 ^ 32 }
         requires inside { self.old.at < 1024 }
@@ -169,17 +176,17 @@ impl<A: Allocator> Slot<A> {
 }
 
 impl<A: Allocator + Copy> Slot<A> {
-    // Plays the next word: it, and the status that it brought.
-    fn play_next(&mut self, bus: &mut Bus<A>) -> Result<(Word, u8), AllocError>
+    // Plays the next word.
+    fn play_next(&mut self, bus: &mut Bus<A>) -> Result<PlayedWord, AllocError>
         requires { CanStep (channel_of bus.old) bus.old.past self.old }
         ensures same { IsSame bus.old bus.new }
-        ensures word { IfOk result (λ r. slice_get self.old.job.text.words self.old.at ≡ Some r.0) }
+        ensures word { IfOk result (λ r. slice_get self.old.job.text.words self.old.at ≡ Some r.word) }
         ensures played { IfOk result (λ r. DidPlay (channel_of bus.old) bus.old.past self.old.job.lun self.old.job.buffer
-            self.old.registers r.0 bus.new.past self.new.job.buffer r.1) }
+            self.old.registers r.word bus.new.past self.new.job.buffer r.status) }
         ensures slot { OnOk result (self.new ≡ with_buffer self.old self.new.job.buffer) }
-        ensures place { IfOk result (λ r. reaches self.old.registers.place r.0 < 2 ^ 32) }
+        ensures place { IfOk result (λ r. reaches self.old.registers.place r.word < 2 ^ 32) }
         ensures inside { OnOk result (self.new.at < 1024) }
-        ensures room { IfOk result (λ r. length (loops_behind self.new.at self.new.loops r.0) ≤ 4) }
+        ensures room { IfOk result (λ r. length (loops_behind self.new.at self.new.loops r.word) ≤ 4) }
         ensures err { OnErr result (IsUntouched bus.old bus.new × (self.new ≡ self.old)) }
     {
         let word = self.next_word();
@@ -190,7 +197,7 @@ impl<A: Allocator + Copy> Slot<A> {
             self.buffer.as_mut_slice(),
             word,
         )?;
-        Ok((word, status))
+        Ok(PlayedWord { word, status })
     }
 
     /// Steps the next word. Without memory for it all stays as it was.
@@ -200,7 +207,7 @@ impl<A: Allocator + Copy> Slot<A> {
         ensures ok { IfOk result (λ answer. Steps (channel_of bus.old) bus.old.past self.old answer bus.new.past self.new) }
         ensures err { OnErr result (IsUntouched bus.old bus.new × (self.new ≡ self.old)) }
     {
-        let (word, status) = self.play_next(bus)?;
+        let PlayedWord { word, status } = self.play_next(bus)?;
         Ok(self.go_on(word, status))
     }
 }

@@ -1,13 +1,13 @@
 use crate::{
-    Core, Done, Event, Job, JobFault, JobRefused, LoadFault, Ran, Reply, Shortage, Stepped,
-    UnloadFault, run_events,
+    Core, Event, Job, JobFault, JobRefused, LoadFault, Ran, Reply, Shortage, Stepped, UnloadFault,
+    UnloadedJob, run_events,
 };
 use die_model::LunDie;
 use linked_list_allocator::LocalHeap;
 use micro_program::Verified;
 use micro_verify::verify;
 use micro_word::{Text, Word};
-use nand_geometry::{Geometry, Parts};
+use nand_geometry::{Geometry, Parts, SMALL_CHIP};
 use onfi_cycle::{BusState, Cycle, Item, Kind, Latch, Lun, LunState, Register};
 use std::alloc::{AllocError, Allocator, Global};
 use std::process::Abort;
@@ -15,17 +15,7 @@ use std::test::Fail;
 use target_bus::Bus;
 
 // One LUN of 8 blocks of 4 pages of 512 + 16 bytes, in one plane.
-const ONE_LUN: Parts = Parts {
-    page_bytes: 512,
-    spare_bytes: 16,
-    pages: 4,
-    blocks: 8,
-    luns: 1,
-    plane_bits: 0,
-    enhanced: false,
-    multi_plane: false,
-    cache: false,
-};
+const ONE_LUN: Parts = SMALL_CHIP;
 
 // Two such LUNs, each in two planes.
 const TWO_LUNS: Parts = Parts {
@@ -264,7 +254,7 @@ fn core_of<A: Allocator + Copy>(alloc: A, parts: Parts, count: u8) -> Result<Cor
     }
     match Bus::new(alloc, geometry, dies) {
         Ok(bus) => Ok(Core::new(bus)),
-        Err((fault, _)) => Err(fault.into()),
+        Err(refused) => Err(refused.fault.into()),
     }
 }
 
@@ -310,7 +300,7 @@ fn is_refused<A: Allocator + Copy>(
 ) -> bool {
     match core.load(l, job) {
         Ok(()) => false,
-        Err((told, job)) => told == fault && job.lun() == at,
+        Err(refused) => refused.fault == fault && refused.job.lun() == at,
     }
 }
 
@@ -327,7 +317,7 @@ fn admitted<A: Allocator + Copy>(
 }
 
 // It is the erase on this LUN with no buffer.
-fn is_erase<A: Allocator>(done: &Done<A>, l: Lun) -> bool {
+fn is_erase<A: Allocator>(done: &UnloadedJob<A>, l: Lun) -> bool {
     done.job.text().words() == ERASE.as_slice()
         && done.job.lun() == l
         && done.job.buffer().is_empty()
@@ -880,7 +870,7 @@ fn ran(core: &mut Core, alloc: Global, events: Vec<Event>) -> Ran<Global> {
     run_events(core, alloc, events)
 }
 
-// The replies to the middle of an erase: its steps, and the ready behind the first poll.
+// The replies to the middle of an erase: its steps, and the ready after the first poll.
 fn are_of_steps(replies: &[Reply]) -> bool {
     matches!(
         replies,

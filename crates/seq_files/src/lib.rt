@@ -1,7 +1,7 @@
 //! Files and streams as the program's commands use them.
 //!
 //! [`Files`] is what a command asks of a file system: whole files, read and written by their paths. [`MapFiles`] has them in memory, counts
-//! the calls and lets one of them fail, for tests. [`read_all`] reads an input to its end, and [`write_text`] writes a text.
+//! the calls and lets one of them fail, for tests; so do [`SlowReader`] and [`SlowWriter`]. [`read_all`] reads an input to its end, and [`write_text`] writes a text.
 #![tactic(auto)]
 
 mod error;
@@ -9,12 +9,14 @@ mod files;
 mod input;
 mod map_files;
 mod output;
+mod slow_streams;
 
 pub use error::FileError;
 pub use files::Files;
 pub use input::read_all;
 pub use map_files::MapFiles;
 pub use output::write_text;
+pub use slow_streams::{FullWriter, SlowReader, SlowWriter};
 
 #[cfg(test)]
 mod tests;

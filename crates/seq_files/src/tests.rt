@@ -1,6 +1,6 @@
-use crate::{FileError, Files, MapFiles, read_all, write_text};
+use crate::{FileError, Files, MapFiles, SlowReader, SlowWriter, read_all, write_text};
 use std::alloc::Global;
-use std::io::{self, Read, Write};
+use std::io::{self, Read};
 use std::process::Abort;
 use std::test::Fail;
 
@@ -59,93 +59,17 @@ fn errors_are_told(rt: HostRuntime) -> Result<(), Fail> {
 
 const BYTES: [u8; 36] = [7; 36];
 
-// Gives a byte a call; the call numbered `bad` fails.
-#[derive(Drop)]
-struct SlowReader<'a> {
-    bytes: &'a [u8],
-    calls: usize,
-    bad: usize,
-    kind: io::ErrorKind,
-}
-
-impl<'a> Read for SlowReader<'a> {
-    fn read(&mut self, buf: &mut [u8]) -> io::Result<usize> {
-        let call = self.calls;
-        self.calls = call.saturating_add(1);
-        if call == self.bad {
-            return Err(io::Error::from(self.kind));
-        }
-        if self.bytes.is_empty() || buf.is_empty() {
-            return Ok(0);
-        }
-        buf[0] = self.bytes[0];
-        self.bytes = &self.bytes[1..];
-        Ok(1)
-    }
-}
-
-// Takes three bytes a call; the call numbered `bad` fails, and so does the flush if it has that number.
-#[derive(Drop)]
-struct SlowWriter {
-    bytes: Vec<u8>,
-    calls: usize,
-    bad: usize,
-    kind: io::ErrorKind,
-}
-
-impl SlowWriter {
-    fn call(&mut self) -> io::Result<()> {
-        let call = self.calls;
-        self.calls = call.saturating_add(1);
-        if call == self.bad {
-            return Err(io::Error::from(self.kind));
-        }
-        Ok(())
-    }
-}
-
-impl Write for SlowWriter {
-    fn write(&mut self, buf: &[u8]) -> io::Result<usize> {
-        self.call()?;
-        let most = buf.len().min(3);
-        self.bytes.extend_from_slice(&buf[..most])?;
-        Ok(most)
-    }
-
-    fn flush(&mut self) -> io::Result<()> {
-        self.call()
-    }
-}
-
-fn reader(bytes: &[u8], bad: usize, kind: io::ErrorKind) -> SlowReader<'_> {
-    SlowReader {
-        bytes,
-        calls: 0,
-        bad,
-        kind,
-    }
-}
-
-fn writer(alloc: Global, bad: usize, kind: io::ErrorKind) -> SlowWriter {
-    SlowWriter {
-        bytes: Vec::new(alloc),
-        calls: 0,
-        bad,
-        kind,
-    }
-}
-
 #[test]
 fn inputs_are_read_whole(rt: HostRuntime) -> Result<(), Fail> {
     let long = vec![in rt.alloc(); 7u8; 10_000]?;
     let mut input = long.as_slice();
     let read = read_all(rt.alloc(), &mut input);
     assert_eq!(rt; read.map(|bytes| bytes.len()), Ok(10_000));
-    let mut slow = reader(&BYTES, 5, io::ErrorKind::Interrupted);
+    let mut slow = SlowReader::new(&BYTES, 5, io::ErrorKind::Interrupted);
     let read = read_all(rt.alloc(), &mut slow);
     assert!(rt; read.is_ok_and(|bytes| bytes.as_slice() == BYTES.as_slice()));
     // 36 bytes, the call that was interrupted, and the end.
-    assert_eq!(rt; slow.calls, 38);
+    assert_eq!(rt; slow.calls(), 38);
     Ok(())
 }
 
@@ -156,7 +80,7 @@ fn failed_reads(rt: HostRuntime) {
             (io::ErrorKind::Other, FileError::Fault),
             (io::ErrorKind::OutOfMemory, FileError::OutOfMemory),
         ] {
-            let mut slow = reader(&BYTES, bad, kind);
+            let mut slow = SlowReader::new(&BYTES, bad, kind);
             let read = read_all(rt.alloc(), &mut slow);
             assert_eq!(rt; read.err(), Some(want), "call {bad}");
         }
@@ -188,20 +112,20 @@ fn an_input_without_an_end(rt: HostRuntime) {
 fn failed_writes(rt: HostRuntime) {
     // Four writes and the flush.
     for bad in 0..5 {
-        let mut slow = writer(rt.alloc(), bad, io::ErrorKind::BrokenPipe);
+        let mut slow = SlowWriter::new(rt.alloc(), bad, io::ErrorKind::BrokenPipe);
         assert_eq!(rt;
             write_text(&mut slow, "ten bytes."),
             Err(FileError::Fault),
             "call {bad}"
         );
-        let mut full = writer(rt.alloc(), bad, io::ErrorKind::OutOfMemory);
+        let mut full = SlowWriter::new(rt.alloc(), bad, io::ErrorKind::OutOfMemory);
         assert_eq!(rt;
             write_text(&mut full, "ten bytes."),
             Err(FileError::OutOfMemory),
             "call {bad}"
         );
     }
-    let mut slow = writer(rt.alloc(), 2, io::ErrorKind::Interrupted);
+    let mut slow = SlowWriter::new(rt.alloc(), 2, io::ErrorKind::Interrupted);
     assert_eq!(rt; write_text(&mut slow, "ten bytes."), Ok(()));
     assert_eq!(rt; slow.bytes.as_slice(), b"ten bytes.".as_slice());
 }

@@ -1,8 +1,8 @@
 use die_model::LunDie;
 use micro_verify::verify;
 use micro_word::{Text, Word};
-use nand_geometry::{Geometry, Parts};
-use onfi_cycle::{Item, Lun, WorkQueue, output_column};
+use nand_geometry::{Geometry, Parts, SMALL_CHIP};
+use onfi_cycle::{Item, Lun, WorkQueue};
 use onfi_lookback::past::{is_caching, lun_facts};
 use seq_core::{Core, Event, Job, run_events};
 use std::alloc::Global;
@@ -11,17 +11,7 @@ use std::test::Fail;
 use target_bus::Bus;
 
 // One LUN of 8 blocks of 4 pages of 512 + 16 bytes, in one plane.
-const ONE_LUN: Parts = Parts {
-    page_bytes: 512,
-    spare_bytes: 16,
-    pages: 4,
-    blocks: 8,
-    luns: 1,
-    plane_bits: 0,
-    enhanced: false,
-    multi_plane: false,
-    cache: false,
-};
+const ONE_LUN: Parts = SMALL_CHIP;
 
 // Two such LUNs, each in two planes.
 const TWO_LUNS: Parts = Parts {
@@ -56,7 +46,7 @@ fn core_of(alloc: Global, parts: Parts) -> Result<Core, Fail> {
     dies.push(LunDie::new(alloc, geometry)?)?;
     match Bus::new(alloc, geometry, dies) {
         Ok(bus) => Ok(Core::new(bus)),
-        Err((fault, _)) => Err(fault.into()),
+        Err(refused) => Err(refused.fault.into()),
     }
 }
 
@@ -110,7 +100,7 @@ fn lun_agrees(
     assert_eq!(rt; told.busy, facts.busy);
     assert_eq!(rt; told.latch, facts.latch);
     assert_eq!(rt; told.register, facts.register);
-    assert_eq!(rt; told.column.map(u64::from), output_column(facts.column));
+    assert_eq!(rt; told.column.map(u64::from), facts.column.output_column());
     assert_eq!(rt; told.queued, facts.queue.works().len());
     assert_eq!(rt; told.caching, is_caching(alloc, &geometry, past, l)?);
     assert_eq!(rt; told.array_busy, facts.array_busy);

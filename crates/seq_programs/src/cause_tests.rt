@@ -2,9 +2,9 @@
 // back over the whole trace.
 use crate::programs::made;
 use micro_claims::Reason;
-use micro_verify::{VerifyRefusal, verify};
+use micro_verify::{TextRefused, VerifyRefusal, verify};
 use micro_word::{Text, Word};
-use nand_geometry::{Geometry, Parts};
+use nand_geometry::{Geometry, Parts, SMALL_CHIP};
 use onfi_cycle::{Command, Cycle, DataPhase, Forbidden, Item, Kind, Lun, Opening, TailFacts};
 use onfi_lookback::broken;
 use onfi_lookback::past::{array_page, is_busy, is_caching, queue, tail_facts};
@@ -13,17 +13,7 @@ use std::test::Fail;
 use trace_text::check;
 
 // One LUN of 8 blocks of 4 pages of 512 + 16 bytes, in one plane.
-const ONE_PLANE: Parts = Parts {
-    page_bytes: 512,
-    spare_bytes: 16,
-    pages: 4,
-    blocks: 8,
-    luns: 1,
-    plane_bits: 0,
-    enhanced: false,
-    multi_plane: false,
-    cache: false,
-};
+const ONE_PLANE: Parts = SMALL_CHIP;
 
 // The same in two planes, with a cache read.
 const TWO_PLANES: Parts = Parts {
@@ -386,8 +376,10 @@ fn refusal_of(words: Vec<Word>, geometry: Geometry) -> Result<Option<(usize, Rea
     };
     match verify(text, geometry) {
         Ok(_) => Ok(None),
-        Err((VerifyRefusal::Refusal { word, reason, .. }, text)) => Ok(Some((word, reason, text))),
-        Err((VerifyRefusal::OutOfMemory, _)) => Err(Fail::from("out of memory")),
+        Err(TextRefused { refusal, text }) => match refusal {
+            VerifyRefusal::Refusal { word, reason, .. } => Ok(Some((word, reason, text))),
+            VerifyRefusal::OutOfMemory => Err(Fail::from("out of memory")),
+        },
     }
 }
 

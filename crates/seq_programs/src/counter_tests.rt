@@ -2,7 +2,7 @@ use crate::programs::made;
 use micro_claims::Reason;
 use micro_verify::{Counter, VerifyRefusal, verify};
 use micro_word::{Text, Word};
-use nand_geometry::{Geometry, Parts};
+use nand_geometry::{Geometry, Parts, SMALL_CHIP};
 use onfi_cycle::Item;
 use std::alloc::Global;
 use std::test::Fail;
@@ -10,15 +10,10 @@ use trace_text::{CheckRefusal, check};
 
 // One LUN of 8 blocks of 4 pages of 512 + 16 bytes, in two planes, with a cache read.
 const ONE_LUN: Parts = Parts {
-    page_bytes: 512,
-    spare_bytes: 16,
-    pages: 4,
-    blocks: 8,
-    luns: 1,
     plane_bits: 1,
-    enhanced: false,
     multi_plane: true,
     cache: true,
+    ..SMALL_CHIP
 };
 
 // The counter of a text that is refused by V7, None for another text and where there is none.
@@ -28,7 +23,7 @@ fn counter_of(words: Vec<Word>) -> Result<Option<Counter>, Fail> {
     };
     match verify(text, Geometry::of(ONE_LUN)?) {
         Ok(_) => Ok(None),
-        Err((refusal, _)) => match refusal {
+        Err(refused) => match refused.refusal {
             VerifyRefusal::OutOfMemory => Err(Fail::from("out of memory")),
             VerifyRefusal::Refusal {
                 reason,

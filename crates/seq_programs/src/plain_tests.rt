@@ -1,23 +1,13 @@
 use crate::channel::{core_of, run, run_failing};
 use micro_plain::{PlainOp, plain};
-use nand_geometry::{Geometry, Parts};
+use nand_geometry::{Geometry, Parts, SMALL_CHIP};
 use onfi_cycle::Lun;
-use seq_core::{Core, Done, Job};
+use seq_core::{Core, Job, UnloadedJob};
 use std::alloc::Global;
 use std::test::Fail;
 
 // One LUN of 8 blocks of 4 pages of 512 + 16 bytes, in one plane.
-const ONE_LUN: Parts = Parts {
-    page_bytes: 512,
-    spare_bytes: 16,
-    pages: 4,
-    blocks: 8,
-    luns: 1,
-    plane_bits: 0,
-    enhanced: false,
-    multi_plane: false,
-    cache: false,
-};
+const ONE_LUN: Parts = SMALL_CHIP;
 
 const LUN_0: Lun = Lun { ce: 0, lun: 0 };
 
@@ -52,7 +42,7 @@ fn load(core: &mut Core, alloc: Global, given: &[u8]) -> Result<(), Fail> {
     }
 }
 
-fn unload(core: &mut Core) -> Result<Done, Fail> {
+fn unload(core: &mut Core) -> Result<UnloadedJob, Fail> {
     match core.unload(LUN_0) {
         Ok(done) => Ok(done),
         Err(_) => Err(Fail::from("the unload is refused")),

@@ -1,6 +1,6 @@
 use crate::channel::{Program, core_of, job_of};
 use crate::programs::{made, made_with_ways, next};
-use nand_geometry::{Geometry, Parts};
+use nand_geometry::{Geometry, Parts, SMALL_CHIP};
 use onfi_cycle::Lun;
 use seq_core::{Core, Stepped};
 use std::alloc::Global;
@@ -9,17 +9,7 @@ use std::test::Fail;
 use trace_text::check;
 
 // One LUN of 8 blocks of 4 pages of 512 + 16 bytes, in one plane.
-const ONE_LUN: Parts = Parts {
-    page_bytes: 512,
-    spare_bytes: 16,
-    pages: 4,
-    blocks: 8,
-    luns: 1,
-    plane_bits: 0,
-    enhanced: false,
-    multi_plane: false,
-    cache: false,
-};
+const ONE_LUN: Parts = SMALL_CHIP;
 
 // The channels: one LUN, with and without planes and the cache read; two, three and four of them.
 const CHANNELS: [Parts; 6] = [

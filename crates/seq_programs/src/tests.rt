@@ -1,6 +1,6 @@
 use crate::channel::{Program, core_of, load, run, run_failing};
 use micro_word::Word;
-use nand_geometry::{Geometry, Parts};
+use nand_geometry::{Geometry, Parts, SMALL_CHIP};
 use onfi_cycle::Lun;
 use seq_core::Core;
 use std::alloc::Global;
@@ -9,15 +9,8 @@ use trace_text::check;
 
 // One LUN of 8 blocks of 4 pages of 512 + 16 bytes, in one plane, that reads a cache.
 const ONE_LUN: Parts = Parts {
-    page_bytes: 512,
-    spare_bytes: 16,
-    pages: 4,
-    blocks: 8,
-    luns: 1,
-    plane_bits: 0,
-    enhanced: false,
-    multi_plane: false,
     cache: true,
+    ..SMALL_CHIP
 };
 
 // Two such LUNs, each in two planes.

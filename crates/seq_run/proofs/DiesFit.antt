@@ -1,7 +1,7 @@
 -- New dies, one for each LUN, are a channel's.
 use Rattle.std.proofs.Common.{◌≡◌, ℕ, zero, suc, ◌*◌, ◌==◌, ◌≤◌, Bool, true, false, cond, ◌||◌, not, List, [], ◌∷◌, ◌++◌, length, set, Option, Some, None, refl, sym, ap, ◌∙◌, subst, arith, eq-eqb}
 use Rattle.std.specs.Bool.{beq}
-use Rattle.nand_geometry.specs.declared.Parts.{Parts}
+use Rattle.nand_geometry.specs.declared.parts.Parts.{Parts}
 use Rattle.die_model.specs.Die.{Die, new_die}
 use Rattle.die_model.specs.Loading.{IsLoaded}
 use Rattle.target_bus.specs.declared.refusal.BusFault.{BusFault}

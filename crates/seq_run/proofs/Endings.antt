@@ -4,7 +4,7 @@ use Rattle.std.specs.List.{AllByRecursion, Contains}
 use Rattle.std.specs.Option.{option_copied}
 use Rattle.std.proofs.lemmas.List.{map-append}
 use Rattle.std.proofs.lemmas.List.Elements.{Contains-append_left, Contains-push}
-use Rattle.channel_work.specs.declared.stored.NamedDone.{NamedDone}
+use Rattle.channel_work.specs.declared.stored.NamedJob.{NamedJob}
 use Rattle.channel_work.specs.Done.{ended_of}
 use Rattle.seq_run.specs.declared.job_ends.Ending.{Ending}
 use Rattle.seq_run.specs.declared.job_ends.EndedJob.{EndedJob}
@@ -39,11 +39,11 @@ pub puts_first : (all : List Given) (endings : List Ending) → Puts all all end
 puts_first all endings = record { given = λ more within each. each; rest = λ given h. h }
 
 -- the last of those that are left is put
-pub puts_next : {A : Type 0} (all : List Given) (items left : List (NamedDone A)) (named : NamedDone A) (old now new : List Ending) → items ≡ left ++ named ∷ [] → PutsGiven (given_back (ended_of named)) now new → Puts all (map given_back (map ended_of items)) old now → Puts all (map given_back (map ended_of left)) old new
+pub puts_next : {A : Type 0} (all : List Given) (items left : List (NamedJob A)) (named : NamedJob A) (old now new : List Ending) → items ≡ left ++ named ∷ [] → PutsGiven (given_back (ended_of named)) now new → Puts all (map given_back (map ended_of items)) old now → Puts all (map given_back (map ended_of left)) old new
 puts_next {A} all items left named old now new is put puts =
     let front = map given_back (map ended_of left) in
     let both = subst (λ (l : List Given). (given : Given) → Contains l given → Contains all given)
-    (ap (λ (l : List (NamedDone A)). map given_back (map ended_of l)) is ∙ ap (map given_back) (map-append ended_of left (named ∷ [])) ∙ map-append given_back (map ended_of left) (ended_of named ∷ [])) puts.rest in
+    (ap (λ (l : List (NamedJob A)). map given_back (map ended_of l)) is ∙ ap (map given_back) (map-append ended_of left (named ∷ [])) ∙ map-append given_back (map ended_of left) (ended_of named ∷ [])) puts.rest in
     record {
       given = λ more within each. put more (within (given_back (ended_of named)) (both (given_back (ended_of named)) (Contains-push front (given_back (ended_of named))))) (puts.given more within each);
       rest = λ given h. both given (Contains-append_left front (given_back (ended_of named) ∷ []) given h);

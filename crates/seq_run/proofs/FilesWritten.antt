@@ -8,7 +8,7 @@ use Rattle.seq_files.specs.Store.{Store, with_file}
 use Rattle.die_model.specs.Die.{Die}
 use Rattle.die_model.specs.Image.{image_of}
 use Rattle.std.specs.Option.{option_map}
-use Rattle.seq_run.specs.declared.failure.NotRun.{NotRun}
+use Rattle.seq_run.specs.declared.not_run.NotRun.{NotRun}
 use Rattle.seq_run.specs.declared.job_ends.EndedJob.{EndedJob}
 use Rattle.seq_run.specs.declared.plan.PlannedImage.{PlannedImage}
 use Rattle.seq_run.specs.declared.writing.Outgoing.{Outgoing}

@@ -1,7 +1,7 @@
 -- What happened on the channel of a run.
 use Rattle.std.proofs.Common.{◌≡◌, List, map, subst, sym}
 use Rattle.target_bus.specs.Bus.{Traced}
-use Rattle.channel_work.specs.declared.state.Gathered.{Gathered}
+use Rattle.channel_work.specs.declared.gathered.Gathered.{Gathered}
 use Rattle.channel_work.specs.Channel.{HistoryView, Ended}
 use Rattle.channel_work.specs.Done.{ended_of}
 use Rattle.channel_work.specs.Lawful.{IsLawful, WentWell}

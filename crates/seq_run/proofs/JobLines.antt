@@ -5,11 +5,11 @@ use Rattle.seq_run.specs.declared.job_ends.EndedJob.{EndedJob}
 use Rattle.seq_run.specs.Written.{codes_of}
 use Rattle.seq_run.specs.Lines.{job_line, job_lines}
 use Rattle.seq_files.specs.Store.{Store}
-use Rattle.nand_geometry.specs.declared.Parts.{Parts}
-use Rattle.onfi_cycle.specs.declared.item.Lun.{Lun}
+use Rattle.nand_geometry.specs.declared.parts.Parts.{Parts}
+use Rattle.onfi_cycle.specs.declared.lun.Lun.{Lun}
 use Rattle.micro_program.specs.Verified.{VerifiedText}
 use Rattle.seq_core.specs.Job.{job_fault}
-use Rattle.seq_core.specs.declared.answers.JobFault.{JobFault}
+use Rattle.seq_core.specs.declared.job_fault.JobFault.{JobFault}
 use Rattle.seq_run.specs.declared.refusal.PlanFault.TheVariants.{File}
 use Rattle.seq_commands.specs.declared.refusal.Refusal.TheVariants.{Job}
 use Rattle.seq_commands.specs.Commands.{HasText}

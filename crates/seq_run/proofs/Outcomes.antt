@@ -3,7 +3,7 @@ use Rattle.std.proofs.Common.{◌≡◌, ◌⊎◌, List, [], ◌++◌, ℕ, ◌
 use Rattle.std.proofs.lemmas.List.{append-nil}
 use Rattle.std.specs.Option.{option_copied}
 use Rattle.seq_files.specs.Store.{Store, Holds}
-use Rattle.nand_geometry.specs.declared.Parts.{Parts}
+use Rattle.nand_geometry.specs.declared.parts.Parts.{Parts}
 use Rattle.run_file.specs.Told.{told}
 use Rattle.seq_run.specs.declared.request.RunRequest.{RunRequest}
 use Rattle.seq_run.specs.declared.plan.RunPlan.{RunPlan}
@@ -19,8 +19,8 @@ use Rattle.seq_run.specs.Written.{Written, with_all, IsCut, buffers_of, images_o
 use Rattle.seq_run.specs.Runs.{Outcome, ShowsAll, IsOutcomeOf, IsPlanned, IsRunDone, RunMayLeave, writes_of, lines_of}
 use Rattle.seq_run.specs.declared.refusal.PlanFault.{PlanFault}
 use Rattle.seq_run.specs.declared.refusal.PlanRefusal.{PlanRefusal}
-use Rattle.seq_run.specs.declared.failure.NotRun.{NotRun}
-use Rattle.seq_run.specs.declared.failure.NotRun.TheVariants as not_run
+use Rattle.seq_run.specs.declared.not_run.NotRun.{NotRun}
+use Rattle.seq_run.specs.declared.not_run.NotRun.TheVariants as not_run
 use Rattle.seq_run.specs.Failures.{Refuses, RefusesNothing, Tells}
 
 pub is_planned : (files : Option Store) (request : RunRequest) (text : List ℕ) (plan : RunPlan) (o : Outcome) → Holds files request.path.now text → PlanPasses files (told text) plan.dies.geometry plan.dies.targets → planned_outputs plan.jobs.all.items ≡ outputs_of (drop 2 (told text).statements) → planned_images plan.images.items ≡ images_in plan.dies.geometry (drop 2 (told text).statements) → IsOutcomeOf plan o → IsPlanned files request o

@@ -3,7 +3,7 @@ use Rattle.std.proofs.Common.{◌≡◌, ℕ, ◌+◌, ◌<◌, ◌≤◌, List,
 use Rattle.std.specs.List.{cons_option, filter_map}
 use Rattle.std.proofs.lemmas.List.{append-nil, drop_more, drop_all, drop-map}
 use Rattle.seq_files.specs.Store.{Store}
-use Rattle.nand_geometry.specs.declared.Parts.{Parts}
+use Rattle.nand_geometry.specs.declared.parts.Parts.{Parts}
 use Rattle.run_file.specs.declared.refusal.RunRefusal.{RunRefusal}
 use Rattle.run_file.specs.declared.statement.Numbered.{Numbered as Written}
 use Rattle.run_file.specs.Shown.{shown_statement, shown_numbered, shown_all}
@@ -11,8 +11,8 @@ use Rattle.seq_run.specs.declared.refusal.PlanFault.{PlanFault}
 use Rattle.seq_run.specs.declared.refusal.PlanFault.TheVariants.{Line}
 use Rattle.seq_run.specs.declared.failure.Failure.{Failure}
 use Rattle.seq_run.specs.declared.failure.Failure.TheVariants as failure
-use Rattle.seq_run.specs.declared.failure.NotRun.{NotRun}
-use Rattle.seq_run.specs.declared.failure.NotRun.TheVariants as not_run
+use Rattle.seq_run.specs.declared.not_run.NotRun.{NotRun}
+use Rattle.seq_run.specs.declared.not_run.NotRun.TheVariants as not_run
 use Rattle.seq_run.specs.Failures.{Says, Refuses, IsAt}
 use Rattle.seq_run.specs.Planned.{image_in, images_in}
 use Rattle.seq_run.specs.Judged.{Numbered, Passes, IsRefused, IsRefusedAt, RestIsRefused, RestPasses, page_of, targets_of, AfterPageIsRefused, PageStatementIsRefused, PlanPasses, PlanIsRefused}

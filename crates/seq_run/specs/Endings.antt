@@ -3,7 +3,7 @@ use Rattle.std.specs.Prelude.{◌≡◌, ℕ, ⊤, List, [], Option, Some, None,
 use Rattle.std.specs.List.{AllByRecursion, Contains}
 use Rattle.std.specs.Option.{option_copied, option_map}
 use Rattle.micro_program.specs.Program.{Job}
-use Rattle.seq_core.specs.declared.sequencer.Done.{Done}
+use Rattle.seq_core.specs.declared.sequencer.UnloadedJob.{UnloadedJob}
 use Rattle.seq_run.specs.declared.job_ends.Ending.{Ending}
 use Rattle.seq_run.specs.declared.job_ends.EndedJob.{EndedJob}
 use Rattle.seq_run.specs.declared.plan.PlannedJob.{PlannedJob}
@@ -13,7 +13,7 @@ abbrev pub Given : Type 0
 Given = Job × ℕ
 
 -- what an end says
-abbrev pub given_as : {A : Type 0} → Done A → Given
+abbrev pub given_as : {A : Type 0} → UnloadedJob A → Given
 given_as done = (done.job, done.code)
 
 -- what is said of a job, if it has ended

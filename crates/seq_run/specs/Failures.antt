@@ -9,8 +9,8 @@ use Rattle.seq_run.specs.declared.refusal.PlanRefusal.{PlanRefusal}
 use Rattle.seq_run.specs.declared.refusal.PlanFault.TheVariants.{Line, File}
 use Rattle.seq_run.specs.declared.failure.Failure.{Failure}
 use Rattle.seq_run.specs.declared.failure.Failure.TheVariants as failure
-use Rattle.seq_run.specs.declared.failure.NotRun.{NotRun}
-use Rattle.seq_run.specs.declared.failure.NotRun.TheVariants as not_run
+use Rattle.seq_run.specs.declared.not_run.NotRun.{NotRun}
+use Rattle.seq_run.specs.declared.not_run.NotRun.TheVariants as not_run
 
 -- the line itself has this fault
 abbrev pub line_failure : RunFault → Failure

@@ -4,7 +4,7 @@ use Rattle.std.specs.List.{AllByRecursion, Contains}
 use Rattle.micro_program.specs.Program.{Job}
 use Rattle.target_bus.specs.Bus.{Traced}
 use Rattle.seq_core.specs.Shows.{CoreView}
-use Rattle.channel_work.specs.declared.state.Gathered.{Gathered}
+use Rattle.channel_work.specs.declared.gathered.Gathered.{Gathered}
 use Rattle.channel_work.specs.Channel.{HistoryView, Ended}
 use Rattle.channel_work.specs.Done.{ended_of}
 use Rattle.channel_work.specs.Lawful.{IsLawful, WentWell}

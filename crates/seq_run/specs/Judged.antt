@@ -1,12 +1,12 @@
 -- What a run file and the files that it names are refused for: the first statement that doesn't pass, by its line.
 use Rattle.std.specs.Prelude.{◌≡◌, ℕ, ◌≤◌, ◌<◌, ◌&&◌, Bool, true, false, nat_lt, nat_le, if◌then◌else◌, drop, ⊤, ◌⊎◌, List, [], ◌∷◌, ◌++◌, length, Option, Some, None, replicate, ◌-◌}
 use Rattle.seq_files.specs.Store.{Store, Holds}
-use Rattle.nand_geometry.specs.declared.Parts.{Parts}
-use Rattle.onfi_cycle.specs.declared.item.Lun.{Lun}
+use Rattle.nand_geometry.specs.declared.parts.Parts.{Parts}
+use Rattle.onfi_cycle.specs.declared.lun.Lun.{Lun}
 use Rattle.die_model.specs.Loading.{image_fault}
 use Rattle.micro_word.specs.Text.{Microprogram}
 use Rattle.seq_core.specs.Job.{job_fault}
-use Rattle.seq_core.specs.declared.answers.JobFault.{JobFault}
+use Rattle.seq_core.specs.declared.job_fault.JobFault.{JobFault}
 use Rattle.seq_commands.specs.declared.refusal.Refusal.TheVariants.{Job as JobRefusal}
 use Rattle.seq_commands.specs.Commands.{HasPage, PageIsRefused, HasText, FileOrTextIsRefused}
 use Rattle.run_file.specs.declared.refusal.RunFault.TheVariants.{OutOfOrder, NoSuchLun, InputTooLong}

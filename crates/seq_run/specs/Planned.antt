@@ -1,7 +1,7 @@
 -- What a run file says of the outputs of its jobs and of its images, and what is planned of them.
 use Rattle.std.specs.Prelude.{ℕ, ◌+◌, ◌*◌, List, Option, Some, None, map, filter_map}
 use Rattle.std.specs.Option.{option_copied}
-use Rattle.nand_geometry.specs.declared.Parts.{Parts}
+use Rattle.nand_geometry.specs.declared.parts.Parts.{Parts}
 use Rattle.run_file.specs.Line.{Statement}
 use Rattle.run_file.specs.Line.{Image as ImageLine, Job as JobLine}
 use Rattle.seq_run.specs.Judged.{Numbered}

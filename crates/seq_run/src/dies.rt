@@ -69,10 +69,10 @@ impl ChannelDies {
     }
 
     /// The number of a LUN's die.
-    pub(crate) fn number(&self, l: Lun) -> usize
-        ensures { result ≡ l.ce * self.now.geometry.luns + l.lun }
+    pub(crate) fn number(&self, lun: Lun) -> usize
+        ensures { result ≡ lun.ce * self.now.geometry.luns + lun.lun }
     {
-        usize::from(l.ce) * usize::from(self.geometry.parts().luns) + usize::from(l.lun)
+        usize::from(lun.ce) * usize::from(self.geometry.parts().luns) + usize::from(lun.lun)
     }
 
     /// Puts another new die in the place of this number, if there is one.
@@ -96,9 +96,11 @@ impl ChannelDies {
         } = self;
         match Bus::new(alloc, geometry, dies) {
             Ok(bus) => Ok(Core::new(bus)),
-            Err((BusFault::OutOfMemory, _)) => Err(AllocError),
-            Err((BusFault::DiesMissing, _)) => unreachable!(),
-            Err((BusFault::DieUnfit, _)) => unreachable!(),
+            Err(refused) => match refused.fault {
+                BusFault::OutOfMemory => Err(AllocError),
+                BusFault::DiesMissing => unreachable!(),
+                BusFault::DieUnfit => unreachable!(),
+            },
         }
     }
 }

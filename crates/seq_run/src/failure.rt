@@ -1,7 +1,8 @@
-//! Why a statement doesn't pass, and why there is no plan.
+//! Why a statement doesn't pass.
 ghost use Rattle.std.specs.Prelude.{◌≡◌};
 ghost use Rattle.seq_run.specs.Failures.{line_failure, SaysNothing, IsNamed, IsAt};
 
+use crate::not_run::NotRun;
 use crate::refusal::{PlanFault, PlanRefusal};
 use run_file::RunFault;
 use seq_commands::Failure as NamedFailure;
@@ -92,42 +93,5 @@ impl<'a, T: Drop> From<AllocFailed<T>> for Failure<'a> {
 
     fn from(_error: AllocFailed<T>) -> Failure<'a> {
         Failure::OutOfMemory
-    }
-}
-
-/// Why a run is not done.
-#[derive(Drop)]
-pub enum NotRun<'a> {
-    /// A line is refused, or a file that it names. Of a file the words say its path and the fault to a person, unless there was no memory for
-    /// them.
-    Refused {
-        refusal: PlanRefusal,
-        words: Option<String>,
-    },
-    /// The file of this path can't be read.
-    FileFault(&'a str),
-    /// Memory was refused.
-    OutOfMemory,
-}
-
-impl<'a> From<AllocError> for NotRun<'a> {
-    ghost use Rattle.std.specs.Prelude.{◌≡◌};
-    ghost use Rattle.seq_run.specs.declared.failure.NotRun.TheVariants.{OutOfMemory};
-
-    ghost from_gives = { λ _ failure. failure ≡ OutOfMemory };
-
-    fn from(_error: AllocError) -> NotRun<'a> {
-        NotRun::OutOfMemory
-    }
-}
-
-impl<'a, T: Drop> From<AllocFailed<T>> for NotRun<'a> {
-    ghost use Rattle.std.specs.Prelude.{◌≡◌};
-    ghost use Rattle.seq_run.specs.declared.failure.NotRun.TheVariants.{OutOfMemory};
-
-    ghost from_gives = { λ _ failure. failure ≡ OutOfMemory };
-
-    fn from(_error: AllocFailed<T>) -> NotRun<'a> {
-        NotRun::OutOfMemory
     }
 }

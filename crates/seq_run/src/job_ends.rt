@@ -9,22 +9,22 @@ ghost use Rattle.seq_run.specs.Happened.{given_back, WereGivenBack};
 ghost use Rattle.seq_run.specs.Endings.{opened, given_as, given_of, said_of, ending_outputs, PutsGiven, PutsAllGiven};
 
 use crate::plan::PlannedJob;
-use channel_work::{Name, NamedDone};
-use seq_core::Done;
+use channel_work::{Name, NamedJob};
+use seq_core::UnloadedJob;
 use std::alloc::{AllocError, Global};
 
 /// A job that has ended, and where its buffer goes.
 #[derive(Drop)]
 pub(crate) struct EndedJob<'a> {
     pub output: Option<&'a str>,
-    pub done: Done,
+    pub done: UnloadedJob,
 }
 
 // A job of a run, and its end, once it has ended.
 #[derive(Drop)]
 struct Ending<'a> {
     output: Option<&'a str>,
-    done: Option<Done>,
+    done: Option<UnloadedJob>,
 }
 
 // The place of a job among all, where each host's jobs have these places.
@@ -54,7 +54,7 @@ fn open_endings<'a>(
 
 // Puts its end to the job in this place, if there is one.
 #[tactic(auto, using(crate::proofs::Endings::outputs_stay, crate::proofs::Endings::one_given))]
-fn put_ending(endings: &mut Vec<Ending<'_>>, place: usize, done: Done)
+fn put_ending(endings: &mut Vec<Ending<'_>>, place: usize, done: UnloadedJob)
     ensures outputs { ending_outputs endings.new.items ≡ ending_outputs endings.old.items }
     ensures given { PutsGiven (given_as done) endings.old.items endings.new.items }
 {
@@ -68,11 +68,11 @@ fn put_ending(endings: &mut Vec<Ending<'_>>, place: usize, done: Done)
 }
 
 // Puts its end to the job of this name.
-fn put_named(endings: &mut Vec<Ending<'_>>, places: &[Vec<usize>], named: NamedDone)
+fn put_named(endings: &mut Vec<Ending<'_>>, places: &[Vec<usize>], named: NamedJob)
     ensures outputs { ending_outputs endings.new.items ≡ ending_outputs endings.old.items }
     ensures given { PutsGiven (given_back (ended_of named)) endings.old.items endings.new.items }
 {
-    let NamedDone { name, done } = named;
+    let NamedJob { name, done } = named;
     if let Some(place) = find_place(places, name) {
         put_ending(endings, place, done);
     }
@@ -80,7 +80,7 @@ fn put_named(endings: &mut Vec<Ending<'_>>, places: &[Vec<usize>], named: NamedD
 
 // Puts their ends to the jobs.
 #[tactic(auto, using(crate::proofs::Endings::all_given, crate::proofs::Endings::puts_first))]
-fn put_all(endings: &mut Vec<Ending<'_>>, places: &[Vec<usize>], done: Vec<NamedDone>)
+fn put_all(endings: &mut Vec<Ending<'_>>, places: &[Vec<usize>], done: Vec<NamedJob>)
     ensures outputs { ending_outputs endings.new.items ≡ ending_outputs endings.old.items }
     ensures given { PutsAllGiven (map given_back (map ended_of done.items)) endings.old.items endings.new.items }
 {
@@ -114,7 +114,7 @@ pub(crate) fn end_jobs<'a>(
     alloc: Global,
     planned: &[PlannedJob<'a>],
     places: &[Vec<usize>],
-    done: Vec<NamedDone>,
+    done: Vec<NamedJob>,
 ) -> Result<Vec<EndedJob<'a>>, AllocError>
     ensures outputs { IfOk result (λ ended. ended_outputs ended.items ≡ planned_outputs planned.now) }
     ensures given { IfOk result (λ ended. WereGivenBack (map ended_of done.items) ended.items) }

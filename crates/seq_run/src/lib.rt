@@ -12,6 +12,7 @@ mod gate;
 mod given;
 mod hosts;
 mod job_ends;
+mod not_run;
 mod phases;
 mod plan;
 mod planning;
@@ -25,8 +26,8 @@ mod writing;
 
 pub use dies::ChannelDies;
 pub use ending::RunEnd;
-pub use failure::NotRun;
 pub use gate::{Failing, RunGate};
+pub use not_run::NotRun;
 pub use phases::{NoClock, Phase, RunProgress};
 pub use plan::{PlannedImage, PlannedJob, PlannedJobs, RunPlan, TargetJobs};
 pub use planning::plan_run;

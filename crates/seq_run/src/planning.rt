@@ -8,9 +8,10 @@ ghost use Rattle.seq_run.specs.Failures.{Says, Refuses, line_refused};
 ghost use Rattle.seq_run.specs.Judged.{has_lun, lun_at, LunIsRefused, JobPasses, JobLineIsRefused, Passes, IsRefused, IsRefusedAt, RestPasses, RestIsRefused, EndIsRefused, page_of, targets_of, PlanPasses, PlanIsRefused};
 
 use crate::explaining::words_of;
-use crate::failure::{Failure, NotRun};
+use crate::failure::Failure;
 use crate::gate::Failing;
 use crate::given::{read_buffer, read_die, read_geometry, read_verified};
+use crate::not_run::NotRun;
 use crate::plan::{PlannedImage, RunPlan};
 use crate::refusal::{PlanFault, PlanRefusal};
 use nand_geometry::Geometry;
@@ -23,7 +24,7 @@ use std::alloc::Global;
 
 // The LUN of a channel that has these numbers.
 fn find_lun<'a>(geometry: &Geometry, targets: u8, target: u32, lun: u32) -> Result<Lun, Failure<'a>>
-    ensures ok { IfOk result (λ l. (has_lun geometry.now targets target lun ≡ true) × (l ≡ lun_at target lun)) }
+    ensures ok { IfOk result (λ found. (has_lun geometry.now targets target lun ≡ true) × (found ≡ lun_at target lun)) }
     ensures err { IfErr result (Says (LunIsRefused geometry.now targets target lun)) }
 {
     if target >= u32::from(targets) || lun >= u32::from(geometry.parts().luns) {
@@ -103,8 +104,8 @@ impl<'a> RunPlan<'a> {
                 input,
                 output,
             } => {
-                let l = find_lun(&self.dies.geometry, self.dies.targets, target, lun)?;
-                self.add_job(alloc, files, l, base, text, input, output)
+                let lun = find_lun(&self.dies.geometry, self.dies.targets, target, lun)?;
+                self.add_job(alloc, files, lun, base, text, input, output)
             }
             Statement::Polls { count } => {
                 self.polls = u64::from(count);
@@ -132,9 +133,9 @@ impl<'a> RunPlan<'a> {
             ++ ((target * self.old.dies.geometry.luns + lun, path.now) ∷ [])) }
         ensures stays { F.store files.new ≡ F.store files.old }
     {
-        let l = find_lun(&self.dies.geometry, self.dies.targets, target, lun)?;
+        let lun = find_lun(&self.dies.geometry, self.dies.targets, target, lun)?;
         let die = read_die(alloc, files, self.dies.geometry, path)?;
-        let number = self.dies.number(l);
+        let number = self.dies.number(lun);
         self.dies.put(number, die);
         self.images.push(PlannedImage { number, path })?;
         Ok(())
@@ -145,16 +146,16 @@ impl<'a> RunPlan<'a> {
         &mut self,
         alloc: Global,
         files: &mut F,
-        l: Lun,
+        lun: Lun,
         base: u32,
         text: &'a str,
         input: Option<&'a str>,
         output: Option<&'a str>,
     ) -> Result<(), Failure<'a>>
-        ensures ok { OnOk result (JobPasses (F.store files.old) self.old.dies.geometry self.old.dies.targets l base text.now
+        ensures ok { OnOk result (JobPasses (F.store files.old) self.old.dies.geometry self.old.dies.targets lun base text.now
             (option_copied input.entry)) }
-        ensures err { IfErr result (Says (JobLineIsRefused (F.store files.old) self.old.dies.geometry self.old.dies.targets l base text.now
-            (option_copied input.entry))) }
+        ensures err { IfErr result (Says (JobLineIsRefused (F.store files.old) self.old.dies.geometry self.old.dies.targets lun base
+            text.now (option_copied input.entry))) }
         ensures channel { (self.new.dies.geometry ≡ self.old.dies.geometry) × (self.new.dies.targets ≡ self.old.dies.targets) }
         ensures jobs { OnOk result (planned_outputs self.new.jobs.all.items ≡ planned_outputs self.old.jobs.all.items
             ++ (option_copied output.entry ∷ [])) }
@@ -162,7 +163,7 @@ impl<'a> RunPlan<'a> {
         ensures stays { F.store files.new ≡ F.store files.old }
     {
         let (geometry, targets) = (self.dies.geometry, self.dies.targets);
-        let job = read_job(alloc, files, geometry, targets, l, base, text, input)?;
+        let job = read_job(alloc, files, geometry, targets, lun, base, text, input)?;
         self.jobs.push(job, output)?;
         Ok(())
     }
@@ -175,10 +176,10 @@ impl<'a> RunPlan<'a> {
         ensures jobs { self.new.jobs ≡ self.old.jobs }
         ensures images { self.new.images ≡ self.old.images }
     {
-        let l = find_lun(&self.dies.geometry, self.dies.targets, target, lun)?;
+        let lun = find_lun(&self.dies.geometry, self.dies.targets, target, lun)?;
         self.fails.push(Failing {
-            target: l.ce,
-            lun: l.lun,
+            target: lun.ce,
+            lun: lun.lun,
             ready: u64::from(ready),
         })?;
         Ok(())

@@ -14,7 +14,7 @@ ghost use Rattle.seq_run.specs.Runs.{Outcome, IsOutcomeOf, writes_of, lines_of, 
 
 use crate::ending::RunEnd;
 use crate::explaining::explain;
-use crate::failure::NotRun;
+use crate::not_run::NotRun;
 use crate::phases::{NoClock, Phase, RunProgress, Timed};
 use crate::plan::RunPlan;
 use crate::planning::plan_run;

@@ -175,6 +175,7 @@ fn gather_all<L: Turns>(
     requires { L.all ≡ L.parts }
     ensures { IfOk result HasWorked }
 {
+    // Its contract says that the history is lawful, which what is gathered keeps.
     let _lawful = state.trace();
     match state.gather(passes) {
         Ok(gathered) => Ok(gathered),

@@ -13,8 +13,8 @@ ghost use Rattle.seq_run.specs.Happened.{HasHappened};
 ghost use Rattle.seq_run.specs.Written.{with_all, with_optional, IsWritten, IsCut, buffer_of, buffers_of, image_at, images_of, trace_at, written_of, optional_of, printed_trace, codes_of};
 ghost use Rattle.seq_run.specs.Runs.{Outcome, ShowsAll, writes_of, lines_of};
 
-use crate::failure::NotRun;
 use crate::job_ends::{EndedJob, push_job_lines};
+use crate::not_run::NotRun;
 use crate::plan::PlannedImage;
 use crate::request::RunRequest;
 use crate::running::Ran;
@@ -134,6 +134,7 @@ fn make_images<'a>(
 fn print_trace(alloc: Global, bus: &Bus) -> Result<String, AllocError>
     ensures { IfOk result (λ lines. string_bytes lines ≡ text (reverse bus.now.past)) }
 {
+    // Its contract says that they are few, so that the trace can be printed.
     let _few = bus.targets();
     print(alloc, bus.trace())
 }

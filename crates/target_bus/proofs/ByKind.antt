@@ -1,17 +1,17 @@
 -- What a cycle can't do, by its kind.
 use Rattle.std.proofs.Common.{◌≡◌, ◌≢◌, ℕ, ◌+◌, ◌<◌, ◌≤◌, ◌==◌, Bool, true, false, ◌||◌, cond, leb, List, Option, Some, None, Result, Ok, Err, OnErr, IfSome, length, refl, sym, ap, subst, ◌∙◌, arith}
 use Rattle.std.proofs.lemmas.Bool.Decides.{nat_tests}
-use Rattle.nand_geometry.specs.declared.Parts.{Parts}
+use Rattle.nand_geometry.specs.declared.parts.Parts.{Parts}
 use Rattle.onfi_cycle.specs.declared.item.Cycle.{Cycle}
 use Rattle.onfi_cycle.specs.declared.item.Item.{Item}
 use Rattle.onfi_cycle.specs.declared.item.Item.TheVariants.{Cyc}
 use Rattle.onfi_cycle.specs.declared.item.Kind.{Kind}
 use Rattle.onfi_cycle.specs.declared.item.Kind.TheVariants.{Cmd, Adr, Din, Dout}
-use Rattle.onfi_cycle.specs.declared.item.Lun.{Lun}
+use Rattle.onfi_cycle.specs.declared.lun.Lun.{Lun}
 use Rattle.onfi_cycle.specs.declared.tail_facts.TailFacts.{TailFacts}
 use Rattle.onfi_cycle.specs.declared.effect.Effect.{Effect}
 use Rattle.onfi_cycle.specs.declared.effect.Effect.TheVariants.{Unaffected}
-use Rattle.onfi_cycle.specs.declared.fillings.Filling.TheVariants.{Leaves}
+use Rattle.onfi_cycle.specs.declared.filling.Filling.TheVariants.{Leaves}
 use Rattle.onfi_cycle.specs.Sequence.{tail, facts_of, target_cycle}
 use Rattle.onfi_cycle.specs.Effect.{cycle_effect}
 use Rattle.onfi_cycle.specs.Filling.{filling, cycle_filling}
@@ -19,9 +19,9 @@ use Rattle.onfi_cycle.specs.Lun.{effect_on, latch_alone}
 use Rattle.onfi_cycle.specs.Permitted.{broken}
 use Rattle.onfi_cycle.specs.State.{BusView, Follows}
 use Rattle.onfi_cycle.specs.Working.{fills, begins, works_on}
-use Rattle.onfi_cycle.specs.declared.fillings.Filling.{Filling}
+use Rattle.onfi_cycle.specs.declared.filling.Filling.{Filling}
 use Rattle.die_model.specs.Die.{Die}
-use Rattle.target_bus.specs.declared.dies.Worked.{Worked}
+use Rattle.target_bus.specs.declared.working.Worked.{Worked}
 use Rattle.target_bus.specs.Bus.{Entries, is_input, may_fill, lun_at, FindsWork, LeavesBelow, IsStanding}
 use Rattle.target_bus.proofs.Standing.{cycle_there}
 

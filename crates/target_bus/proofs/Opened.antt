@@ -4,11 +4,11 @@ use Rattle.std.proofs.lemmas.Nat.{div-mul-add}
 use Rattle.std.proofs.lemmas.List.{length-replicate}
 use Rattle.std.specs.List.{slice_get}
 use Rattle.std.specs.Bool.{beq}
-use Rattle.nand_geometry.specs.declared.Parts.{Parts}
+use Rattle.nand_geometry.specs.declared.parts.Parts.{Parts}
 use Rattle.nand_geometry.specs.Limits.{InLimits, page_len, planes}
-use Rattle.onfi_cycle.specs.declared.item.Lun.{Lun}
+use Rattle.onfi_cycle.specs.declared.lun.Lun.{Lun}
 use Rattle.onfi_cycle.specs.declared.item.Item.{Item}
-use Rattle.onfi_cycle.specs.declared.effect.PageAddress.{PageAddress}
+use Rattle.onfi_cycle.specs.declared.page_address.PageAddress.{PageAddress}
 use Rattle.onfi_cycle.specs.Sequence.{facts_of}
 use Rattle.onfi_cycle.specs.Lun.{views_from}
 use Rattle.onfi_cycle.specs.State.{BusView, TargetView, Follows, targets_from}

@@ -1,16 +1,17 @@
 -- A channel with its dies: what has happened on it, and how each die stands for its LUN.
 use Rattle.std.specs.Prelude.{◌≡◌, ℕ, ◌+◌, ◌-◌, ◌*◌, ◌/◌, ◌%◌, ◌<◌, ◌≤◌, ◌==◌, Bool, true, false, ◌||◌, ◌&&◌, not, if◌then◌else◌, List, [], ◌∷◌, Option, Some, None, length, reverse, slice_get, slice_index_or}
 use Rattle.std.specs.Bool.{beq}
-use Rattle.nand_geometry.specs.declared.Parts.{Parts}
+use Rattle.std.specs.List.{list_all}
+use Rattle.nand_geometry.specs.declared.parts.Parts.{Parts}
 use Rattle.nand_geometry.specs.Limits.{InLimits, page_len, planes}
 use Rattle.nand_geometry.specs.Page.{parameter_bytes}
-use Rattle.onfi_cycle.specs.declared.item.Lun.{Lun}
+use Rattle.onfi_cycle.specs.declared.lun.Lun.{Lun}
 use Rattle.onfi_cycle.specs.declared.item.Item.{Item}
 use Rattle.onfi_cycle.specs.declared.item.Kind.{Kind}
 use Rattle.onfi_cycle.specs.declared.item.Kind.TheVariants.{Adr, Din, Dout}
-use Rattle.onfi_cycle.specs.declared.effect.PageAddress.{PageAddress}
+use Rattle.onfi_cycle.specs.declared.page_address.PageAddress.{PageAddress}
 use Rattle.onfi_cycle.specs.declared.forbidden.Forbidden.{Forbidden as Rule}
-use Rattle.onfi_cycle.specs.declared.fillings.Filling.{Filling}
+use Rattle.onfi_cycle.specs.declared.filling.Filling.{Filling}
 use Rattle.onfi_cycle.specs.declared.effect.Effect.{Effect}
 use Rattle.onfi_cycle.specs.Sequence.{tail, facts_of}
 use Rattle.onfi_cycle.specs.Filling.{filling}
@@ -23,7 +24,7 @@ use Rattle.onfi_cycle.specs.Readies.{starts_work, bus_due}
 use Rattle.die_model.specs.Pages.{page_in}
 use Rattle.die_model.specs.Die.{Die, page_of, is_new}
 use Rattle.die_model.specs.Standing.{IsDieOf}
-use Rattle.target_bus.specs.declared.dies.Worked.{Worked}
+use Rattle.target_bus.specs.declared.working.Worked.{Worked}
 use Rattle.target_bus.specs.declared.refusal.BusFault.{BusFault}
 use Rattle.target_bus.specs.declared.refusal.BusFault.TheVariants.{DiesMissing, DieUnfit, OutOfMemory}
 use Rattle.target_bus.specs.declared.refusal.BusRefusal.{BusRefusal}
@@ -86,8 +87,7 @@ abbrev pub is_new_of : Parts → Die → Bool
 is_new_of g d = same_parts d.geometry g && is_new d
 
 abbrev pub are_new : Parts → List Die → Bool
-are_new g [] = true
-are_new g (d ∷ dies) = is_new_of g d && are_new g dies
+are_new g dies = list_all (is_new_of g) dies
 
 -- the pages of a die are whole, and it has a register for each plane
 pub record IsWhole (d : Die) : Type 0 where

@@ -1,8 +1,9 @@
 //! What a bus refuses.
 ghost use Rattle.std.specs.Prelude.{◌≡◌};
 
+use die_model::LunDie;
 use onfi_cycle::Forbidden;
-use std::alloc::AllocError;
+use std::alloc::{AllocError, Allocator, Global};
 use thiserror::Error;
 
 /// Why dies are no channel.
@@ -17,6 +18,13 @@ pub enum BusFault {
     /// There is no memory to keep what its pages are at the opening.
     #[error("out of memory")]
     OutOfMemory,
+}
+
+/// Dies that are no channel: why, and the dies again.
+#[derive(Drop)]
+pub struct DiesRefused<A: Allocator = Global> {
+    pub fault: BusFault,
+    pub dies: Vec<LunDie<A>, A>,
 }
 
 /// Why a cycle doesn't come.

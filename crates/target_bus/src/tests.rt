@@ -1,25 +1,16 @@
 ghost use Rattle.std.specs.Prelude.{◌<◌, IfOk};
 
-use super::*;
+use crate::{Bus, BusFault, BusRefusal, DiesRefused};
+use die_model::LunDie;
 use linked_list_allocator::LocalHeap;
-use nand_geometry::Parts;
-use onfi_cycle::{Forbidden, Kind, Latch, PageAddress, Register};
-use std::alloc::AllocError;
+use nand_geometry::{Geometry, Parts, SMALL_CHIP};
+use onfi_cycle::{Cycle, Forbidden, Item, Kind, Latch, Lun, LunState, PageAddress, Register};
+use std::alloc::{AllocError, Allocator, Global};
 use std::process::Abort;
 use std::test::Fail;
 
 // One LUN of 8 blocks of 4 pages of 512 + 16 bytes, in one plane.
-const ONE_LUN: Parts = Parts {
-    page_bytes: 512,
-    spare_bytes: 16,
-    pages: 4,
-    blocks: 8,
-    luns: 1,
-    plane_bits: 0,
-    enhanced: false,
-    multi_plane: false,
-    cache: false,
-};
+const ONE_LUN: Parts = SMALL_CHIP;
 
 // One such LUN with the cache read.
 const CACHED: Parts = Parts {
@@ -65,7 +56,7 @@ fn channel<A: Allocator + Copy>(alloc: A, parts: Parts, count: u8) -> Result<Bus
     let dies = dies(alloc, parts, count)?;
     match Bus::new(alloc, geometry(parts)?, dies) {
         Ok(bus) => Ok(bus),
-        Err((fault, _)) => Err(fault.into()),
+        Err(refused) => Err(refused.fault.into()),
     }
 }
 
@@ -696,27 +687,30 @@ fn dies_that_are_no_channel(rt: HostRuntime) -> Result<(), Fail> {
         let given = dies(rt.alloc(), TWO_LUNS, count)?;
         let told = Bus::new(rt.alloc(), two, given).err();
         assert!(rt;
-            told.is_some_and(|e| e.0 == BusFault::DiesMissing && e.1.len() == usize::from(count))
+            told.is_some_and(|refused| refused.fault == BusFault::DiesMissing
+                && refused.dies.len() == usize::from(count))
         );
     }
     for (parts, count) in [(ONE_LUN, 0), (ONE_LUN, 5)] {
         let given = dies(rt.alloc(), parts, count)?;
         let told = Bus::new(rt.alloc(), geometry(parts)?, given).err();
-        assert!(rt; told.is_some_and(|e| e.0 == BusFault::DiesMissing));
+        assert!(rt; told.is_some_and(|refused| refused.fault == BusFault::DiesMissing));
     }
     let mut mixed = dies(rt.alloc(), TWO_LUNS, 1)?;
     mixed.push(LunDie::new(rt.alloc(), geometry(ONE_LUN)?)?)?;
     let told = Bus::new(rt.alloc(), two, mixed).err();
-    assert!(rt; told.is_some_and(|e| e.0 == BusFault::DieUnfit && e.1.len() == 2));
+    assert!(rt;
+        told.is_some_and(|refused| refused.fault == BusFault::DieUnfit && refused.dies.len() == 2)
+    );
     // Both faults: the first is told.
     let other = dies(rt.alloc(), ONE_LUN, 3)?;
     let told = Bus::new(rt.alloc(), two, other).err();
-    assert!(rt; told.is_some_and(|e| e.0 == BusFault::DiesMissing));
+    assert!(rt; told.is_some_and(|refused| refused.fault == BusFault::DiesMissing));
     let mut worked = channel(rt.alloc(), ONE_LUN, 1)?;
     let steps = steps_of(rt.alloc(), "C60 A04 A00x2 Cd0")?;
     play(&rt, &mut worked, steps.as_slice(), "an erase")?;
     let told = Bus::new(rt.alloc(), geometry(ONE_LUN)?, worked.into_dies()).err();
-    assert!(rt; told.is_some_and(|e| e.0 == BusFault::DieUnfit));
+    assert!(rt; told.is_some_and(|refused| refused.fault == BusFault::DieUnfit));
     Ok(())
 }
 
@@ -1046,7 +1040,7 @@ fn is_made_with(alloc: Global, left: usize) -> Result<bool, Fail> {
     let taken = take_but(&heap, left)?;
     match Bus::new(&heap, geometry(ONE_LUN)?, given) {
         Ok(bus) => Ok(bus.is_fresh()),
-        Err((fault, back)) => {
+        Err(DiesRefused { fault, dies: back }) => {
             drop(taken);
             let whole = fault == BusFault::OutOfMemory && back.len() == 1;
             match Bus::new(&heap, geometry(ONE_LUN)?, back) {

@@ -4,7 +4,7 @@
 //! given), and checks it. What the check says goes to standard output; how long it took, to standard error.
 #![tactic(auto)]
 
-use nand_geometry::{Geometry, Parts};
+use nand_geometry::{Geometry, Parts, SMALL_CHIP};
 use onfi_cycle::{Cycle, Item, Kind};
 use std::alloc::{AllocError, Global};
 use std::env;
@@ -12,17 +12,7 @@ use std::time::Instant;
 use trace_text::check;
 
 // One LUN of 8 blocks of 4 pages.
-const ONE_LUN: Parts = Parts {
-    page_bytes: 512,
-    spare_bytes: 16,
-    pages: 4,
-    blocks: 8,
-    luns: 1,
-    plane_bits: 0,
-    enhanced: false,
-    multi_plane: false,
-    cache: false,
-};
+const ONE_LUN: Parts = SMALL_CHIP;
 
 const READY: Item = Item::Rdy {
     ce: 0,

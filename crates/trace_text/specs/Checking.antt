@@ -1,6 +1,6 @@
 -- What a check tells of a trace that isn't legal.
 use Rattle.std.specs.Prelude.{ℕ, List}
-use Rattle.nand_geometry.specs.declared.Parts.{Parts}
+use Rattle.nand_geometry.specs.declared.parts.Parts.{Parts}
 use Rattle.onfi_cycle.specs.declared.item.Item.{Item}
 use Rattle.onfi_cycle.specs.Permitted.{IsFirstBroken}
 use Rattle.trace_text.specs.declared.checking.CheckRefusal.{CheckRefusal}

@@ -109,7 +109,7 @@ fn array_ready(ce: &str, lun: &str) -> Option<Item>
     Some(Item::Ard { ce, lun })
 }
 
-// The field before the first space, and what stands behind that space.
+// The field before the first space, and what stands after that space.
 fn first_field(line: &str) -> Option<(&str, &str)>
     ensures some { IfSome result (λ x. fields line.entry.now ≡ x.0.now ∷ fields x.1.now) }
     ensures none { IfNone result (fields line.entry.now ≡ line.entry.now ∷ []) }

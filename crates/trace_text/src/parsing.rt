@@ -12,7 +12,7 @@ use crate::refusal::{TraceFault, TraceRefusal};
 use onfi_cycle::Item;
 use std::alloc::{AllocError, Allocator};
 
-// The item of the first line and the text behind that line, if the text isn't empty.
+// The item of the first line and the text after that line, if the text isn't empty.
 fn first_item(text: &str) -> Result<Option<(Item, &str)>, TraceFault>
     ensures ok { IfOk result (λ o. MatchOption o (text.entry.now ≡ []) (λ x. BeginsWith text.entry.now x.0 x.1.now)) }
     ensures utf8 { IfOk result (λ o. IfSome o (λ x. IsUtf8 x.1.now)) }
@@ -64,7 +64,7 @@ fn items_of<A: Allocator>(alloc: A, text: &str, count: usize) -> Result<Vec<Item
 }
 
 // The items, or the first fault.
-fn all<A: Allocator>(alloc: A, text: &str) -> Result<Vec<Item, A>, TraceRefusal>
+fn parse_items<A: Allocator>(alloc: A, text: &str) -> Result<Vec<Item, A>, TraceRefusal>
     ensures ok { IfOk result (λ v. reading text.now ≡ Ok v.items) }
     ensures err { IfErr result (λ e. IsRefusalOf e (reading text.now)) }
 {
@@ -86,5 +86,5 @@ pub fn parse<A: Allocator>(alloc: A, text: &str) -> Result<Vec<Item, A>, TraceRe
     ensures ok { IfOk result (λ v. reading text.now ≡ Ok v.items) }
     ensures err { IfErr result (λ e. IsRefusalOf e (reading text.now)) }
 {
-    all(alloc, text)
+    parse_items(alloc, text)
 }

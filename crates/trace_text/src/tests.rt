@@ -8,7 +8,7 @@ use std::test::Fail;
 const ERASE: &str =
     "0 C 60\n0 A 00\n0 A 00\n0 A 00\n0 C d0\n0 C 70\n0 O 80\n0 R 0 0\n0 C 70\n0 O e0\n";
 
-// The same without its last line feed, and what stands behind its first line.
+// The same without its last line feed, and what stands after its first line.
 const UNENDED: &str =
     "0 C 60\n0 A 00\n0 A 00\n0 A 00\n0 C d0\n0 C 70\n0 O 80\n0 R 0 0\n0 C 70\n0 O e0";
 

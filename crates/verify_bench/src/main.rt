@@ -6,21 +6,17 @@
 
 use micro_verify::verify;
 use micro_word::{Text, Word};
-use nand_geometry::{Geometry, Parts};
+use nand_geometry::{Geometry, Parts, SMALL_CHIP};
 use std::alloc::{AllocError, Global};
 use std::time::Instant;
 
 // Two LUNs of 8 blocks of 4 pages of 512 + 16 bytes, in two planes each.
 const TWO_LUNS: Parts = Parts {
-    page_bytes: 512,
-    spare_bytes: 16,
-    pages: 4,
-    blocks: 8,
     luns: 2,
     plane_bits: 1,
     enhanced: true,
     multi_plane: true,
-    cache: false,
+    ..SMALL_CHIP
 };
 
 // A read of which others may have the bus before its data is taken; nine words.
@@ -105,7 +101,10 @@ fn outcome(alloc: Global, words: Vec<Word>, geometry: Geometry) -> anyhow::Resul
     };
     match verify(text, geometry) {
         Ok(verified) => Ok((String::from_str(alloc, "accepted")?, verified.walked())),
-        Err((refusal, _)) => Ok((format!(in alloc; "{refusal}")?, 0)),
+        Err(refused) => {
+            let refusal = refused.refusal;
+            Ok((format!(in alloc; "{refusal}")?, 0))
+        }
     }
 }
 

@@ -9,7 +9,15 @@ ghost use Rattle.crossbeam_queue.specs.Passes.{IsPassOf, view};
 use super::{HostPass, JobQueue, Ring, Taker, Tally};
 use crate::rule::{Hosts, QueuedJob, Settles, View};
 use crossbeam_queue::Pass;
-use std::alloc::Allocator;
+use std::alloc::{Allocator, Global};
+
+/// A queue that isn't ended, since some host's pass is missing: all that was handed over, as it was.
+#[derive(Drop)]
+pub struct CloseRefused<J, A: Allocator = Global> {
+    pub queue: JobQueue<J, A>,
+    pub passes: Vec<HostPass<J>, A>,
+    pub taker: Taker<J, A>,
+}
 
 impl<J: Drop, A: Allocator> JobQueue<J, A> {
     /// Ends the queue, once every host's pass has come back, and tells how many jobs each host stored and how many
@@ -22,15 +30,20 @@ impl<J: Drop, A: Allocator> JobQueue<J, A> {
         self,
         mut passes: Vec<HostPass<J>, A>,
         taker: Taker<J, A>,
-    ) -> Result<Tally<A>, (JobQueue<J, A>, Vec<HostPass<J>, A>, Taker<J, A>)>
+    ) -> Result<Tally<A>, CloseRefused<J, A>>
         requires passes { All (λ p. owns self p) passes.items }
         requires taker { owns_taker self taker }
         ensures ok { IfOk result (λ t. HasEachPass passes.items self.hosts
             × IsTally t.put.items t.taken.items passes.items taker.taken self.hosts) }
-        ensures err { IfErr result (λ r. MissesPass passes.items self.hosts × (r.0 ≡ self) × (r.1.items ≡ passes.items) × (r.2 ≡ taker)) }
+        ensures err { IfErr result (λ r. MissesPass passes.items self.hosts × (r.queue ≡ self)
+            × (r.passes.items ≡ passes.items) × (r.taker ≡ taker)) }
     {
         if !has_each_pass(passes.as_slice(), self.hosts) {
-            return Err((self, passes, taker));
+            return Err(CloseRefused {
+                queue: self,
+                passes,
+                taker,
+            });
         }
         let Taker {
             ring,

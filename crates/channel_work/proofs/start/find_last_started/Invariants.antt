@@ -2,8 +2,8 @@ use Rattle.std.proofs.Common.{◌≡◌, ◌≤◌, reverse, length, take}
 use Rattle.channel_work.specs.Stored.{last_started}
 use Rattle.channel_work.proofs.start.find_last_started.Given as goal
 
-abbrev pub invariant-loop-k : goal.invariant-loop-k
-invariant-loop-k l = (l.k ≤ length l.events) × (last_started l.l (reverse (take l.k l.events)) ≡ last_started l.l (reverse l.events))
+abbrev pub invariant-loop-place : goal.invariant-loop-place
+invariant-loop-place l = (l.place ≤ length l.events) × (last_started l.lun (reverse (take l.place l.events)) ≡ last_started l.lun (reverse l.events))
 
-abbrev pub decreases-loop-k : goal.decreases-loop-k
-decreases-loop-k l = l.k
+abbrev pub decreases-loop-place : goal.decreases-loop-place
+decreases-loop-place l = l.place

@@ -12,8 +12,8 @@ split_at-requires g c =
 
 pub loop-k-preserved : goal.loop-k-preserved
 loop-k-preserved g c =
-    keeps_entry c.args.geometry.now c.args.count c.loop-k.k c.number_at.result c.loop-k.rest.now c.args.entries.now c.split_at.result.1.now c.page_address-at.result c.split_at-in-loop-k.result.1.now c.loop-k.pages c.put.new.self
-    c.loop-k-test.true c.number_at.ensures c.page_address-at.ensures.value
+    keeps_entry c.args.geometry.now c.args.count c.loop-k.k c.number_at.result c.loop-k.rest.now c.args.entries.now c.split_at.result.1.now c.of_row-at.result c.split_at-in-loop-k.result.1.now c.loop-k.pages c.put.new.self
+    c.loop-k-test.true c.number_at.ensures c.of_row-at.ensures.value
     (c.split_at-in-loop-k.ensures.back ∙ ap (λ xs. drop 4 xs) (c.split_at.ensures.front ∙ ap (λ n. take n c.loop-k.rest.now) c.entry_len-len.ensures.value))
     (c.split_at.ensures.back ∙ ap (λ n. drop n c.loop-k.rest.now) c.entry_len-len.ensures.value) c.in_ok-put.ensures c.loop-k.invariant
 

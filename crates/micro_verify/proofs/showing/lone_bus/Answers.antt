@@ -8,8 +8,8 @@ returns-in-Ok g c =
 
 pub unreachable-requires : goal.unreachable-requires
 unreachable-requires g c =
-    never_dies_missing c.args.geometry c.push.new.self.items c.in-Err-DiesMissing-default.field-0-0 c.requires (dies_are c.args.geometry c.push.new.self.items c.in_ok-dies.dies.items c.in_ok-new.field-0 c.in_ok-push.ensures.items c.in_ok-dies.ensures.items c.in_ok-new.ensures) c.in-Err-DiesMissing-default.field-0-0-is c.in-Err-DiesMissing-default.ensures.err.0
+    never_dies_missing c.args.geometry c.push.new.self.items c.in-Err.refused.fault c.requires (dies_are c.args.geometry c.push.new.self.items c.in_ok-dies.dies.items c.in_ok-new.field-0 c.in_ok-push.ensures.items c.in_ok-dies.ensures.items c.in_ok-new.ensures) c.in-DiesMissing.is c.in-Err.ensures.err.0
 
-pub unreachable-requires-in-Err-DieUnfit-default : goal.unreachable-requires-in-Err-DieUnfit-default
-unreachable-requires-in-Err-DieUnfit-default g c =
-    never_die_unfit c.args.geometry c.push.new.self.items c.in-Err-DieUnfit-default.field-0-0 c.requires (dies_are c.args.geometry c.push.new.self.items c.in_ok-dies.dies.items c.in_ok-new.field-0 c.in_ok-push.ensures.items c.in_ok-dies.ensures.items c.in_ok-new.ensures) c.in-Err-DieUnfit-default.field-0-0-is c.in-Err-DieUnfit-default.ensures.err.0
+pub unreachable-requires-in-DieUnfit : goal.unreachable-requires-in-DieUnfit
+unreachable-requires-in-DieUnfit g c =
+    never_die_unfit c.args.geometry c.push.new.self.items c.in-Err.refused.fault c.requires (dies_are c.args.geometry c.push.new.self.items c.in_ok-dies.dies.items c.in_ok-new.field-0 c.in_ok-push.ensures.items c.in_ok-dies.ensures.items c.in_ok-new.ensures) c.in-DieUnfit.is c.in-Err.ensures.err.0

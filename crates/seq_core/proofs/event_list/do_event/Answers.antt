@@ -3,7 +3,7 @@ use Rattle.seq_core.proofs.event_list.do_event.Goals as goal
 
 pub returns-in-Load-clause-ok : goal.returns-in-Load-clause-ok
 returns-in-Load-clause-ok g c =
-    rw c.in-Load.is (load_answered c.args.core.now c.load.new.self c.in-Load.l c.in-Load.job c.load.result c.load.ensures.ok c.load.ensures.err)
+    rw c.in-Load.is (load_answered c.args.core.now c.load.new.self c.in-Load.lun c.in-Load.job c.load.result c.load.ensures.ok c.load.ensures.err)
 
 pub returns-in-Ok-clause-ok : goal.returns-in-Ok-clause-ok
 returns-in-Ok-clause-ok g c = rw c.in-Step.is c.in-Ok.ensures.came
@@ -16,4 +16,4 @@ returns-in-ArrayReady-clause-ok g c = rw c.in-ArrayReady.is c.array_ready.ensure
 
 pub returns-in-Unload-clause-ok : goal.returns-in-Unload-clause-ok
 returns-in-Unload-clause-ok g c =
-    rw c.in-Unload.is (unload_answered c.args.core.now c.unload.new.self c.in-Unload.l c.unload.result c.unload.ensures.ok c.unload.ensures.err)
+    rw c.in-Unload.is (unload_answered c.args.core.now c.unload.new.self c.in-Unload.lun c.unload.result c.unload.ensures.ok c.unload.ensures.err)

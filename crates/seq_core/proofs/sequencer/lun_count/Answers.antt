@@ -1,5 +1,5 @@
 use Rattle.std.proofs.Common.{◌≤◌, subst, sym}
-use Rattle.nand_geometry.specs.declared.Parts.{Parts}
+use Rattle.nand_geometry.specs.declared.parts.Parts.{Parts}
 use Rattle.seq_core.proofs.Cores.{few_slots}
 use Rattle.seq_core.proofs.sequencer.lun_count.Goals as goal
 

@@ -15,10 +15,10 @@ pub invariant_of-self-then-came : goal.invariant_of-self-then-came
 invariant_of-self-then-came g c =
     let v : HistoryView = record { core = c.self.inside.core; taker = c.self.inside.taker; events = c.self.inside.events.items; taken = c.self.inside.taken.items; started = c.self.inside.started.items; backlog = c.self.inside.backlog.items; done = map ended_of c.self.inside.done.items; counts = c.self.inside.counts; turns = c.self.inside.turns } in
     let h = c.self.invariant.0 in
-    let event = subst (λ b. IsEvent v.core (Ready c.args.l c.args.fail) (ToReady b) c.ready-came.new.self) c.if-came.true c.ready-came.ensures.came in (
-      plain_keeps v c.ready-came.new.self c.push_reserved.new.self.items c.count_luns-self-inside.result v.turns (BecameReady c.args.l c.args.fail) (Ready c.args.l c.args.fail) (ToReady true)
+    let event = subst (λ b. IsEvent v.core (Ready c.args.lun c.args.fail) (ToReady b) c.ready-came.new.self) c.if-came.true c.ready-came.ensures.came in (
+      plain_keeps v c.ready-came.new.self c.push_reserved.new.self.items c.count_luns-self-inside.result v.turns (BecameReady c.args.lun c.args.fail) (Ready c.args.lun c.args.fail) (ToReady true)
           h (record { stored = refl; answered = refl; verified = tt; no_load = refl; no_unload = refl; names = λ past. refl }) event
-          (c.push_reserved.ensures.items ∙ ap (λ (xs : List Stored). xs ++ (BecameReady c.args.l c.args.fail ∷ [])) c.reserve.ensures.items)
+          (c.push_reserved.ensures.items ∙ ap (λ (xs : List Stored). xs ++ (BecameReady c.args.lun c.args.fail ∷ [])) c.reserve.ensures.items)
           c.count_luns-self-inside.ensures.counts c.count_luns-self-inside.ensures.size h.turns h.turn_count,
       c.self.invariant.1,
     )
@@ -26,5 +26,5 @@ invariant_of-self-then-came g c =
 pub returns-else-came : goal.returns-else-came
 returns-else-came g c =
     let v : HistoryView = record { core = c.self.inside.core; taker = c.self.inside.taker; events = c.self.inside.events.items; taken = c.self.inside.taken.items; started = c.self.inside.started.items; backlog = c.self.inside.backlog.items; done = map ended_of c.self.inside.done.items; counts = c.self.inside.counts; turns = c.self.inside.turns } in
-    subst (λ (w : HistoryView). IsComing w (Ready c.args.l c.args.fail) ToReady (BecameReady c.args.l c.args.fail) (Some c.ready-came.result) (record v { core = c.ready-came.new.self; events = c.reserve.new.self.items })) c.self.view_is
-    (none_came v c.ready-came.new.self c.reserve.new.self.items (Ready c.args.l c.args.fail) ToReady (BecameReady c.args.l c.args.fail) c.ready-came.result c.if-came.false c.ready-came.ensures.no c.ready-came.ensures.came c.reserve.ensures.items)
+    subst (λ (w : HistoryView). IsComing w (Ready c.args.lun c.args.fail) ToReady (BecameReady c.args.lun c.args.fail) (Some c.ready-came.result) (record v { core = c.ready-came.new.self; events = c.reserve.new.self.items })) c.self.view_is
+    (none_came v c.ready-came.new.self c.reserve.new.self.items (Ready c.args.lun c.args.fail) ToReady (BecameReady c.args.lun c.args.fail) c.ready-came.result c.if-came.false c.ready-came.ensures.no c.ready-came.ensures.came c.reserve.ensures.items)

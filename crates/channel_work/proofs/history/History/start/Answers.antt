@@ -31,7 +31,7 @@ invariant_of-self-in-PicksNone g c =
 
 pub load_one-requires-clause-inside : goal.load_one-requires-clause-inside
 load_one-requires-clause-inside g c =
-    let k = get_inside c.as_slice.result.now c.in-Picks.k c.in-Picks.ensures.0 c.in-Picks.ensures.1.oldest.here in
+    let k = get_inside c.as_slice.result.now c.in-Picks.place c.in-Picks.ensures.0 c.in-Picks.ensures.1.oldest.here in
     let len = ap length c.as_slice.ensures.value in
     let ok = c.take_one-took.new.backlog.ok.0 in
     omega (arith, k, len, ok)
@@ -57,5 +57,5 @@ returns-in-Picks g c =
     let mid = middle v t.result t.new.taker c.make_room.new.taken.items t.new.taken.items c.make_room.new.backlog.items t.new.backlog.items c.self.invariant.0 same.2 same.3 t.ensures.yes t.ensures.no in
     let u : HistoryView = record (taken_view v t.new.taker t.new.taken.items t.new.backlog.items) { core = c.load_one.new.core; events = c.load_one.new.events.items; started = c.load_one.new.started.items; backlog = c.load_one.new.backlog.items } in
     subst (λ (x : HistoryView). HasStarted x c.args.seats.now c.in-Picks.lease u c.pop.new.self) c.self.view_is
-    (has_started v c.args.seats.now c.pop.new.self c.in-Some.seat t.result t.new.taker t.new.taken.items t.new.backlog.items c.as_slice.result.now c.load_one.new.backlog.items c.load_one.new.core c.make_room.new.events.items c.load_one.new.events.items c.make_room.new.started.items c.load_one.new.started.items c.in-Picks.k c.in-Picks.lease
+    (has_started v c.args.seats.now c.pop.new.self c.in-Some.seat t.result t.new.taker t.new.taken.items t.new.backlog.items c.as_slice.result.now c.load_one.new.backlog.items c.load_one.new.core c.make_room.new.events.items c.load_one.new.events.items c.make_room.new.started.items c.load_one.new.started.items c.in-Picks.place c.in-Picks.lease
     mid.1 c.in-Some.ensures.some c.as_slice.ensures.value c.in-Picks.ensures same.0 same.1 c.load_one.ensures)

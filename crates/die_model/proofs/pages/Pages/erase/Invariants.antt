@@ -1,5 +1,5 @@
 use Rattle.std.proofs.Common.{◌≡◌}
-use Rattle.onfi_cycle.specs.declared.effect.PageAddress.{PageAddress}
+use Rattle.onfi_cycle.specs.declared.page_address.PageAddress.{PageAddress}
 use Rattle.die_model.specs.Pages.{kept}
 use Rattle.die_model.proofs.Kept.{erased_to}
 use Rattle.die_model.proofs.pages.Pages.erase.Given as goal

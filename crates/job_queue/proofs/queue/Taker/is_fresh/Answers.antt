@@ -1,6 +1,5 @@
 use Rattle.std.proofs.Common.{◌∙◌, ap}
-use Rattle.job_queue.specs.Passes.{all_are_zero}
-use Rattle.job_queue.proofs.Taking.{none_taken}
+use Rattle.job_queue.proofs.Taking.{none_taken, all_are_zero}
 use Rattle.job_queue.proofs.queue.Taker.is_fresh.Goals as goal
 
 pub returns : goal.returns

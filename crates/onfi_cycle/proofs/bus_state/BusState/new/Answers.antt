@@ -1,5 +1,5 @@
 use Rattle.std.proofs.Common.{◌<◌, [], length, sym, ap, ◌∙◌, arith}
-use Rattle.nand_geometry.specs.declared.Parts.{Parts}
+use Rattle.nand_geometry.specs.declared.parts.Parts.{Parts}
 use Rattle.onfi_cycle.proofs.Following.{more_targets, targets_length, beginning}
 use Rattle.onfi_cycle.proofs.bus_state.BusState.new.Goals as goal
 

@@ -12,11 +12,11 @@ returns-in-None c = record {
       (ap (λ ts. slice_get ts c.args.ce) (sym (c.as_slice.ensures.value ∙ ap (λ (s : BusView). s.targets) c.self.view_is)) ∙ (sym c.target_at.ensures ∙ ap option_copied c.in-None.is)));
 }
 
-found : (c : goal.After-tail_of) → slice_get c.args.self.now.targets c.args.ce ≡ Some c.in-Some.target.now
+found : (c : goal.After-tail) → slice_get c.args.self.now.targets c.args.ce ≡ Some c.in-Some.target.now
 found c = ap (λ ts. slice_get ts c.args.ce) (sym (c.as_slice.ensures.value ∙ ap (λ (s : BusView). s.targets) c.self.view_is)) ∙ (sym c.target_at.ensures ∙ ap option_copied c.in-Some.is)
 
 pub returns-in-Some : goal.returns-in-Some
 returns-in-Some c = record {
   past = λ g n past f here.
-      ap Some (c.tail_of.ensures ∙ tail_there g n c.args.self.now past c.args.ce c.in-Some.target.now f here (found c));
+      ap Some (c.tail.ensures ∙ tail_there g n c.args.self.now past c.args.ce c.in-Some.target.now f here (found c));
 }

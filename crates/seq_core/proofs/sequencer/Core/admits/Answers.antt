@@ -5,8 +5,8 @@ use Rattle.seq_core.proofs.sequencer.Core.admits.Goals as goal
 
 pub returns-in-Some-clause-err : goal.returns-in-Some-clause-err
 returns-in-Some-clause-err g c =
-    fault_is c.args.self.now c.args.l c.args.job.now c.state_at.result c.place.result c.has_job-has_job.result c.is_some-there.result c.lun.result c.geometry-geometry.result c.geometry.result.now _ c.state_at.ensures.value c.place.ensures.value c.has_job-has_job.ensures c.is_some-there.ensures c.lun.ensures.value (c.geometry-geometry.ensures.value ∙ ap (λ (v : CoreView). v.geometry) c.self.view_is) c.geometry.ensures c.in-Some.ensures
+    fault_is c.args.self.now c.args.lun c.args.job.now c.state_at.result c.place.result c.has_job-has_job.result c.is_some-there.result c.lun.result c.geometry-geometry.result c.geometry.result.now _ c.state_at.ensures.value c.place.ensures.value c.has_job-has_job.ensures c.is_some-there.ensures c.lun.ensures.value (c.geometry-geometry.ensures.value ∙ ap (λ (v : CoreView). v.geometry) c.self.view_is) c.geometry.ensures c.in-Some.ensures
 
 pub returns-in-None-clause-ok : goal.returns-in-None-clause-ok
 returns-in-None-clause-ok g c =
-    fault_is c.args.self.now c.args.l c.args.job.now c.state_at.result c.place.result c.has_job-has_job.result c.is_some-there.result c.lun.result c.geometry-geometry.result c.geometry.result.now _ c.state_at.ensures.value c.place.ensures.value c.has_job-has_job.ensures c.is_some-there.ensures c.lun.ensures.value (c.geometry-geometry.ensures.value ∙ ap (λ (v : CoreView). v.geometry) c.self.view_is) c.geometry.ensures c.in-None.ensures
+    fault_is c.args.self.now c.args.lun c.args.job.now c.state_at.result c.place.result c.has_job-has_job.result c.is_some-there.result c.lun.result c.geometry-geometry.result c.geometry.result.now _ c.state_at.ensures.value c.place.ensures.value c.has_job-has_job.ensures c.is_some-there.ensures c.lun.ensures.value (c.geometry-geometry.ensures.value ∙ ap (λ (v : CoreView). v.geometry) c.self.view_is) c.geometry.ensures c.in-None.ensures

@@ -9,8 +9,8 @@ use Rattle.seq_core.proofs.sequencer.Core.ready.Goals as goal
 
 pub returns-clause-came : goal.returns-clause-came
 returns-clause-came g c =
-    subst (λ (x : CoreView). IsEvent x (Ready c.args.l c.args.fail) (ToReady c.ready.result) (view_of c.ready.new.self c.self.inside.slots.items c.self.inside.holder)) c.self.view_is
-    (ready_now c.self.inside.bus c.ready.new.self c.self.inside.slots.items c.self.inside.holder c.args.l c.args.fail c.ready.result c.self.invariant c.ready.ensures.came c.ready.ensures.yes c.ready.ensures.no)
+    subst (λ (x : CoreView). IsEvent x (Ready c.args.lun c.args.fail) (ToReady c.ready.result) (view_of c.ready.new.self c.self.inside.slots.items c.self.inside.holder)) c.self.view_is
+    (ready_now c.self.inside.bus c.ready.new.self c.self.inside.slots.items c.self.inside.holder c.args.lun c.args.fail c.ready.result c.self.invariant c.ready.ensures.came c.ready.ensures.yes c.ready.ensures.no)
 
 pub invariant_of-self : goal.invariant_of-self
 invariant_of-self g c = is_core_after c.args.self.now _ _ _ (subst IsCore c.self.view_is c.self.invariant) (returns-clause-came g c)

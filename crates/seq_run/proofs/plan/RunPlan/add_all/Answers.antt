@@ -1,5 +1,5 @@
 use Rattle.std.proofs.Common.{arith, ◌∙◌, sym, subst}
-use Rattle.seq_run.specs.declared.failure.NotRun.{NotRun}
+use Rattle.seq_run.specs.declared.not_run.NotRun.{NotRun}
 use Rattle.run_file.specs.Shown.{shown_all}
 use Rattle.seq_run.specs.Failures.{Refuses}
 use Rattle.seq_run.specs.Judged.{Numbered, RestIsRefused}

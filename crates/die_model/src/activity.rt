@@ -1,0 +1,89 @@
+//! What a LUN does, and what its register holds.
+ghost use Rattle.std.specs.Prelude.{◌≡◌, ◌^◌, ◌<◌, ◌&&◌, if◌then◌else◌, false, [], length};
+ghost use Rattle.onfi_cycle.specs.declared.effect.Effect.TheVariants.{BecameReady};
+ghost use Rattle.onfi_cycle.specs.Lun.{busy_after, array_busy_after, array_page_after, register_after};
+ghost use Rattle.die_model.specs.Die.{effect_of, caching_after, queue_with, closes, is_reset};
+
+use crate::work::Work;
+use onfi_cycle::{Effect, PageAddress, Register, RowQueue};
+
+/// What a LUN does, and what its register holds.
+#[derive(Drop)]
+pub(crate) struct Activity {
+    pub(crate) register: Register,
+    /// The page that its array was last told to read.
+    pub(crate) array_page: PageAddress,
+    pub(crate) busy: bool,
+    pub(crate) caching: bool,
+    pub(crate) array_busy: bool,
+    /// The rows that are queued, the newest first.
+    pub(crate) queue: RowQueue,
+    /// The next ready ends the queue.
+    pub(crate) closed: bool,
+    /// The last work failed.
+    pub(crate) failed: bool,
+}
+
+// The array reads its cache after an effect.
+fn caching_after(effect: Effect, before: bool) -> bool
+    ensures { result ≡ caching_after effect before }
+{
+    match effect {
+        Effect::CacheReadContinued => true,
+        Effect::ReadStarted { .. }
+        | Effect::EraseStarted { .. }
+        | Effect::ProgramStarted { .. }
+        | Effect::IdRead
+        | Effect::ParameterPageReadStarted
+        | Effect::CacheReadEnded
+        | Effect::ResetStarted => false,
+        _ => before,
+    }
+}
+
+impl Activity {
+    /// What goes on once a work has begun.
+    pub(crate) fn begin(&mut self, work: Work)
+        requires room { is_reset work ≡ false → length self.old.queue.items < 16 }
+        requires next { self.old.array_page.page < 2 ^ 32 }
+        ensures register { self.new.register ≡ register_after (effect_of work) self.old.array_page self.old.register }
+        ensures array_page { self.new.array_page ≡ array_page_after (effect_of work) self.old.array_page }
+        ensures busy { self.new.busy ≡ busy_after (effect_of work) self.old.busy }
+        ensures caching { self.new.caching ≡ caching_after (effect_of work) self.old.caching }
+        ensures array_busy { self.new.array_busy
+            ≡ array_busy_after (effect_of work) self.old.busy self.old.caching self.old.array_busy }
+        ensures queue { self.new.queue.items ≡ queue_with work self.old.queue.items }
+        ensures closed { self.new.closed ≡ closes work }
+        ensures failed { self.new.failed ≡ self.old.failed }
+    {
+        let effect = work.effect();
+        self.array_busy = effect.array_busy_after(self.busy, self.caching, self.array_busy);
+        self.caching = caching_after(effect, self.caching);
+        self.register = effect.register_after(self.array_page, self.register);
+        self.array_page = effect.array_page_after(self.array_page);
+        self.busy = effect.busy_after(self.busy);
+        self.closed = work.join(&mut self.queue);
+    }
+
+    /// What goes on once the LUN has become ready, with failure or without. A queue that was closed is over.
+    pub(crate) fn finish(&mut self, fail: bool)
+        ensures register { self.new.register ≡ self.old.register }
+        ensures array_page { self.new.array_page ≡ self.old.array_page }
+        ensures busy { self.new.busy ≡ false }
+        ensures caching { self.new.caching ≡ self.old.caching }
+        ensures array_busy { self.new.array_busy
+            ≡ array_busy_after (BecameReady fail) self.old.busy self.old.caching self.old.array_busy }
+        ensures queue { self.new.queue.items ≡ (if self.old.closed then [] else self.old.queue.items) }
+        ensures closed { self.new.closed ≡ false }
+        ensures failed { self.new.failed ≡ (self.old.closed && fail) }
+    {
+        let effect = Effect::BecameReady { failed: fail };
+        self.array_busy = effect.array_busy_after(self.busy, self.caching, self.array_busy);
+        self.busy = false;
+        self.failed = self.closed && fail;
+        if self.closed {
+            self.queue.clear();
+        }
+        self.closed = false;
+    }
+}

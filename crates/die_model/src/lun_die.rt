@@ -1,0 +1,335 @@
+//! One LUN of a die: its pages, its registers, and what its array does.
+ghost use Rattle.std.specs.Prelude.{◌≡◌, ℕ, ◌%◌, ◌<◌, true, false, List, [], ◌∷◌, Some, None, IsOk, slice_set, slice_index_or, if◌then◌else◌, IfOk, OnErr, length, slice_get, replicate};
+ghost use Rattle.nand_geometry.specs.Limits.{page_len, planes};
+ghost use Rattle.onfi_cycle.specs.declared.effect.Effect.TheVariants.{BecameReady, ArrayBecameReady};
+ghost use Rattle.die_model.specs.Standing.{WorkedBy, CanWork};
+ghost use Rattle.nand_geometry.specs.Page.{parameter_bytes};
+ghost use Rattle.onfi_cycle.specs.declared.page_address.PageAddress.{PageAddress as At};
+ghost use Rattle.die_model.specs.Die.{page_to_keep, is_program};
+ghost use Rattle.onfi_cycle.specs.declared.register.Register.{Register};
+ghost use Rattle.die_model.specs.Pages.{kept, page_in};
+ghost use Rattle.die_model.specs.Image.{image_of};
+ghost use Rattle.die_model.specs.Loading.{image_fault, IsJudgedBy, IsLoaded, Restores};
+ghost use Rattle.die_model.specs.Die.{CanBegin, IsAfter, effect_of, status_of, bytes_shown, is_new, new_die, page_of};
+
+use crate::activity::Activity;
+use crate::effects::{end_works, plane_of};
+use crate::loading::{image_fault, keep_image};
+use crate::page::Page;
+use crate::pages::Pages;
+use crate::refusal::ImageRefusal;
+use crate::work::Work;
+use arrayvec::ArrayVec;
+use nand_geometry::Geometry;
+use onfi_cycle::{Effect, Filling, PageAddress, Register, Status};
+use std::alloc::{AllocError, Allocator, Global};
+use std::marker::Model;
+
+#[cfg(test)]
+mod tests;
+
+/// One LUN: its pages, its registers, and what its array does.
+#[derive(Drop)]
+pub struct LunDie<A: Allocator = Global> {
+    geometry: Geometry,
+    /// The copies of the parameter page.
+    parameters: Vec<u8, A>,
+    pages: Pages<A>,
+    /// The page register of each plane.
+    planes: Vec<Page<A>, A>,
+    /// The bytes of the page that the register holds, if it holds one.
+    output: Page<A>,
+    activity: Activity,
+}
+
+impl<A: Allocator> Model for LunDie<A> {
+    ghost use Rattle.die_model.specs.Die.{Die, KeepsDie, die_with};
+
+    ghost Value = { Die };
+
+    ghost view = { λ d. die_with d.geometry d.pages d.planes.items d.activity.register d.activity.array_page d.activity.busy d.activity.caching d.activity.array_busy d.activity.queue.items d.activity.closed d.activity.failed };
+
+    ghost invariant = { λ d. KeepsDie d.geometry d.parameters.items d.pages d.planes.items d.activity.queue.items d.activity.closed d.activity.busy d.activity.register d.output };
+}
+
+/// How many copies of the parameter page its register holds.
+const PARAMETER_COPIES: usize = 3;
+
+/// What Read ID gives, "ONFI".
+const IDENTIFIER: [u8; 4] = [0x4f, 0x4e, 0x46, 0x49];
+
+// The copies of the parameter page.
+fn parameter_copies<A: Allocator>(alloc: A, geometry: &Geometry) -> Result<Vec<u8, A>, AllocError>
+    ensures { IfOk result (λ v. v.items ≡ parameter_bytes geometry.now) }
+{
+    let page = geometry.page();
+    let mut copies = Vec::with_capacity(alloc, PARAMETER_COPIES * page.len())?;
+    for _ in 0..PARAMETER_COPIES {
+        copies.extend_from_slice(&page)?;
+    }
+    Ok(copies)
+}
+
+// So many registers of FF.
+fn registers<A: Allocator + Copy>(
+    alloc: A,
+    count: usize,
+    len: usize,
+) -> Result<Vec<Page<A>, A>, AllocError>
+    ensures { IfOk result (λ v. v.items ≡ replicate count (replicate len 0xff)) }
+{
+    let mut all = Vec::new(alloc);
+    for _ in 0..count {
+        all.push(Page::blank(alloc, len)?)?;
+    }
+    Ok(all)
+}
+
+// The bytes of the page that a register holds, if it holds one.
+fn fetch<A: Allocator + Copy>(output: &mut Page<A>, pages: &Pages<A>, register: Register)
+    requires { (at : At) (bytes : List ℕ) → kept pages.now at ≡ Some bytes → length bytes ≡ length output.old }
+    ensures page { (at : At) → register ≡ Register.Page at → output.new ≡ page_in (length output.old) pages.now at }
+    ensures width { length output.new ≡ length output.old }
+{
+    if let Register::Page(at) = register {
+        match pages.get(at) {
+            Some(page) => output.copy_from(page.bytes()),
+            None => output.clear(),
+        }
+    }
+}
+
+impl<A: Allocator + Copy> LunDie<A> {
+    /// A die fresh from the factory: every byte of every page is FF.
+    pub fn new(alloc: A, geometry: Geometry) -> Result<LunDie<A>, AllocError>
+        ensures { IfOk result (λ d. d ≡ new_die geometry) }
+    {
+        // Its contract says that they are in the limits, which a die keeps.
+        let _limits = geometry.parts();
+        let planes = geometry.planes() as usize;
+        let len = geometry.page_len() as usize;
+        Ok(LunDie {
+            parameters: parameter_copies(alloc, &geometry)?,
+            geometry,
+            pages: Pages::new(alloc),
+            planes: registers(alloc, planes, len)?,
+            output: Page::blank(alloc, len)?,
+            activity: Activity {
+                register: Register::Empty,
+                array_page: PageAddress { block: 0, page: 0 },
+                busy: false,
+                caching: false,
+                array_busy: false,
+                queue: ArrayVec::new(),
+                closed: false,
+                failed: false,
+            },
+        })
+    }
+
+    /// A byte of a page, if it has that column.
+    pub fn page_byte(&self, at: PageAddress, column: usize) -> Option<u8>
+        ensures { result ≡ slice_get (page_of self.now at) column }
+    {
+        match self.pages.get(at) {
+            Some(page) => page.bytes().get(column).copied(),
+            None if column < self.geometry.page_len() as usize => Some(0xff),
+            None => None,
+        }
+    }
+
+    /// The byte of its register at a column, if there is one.
+    pub fn shown(&self, column: usize) -> Option<u8>
+        ensures { result ≡ slice_get (bytes_shown self.now) column }
+    {
+        match self.activity.register {
+            Register::Empty => None,
+            Register::Page(_) => self.output.bytes().get(column).copied(),
+            Register::ParameterPage => self.parameters.get(column).copied(),
+            Register::Identifier => IDENTIFIER.get(column).copied(),
+        }
+    }
+
+    /// Its array works, or is told to.
+    pub fn is_busy(&self) -> bool
+        ensures { result ≡ self.now.busy }
+    {
+        self.activity.busy
+    }
+
+    /// The last work failed.
+    pub fn has_failed(&self) -> bool
+        ensures { result ≡ self.now.failed }
+    {
+        self.activity.failed
+    }
+
+    /// A copy of its pages.
+    pub fn pages(&self) -> Result<Pages<A>, AllocError>
+        ensures value { IfOk result (λ pages. pages ≡ self.now.pages) }
+        ensures lengths { (p : At) → length (page_of self.now p) ≡ page_len self.now.geometry }
+        ensures registers { length self.now.planes ≡ planes self.now.geometry }
+    {
+        self.pages.copy()
+    }
+
+    /// Forgets which page its array read last, for a bus that has seen none.
+    pub fn forget_array_page(&mut self)
+        ensures { self.new ≡ record self.old { array_page = record { block = 0; page = 0 } } }
+    {
+        self.activity.array_page = PageAddress { block: 0, page: 0 };
+    }
+
+    /// Its array becomes ready after a cache read.
+    pub fn array_ready(&mut self)
+        ensures { IsAfter ArrayBecameReady self.old self.new }
+    {
+        self.activity.array_busy = false;
+    }
+
+    /// The geometry of its target.
+    pub fn geometry(&self) -> Geometry
+        ensures { result ≡ self.now.geometry }
+    {
+        self.geometry
+    }
+
+    /// The status byte that it shows.
+    pub fn status(&self) -> Status
+        ensures { result.0 ≡ status_of self.now }
+    {
+        if self.activity.busy {
+            Status::BUSY
+        } else if self.activity.array_busy {
+            Status::ARRAY_BUSY
+        } else if self.activity.failed {
+            Status::FAILED
+        } else {
+            Status::READY
+        }
+    }
+
+    /// Nothing is going on, waits or has failed.
+    pub fn is_new(&self) -> bool
+        ensures { result ≡ is_new self.now }
+    {
+        !self.activity.busy
+            && !self.activity.array_busy
+            && !self.activity.caching
+            && self.activity.register == Register::Empty
+            && self.activity.queue.is_empty()
+            && !self.activity.failed
+    }
+
+    /// Becomes ready, with failure or without. Without failure the works have taken effect. It takes no memory.
+    pub fn finish(&mut self, fail: bool)
+        ensures { IsAfter (BecameReady fail) self.old self.new }
+    {
+        end_works(
+            &mut self.pages,
+            self.geometry.parts(),
+            self.planes.as_slice(),
+            &self.activity,
+            fail,
+        );
+        self.activity.finish(fail);
+    }
+
+    /// Begins a work. Without memory for its end all stays as it was.
+    pub fn begin(&mut self, work: Work) -> Result<(), AllocError>
+        requires { CanBegin work self.old }
+        ensures ok { IfOk result (λ _. IsAfter (effect_of work) self.old self.new) }
+        ensures err { OnErr result (self.new ≡ self.old) }
+        ensures memory { page_to_keep work ≡ None → IsOk result }
+    {
+        let len = self.geometry.page_len() as usize;
+        self.pages.keep_some(work.page_to_keep(), len)?;
+        self.activity.begin(work);
+        fetch(&mut self.output, &self.pages, self.activity.register);
+        Ok(())
+    }
+
+    /// Its image: `NDI1`; data bytes and spare bytes of a page, pages of a block, blocks of a LUN, and the count of
+    /// entries, 4 bytes each; and for each page that holds a byte other than FF, in rising rows, an entry of the row
+    /// in 4 bytes and then the bytes of the page. Numbers have their least significant byte first, and a row is that
+    /// of LUN 0.
+    pub fn image(&self) -> Result<Vec<u8, A>, AllocError>
+        ensures value { IfOk result (λ v. v.items ≡ image_of self.now) }
+        ensures restores { IfOk result (λ v. Restores v.items self.now) }
+    {
+        self.pages.image(&self.geometry)
+    }
+
+    /// Makes an image the whole content of a new die; a page without an entry is FF. What is refused leaves the die
+    /// as it was: the image has a fault, which is the first that is met, or it has none and memory runs out.
+    pub fn load_image(&mut self, bytes: &[u8]) -> Result<(), ImageRefusal>
+        requires { is_new self.old ≡ true }
+        ensures judged { IsJudgedBy (image_fault self.old.geometry bytes.now) result }
+        ensures ok { IfOk result (λ _. IsLoaded bytes.now self.old self.new) }
+        ensures err { OnErr result (self.new ≡ self.old) }
+    {
+        if let Some(fault) = image_fault(&self.geometry, bytes) {
+            return Err(ImageRefusal::Fault(fault));
+        }
+        self.take_image(bytes)?;
+        Ok(())
+    }
+
+    // Loads an image without a fault.
+    fn take_image(&mut self, bytes: &[u8]) -> Result<(), AllocError>
+        requires new { is_new self.old ≡ true }
+        requires faultless { image_fault self.old.geometry bytes.now ≡ None }
+        ensures ok { IfOk result (λ _. IsLoaded bytes.now self.old self.new) }
+        ensures err { OnErr result (self.new ≡ self.old) }
+    {
+        let mut pages = self.pages.emptied();
+        keep_image(&self.geometry, bytes, &mut pages)?;
+        self.pages = pages;
+        Ok(())
+    }
+
+    /// Fills the register of a plane with FF.
+    pub fn clear(&mut self, plane: usize)
+        requires { plane < planes self.old.geometry }
+        ensures { self.new ≡ record self.old { planes = slice_set self.old.planes plane (replicate (page_len self.old.geometry) 0xff) } }
+    {
+        let register = &mut self.planes[plane];
+        register.clear();
+    }
+
+    /// Sets one byte of the register of a plane.
+    pub fn fill(&mut self, plane: usize, column: usize, byte: u8)
+        requires plane { plane < planes self.old.geometry }
+        requires column { column < page_len self.old.geometry }
+        ensures { self.new ≡ record self.old {
+          planes = slice_set self.old.planes plane
+              (slice_set (slice_index_or self.old.planes plane []) column byte);
+        } }
+    {
+        let register = &mut self.planes[plane];
+        register.set(column, byte);
+    }
+
+    /// Works what an item does, if that is no ready. Without memory for it all stays as it was.
+    pub fn work(&mut self, filling: Filling, effect: Effect) -> Result<(), AllocError>
+        requires { CanWork filling effect self.old }
+        ensures ok { IfOk result (λ _. WorkedBy self.old.geometry filling effect self.old self.new) }
+        ensures err { OnErr result (self.new ≡ self.old) }
+        ensures memory { is_program effect ≡ false → IsOk result }
+    {
+        match filling {
+            Filling::Leaves => match Work::begun_by(effect) {
+                None => Ok(()),
+                Some(work) => self.begin(work),
+            },
+            Filling::Clears(at) => {
+                self.clear(plane_of(self.geometry().parts(), at));
+                Ok(())
+            }
+            Filling::Fills(at, column, byte) => {
+                self.fill(plane_of(self.geometry().parts(), at), column, byte);
+                Ok(())
+            }
+        }
+    }
+}

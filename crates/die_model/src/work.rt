@@ -1,0 +1,112 @@
+//! What an array is told to do.
+ghost use Rattle.std.specs.Prelude.{◌≡◌, ◌<◌, false, length};
+ghost use Rattle.die_model.specs.Die.{effect_of, work_begun, queue_with, closes, is_reset, page_to_keep};
+
+use onfi_cycle::{Effect, PageAddress, Queued, RowQueue};
+
+/// What an array is told to do.
+#[derive(Clone, Copy, Debug, PartialEq, Eq)]
+pub enum Work {
+    /// A page is read into the register.
+    Read(PageAddress),
+    /// The register of its plane goes into a page, and the queue with it.
+    Program(PageAddress),
+    /// The block of this row is erased, and the queue goes with it.
+    Erase(PageAddress),
+    /// A row waits for the last one of its queue.
+    Queue(Queued),
+    /// The identifier is put into the register; that ends at once.
+    Identifier,
+    /// The parameter page is read into the register.
+    Parameters,
+    /// All work stops, and nothing stays queued.
+    Reset,
+    /// The page that the array has read is put into the register, and the array reads the next.
+    Cache,
+    /// The page that the array has read is put into the register.
+    CacheEnd,
+}
+
+impl Work {
+    /// The work that an effect begins, None where it begins none.
+    pub(crate) fn begun_by(effect: Effect) -> Option<Work>
+        ensures { result ≡ work_begun effect }
+    {
+        match effect {
+            Effect::ReadStarted { page, .. } => Some(Work::Read(page)),
+            Effect::ProgramStarted {
+                queued: false,
+                page,
+            } => Some(Work::Program(page)),
+            Effect::ProgramStarted { queued: true, page } => {
+                Some(Work::Queue(Queued::Program(page)))
+            }
+            Effect::EraseStarted { queued: false, row } => Some(Work::Erase(row)),
+            Effect::EraseStarted { queued: true, row } => Some(Work::Queue(Queued::Erase(row))),
+            Effect::IdRead => Some(Work::Identifier),
+            Effect::ParameterPageReadStarted => Some(Work::Parameters),
+            Effect::ResetStarted => Some(Work::Reset),
+            Effect::CacheReadContinued => Some(Work::Cache),
+            Effect::CacheReadEnded => Some(Work::CacheEnd),
+            _ => None,
+        }
+    }
+
+    /// The effect that it stands for.
+    pub(crate) fn effect(self) -> Effect
+        ensures { result ≡ effect_of self }
+    {
+        match self {
+            Work::Read(page) => Effect::ReadStarted { page, column: 0 },
+            Work::Program(page) => Effect::ProgramStarted {
+                queued: false,
+                page,
+            },
+            Work::Erase(row) => Effect::EraseStarted { queued: false, row },
+            Work::Queue(Queued::Erase(row)) => Effect::EraseStarted { queued: true, row },
+            Work::Queue(Queued::Program(page)) => Effect::ProgramStarted { queued: true, page },
+            Work::Identifier => Effect::IdRead,
+            Work::Parameters => Effect::ParameterPageReadStarted,
+            Work::Reset => Effect::ResetStarted,
+            Work::Cache => Effect::CacheReadContinued,
+            Work::CacheEnd => Effect::CacheReadEnded,
+        }
+    }
+
+    /// The page that it will program.
+    pub(crate) fn page_to_keep(self) -> Option<PageAddress>
+        ensures { result ≡ page_to_keep self }
+    {
+        match self {
+            Work::Program(at) | Work::Queue(Queued::Program(at)) => Some(at),
+            _ => None,
+        }
+    }
+
+    /// Joins the rows that wait, and tells whether it closes them.
+    pub(crate) fn join(self, queue: &mut RowQueue) -> bool
+        requires { is_reset self ≡ false → length queue.old.items < 16 }
+        ensures queue { queue.new.items ≡ queue_with self queue.old.items }
+        ensures closed { result ≡ closes self }
+    {
+        match self {
+            Work::Program(at) => {
+                queue.insert(0, Queued::Program(at));
+                true
+            }
+            Work::Erase(at) => {
+                queue.insert(0, Queued::Erase(at));
+                true
+            }
+            Work::Queue(row) => {
+                queue.insert(0, row);
+                false
+            }
+            Work::Reset => {
+                queue.clear();
+                false
+            }
+            _ => false,
+        }
+    }
+}

@@ -1,0 +1,60 @@
+//! The page that the array reads.
+ghost use Rattle.std.specs.Prelude.{◌≡◌};
+ghost use Rattle.micro_claims.specs.Joins.{joined_cached};
+ghost use Rattle.micro_claims.specs.Leaves.{cached_at};
+ghost use Rattle.micro_claims.specs.Spans.{plus};
+
+use crate::named_row::NamedRow;
+use crate::span::{ANY_NUMBER, Span};
+
+/// The page that the array reads, where the last closer is 30h or 31h.
+#[derive(Clone, Copy)]
+pub struct CachedPage {
+    /// Its index, counted from the job's base.
+    pub index: Span,
+    /// Its place in its block.
+    pub page: Span,
+}
+
+pub(crate) const NOT_CACHED: CachedPage = CachedPage {
+    index: ANY_NUMBER,
+    page: ANY_NUMBER,
+};
+
+impl CachedPage {
+    // The row that the tail names.
+    pub(crate) fn of(named: Option<NamedRow>) -> CachedPage
+        ensures { result ≡ cached_at named }
+    {
+        match named {
+            None => NOT_CACHED,
+            Some(row) => CachedPage {
+                index: row.index.copied(),
+                page: Span {
+                    lo: 0,
+                    hi: Some(u64::from(row.page)),
+                    grown: None,
+                },
+            },
+        }
+    }
+
+    // The page after it.
+    pub(crate) fn next(self) -> CachedPage
+        ensures { result ≡ record { index = plus self.index 1; page = plus self.page 1 } }
+    {
+        CachedPage {
+            index: self.index.plus(1),
+            page: self.page.plus(1),
+        }
+    }
+
+    pub(crate) fn join(self, other: CachedPage) -> CachedPage
+        ensures { result ≡ joined_cached self other }
+    {
+        CachedPage {
+            index: self.index.join(other.index),
+            page: self.page.join(other.page),
+        }
+    }
+}

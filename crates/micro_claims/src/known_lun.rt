@@ -1,0 +1,170 @@
+//! What is known of the LUN.
+ghost use Rattle.std.specs.Prelude.{◌≡◌, Some, true, false, None, ◌||◌};
+ghost use Rattle.micro_claims.specs.Against.{has_page_or_parameters, least_length, may_be_queued};
+ghost use Rattle.micro_claims.specs.Joins.{joined_lun};
+ghost use Rattle.micro_claims.specs.Leaves.{unread, page_register, column_read};
+ghost use Rattle.micro_claims.specs.Order.{is_lun_within};
+ghost use Rattle.micro_claims.specs.Spans.{exactly};
+ghost use Rattle.micro_claims.specs.State.{other_closer};
+
+use crate::cached_page::CachedPage;
+use crate::flags::may_within;
+use crate::held::{Held, PAGE_HELD, is_register_within, joined_registered};
+use crate::last_closer::{LastCloser, OTHER_CLOSER};
+use crate::output_column::{OutputColumn, is_output_within, joined_outputs, widened_output};
+use crate::queued_rows::QueuedRows;
+use crate::shown::Shown;
+use nand_geometry::Geometry;
+
+/// What is known of the LUN, whoever has the bus.
+#[derive(Clone, Copy)]
+pub struct KnownLun {
+    /// It may be busy.
+    pub busy: bool,
+    /// None where it may be empty.
+    pub register: Option<Held>,
+    /// None where it may be lost.
+    pub column: Option<OutputColumn>,
+    pub queue: QueuedRows,
+    pub last: LastCloser,
+    pub cached: CachedPage,
+}
+
+impl KnownLun {
+    // A status after data was read loses the column.
+    pub(crate) fn unread(&self) -> Option<OutputColumn>
+        ensures { result ≡ unread self.now.column }
+    {
+        match self.column {
+            Some(column) if column.read => None,
+            column => column,
+        }
+    }
+
+    // The column after so many outputs.
+    pub(crate) fn column_read(&self, shows: Option<Shown>, len: u32) -> Option<OutputColumn>
+        ensures { result ≡ column_read shows len self.now.column }
+    {
+        let shown = match shows {
+            None => return None,
+            Some(shown) => shown,
+        };
+        let column = match self.column {
+            None => return None,
+            Some(column) => column,
+        };
+        if !shown.register {
+            return Some(column);
+        }
+        let least = if shown.status { 0 } else { u64::from(len) };
+        Some(OutputColumn {
+            at: column.at.plus_between(least, u64::from(len)),
+            read: true,
+        })
+    }
+
+    // At work that leaves no register.
+    pub(crate) fn at_work(&self, queue: QueuedRows) -> KnownLun
+        ensures { result ≡ record {
+          busy = true;
+          register = None;
+          column = None;
+          queue = queue;
+          last = other_closer;
+          cached = self.now.cached;
+        } }
+    {
+        KnownLun {
+            busy: true,
+            register: None,
+            column: None,
+            queue,
+            last: OTHER_CLOSER,
+            cached: self.cached,
+        }
+    }
+
+    // At a cache read.
+    pub(crate) fn caching(&self, last: LastCloser, cached: CachedPage) -> KnownLun
+        ensures { result ≡ record {
+          busy = true;
+          register = page_register;
+          column = Some (record { at = exactly 0; read = false });
+          queue = self.now.queue;
+          last = last;
+          cached = cached;
+        } }
+    {
+        KnownLun {
+            busy: true,
+            register: PAGE_HELD,
+            column: Some(OutputColumn::first()),
+            queue: self.queue,
+            last,
+            cached,
+        }
+    }
+
+    pub(crate) fn has_page_or_parameters(&self) -> bool
+        ensures { result ≡ has_page_or_parameters self.now.register }
+    {
+        match self.register {
+            None => false,
+            Some(held) => !held.identifier,
+        }
+    }
+
+    pub(crate) fn least_length(&self, geometry: &Geometry) -> u32
+        ensures { result ≡ least_length geometry.now self.now.register }
+    {
+        match self.register {
+            None => 0,
+            Some(held) => held.least_length(geometry),
+        }
+    }
+
+    // An opener that reads an identifier or a parameter page may be refused.
+    pub(crate) fn may_work(&self) -> bool
+        ensures { result ≡ self.now.busy || may_be_queued self.now.queue || self.now.last.cache }
+    {
+        self.busy || self.queue.may_be_some() || self.last.cache
+    }
+
+    pub(crate) fn is_within(&self, other: &KnownLun) -> bool
+        ensures { result ≡ is_lun_within self.now other.now }
+    {
+        may_within(self.busy, other.busy)
+            && is_register_within(self.register, other.register)
+            && is_output_within(self.column, other.column)
+            && self.queue.are_within(other.queue)
+            && may_within(self.last.read, other.last.read)
+            && may_within(self.last.cache, other.last.cache)
+            && may_within(self.last.other, other.last.other)
+            && self.cached.index.is_within(other.cached.index)
+            && self.cached.page.is_within(other.cached.page)
+    }
+
+    pub(crate) fn join(&self, other: &KnownLun) -> KnownLun
+        ensures { result ≡ joined_lun self.now other.now }
+    {
+        KnownLun {
+            busy: self.busy || other.busy,
+            register: joined_registered(self.register, other.register),
+            column: joined_outputs(self.column, other.column),
+            queue: self.queue.join(other.queue),
+            last: self.last.join(other.last),
+            cached: self.cached.join(other.cached),
+        }
+    }
+
+    pub(crate) fn widen(&self, other: &KnownLun) -> KnownLun {
+        KnownLun {
+            column: widened_output(self.column, other.column),
+            cached: CachedPage {
+                index: self.cached.index.widen(other.cached.index),
+                page: self.cached.page.widen(other.cached.page),
+            },
+            ..*other
+        }
+    }
+}

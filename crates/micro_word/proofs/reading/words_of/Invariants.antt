@@ -1,5 +1,0 @@
-use Rattle.micro_word.proofs.Loop.{IsSoFar}
-use Rattle.micro_word.proofs.reading.words_of.Given as goal
-
-abbrev pub invariant-loop-place : goal.invariant-loop-place
-invariant-loop-place g l = IsSoFar l.header l.place l.rest l.bytes l.words.items

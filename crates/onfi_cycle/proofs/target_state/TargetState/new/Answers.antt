@@ -1,0 +1,20 @@
+use Rattle.std.proofs.Common.{◌<◌, length, arith, false}
+use Rattle.nand_geometry.specs.declared.parts.Parts.{Parts}
+use Rattle.onfi_cycle.proofs.Following.{more_luns, luns_so_far, fresh_target}
+use Rattle.onfi_cycle.proofs.target_state.TargetState.new.Goals as goal
+
+-- any geometry will do here
+some_geometry : Parts
+some_geometry = record { page_bytes = 0; spare_bytes = 0; pages = 0; blocks = 0; luns = 0; plane_bits = 0; enhanced = false; multi_plane = false; cache = false }
+
+pub push-requires : goal.push-requires
+push-requires c =
+    let same = luns_so_far some_geometry c.loop.luns.items c.loop.counter c.loop.invariant in
+    let below : length c.loop.luns.items < 4 = omega (arith, c.loop-test.true, c.requires) in
+    (omega arith, below)
+
+pub loop-preserved : goal.loop-preserved
+loop-preserved c = more_luns c.loop.luns.items _ c.loop.counter c.fresh.result c.loop.invariant c.fresh.ensures c.push.ensures.items
+
+pub returns : goal.returns
+returns c = fresh_target c.none.result c.loop.luns.items c.loop.counter c.args.count c.none.ensures.value c.loop.invariant (omega (arith, c.loop-test.false, c.loop.auto.counter-end))

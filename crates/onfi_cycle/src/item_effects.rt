@@ -1,0 +1,168 @@
+//! What an item does to a LUN, by the facts of its target's tail.
+ghost use Rattle.std.specs.Prelude.{◌≡◌};
+ghost use Rattle.onfi_cycle.specs.Effect.{names_lun, confirm_effect, command_effect, address_effect, opening_address_effect, cycle_effect, item_effect, IsSmallEffect};
+
+use crate::{Command, Effect, Item, Latch, Lun, PageAddress, TailFacts, TargetCycle};
+use nand_geometry::Geometry;
+
+/// The row names the LUN of this number.
+pub(crate) fn names_lun(geometry: &Geometry, row: u32, lun: u8) -> bool
+    ensures { result ≡ names_lun geometry.now row lun }
+{
+    geometry.parts_of(row).lun == u32::from(lun)
+}
+
+/// What the closer of a row does to the LUN that its tail names.
+fn confirm_effect(geometry: &Geometry, tail: TailFacts, command: Command) -> Effect
+    ensures value { result ≡ confirm_effect geometry.now tail command }
+    ensures small { IsSmallEffect result }
+{
+    let at = PageAddress::of_row(geometry, tail.named_row());
+    match command {
+        Command::ReadConfirm => Effect::ReadStarted {
+            page: at,
+            column: tail.column,
+        },
+        Command::BlockEraseConfirm => Effect::EraseStarted {
+            queued: false,
+            row: at,
+        },
+        Command::BlockErasePlane => Effect::EraseStarted {
+            queued: true,
+            row: at,
+        },
+        Command::ProgramConfirm => Effect::ProgramStarted {
+            queued: false,
+            page: at,
+        },
+        Command::ProgramPlane => Effect::ProgramStarted {
+            queued: true,
+            page: at,
+        },
+        _ => Effect::Unaffected,
+    }
+}
+
+/// What a command does to a LUN of its target, after this tail. `latch_alone` is the LUN's latch if it is
+/// the one driver of its target, and else `Off`.
+fn command_effect(
+    geometry: &Geometry,
+    tail: TailFacts,
+    latch_alone: Latch,
+    command: Command,
+    lun: u8,
+) -> Effect
+    ensures value { result ≡ command_effect geometry.now tail latch_alone command lun }
+    ensures small { IsSmallEffect result }
+{
+    let drives = !latch_alone.is_off();
+    match command {
+        Command::Read => Effect::DataOutputEnabled,
+        Command::ReadStatus => Effect::StatusSelected,
+        Command::ReadStatusEnhanced => Effect::StatusRowAwaited,
+        Command::Reset => Effect::ResetStarted,
+        Command::ReadCacheSequential if drives => Effect::CacheReadContinued,
+        Command::ReadCacheEnd if drives => Effect::CacheReadEnded,
+        Command::ReadCacheSequential | Command::ReadCacheEnd => Effect::Unaffected,
+        Command::ChangeReadColumnConfirm => {
+            if tail.wants_command(Command::ChangeReadColumnConfirm) && drives {
+                Effect::ReadColumnChanged {
+                    column: tail.column,
+                }
+            } else {
+                Effect::Unaffected
+            }
+        }
+        _ if tail.wants_command(command) && names_lun(geometry, tail.named_row(), lun) => {
+            confirm_effect(geometry, tail, command)
+        }
+        _ => Effect::Unaffected,
+    }
+}
+
+/// What the third address of a Read Status Enhanced does to a LUN.
+fn selection_effect(geometry: &Geometry, tail: TailFacts, byte: u8, lun: u8) -> Effect
+    ensures value { result ≡ address_effect geometry.now tail byte Command.ReadStatusEnhanced 2 lun }
+    ensures small { IsSmallEffect result }
+{
+    if names_lun(geometry, tail.row_with(byte), lun) {
+        Effect::SelectedForStatus
+    } else {
+        Effect::Deselected
+    }
+}
+
+/// What an address does to a LUN of its target, after this tail.
+fn address_effect(geometry: &Geometry, tail: TailFacts, byte: u8, lun: u8) -> Effect
+    ensures value { result ≡ opening_address_effect geometry.now tail byte tail.opening lun }
+    ensures small { IsSmallEffect result }
+{
+    let Some(opening) = tail.opening else {
+        return Effect::Unaffected;
+    };
+    match opening.opener {
+        Command::ReadStatusEnhanced if opening.addresses == 2 => {
+            selection_effect(geometry, tail, byte, lun)
+        }
+        Command::ReadId if tail.wants_address(byte) => Effect::IdRead,
+        Command::ReadParameterPage if tail.wants_address(byte) => Effect::ParameterPageReadStarted,
+        _ => Effect::Unaffected,
+    }
+}
+
+/// What a cycle does to a LUN of its target, after this tail. `latch_alone` is the LUN's latch if it is the
+/// one driver of its target, and else `Off`.
+pub fn cycle_effect(
+    geometry: &Geometry,
+    tail: TailFacts,
+    latch_alone: Latch,
+    cycle: TargetCycle,
+    lun: u8,
+) -> Effect
+    ensures value { result ≡ cycle_effect geometry.now tail latch_alone cycle lun }
+    ensures small { IsSmallEffect result }
+{
+    match cycle {
+        TargetCycle::CommandCycle(command) => command_effect(
+            geometry,
+            tail,
+            latch_alone,
+            command,
+            lun,
+        ),
+        TargetCycle::AddressCycle(byte) => address_effect(geometry, tail, byte, lun),
+        TargetCycle::InputCycle(_) => Effect::Unaffected,
+        TargetCycle::OutputCycle if latch_alone.is_data() => Effect::DataOutput,
+        TargetCycle::OutputCycle => Effect::Unaffected,
+    }
+}
+
+/// What an item does to a LUN, by the facts of the tail of that LUN's target. `latch_alone` is as of [`cycle_effect`].
+pub fn item_effect(
+    geometry: &Geometry,
+    tail: TailFacts,
+    latch_alone: Latch,
+    item: Item,
+    lun: Lun,
+) -> Effect
+    ensures value { result ≡ item_effect geometry.now tail latch_alone item lun }
+    ensures small { IsSmallEffect result }
+{
+    match item {
+        Item::Cyc(cycle) if cycle.ce == lun.ce => cycle_effect(
+            geometry,
+            tail,
+            latch_alone,
+            TargetCycle::of(cycle.kind, cycle.byte),
+            lun.lun,
+        ),
+        Item::Rdy {
+            ce,
+            lun: number,
+            fail,
+        } if (Lun { ce, lun: number }) == lun => Effect::BecameReady { failed: fail },
+        Item::Ard { ce, lun: number } if (Lun { ce, lun: number }) == lun =>
+            Effect::ArrayBecameReady,
+        _ => Effect::Unaffected,
+    }
+}

@@ -1,0 +1,133 @@
+//! A LUN of a running channel: what the rules see of it, kept item by item.
+ghost use Rattle.std.specs.Prelude.{◌≡◌, ◌^◌, ◌<◌, ◌≤◌, List, [], length, if◌then◌else◌};
+ghost use Rattle.nand_geometry.specs.declared.parts.Parts.{Parts};
+ghost use Rattle.onfi_cycle.specs.declared.lun.Lun.{Lun};
+ghost use Rattle.onfi_cycle.specs.declared.latch.Latch.TheVariants.{Off};
+ghost use Rattle.onfi_cycle.specs.Effect.{cycle_effect};
+ghost use Rattle.onfi_cycle.specs.Lun.{view_after, queue_after, lun_view};
+ghost use Rattle.onfi_cycle.specs.Bounds.{LunFits};
+
+use crate::{
+    Effect, Latch, LunFacts, PageAddress, Queued, ReadColumn, Register, RowQueue, TailFacts,
+    TargetCycle, cycle_effect, is_cache_read,
+};
+use arrayvec::ArrayVec;
+use nand_geometry::Geometry;
+
+// What an effect leaves of a queue.
+fn apply_to_queue(queue: &mut RowQueue, effect: Effect)
+    requires { length queue.old.items < 16 }
+    ensures { queue.new.items ≡ queue_after effect queue.old.items }
+{
+    match effect {
+        Effect::EraseStarted { queued: true, row } => queue.insert(0, Queued::Erase(row)),
+        Effect::ProgramStarted { queued: true, page } => queue.insert(0, Queued::Program(page)),
+        Effect::EraseStarted { .. } | Effect::ProgramStarted { .. } | Effect::ResetStarted => {
+            queue.clear()
+        }
+        _ => {}
+    }
+}
+
+impl LunFacts<RowQueue> {
+    /// A LUN to which nothing has happened.
+    pub(crate) fn fresh() -> LunFacts<RowQueue>
+        ensures { (g : Parts) (l : Lun) → result ≡ lun_view g [] l }
+    {
+        LunFacts {
+            latch: Latch::Off,
+            busy: false,
+            closer: None,
+            array_busy: false,
+            array_page: PageAddress { block: 0, page: 0 },
+            register: Register::Empty,
+            column: ReadColumn::none(),
+            queue: ArrayVec::new(),
+        }
+    }
+
+    // Goes on by an effect that may change everything.
+    #[inline(always)]
+    fn renew(&mut self, effect: Effect)
+        requires outputs { self.old.column.outputs ≤ 2 ^ 16 }
+        requires array_page { self.old.array_page.page < 2 ^ 32 }
+        requires queue { length self.old.queue ≤ 4 }
+        ensures { self.new ≡ view_after effect self.old }
+    {
+        apply_to_queue(&mut self.queue, effect);
+        self.column = effect.read_column_after(self.column);
+        self.register = effect.register_after(self.array_page, self.register);
+        self.array_page = effect.array_page_after(self.array_page);
+        let caching = is_cache_read(self.closer);
+        self.array_busy = effect.array_busy_after(self.busy, caching, self.array_busy);
+        self.closer = effect.closer_after(self.closer);
+        self.busy = effect.busy_after(self.busy);
+        self.latch = effect.latch_after(self.latch);
+    }
+
+    // Goes on by an effect: most change little.
+    fn apply(&mut self, effect: Effect)
+        requires outputs { self.old.column.outputs ≤ 2 ^ 16 }
+        requires array_page { self.old.array_page.page < 2 ^ 32 }
+        requires queue { length self.old.queue ≤ 4 }
+        ensures { self.new ≡ view_after effect self.old }
+    {
+        match effect {
+            Effect::Unaffected => {}
+            Effect::DataOutputEnabled | Effect::SelectedForStatus | Effect::Deselected => {
+                self.latch = effect.latch_after(self.latch);
+            }
+            Effect::StatusSelected | Effect::StatusRowAwaited => {
+                self.column = effect.read_column_after(self.column);
+                self.latch = effect.latch_after(self.latch);
+            }
+            Effect::DataOutput | Effect::ReadColumnChanged { .. } => {
+                self.column = effect.read_column_after(self.column);
+            }
+            // an arm of its own, so that LLVM makes it for this effect alone
+            Effect::EraseStarted { .. } => self.renew(effect),
+            _ => self.renew(effect),
+        }
+    }
+
+    /// Goes on by a cycle of its target, where it has this number. `has_driver` tells whether one LUN alone drives the bus.
+    pub(crate) fn apply_cycle(
+        &mut self,
+        geometry: &Geometry,
+        tail: &TailFacts,
+        has_driver: bool,
+        cycle: TargetCycle,
+        number: u8,
+    )
+        requires { LunFits geometry.now self.old }
+        ensures { self.new ≡ view_after
+            (cycle_effect geometry.now tail.now (if has_driver then self.old.latch else Off) cycle number) self.old }
+    {
+        let latch_alone = if has_driver { self.latch } else { Latch::Off };
+        self.apply(cycle_effect(geometry, *tail, latch_alone, cycle, number));
+    }
+
+    /// It becomes ready, with failure or without.
+    pub(crate) fn become_ready(&mut self, failed: bool)
+        ensures { self.new ≡ view_after (Effect.BecameReady failed) self.old }
+    {
+        let effect = Effect::BecameReady { failed };
+        let caching = is_cache_read(self.closer);
+        self.array_busy = effect.array_busy_after(self.busy, caching, self.array_busy);
+        self.busy = effect.busy_after(self.busy);
+    }
+
+    /// Its array becomes ready.
+    pub(crate) fn become_array_ready(&mut self)
+        ensures { self.new ≡ view_after Effect.ArrayBecameReady self.old }
+    {
+        self.array_busy = false;
+    }
+}
+
+impl Default for LunFacts<RowQueue> {
+    /// A LUN to which nothing has happened.
+    fn default() -> LunFacts<RowQueue> {
+        LunFacts::fresh()
+    }
+}

@@ -1,0 +1,274 @@
+//! What a running channel keeps of a target: the facts of its tail, and those of each of its LUNs.
+ghost use Rattle.std.specs.Prelude.{◌≡◌, ℕ, ◌+◌, ◌^◌, ◌<◌, ◌≤◌, [], Some, length, slice_get};
+ghost use Rattle.std.specs.Option.{option_copied};
+ghost use Rattle.std.specs.List.{list_any};
+ghost use Rattle.nand_geometry.specs.declared.parts.Parts.{Parts};
+ghost use Rattle.nand_geometry.specs.Limits.{InLimits};
+ghost use Rattle.onfi_cycle.specs.LunView.{LunView};
+ghost use Rattle.onfi_cycle.specs.Effect.{is_data};
+ghost use Rattle.onfi_cycle.specs.Applied.{luns_after_cycle, asks_driver, one_after, needs_no_row, acts_by_address, may_act};
+ghost use Rattle.onfi_cycle.specs.Sequence.{facts_after};
+ghost use Rattle.onfi_cycle.specs.Filling.{filling};
+ghost use Rattle.onfi_cycle.specs.Readies.{target_due};
+ghost use Rattle.onfi_cycle.specs.State.{TargetView, target_view, effect_alone, has_driver, target_after};
+ghost use Rattle.onfi_cycle.specs.Look.{look_at_some};
+ghost use Rattle.onfi_cycle.specs.Bounds.{LunsFit, TargetFits};
+
+use crate::readies::due_of;
+use crate::{
+    Command, Effect, Filling, Item, Latch, Lun, LunFacts, LunState, RowQueue, TailFacts,
+    TargetCycle, driver, item_effect,
+};
+use arrayvec::ArrayVec;
+use nand_geometry::{Geometry, MAX_LUNS};
+use std::marker::Model;
+
+/// What is kept of a target.
+#[derive(Drop)]
+pub(crate) struct TargetState {
+    pub(crate) tail: TailFacts,
+    pub(crate) luns: ArrayVec<LunFacts<RowQueue>, MAX_LUNS>,
+}
+
+impl Model for TargetState {
+    ghost Value = { TargetView };
+
+    ghost view = { λ s. record { tail = s.tail; luns = s.luns.items } };
+}
+
+impl Default for TargetState {
+    fn default() -> TargetState {
+        TargetState {
+            tail: TailFacts::none(),
+            luns: ArrayVec::new(),
+        }
+    }
+}
+
+// The effect of the cycle hangs on whether its target has one driver.
+fn asks_driver(cycle: TargetCycle) -> bool
+    ensures { result ≡ asks_driver cycle }
+{
+    matches!(
+        cycle,
+        TargetCycle::OutputCycle
+            | TargetCycle::CommandCycle(
+                Command::ReadCacheSequential
+                    | Command::ReadCacheEnd
+                    | Command::ChangeReadColumnConfirm
+            )
+    )
+}
+
+// Some LUN shows data.
+fn some_shows_data(luns: &[LunFacts<RowQueue>]) -> bool
+    ensures { result ≡ list_any (λ v. is_data v.latch) luns.now }
+{
+    luns.iter().any(|lun| lun.latch.is_data())
+}
+
+// The command may do something to a LUN without a row that names it.
+fn needs_no_row(command: Command) -> bool
+    ensures { result ≡ needs_no_row command }
+{
+    matches!(
+        command,
+        Command::Read
+            | Command::ReadStatus
+            | Command::ReadStatusEnhanced
+            | Command::Reset
+            | Command::ReadCacheSequential
+            | Command::ReadCacheEnd
+            | Command::ChangeReadColumnConfirm
+    )
+}
+
+// An address after the opener may do something to a LUN.
+fn acts_by_address(opener: Command) -> bool
+    ensures { result ≡ acts_by_address opener }
+{
+    matches!(
+        opener,
+        Command::ReadStatusEnhanced | Command::ReadId | Command::ReadParameterPage
+    )
+}
+
+// The cycle may do something to a LUN of its target.
+fn may_act(tail: &TailFacts, luns: &[LunFacts<RowQueue>], cycle: TargetCycle) -> bool
+    ensures { result ≡ may_act tail.now luns.now cycle }
+{
+    match cycle {
+        TargetCycle::CommandCycle(command) => {
+            needs_no_row(command) || tail.wants_command(command)
+        }
+        TargetCycle::AddressCycle(_) => match tail.opening {
+            None => false,
+            Some(opening) => acts_by_address(opening.opener),
+        },
+        TargetCycle::InputCycle(_) => false,
+        TargetCycle::OutputCycle => some_shows_data(luns),
+    }
+}
+
+// What a cycle leaves of the LUNs of its target, from this number on.
+fn apply_from(
+    luns: &mut [LunFacts<RowQueue>],
+    geometry: &Geometry,
+    tail: &TailFacts,
+    has_driver: bool,
+    cycle: TargetCycle,
+    number: u8,
+)
+    requires count { number + length luns.old ≤ 4 }
+    requires luns { LunsFit geometry.now tail.now number luns.old }
+    ensures { luns.new ≡ luns_after_cycle geometry.now tail.now has_driver cycle number luns.old }
+{
+    if luns.is_empty() {
+        return;
+    }
+    let (first, rest) = luns.split_at_mut(1);
+    first[0].apply_cycle(geometry, tail, has_driver, cycle, number);
+    apply_from(rest, geometry, tail, has_driver, cycle, number + 1);
+}
+
+// What a cycle leaves of the LUNs of its target.
+fn apply_to_luns(
+    luns: &mut [LunFacts<RowQueue>],
+    geometry: &Geometry,
+    tail: &TailFacts,
+    cycle: TargetCycle,
+)
+    requires count { length luns.old ≤ 4 }
+    requires luns { LunsFit geometry.now tail.now 0 luns.old }
+    ensures { luns.new ≡ luns_after_cycle geometry.now tail.now (has_driver luns.old) cycle 0 luns.old }
+{
+    if may_act(tail, luns, cycle) {
+        let has_driver = asks_driver(cycle) && driver(luns).is_some();
+        apply_from(luns, geometry, tail, has_driver, cycle, 0);
+    }
+}
+
+// The LUN of this number becomes ready, if it is there.
+fn end_work(luns: &mut [LunFacts<RowQueue>], number: u8, failed: bool)
+    ensures { luns.new ≡ one_after (Effect.BecameReady failed) number luns.old }
+{
+    let place = usize::from(number);
+    if place < luns.len() {
+        luns[place].become_ready(failed);
+    }
+}
+
+// The array of the LUN of this number becomes ready, if it is there.
+fn end_array_work(luns: &mut [LunFacts<RowQueue>], number: u8)
+    ensures { luns.new ≡ one_after Effect.ArrayBecameReady number luns.old }
+{
+    let place = usize::from(number);
+    if place < luns.len() {
+        luns[place].become_array_ready();
+    }
+}
+
+// The LUN of this number, if it is there.
+fn lun_at(luns: &[LunFacts<RowQueue>], number: u8) -> Option<&LunFacts<RowQueue>>
+    ensures { option_copied result ≡ slice_get luns.now number }
+{
+    luns.get(usize::from(number))
+}
+
+impl TargetState {
+    /// A target with so many LUNs to which nothing has happened.
+    pub(crate) fn new(count: u8) -> TargetState
+        requires { count ≤ 4 }
+        ensures { (g : Parts) (ce : ℕ) → g.luns ≡ count → result ≡ target_view g [] ce }
+    {
+        let mut luns: ArrayVec<LunFacts<RowQueue>, MAX_LUNS> = ArrayVec::new();
+        for _ in 0..count {
+            luns.push(LunFacts::fresh());
+        }
+        TargetState {
+            tail: TailFacts::none(),
+            luns,
+        }
+    }
+
+    /// The facts of its tail.
+    pub(crate) fn tail(&self) -> TailFacts
+        ensures { result ≡ self.now.tail }
+    {
+        self.tail
+    }
+
+    // What a cycle leaves of its target.
+    fn apply_cycle(&mut self, geometry: &Geometry, cycle: TargetCycle)
+        requires limits { InLimits geometry.now }
+        requires fits { TargetFits geometry.now self.old }
+        ensures tail { self.new.tail ≡ facts_after cycle self.old.tail }
+        ensures luns { self.new.luns ≡ luns_after_cycle geometry.now self.old.tail (has_driver self.old.luns) cycle 0 self.old.luns }
+        ensures column { self.new.tail.column < 2 ^ 16 }
+    {
+        apply_to_luns(self.luns.as_mut_slice(), geometry, &self.tail, cycle);
+        self.tail.extend(cycle);
+    }
+
+    // What an item leaves of its target.
+    #[inline(always)]
+    pub(crate) fn apply(&mut self, geometry: &Geometry, item: Item)
+        requires limits { InLimits geometry.now }
+        requires fits { TargetFits geometry.now self.old }
+        ensures value { self.new ≡ target_after geometry.now item self.old }
+        ensures column { self.new.tail.column < 2 ^ 16 }
+    {
+        match item {
+            Item::Cyc(cycle) => self.apply_cycle(geometry, TargetCycle::of(cycle.kind, cycle.byte)),
+            Item::Rdy { lun, fail, .. } => end_work(self.luns.as_mut_slice(), lun, fail),
+            Item::Ard { lun, .. } => end_array_work(self.luns.as_mut_slice(), lun),
+        }
+    }
+
+    /// What an item of this target does to the LUN of this number, if that is there.
+    pub(crate) fn effect(&self, geometry: &Geometry, item: Item, number: u8) -> Effect
+        ensures { (v : LunView) → slice_get self.now.luns number ≡ Some v
+            → result ≡ effect_alone geometry.now self.now.tail (has_driver self.now.luns) item number v }
+    {
+        let luns = self.luns.as_slice();
+        let latch_alone = match lun_at(luns, number) {
+            Some(found) if driver(luns).is_some() => found.latch,
+            _ => Latch::Off,
+        };
+        let lun = Lun {
+            ce: item.target(),
+            lun: number,
+        };
+        item_effect(geometry, self.tail, latch_alone, item, lun)
+    }
+
+    /// What an item does to the page registers of a LUN of this target.
+    pub(crate) fn filling(&self, geometry: &Geometry, item: Item, lun: Lun) -> Filling
+        requires limits { InLimits geometry.now }
+        requires fits { TargetFits geometry.now self.now }
+        ensures { result ≡ filling geometry.now self.now.tail item lun }
+    {
+        Filling::of_item(geometry, self.tail, item, lun)
+    }
+
+    /// How many readies are still to come.
+    pub(crate) fn due(&self, geometry: &Geometry) -> usize
+        requires limits { InLimits geometry.now }
+        requires fits { TargetFits geometry.now self.now }
+        ensures value { result ≡ target_due self.now }
+        ensures most { result ≤ 16 }
+    {
+        due_of(&self.tail, self.luns.as_slice())
+    }
+
+    /// A look at the LUN of this number, if it is there.
+    pub(crate) fn look(&self, geometry: &Geometry, number: u8) -> Option<LunState>
+        requires { TargetFits geometry.now self.now }
+        ensures { result ≡ look_at_some (slice_get self.now.luns number) }
+    {
+        match lun_at(self.luns.as_slice(), number) {
+            None => None,
+            Some(found) => Some(LunState::of(found)),
+        }
+    }
+}

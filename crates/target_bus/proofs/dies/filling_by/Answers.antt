@@ -1,7 +1,0 @@
-use Rattle.std.proofs.Common.{sym, ◌∙◌}
-use Rattle.onfi_cycle.specs.Sequence.{facts_of, tail}
-use Rattle.target_bus.proofs.ByKind.{leaves}
-use Rattle.target_bus.proofs.dies.filling_by.Goals as goal
-
-pub returns-else-may_fill : goal.returns-else-may_fill
-returns-else-may_fill c = λ g n past f here. leaves g (facts_of (tail past c.args.l.ce)) c.args.cycle c.args.l (sym c.may_fill.ensures ∙ c.if-may_fill.false)

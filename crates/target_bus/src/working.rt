@@ -1,0 +1,247 @@
+//! What an item does to the dies of a channel.
+ghost use Rattle.std.specs.Prelude.{◌≡◌, ℕ, ◌<◌, ◌≤◌, true, false, List, ◌∷◌, Some, None, IsOk, IfOk, IfSome, OnErr, length, slice_get, slice_set};
+ghost use Rattle.nand_geometry.specs.declared.parts.Parts.{Parts};
+ghost use Rattle.onfi_cycle.specs.declared.item.Item.{Item};
+ghost use Rattle.onfi_cycle.specs.declared.item.Item.TheVariants.{Cyc};
+ghost use Rattle.onfi_cycle.specs.Lun.{effect_on};
+ghost use Rattle.onfi_cycle.specs.Sequence.{facts_of, tail};
+ghost use Rattle.onfi_cycle.specs.Filling.{filling};
+ghost use Rattle.onfi_cycle.specs.Permitted.{broken};
+ghost use Rattle.onfi_cycle.specs.Channel.{is_cycle, cycle};
+ghost use Rattle.onfi_cycle.specs.State.{Follows};
+ghost use Rattle.onfi_cycle.specs.Working.{fills, begins};
+ghost use Rattle.onfi_cycle.specs.Readies.{starts_work};
+ghost use Rattle.onfi_cycle.specs.declared.effect.Effect.TheVariants.{BecameReady, ArrayBecameReady};
+ghost use Rattle.die_model.specs.Die.{Die, IsAfter, is_program};
+ghost use Rattle.die_model.specs.Standing.{CanWork, WorkedBy};
+ghost use Rattle.target_bus.specs.Bus.{channel_on, Entries, FindsWork, IsStanding, Permits, StandFor, is_input, may_fill};
+
+use die_model::LunDie;
+use onfi_cycle::{BusState, Cycle, Effect, Filling, Item, Kind, Lun};
+use std::alloc::{AllocError, Allocator};
+
+// A page register changes.
+fn fills(filling: Filling) -> bool
+    ensures { result ≡ fills filling }
+{
+    matches!(filling, Filling::Clears(_) | Filling::Fills(..))
+}
+
+// Work begins.
+fn begins(effect: Effect) -> bool
+    ensures { result ≡ begins effect }
+{
+    matches!(
+        effect,
+        Effect::ReadStarted { .. }
+            | Effect::EraseStarted { .. }
+            | Effect::ProgramStarted { .. }
+            | Effect::IdRead
+            | Effect::ParameterPageReadStarted
+            | Effect::CacheReadContinued
+            | Effect::CacheReadEnded
+            | Effect::ResetStarted
+    )
+}
+
+// A cycle of this kind may change a page register.
+fn may_fill(kind: Kind) -> bool
+    ensures { result ≡ may_fill kind }
+{
+    kind == Kind::Adr || kind == Kind::Din
+}
+
+// What a cycle does to the page registers of a LUN that is there.
+fn filling_by(state: &BusState, cycle: Cycle, lun: Lun) -> Filling
+    ensures { (g : Parts) (n : ℕ) (past : List Item) → Follows g n state.now past → lun.ce < n
+        → result ≡ filling g (facts_of (tail past lun.ce)) (Cyc cycle) lun }
+{
+    if may_fill(cycle.kind) {
+        state.filling(Item::Cyc(cycle), lun)
+    } else {
+        Filling::Leaves
+    }
+}
+
+// A cycle of this kind is an input.
+fn is_input(kind: Kind) -> bool
+    ensures { result ≡ is_input kind }
+{
+    kind == Kind::Din
+}
+
+// What a cycle does to a LUN that is there: an input does nothing.
+fn effect_by(state: &BusState, cycle: Cycle, lun: Lun) -> Effect
+    ensures { (g : Parts) (n : ℕ) (past : List Item) → Follows g n state.now past → lun.ce < n → lun.lun < g.luns
+        → result ≡ effect_on g past (Cyc cycle) lun }
+{
+    if is_input(cycle.kind) {
+        Effect::Unaffected
+    } else {
+        state.effect(Item::Cyc(cycle), lun)
+    }
+}
+
+/// The LUN of a target that a cycle works on, and how.
+#[derive(Clone, Copy, Debug, PartialEq, Eq)]
+pub struct Worked {
+    pub lun: u8,
+    pub filling: Filling,
+    pub effect: Effect,
+}
+
+// Of the LUNs of its target from this number on, the one that a cycle works on.
+fn find_work(state: &BusState, cycle: Cycle, luns: u8, lun: u8) -> Option<Worked>
+    requires { lun ≤ luns }
+    ensures there { IfSome result (λ w. w.lun < luns) }
+    ensures past { (g : Parts) (targets : ℕ) (past : List Item) → Follows g targets state.now past → cycle.ce < targets → g.luns ≡ luns
+        → FindsWork g past (Cyc cycle) cycle.ce lun result }
+{
+    if lun == luns {
+        return None;
+    }
+    let here = Lun { ce: cycle.ce, lun };
+    let filling = filling_by(state, cycle, here);
+    let effect = effect_by(state, cycle, here);
+    if fills(filling) || begins(effect) {
+        return Some(Worked {
+            lun,
+            filling,
+            effect,
+        });
+    }
+    find_work(state, cycle, luns, lun + 1)
+}
+
+// Works the die of a number.
+#[inline(always)]
+fn work_in<A: Allocator + Copy>(
+    dies: &mut [LunDie<A>],
+    place: usize,
+    filling: Filling,
+    effect: Effect,
+) -> Result<(), AllocError>
+    requires inside { place < length dies.old }
+    requires can { (d : Die) → slice_get dies.old place ≡ Some d → CanWork filling effect d }
+    ensures ok { IfOk result (λ _. (old : Die) × (new : Die) × (slice_get dies.old place ≡ Some old)
+        × WorkedBy old.geometry filling effect old new × (dies.new ≡ slice_set dies.old place new)) }
+    ensures err { OnErr result (dies.new ≡ dies.old) }
+    ensures memory { is_program effect ≡ false → IsOk result }
+{
+    dies[place].work(filling, effect)
+}
+
+// Ends the work of the die of a number.
+fn finish_in<A: Allocator + Copy>(dies: &mut [LunDie<A>], place: usize, fail: bool)
+    requires inside { place < length dies.old }
+    ensures { (old : Die) × (new : Die) × (slice_get dies.old place ≡ Some old) × IsAfter (BecameReady fail) old new
+        × (dies.new ≡ slice_set dies.old place new) }
+{
+    dies[place].finish(fail);
+}
+
+// Ends the work of the array of the die of a number.
+fn finish_array_in<A: Allocator + Copy>(dies: &mut [LunDie<A>], place: usize)
+    requires inside { place < length dies.old }
+    ensures { (old : Die) × (new : Die) × (slice_get dies.old place ≡ Some old) × IsAfter ArrayBecameReady old new
+        × (dies.new ≡ slice_set dies.old place new) }
+{
+    dies[place].array_ready();
+}
+
+// Works a permitted input on the dies: it changes a page register of one of them.
+fn work_input<A: Allocator + Copy>(
+    state: &BusState,
+    dies: &mut [LunDie<A>],
+    cycle: Cycle,
+) -> Result<(), AllocError>
+    requires few { length dies.old ≤ 16 }
+    requires permitted { Permits state.now dies.old (Cyc cycle) }
+    requires input { is_input cycle.kind ≡ true }
+    ensures ok { IfOk result (λ _. (opened : List Entries) (past : List Item) → IsStanding state.now opened dies.old past
+        → broken state.now.geometry (length state.now.targets) past (Cyc cycle) ≡ None
+        → StandFor (channel_on state.now.geometry (length state.now.targets) opened) (Cyc cycle ∷ past) dies.new) }
+    ensures err { OnErr result (dies.new ≡ dies.old) }
+    ensures memory { starts_work (Cyc cycle) ≡ false → IsOk result }
+{
+    // Its contract says that the rows which are named fit.
+    state.facts_fit();
+    let luns = state.geometry().parts().luns;
+    for lun in 0..luns {
+        let here = Lun { ce: cycle.ce, lun };
+        let filling = state.filling(Item::Cyc(cycle), here);
+        if fills(filling) {
+            return work_in(dies, here.place(luns), filling, Effect::Unaffected);
+        }
+    }
+    Ok(())
+}
+
+// Works a permitted cycle on the dies, whatever it is.
+fn work_found<A: Allocator + Copy>(
+    state: &BusState,
+    dies: &mut [LunDie<A>],
+    cycle: Cycle,
+) -> Result<(), AllocError>
+    requires few { length dies.old ≤ 16 }
+    requires permitted { Permits state.now dies.old (Cyc cycle) }
+    ensures ok { IfOk result (λ _. (opened : List Entries) (past : List Item) → IsStanding state.now opened dies.old past
+        → broken state.now.geometry (length state.now.targets) past (Cyc cycle) ≡ None
+        → StandFor (channel_on state.now.geometry (length state.now.targets) opened) (Cyc cycle ∷ past) dies.new) }
+    ensures err { OnErr result (dies.new ≡ dies.old) }
+    ensures memory { starts_work (Cyc cycle) ≡ false → IsOk result }
+{
+    // Its contract says that the rows which are named fit.
+    state.facts_fit();
+    let luns = state.geometry().parts().luns;
+    match find_work(state, cycle, luns, 0) {
+        None => Ok(()),
+        Some(worked) => {
+            let here = Lun {
+                ce: cycle.ce,
+                lun: worked.lun,
+            };
+            work_in(dies, here.place(luns), worked.filling, worked.effect)
+        }
+    }
+}
+
+/// Works a permitted cycle on the dies: on one of them at most. Without memory for that all stays as it was.
+pub fn work<A: Allocator + Copy>(
+    state: &BusState,
+    dies: &mut [LunDie<A>],
+    cycle: Cycle,
+) -> Result<(), AllocError>
+    requires few { length dies.old ≤ 16 }
+    requires permitted { Permits state.now dies.old (Cyc cycle) }
+    ensures ok { IfOk result (λ _. (opened : List Entries) (past : List Item) → IsStanding state.now opened dies.old past
+        → broken state.now.geometry (length state.now.targets) past (Cyc cycle) ≡ None
+        → StandFor (channel_on state.now.geometry (length state.now.targets) opened) (Cyc cycle ∷ past) dies.new) }
+    ensures err { OnErr result (dies.new ≡ dies.old) }
+    ensures memory { starts_work (Cyc cycle) ≡ false → IsOk result }
+{
+    if is_input(cycle.kind) {
+        work_input(state, dies, cycle)
+    } else {
+        work_found(state, dies, cycle)
+    }
+}
+
+/// Ends the work of the LUN that a permitted ready names, or that of its array, on its die.
+pub fn end_work<A: Allocator + Copy>(state: &BusState, dies: &mut [LunDie<A>], ready: Item)
+    requires few { length dies.old ≤ 16 }
+    requires ready { is_cycle ready ≡ false }
+    requires permitted { Permits state.now dies.old ready }
+    ensures { (opened : List Entries) (past : List Item) → IsStanding state.now opened dies.old past
+        → broken state.now.geometry (length state.now.targets) past ready ≡ None
+        → StandFor (channel_on state.now.geometry (length state.now.targets) opened) (ready ∷ past) dies.new }
+{
+    // Its contract says that the rows which are named fit.
+    state.facts_fit();
+    let luns = state.geometry().parts().luns;
+    match ready {
+        Item::Cyc(_) => unreachable!(),
+        Item::Rdy { ce, lun, fail } => finish_in(dies, Lun { ce, lun }.place(luns), fail),
+        Item::Ard { ce, lun } => finish_array_in(dies, Lun { ce, lun }.place(luns)),
+    }
+}
