@@ -338,16 +338,16 @@ fn pages_agree(
     alloc: Global,
     channel: &Channel,
     past: &[Item],
-    l: Lun,
+    lun: Lun,
     die: &LunDie,
 ) -> Result<u32, Fail> {
     let image = die.image()?;
     let mut changed = 0u32;
     for (row, block, page) in [(0, 0, 0), (4, 1, 0), (1, 0, 1), (5, 1, 1), (9, 2, 1)] {
         let at = PageAddress { block, page };
-        let bytes = content(alloc, &channel.geometry, &channel.opening, past, l, at)?;
-        assert!(rt; has_page(&image, row, &bytes), "{l:?} {at:?} {past:?}");
-        let before = content(alloc, &channel.geometry, &channel.opening, &[], l, at)?;
+        let bytes = content(alloc, &channel.geometry, &channel.opening, past, lun, at)?;
+        assert!(rt; has_page(&image, row, &bytes), "{lun:?} {at:?} {past:?}");
+        let before = content(alloc, &channel.geometry, &channel.opening, &[], lun, at)?;
         if bytes.as_slice() != before.as_slice() {
             changed = changed.saturating_add(1);
         }
@@ -367,10 +367,9 @@ fn target_pages_agree(
     let luns = channel.geometry.parts().luns;
     let mut changed = 0u32;
     for lun in 0..luns {
-        let number = usize::from(ce) * usize::from(luns) + usize::from(lun);
-        let die = dies.get(number).ok_or("a die is missing")?;
-        let l = Lun { ce, lun };
-        changed = changed.saturating_add(pages_agree(rt, alloc, channel, past, l, die)?);
+        let here = Lun { ce, lun };
+        let die = dies.get(here.place(luns)).ok_or("a die is missing")?;
+        changed = changed.saturating_add(pages_agree(rt, alloc, channel, past, here, die)?);
     }
     Ok(changed)
 }

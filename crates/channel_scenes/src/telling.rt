@@ -21,10 +21,10 @@ pub fn read_trace(alloc: Global, text: &str) -> Result<Vec<Item>, Fail>
 pub type Told = (u32, u64, Lun, u8);
 
 /// What is told of the job that was done in this place.
-pub fn tell_done(done: &[NamedJob], k: usize) -> Option<Told>
-    ensures { result ≡ option_map told_of (slice_get done.now k) }
+pub fn tell_done(done: &[NamedJob], place: usize) -> Option<Told>
+    ensures { result ≡ option_map told_of (slice_get done.now place) }
 {
-    let one = done.get(k)?;
+    let one = done.get(place)?;
     Some((
         one.name.host,
         one.name.number,

@@ -8,9 +8,10 @@ use Rattle.onfi_cycle.specs.Channel.{Channel}
 use Rattle.micro_word.specs.declared.word.Word.{Word}
 use Rattle.micro_word.specs.declared.word.Word.TheVariants.{Seek, Column, Plane, Loop, Next}
 use Rattle.micro_program.specs.Lines.{Line}
-use Rattle.micro_program.specs.Program.{Job, Done, Answer, place_now, cost_now, fits}
+use Rattle.micro_program.specs.Program.{Job, Done, Answer, place_now, fits}
 use Rattle.micro_program.specs.Moves.{moves}
 use Rattle.micro_claims.specs.Spans.{exactly}
+use Rattle.micro_claims.specs.Planes.{just_plane}
 use Rattle.micro_claims.specs.State.{State, KnownTarget, bounds_of}
 use Rattle.micro_claims.specs.Against.{is_inside_address}
 use Rattle.micro_claims.specs.Reasons.{breaks_address_unaligned, breaks_row_or_plane_outside}
@@ -18,9 +19,9 @@ use Rattle.micro_claims.specs.Accepts.{state_after, accepts}
 use Rattle.micro_claims.proofs.PlaneSets.{just_has}
 use Rattle.micro_program.proofs.Scenes.{Scene, IsScene}
 use Rattle.micro_claims.proofs.Fits.{RegistersFit, Now, now_of, NameFits, TailFits, Fits}
-use Rattle.micro_claims.proofs.Numbers.{below_cost, in_exactly}
+use Rattle.micro_claims.proofs.Numbers.{in_exactly}
 use Rattle.micro_claims.proofs.Tails.{no_place, none_held}
-use Rattle.micro_claims.proofs.Sounding.{KnownJob, NoReasons, unmoved, within_budget, SoundWord, is_plain, plain_sound}
+use Rattle.micro_claims.proofs.Sounding.{KnownJob, NoReasons, registers_after, unmoved, SoundWord, is_plain, plain_sound}
 use Rattle.micro_claims.proofs.Controls.{branch_fits}
 
 -- 1. words without cycles
@@ -75,17 +76,7 @@ unfolding state_after breaks_address_unaligned
 sound_column s j k v past c done rest at column scene f clear acc =
     loop_like s j k v past c done rest at (Column column) refl refl refl scene f.registers clear
     (λ answer. record {
-      registers = record {
-        column = in_exactly column;
-        plane = f.registers.plane;
-        over = f.registers.over;
-        over_is = f.registers.over_is;
-        index = f.registers.index;
-        page = f.registers.page;
-        place = f.registers.place;
-        cost = below_cost (cost_now s.geometry done) v.registers.cost 0 f.registers.cost;
-        within = within_budget s.geometry j v done (Column column) f.registers clear;
-      };
+      registers = registers_after s.geometry j v (exactly column) v.registers.planes v.registers.place v.registers.polled done (Column column) answer f.registers clear (in_exactly column) f.registers.plane (λ b n. refl) f.registers.place;
       tail = λ e. outside s.geometry j v.target (now_of j done) (now_of j (record { word = Column column; answer = answer } ∷ done)) c.facts refl clear.no_address_unaligned (f.tail refl);
       free = λ e. cc;
       shows = f.shows;
@@ -98,17 +89,7 @@ unfolding state_after breaks_address_unaligned breaks_row_or_plane_outside
 sound_plane s j k v past c done rest at plane scene f clear acc =
     loop_like s j k v past c done rest at (Plane plane) refl refl refl scene f.registers clear
     (λ answer. record {
-      registers = record {
-        column = f.registers.column;
-        plane = just_has plane (let high = clear.no_row_or_plane_outside in grind (arith, nat_tests, high));
-        over = f.registers.over;
-        over_is = f.registers.over_is;
-        index = f.registers.index;
-        page = f.registers.page;
-        place = f.registers.place;
-        cost = below_cost (cost_now s.geometry done) v.registers.cost 0 f.registers.cost;
-        within = within_budget s.geometry j v done (Plane plane) f.registers clear;
-      };
+      registers = registers_after s.geometry j v v.registers.column (just_plane plane) v.registers.place v.registers.polled done (Plane plane) answer f.registers clear f.registers.column (just_has plane (let high = clear.no_row_or_plane_outside in grind (arith, nat_tests, high))) (λ b n. refl) f.registers.place;
       tail = λ e. outside s.geometry j v.target (now_of j done) (now_of j (record { word = Plane plane; answer = answer } ∷ done)) c.facts refl clear.no_address_unaligned (f.tail refl);
       free = λ e. cc;
       shows = f.shows;

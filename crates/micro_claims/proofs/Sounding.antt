@@ -14,6 +14,7 @@ use Rattle.micro_claims.specs.declared.refusal.Reason.{Reason}
 use Rattle.micro_claims.specs.declared.refusal.Reason.TheVariants.{CycleForbidden, AddressUnaligned, HandoverInSequence, BufferPassed, RowOrPlaneOutside, ColumnTooLarge, NoStatus, EndsTooSoon, OverBudget, CommandNotAllowed}
 use Rattle.micro_program.specs.Lines.{Line, continues_cache_read}
 use Rattle.micro_claims.specs.Spans.{Span, bound_plus, is_at_most}
+use Rattle.micro_claims.specs.declared.planes.Planes.{Planes}
 use Rattle.micro_claims.specs.Planes.{has_plane}
 use Rattle.micro_claims.specs.State.{State, bounds_of}
 use Rattle.micro_claims.specs.Reasons.{reason_against, breaks_cycle_forbidden, breaks_address_unaligned, breaks_handover_in_sequence, breaks_buffer_passed, breaks_row_or_plane_outside, breaks_column_too_large, breaks_no_status, breaks_ends_too_soon, breaks_over_budget, breaks_command_not_allowed}
@@ -100,6 +101,21 @@ within_budget g j v done word f clear = at (ltb 0 (cost g word)) refl clear.no_o
         is_yes false h = cc
     at false e h = let least = f.within in let none : cost g word ≡ 0 = grind (arith, nat_tests) in omega (arith, least, none)
 
+-- the registers after a word that leaves the index
+pub registers_after : (g : Parts) (j : Job) (v : State) (column : Span) (planes : Planes) (place : Span) (b : Bool) (done : List Done) (word : Word) (answer : Answer) → RegistersFit g j v.registers done → NoReasons g j.text v word → InSpan (column_after word (column_now done)) column → has_plane (plane_after word (plane_now done)) planes ≡ true → ((base n : ℕ) → index_after base word n ≡ n) → Below (place_after word (place_now done)) place.hi → RegistersFit g j (paid (cost g word) (record v.registers { column = column; planes = planes; place = place; polled = b })) (record { word = word; answer = answer } ∷ done)
+registers_after g j v column planes place b done word answer f clear in_column in_planes index below =
+    record {
+      column = in_column;
+      plane = in_planes;
+      over = f.over;
+      over_is = index j.base (index_now j.base done) ∙ f.over_is;
+      index = f.index;
+      page = λ e. subst (λ (n : ℕ). InRange (n % g.pages) v.registers.page) (sym (index j.base (index_now j.base done))) (f.page e);
+      place = below;
+      cost = below_cost (cost_now g done) v.registers.cost (cost g word) f.cost;
+      within = within_budget g j v done word f clear;
+    }
+
 -- a word leaves the registers beside place and cost
 pub record Unmoved (word : Word) : Type 0 where
   pub column : (n : ℕ) → column_after word n ≡ n
@@ -108,17 +124,10 @@ pub record Unmoved (word : Word) : Type 0 where
 
 pub unmoved : (g : Parts) (j : Job) (v : State) (place : Span) (b : Bool) (done : List Done) (word : Word) (answer : Answer) → RegistersFit g j v.registers done → NoReasons g j.text v word → Unmoved word → Below (place_after word (place_now done)) place.hi → RegistersFit g j (paid (cost g word) (record v.registers { place = place; polled = b })) (record { word = word; answer = answer } ∷ done)
 unmoved g j v place b done word answer f clear u below =
-    record {
-      column = subst (λ (n : ℕ). InSpan n v.registers.column) (sym (u.column (column_now done))) f.column;
-      plane = ap (λ (n : ℕ). has_plane n v.registers.planes) (u.plane (plane_now done)) ∙ f.plane;
-      over = f.over;
-      over_is = u.index j.base (index_now j.base done) ∙ f.over_is;
-      index = f.index;
-      page = λ e. subst (λ (n : ℕ). InRange (n % g.pages) v.registers.page) (sym (u.index j.base (index_now j.base done))) (f.page e);
-      place = below;
-      cost = below_cost (cost_now g done) v.registers.cost (cost g word) f.cost;
-      within = within_budget g j v done word f clear;
-    }
+    registers_after g j v v.registers.column v.registers.planes place b done word answer f clear
+    (subst (λ (n : ℕ). InSpan n v.registers.column) (sym (u.column (column_now done))) f.column)
+    (ap (λ (n : ℕ). has_plane n v.registers.planes) (u.plane (plane_now done)) ∙ f.plane)
+    u.index below
 
 -- 4. words that go on to the next line
 

@@ -138,6 +138,18 @@ only_column Read h = cc
 only_column BlockErase h = cc
 only_column _ h = cc
 
+-- what a closer ends that is wanted after so many addresses: all addresses of its opener
+pub record ClosedBy (p : Command) (m : ℕ) (o : Command) (a : Address) : Type 0 where
+  pub place : After p m ≡ After o (address_cycles o)
+  pub facts : facts_behind (opener_facts p) (take m (bytes_of p a)) ≡ facts_behind (opener_facts o) (take (address_cycles o) (bytes_of o a))
+
+pub closed_by : (c o p : Command) (m : ℕ) (a : Address) → ((q : Command) → closes q c ≡ true → q ≡ o) → place_wants c (After p m) ≡ true → ClosedBy p m o a
+closed_by c o p m a only w =
+    let both = and_parts (closes p c) (m == address_cycles p) w in
+    let same : p ≡ o = only p both.0 in
+    let number : m ≡ address_cycles o = eqb-true m (address_cycles p) both.1 ∙ ap address_cycles same in
+    record { place = λ i. After (same i) (number i); facts = λ i. facts_behind (opener_facts (same i)) (take (number i) (bytes_of (same i) a)) }
+
 -- behind a whole address, where the tail wants this closer
 pub whole : (g : Parts) (j : Job) (v : KnownTarget) (n : Now) (t : TailFacts) (c o : Command) → ((p : Command) → closes p c ≡ true → p ≡ o) → is_data_command c ≡ false → TailFits g j v n t → place_wants c v.tail ≡ true → Whole g j v n o t
 whole g j v n t c o only plain f h = at f.place f.is f.column f.row f.named (every_place (place_wants c) v.tail f.place h f.here)
@@ -148,16 +160,13 @@ whole g j v n t c o only plain f h = at f.place f.is f.column f.row f.named (eve
     at (InColumn m) is column row named w = cc
     at Unknown is column row named w = cc
     at (After p m) is column row named w =
-        let both = and_parts (closes p c) (m == address_cycles p) w in
-        let same : p ≡ o = only p both.0 in
-        let number : m ≡ address_cycles o = eqb-true m (address_cycles p) both.1 ∙ ap address_cycles same in
-        let place : After p m ≡ After o (address_cycles o) = λ i. After (same i) (number i) in
+        let by = closed_by c o p m f.address only w in
         record {
           address = f.address;
-          facts = is.facts ∙ (λ i. facts_behind (opener_facts (same i)) (take (number i) (bytes_of (same i) f.address)));
-          column = λ e. column (ap has_column place ∙ e);
-          row = λ e. row (ap has_row place ∙ e);
-          named = λ e. named (ap has_row place ∙ e);
+          facts = is.facts ∙ by.facts;
+          column = λ e. column (ap has_column by.place ∙ e);
+          row = λ e. row (ap has_row by.place ∙ e);
+          named = λ e. named (ap has_row by.place ∙ e);
         }
 
 pub whole_read : (g : Parts) (j : Job) (v : KnownTarget) (n : Now) (t : TailFacts) → TailFits g j v n t → place_wants ReadConfirm v.tail ≡ true → Whole g j v n Read t

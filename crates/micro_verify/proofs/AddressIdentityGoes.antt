@@ -3,19 +3,21 @@ use Rattle.std.proofs.Common.{◌≡◌, ℕ, ◌≤◌, true, false, List, [], 
 use Rattle.nand_geometry.specs.declared.parts.Parts.{Parts}
 use Rattle.onfi_cycle.specs.declared.command.Command.{Command}
 use Rattle.onfi_cycle.specs.declared.command.Command.TheVariants.{ReadId, ReadParameterPage, ChangeWriteColumn, ProgramConfirm, ProgramPlane}
+use Rattle.onfi_cycle.specs.declared.effect.Effect.{Effect}
 use Rattle.onfi_cycle.specs.declared.effect.Effect.TheVariants.{IdRead, ParameterPageReadStarted}
 use Rattle.onfi_cycle.specs.declared.item.Kind.TheVariants.{Adr}
 use Rattle.onfi_cycle.specs.declared.target_cycle.TargetCycle.TheVariants.{AddressCycle}
-use Rattle.onfi_cycle.specs.Command.{takes_address}
+use Rattle.onfi_cycle.specs.Command.{takes_address, reads_identity}
 use Rattle.onfi_cycle.specs.Sequence.{facts_after, wants_command}
 use Rattle.onfi_cycle.specs.Lun.{view_after}
+use Rattle.onfi_cycle.specs.LunView.{LunView}
 use Rattle.onfi_cycle.specs.Channel.{Channel}
 use Rattle.micro_word.specs.declared.word.Word.TheVariants.{Address as AddressWord}
 use Rattle.micro_word.specs.Text.{Microprogram}
 use Rattle.micro_claims.specs.declared.state.State.{State}
 use Rattle.micro_claims.specs.declared.place.Place.TheVariants.{After}
 use Rattle.micro_claims.specs.Against.{byte_of_column}
-use Rattle.micro_claims.specs.Leaves.{with_registers, paid, identity_read, address_leaves, address_leaves_at}
+use Rattle.micro_claims.specs.Leaves.{with_registers, paid, identity_read, address_leaves_at}
 use Rattle.micro_claims.specs.Accepts.{state_after}
 use Rattle.micro_program.specs.Moves.{address, gives, and_then}
 use Rattle.micro_program.specs.Program.{Job, Answer, column_now}
@@ -54,70 +56,57 @@ one_byte s text r from count one low = ap (address s.geometry (lone_job s.geomet
 registers_still : (g : Parts) (v : State) (r : Run) (from count : ℕ) (answer : Answer) → RegistersMirror g v.registers r.done → RegistersMirror g (paid count v.registers) (record { word = AddressWord from count; answer = answer } ∷ r.done)
 registers_still g v r from count answer m = registers_exact g v.registers v.registers.polled r.done (AddressWord from count) answer (record { column = λ n. refl; plane = λ n. refl; index = λ b n. refl }) (λ n. refl) m
 
-pub goes_id : (s : Channel) (text : Microprogram) (v : State) (r : Run) (c : Lone) (from count n : ℕ) → IsFit s text → IsLone s r.past c → Mirrors s.geometry (lone_job s.geometry text) v r.done c → c ≡ asked ReadId c.view → v.target.tail ≡ After ReadId n → count ≡ 1 → from ≤ 1 → takes_address ReadId (byte_of_column from (column_now r.done)) ≡ true → Goes s text (state_after s.geometry v (AddressWord from count)) r (AddressWord from count)
+-- what the LUN and the tail are after the byte
+abbrev read_after : Command → Effect → (byte : ℕ) → LunView → Lone
+read_after o effect byte view = record { facts = facts_after (AddressCycle byte) (opener_facts o); view = view_after effect view }
+
+abbrev byte_now : Run → (from : ℕ) → ℕ
+byte_now r from = byte_of_column from (column_now r.done)
+
+-- the claim mirrors what is read, so that the word goes
+goes_identity : (s : Channel) (text : Microprogram) (v : State) (r : Run) (c : Lone) (o : Command) (effect : Effect) (from count n : ℕ)
+    → IsFit s text → IsLone s r.past c → c ≡ asked o c.view → v.target.tail ≡ After o n → count ≡ 1 → from ≤ 1
+    → reads_identity o ≡ true → takes_address o (byte_now r from) ≡ true
+    → lone_behind s.geometry (AddressCycle (byte_now r from)) (asked o c.view) ≡ read_after o effect (byte_now r from) c.view
+    → address_leaves_at s.geometry v from count (After o n) ≡ identity_read v o
+    → ((answer : Answer) → Mirrors s.geometry (lone_job s.geometry text) (with_registers (identity_read v o) (paid count (identity_read v o).registers)) (record { word = AddressWord from count; answer = answer } ∷ r.done) (read_after o effect (byte_now r from) c.view))
+    → Goes s text (state_after s.geometry v (AddressWord from count)) r (AddressWord from count)
 unfolding state_after
-goes_id s text v r c from count n k is m here single one low takes =
+goes_identity s text v r c o effect from count n k is here single one low reads takes read left mirrors =
     goes_by s text (state_after g v (AddressWord from count)) r (AddressWord from count) (gives Adr (byte ∷ [])) r.past c k.alone
     (ap (λ (o : Option (List ℕ)). and_then o (λ xs. Some (gives Adr xs))) (one_byte s text r from count one low)) refl is
-    (ap (λ (x : Lone). judged g x (AddressCycle byte)) here ∙ identity_judged g ReadId c.view byte refl takes, tt)
-    (λ answer. subst (λ (x : Lone). Mirrors g j (state_after g v (AddressWord from count)) (record { word = AddressWord from count; answer = answer } ∷ r.done) x) (sym behind)
-    (subst (λ (x : State). Mirrors g j (with_registers x (paid count x.registers)) (record { word = AddressWord from count; answer = answer } ∷ r.done) after) (sym left)
-    (record {
-      registers = registers_still g v r from count answer m.registers;
-      tail = shut_tail g j (identity_read v ReadId) r.done after refl (id_shut byte);
+    (ap (λ (x : Lone). judged g x (AddressCycle byte)) here ∙ identity_judged g o c.view byte reads takes, tt)
+    (λ answer. subst (λ (x : Lone). Mirrors g j (state_after g v (AddressWord from count)) (record { word = AddressWord from count; answer = answer } ∷ r.done) x) (sym (ap (lone_behind g (AddressCycle byte)) here ∙ read))
+    (subst (λ (x : State). Mirrors g j (with_registers x (paid count x.registers)) (record { word = AddressWord from count; answer = answer } ∷ r.done) (read_after o effect byte c.view)) (sym (ap (address_leaves_at g v from count) single ∙ left))
+    (mirrors answer)))
+  where
+    g : Parts
+    g = s.geometry
+
+    j : Job
+    j = lone_job g text
+
+    byte : ℕ
+    byte = byte_now r from
+
+pub goes_id : (s : Channel) (text : Microprogram) (v : State) (r : Run) (c : Lone) (from count n : ℕ) → IsFit s text → IsLone s r.past c → Mirrors s.geometry (lone_job s.geometry text) v r.done c → c ≡ asked ReadId c.view → v.target.tail ≡ After ReadId n → count ≡ 1 → from ≤ 1 → takes_address ReadId (byte_of_column from (column_now r.done)) ≡ true → Goes s text (state_after s.geometry v (AddressWord from count)) r (AddressWord from count)
+goes_id s text v r c from count n k is m here single one low takes =
+    goes_identity s text v r c ReadId IdRead from count n k is here single one low refl takes (rw takes refl) refl
+    (λ answer. record {
+      registers = registers_still s.geometry v r from count answer m.registers;
+      tail = shut_tail s.geometry (lone_job s.geometry text) (identity_read v ReadId) r.done (read_after ReadId IdRead (byte_now r from) c.view) refl (id_shut (byte_now r from));
       shows = refl;
       lun = record { busy = m.lun.busy; register = refl; column = λ e. record { at = 0; is = refl; bound = refl; read = refl }; no_column = λ e. cc; queue = m.lun.queue; last = refl; caching = refl; other = refl; read = λ e. cc; cached_page = λ e. cc; cached_index = λ e. cc };
       along = λ e. cc;
-    })))
-  where
-    g : Parts
-    g = s.geometry
-
-    j : Job
-    j = lone_job g text
-
-    byte : ℕ
-    byte = byte_of_column from (column_now r.done)
-
-    after : Lone
-    after = record { facts = facts_after (AddressCycle byte) (opener_facts ReadId); view = view_after IdRead c.view }
-
-    behind : lone_behind g (AddressCycle byte) c ≡ after
-    behind = ap (lone_behind g (AddressCycle byte)) here ∙ (rw takes refl)
-
-    left : address_leaves g v from count ≡ identity_read v ReadId
-    left = ap (address_leaves_at g v from count) single
+    })
 
 pub goes_parameters : (s : Channel) (text : Microprogram) (v : State) (r : Run) (c : Lone) (from count n : ℕ) → IsFit s text → IsLone s r.past c → Mirrors s.geometry (lone_job s.geometry text) v r.done c → c ≡ asked ReadParameterPage c.view → v.target.tail ≡ After ReadParameterPage n → count ≡ 1 → from ≤ 1 → takes_address ReadParameterPage (byte_of_column from (column_now r.done)) ≡ true → Goes s text (state_after s.geometry v (AddressWord from count)) r (AddressWord from count)
-unfolding state_after
 goes_parameters s text v r c from count n k is m here single one low takes =
-    goes_by s text (state_after g v (AddressWord from count)) r (AddressWord from count) (gives Adr (byte ∷ [])) r.past c k.alone
-    (ap (λ (o : Option (List ℕ)). and_then o (λ xs. Some (gives Adr xs))) (one_byte s text r from count one low)) refl is
-    (ap (λ (x : Lone). judged g x (AddressCycle byte)) here ∙ identity_judged g ReadParameterPage c.view byte refl takes, tt)
-    (λ answer. subst (λ (x : Lone). Mirrors g j (state_after g v (AddressWord from count)) (record { word = AddressWord from count; answer = answer } ∷ r.done) x) (sym behind)
-    (subst (λ (x : State). Mirrors g j (with_registers x (paid count x.registers)) (record { word = AddressWord from count; answer = answer } ∷ r.done) after) (sym left)
-    (record {
-      registers = registers_still g v r from count answer m.registers;
-      tail = shut_tail g j (identity_read v ReadParameterPage) r.done after refl (parameters_shut byte);
+    goes_identity s text v r c ReadParameterPage ParameterPageReadStarted from count n k is here single one low refl takes (rw takes refl) refl
+    (λ answer. record {
+      registers = registers_still s.geometry v r from count answer m.registers;
+      tail = shut_tail s.geometry (lone_job s.geometry text) (identity_read v ReadParameterPage) r.done (read_after ReadParameterPage ParameterPageReadStarted (byte_now r from) c.view) refl (parameters_shut (byte_now r from));
       shows = refl;
       lun = record { busy = refl; register = refl; column = λ e. record { at = 0; is = refl; bound = refl; read = refl }; no_column = λ e. cc; queue = m.lun.queue; last = refl; caching = refl; other = refl; read = λ e. cc; cached_page = λ e. cc; cached_index = λ e. cc };
       along = λ e. cc;
-    })))
-  where
-    g : Parts
-    g = s.geometry
-
-    j : Job
-    j = lone_job g text
-
-    byte : ℕ
-    byte = byte_of_column from (column_now r.done)
-
-    after : Lone
-    after = record { facts = facts_after (AddressCycle byte) (opener_facts ReadParameterPage); view = view_after ParameterPageReadStarted c.view }
-
-    behind : lone_behind g (AddressCycle byte) c ≡ after
-    behind = ap (lone_behind g (AddressCycle byte)) here ∙ (rw takes refl)
-
-    left : address_leaves g v from count ≡ identity_read v ReadParameterPage
-    left = ap (address_leaves_at g v from count) single
+    })

@@ -60,7 +60,7 @@ use Rattle.micro_verify.specs.Lazy.{lone_job, Run}
 use Rattle.micro_verify.specs.Cause.{Cause, WordStops, is_of_cycle_forbidden, index_of, next_page_outside}
 use Rattle.nand_geometry.proofs.Booleans.{and_parts, or_parts}
 use Rattle.micro_claims.proofs.Fits.{Address, bytes_of, opener_facts, facts_behind, RowIs, Now, now_of, has_row, has_column, InProgram, ColumnBegun, is_of_kind, page_of}
-use Rattle.micro_claims.proofs.Tails.{no_address, only_read, only_erase, only_erase_plane, only_column}
+use Rattle.micro_claims.proofs.Tails.{no_address, closed_by, only_read, only_erase, only_erase_plane, only_column}
 use Rattle.micro_claims.proofs.Sounding.{NoReasons, no_reasons}
 use Rattle.micro_claims.proofs.Commands.{same_either, out_of_place, wanted, row_names}
 use Rattle.micro_claims.proofs.MoreCommands.{declared, opener_free}
@@ -263,18 +263,15 @@ whole g j v n c d o only plain f h = at f.place f.is f.column f.row f.named f.ch
     at (InColumn m) is column row named changes single w = cc
     at Unknown is column row named changes single w = cc
     at (After p m) is column row named changes single w =
-        let both = and_parts (closes p d) (m == address_cycles p) w in
-        let same : p ≡ o = only p both.0 in
-        let number : m ≡ address_cycles o = eqb-true m (address_cycles p) both.1 ∙ ap address_cycles same in
-        let place : After p m ≡ After o (address_cycles o) = λ i. After (same i) (number i) in
+        let by = closed_by d o p m f.address only w in
         record {
           address = f.address;
-          facts = is.facts ∙ (λ i. facts_behind (opener_facts (same i)) (take (number i) (bytes_of (same i) f.address)));
-          column = λ e. column (ap has_column place ∙ e);
-          row = λ e. row (ap has_row place ∙ e);
-          named = λ e. named (ap has_row place ∙ e);
-          tail = single ∙ place;
-          changes = λ e. changes (ap is_read_column place ∙ e);
+          facts = is.facts ∙ by.facts;
+          column = λ e. column (ap has_column by.place ∙ e);
+          row = λ e. row (ap has_row by.place ∙ e);
+          named = λ e. named (ap has_row by.place ∙ e);
+          tail = single ∙ by.place;
+          changes = λ e. changes (ap is_read_column by.place ∙ e);
         }
 
 -- in the data of a program

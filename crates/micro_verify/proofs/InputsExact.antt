@@ -18,14 +18,14 @@ use Rattle.micro_word.specs.declared.word.Word.TheVariants.{Put}
 use Rattle.micro_word.specs.Text.{Microprogram}
 use Rattle.micro_claims.specs.declared.refusal.Reason.{Reason}
 use Rattle.micro_claims.specs.declared.refusal.Reason.TheVariants.{CycleForbidden, BufferPassed, ColumnTooLarge, OverBudget}
-use Rattle.micro_program.specs.Program.{Job, place_now, index_now, cost_now, buffer_now, fits}
+use Rattle.micro_program.specs.Program.{Job, place_now, index_now, buffer_now, fits}
 use Rattle.micro_program.specs.Moves.{Move, Give, gives, part, moves}
 use Rattle.micro_claims.specs.declared.state.State.{State}
 use Rattle.micro_claims.specs.declared.place.Place.{Place}
 use Rattle.micro_claims.specs.declared.place.Place.TheVariants.{Closed, After, InData, InColumn, Unknown}
 use Rattle.micro_claims.specs.declared.span.Span.{Span}
 use Rattle.micro_claims.specs.State.{bounds_of}
-use Rattle.micro_claims.specs.Spans.{greatest_bound, bound_plus, is_at_most}
+use Rattle.micro_claims.specs.Spans.{greatest_bound, bound_plus, is_at_most, plus}
 use Rattle.micro_claims.specs.Against.{is_in_data, span_bound, input_past}
 use Rattle.micro_claims.specs.Leaves.{span_more}
 use Rattle.micro_claims.specs.Reasons.{reason_against, breaks_cycle_forbidden, breaks_address_unaligned, breaks_handover_in_sequence, breaks_buffer_passed, breaks_row_or_plane_outside, breaks_column_too_large, breaks_no_status, breaks_ends_too_soon, breaks_command_not_allowed}
@@ -39,8 +39,7 @@ use Rattle.micro_verify.proofs.Lone.{Lone, IsAlone, IsLone, MovesPass, lone_afte
 use Rattle.micro_verify.proofs.Mirrors.{Mirrors, LunMirror, PlaceMirror, InInputs, BoundIs, NameIs, begun, kept_plus, exact_test, shows_of}
 use Rattle.micro_verify.proofs.Told.{wants_by}
 use Rattle.micro_verify.proofs.Causes.{Goes, ExactWord, IsFit, reason_holds, reason_is, cost_cause, lowest_column_too_large}
-use Rattle.micro_verify.proofs.WordsExact.{goes_by, cost_exact}
-use Rattle.micro_verify.proofs.SettingsExact.{longer}
+use Rattle.micro_verify.proofs.WordsExact.{goes_by, registers_moved}
 
 -- 1. what an input is judged
 
@@ -257,17 +256,7 @@ put_exact s text v r c n some k is m =
         let pass = inputs_pass g p.address b.bytes c p.inputs most in
         goes_by s text (state_after g v (Put n)) r (Put n) (gives Din b.bytes) r.past c k.alone b.is_moved refl is pass.pass
         (λ answer. record {
-          registers = record {
-            column = m.registers.column;
-            column_low = m.registers.column_low;
-            planes = m.registers.planes;
-            plane_low = m.registers.plane_low;
-            index = m.registers.index;
-            index_low = longer (index_now 0 r.done) (length r.done) m.registers.index_low;
-            page = m.registers.page;
-            place = ap (λ (o : Option ℕ). bound_plus o n) m.registers.place ∙ kept_plus (place_now r.done) n;
-            cost = cost_exact (cost_now g r.done) n v.registers.cost m.registers.cost;
-          };
+          registers = registers_moved g v.registers (plus v.registers.place n) v.registers.polled r.done (Put n) answer (record { column = λ n. refl; plane = λ n. refl; index = λ b n. refl }) (ap (λ (o : Option ℕ). bound_plus o n) m.registers.place ∙ kept_plus (place_now r.done) n) m.registers;
           tail = record {
             place = InData;
             single = p.tail;

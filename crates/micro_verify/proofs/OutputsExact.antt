@@ -20,7 +20,7 @@ use Rattle.micro_word.specs.declared.word.Word.TheVariants.{Get}
 use Rattle.micro_word.specs.Text.{Microprogram}
 use Rattle.micro_claims.specs.declared.refusal.Reason.{Reason}
 use Rattle.micro_claims.specs.declared.refusal.Reason.TheVariants.{CycleForbidden, BufferPassed, ColumnTooLarge, OverBudget}
-use Rattle.micro_program.specs.Program.{Job, Answer, place_now, index_now, cost_now}
+use Rattle.micro_program.specs.Program.{Job, Answer, place_now, index_now}
 use Rattle.micro_program.specs.Moves.{Move, Take}
 use Rattle.micro_claims.specs.declared.state.State.{State}
 use Rattle.micro_claims.specs.declared.place.Place.{Place}
@@ -42,9 +42,8 @@ use Rattle.micro_verify.specs.Cause.{Cause, WordStops, is_of_cycle_forbidden, is
 use Rattle.micro_verify.proofs.Lone.{Lone, IsAlone, IsLone, MovesPass, lone_after, lone_behind, judged, stops_there}
 use Rattle.micro_verify.proofs.Mirrors.{Mirrors, RegistersMirror, LunMirror, PlaceMirror, Shut, shows_of, held_of, ColumnMirror, ColumnIs, kept_plus, exact_test, open_same}
 use Rattle.micro_verify.proofs.Causes.{Goes, ExactWord, IsFit, reason_holds, reason_is, cost_cause, lowest_column_too_large}
-use Rattle.micro_verify.proofs.WordsExact.{goes_by, shut_tail, cost_exact}
+use Rattle.micro_verify.proofs.WordsExact.{goes_by, shut_tail, registers_moved}
 use Rattle.micro_verify.proofs.CommandsExact.{shut_facts}
-use Rattle.micro_verify.proofs.SettingsExact.{longer}
 
 -- 1. what an output is judged
 
@@ -340,18 +339,7 @@ get_exact s text v r c n some k is m =
     by _ h e = cc
 
     registers : (answer : Answer) → RegistersMirror g (paid n (record v.registers { place = plus v.registers.place n })) (record { word = Get n; answer = answer } ∷ r.done)
-    registers answer =
-        record {
-          column = m.registers.column;
-          column_low = m.registers.column_low;
-          planes = m.registers.planes;
-          plane_low = m.registers.plane_low;
-          index = m.registers.index;
-          index_low = longer (index_now 0 r.done) (length r.done) m.registers.index_low;
-          page = m.registers.page;
-          place = ap (λ (o : Option ℕ). bound_plus o n) m.registers.place ∙ kept_plus (place_now r.done) n;
-          cost = cost_exact (cost_now g r.done) n v.registers.cost m.registers.cost;
-        }
+    registers answer = registers_moved g v.registers (plus v.registers.place n) v.registers.polled r.done (Get n) answer (record { column = λ n. refl; plane = λ n. refl; index = λ b n. refl }) (ap (λ (o : Option ℕ). bound_plus o n) m.registers.place ∙ kept_plus (place_now r.done) n) m.registers
 
     -- what is left where so many outputs pass
     goes_with : (view : LunView) → Outputs g n c view → shows_of view.latch ≡ shows_of c.view.latch → LunMirror g (record v.lun { column = column_read v.target.shows n v.lun.column }) (index_now 0 r.done) view → Goes s text (state_after g v (Get n)) r (Get n)

@@ -1,5 +1,5 @@
 -- Words that set a register are exact.
-use Rattle.std.proofs.Common.{◌≡◌, ℕ, suc, ◌*◌, ◌≤◌, ◌<◌, ◌==◌, Bool, true, false, ◌&&◌, ◌||◌, cond, ltb, [], ◌∷◌, length, Option, refl, sym, ap, ◌∙◌, subst, arith}
+use Rattle.std.proofs.Common.{◌≡◌, ℕ, ◌≤◌, ◌<◌, ◌==◌, Bool, true, false, ◌&&◌, ◌||◌, cond, ltb, [], ◌∷◌, Option, refl, sym, ap, ◌∙◌, subst, arith}
 use Rattle.std.proofs.lemmas.Bool.Decides.{nat_tests}
 use Rattle.nand_geometry.specs.declared.parts.Parts.{Parts}
 use Rattle.onfi_cycle.specs.declared.data_phase.DataPhase.TheVariants.{FirstColumn, SecondColumn}
@@ -12,7 +12,9 @@ use Rattle.micro_word.specs.declared.word.Word.TheVariants.{Seek, Column, Plane,
 use Rattle.micro_word.specs.Text.{Microprogram}
 use Rattle.micro_claims.specs.declared.refusal.Reason.{Reason}
 use Rattle.micro_claims.specs.declared.refusal.Reason.TheVariants.{AddressUnaligned, HandoverInSequence, RowOrPlaneOutside}
-use Rattle.micro_program.specs.Program.{Job, index_now, cost_now}
+use Rattle.micro_program.specs.Program.{Job}
+use Rattle.micro_claims.specs.Spans.{exactly}
+use Rattle.micro_claims.specs.Planes.{just_plane}
 use Rattle.micro_claims.specs.declared.state.State.{State}
 use Rattle.micro_claims.specs.declared.known_target.KnownTarget.{KnownTarget}
 use Rattle.micro_claims.specs.declared.place.Place.{Place}
@@ -28,7 +30,7 @@ use Rattle.micro_verify.specs.Cause.{Cause, is_amid, tail_now}
 use Rattle.micro_verify.proofs.Lone.{Lone, IsAlone, IsLone}
 use Rattle.micro_verify.proofs.Mirrors.{Mirrors, TailMirror, PlaceMirror, NameIs, begun, open_same}
 use Rattle.micro_verify.proofs.Causes.{Goes, ExactWord, reason_holds, reason_is}
-use Rattle.micro_verify.proofs.WordsExact.{goes_by, registers_exact, cost_exact}
+use Rattle.micro_verify.proofs.WordsExact.{goes_by, registers_exact, registers_moved, registers_set}
 
 -- 1. inside an address
 
@@ -68,9 +70,6 @@ tail_apart g j v n m c same apart t =
       changes = t.changes;
     }
 
-pub longer : (n k : ℕ) → n ≤ 65536 * k → n ≤ 65536 * suc k
-longer n k h = omega (arith, h)
-
 -- 2. seek
 
 pub seek_exact : (s : Channel) (text : Microprogram) (v : State) (r : Run) (c : Lone) (place : ℕ) → IsAlone s → IsLone s r.past c → Mirrors s.geometry (lone_job s.geometry text) v r.done c → ExactWord s text v r (Seek place)
@@ -81,17 +80,7 @@ seek_exact s text v r c place k is m =
       goes = λ e f.
           goes_by s text (state_after g v (Seek place)) r (Seek place) [] r.past c k refl refl is tt
           (λ answer. record {
-            registers = record {
-              column = m.registers.column;
-              column_low = m.registers.column_low;
-              planes = m.registers.planes;
-              plane_low = m.registers.plane_low;
-              index = m.registers.index;
-              index_low = longer (index_now 0 r.done) (length r.done) m.registers.index_low;
-              page = m.registers.page;
-              place = refl;
-              cost = cost_exact (cost_now g r.done) 0 v.registers.cost m.registers.cost;
-            };
+            registers = registers_moved g v.registers (exactly place) v.registers.polled r.done (Seek place) answer (record { column = λ n. refl; plane = λ n. refl; index = λ b n. refl }) refl m.registers;
             tail = m.tail;
             shows = m.shows;
             lun = m.lun;
@@ -127,17 +116,7 @@ column_exact s text v r c column low k is m =
     goes apart =
         goes_by s text (state_after g v (Column column)) r (Column column) [] r.past c k refl refl is tt
         (λ answer. record {
-          registers = record {
-            column = record { lo = refl; hi = refl };
-            column_low = low;
-            planes = m.registers.planes;
-            plane_low = m.registers.plane_low;
-            index = m.registers.index;
-            index_low = longer (index_now 0 r.done) (length r.done) m.registers.index_low;
-            page = m.registers.page;
-            place = m.registers.place;
-            cost = cost_exact (cost_now g r.done) 0 v.registers.cost m.registers.cost;
-          };
+          registers = registers_set g v.registers (exactly column) v.registers.planes v.registers.place v.registers.polled r.done (Column column) answer m.registers (record { lo = refl; hi = refl }) low m.registers.planes m.registers.plane_low (λ b n. refl) m.registers.place;
           tail = tail_apart g j v.target (now_of j r.done) (now_of j (record { word = Column column; answer = answer } ∷ r.done)) c refl apart m.tail;
           shows = m.shows;
           lun = m.lun;
@@ -164,17 +143,7 @@ plane_exact s text v r c plane low k is m =
     goes apart =
         goes_by s text (state_after g v (Plane plane)) r (Plane plane) [] r.past c k refl refl is tt
         (λ answer. record {
-          registers = record {
-            column = m.registers.column;
-            column_low = m.registers.column_low;
-            planes = refl;
-            plane_low = low;
-            index = m.registers.index;
-            index_low = longer (index_now 0 r.done) (length r.done) m.registers.index_low;
-            page = m.registers.page;
-            place = m.registers.place;
-            cost = cost_exact (cost_now g r.done) 0 v.registers.cost m.registers.cost;
-          };
+          registers = registers_set g v.registers v.registers.column (just_plane plane) v.registers.place v.registers.polled r.done (Plane plane) answer m.registers m.registers.column m.registers.column_low refl low (λ b n. refl) m.registers.place;
           tail = tail_apart g j v.target (now_of j r.done) (now_of j (record { word = Plane plane; answer = answer } ∷ r.done)) c refl apart m.tail;
           shows = m.shows;
           lun = m.lun;

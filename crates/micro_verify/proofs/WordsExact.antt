@@ -15,7 +15,7 @@ use Rattle.micro_word.specs.declared.word.Word.TheVariants.{Wait, ReadStatus}
 use Rattle.micro_word.specs.Text.{Microprogram}
 use Rattle.micro_claims.specs.declared.refusal.Reason.{Reason}
 use Rattle.micro_claims.specs.declared.refusal.Reason.TheVariants.{CycleForbidden, HandoverInSequence, OverBudget}
-use Rattle.micro_program.specs.Program.{Job, Done, Answer, cost, cost_now, index_now, index_after, column_now, plane_now, place_now, place_after}
+use Rattle.micro_program.specs.Program.{Job, Done, Answer, cost, cost_now, index_now, index_after, column_now, column_after, plane_now, plane_after, place_now, place_after}
 use Rattle.micro_program.specs.Moves.{Move, Give, Take, moves, and_then}
 use Rattle.micro_program.specs.Played.{Played, played}
 use Rattle.micro_claims.specs.declared.state.State.{State}
@@ -26,6 +26,7 @@ use Rattle.micro_claims.specs.Spans.{greatest_bound, kept, bound_plus, plus}
 use Rattle.micro_claims.specs.declared.span.Span.{Span}
 use Rattle.micro_claims.specs.Against.{may_be_open}
 use Rattle.micro_claims.specs.Leaves.{paid, cost_plus, unread}
+use Rattle.micro_claims.specs.declared.planes.Planes.{Planes}
 use Rattle.micro_claims.specs.Planes.{just_plane}
 use Rattle.micro_claims.specs.Reasons.{breaks_cycle_forbidden, breaks_address_unaligned, breaks_handover_in_sequence, breaks_buffer_passed, breaks_row_or_plane_outside, breaks_column_too_large, breaks_no_status, breaks_ends_too_soon, breaks_over_budget, breaks_command_not_allowed}
 use Rattle.micro_claims.specs.Accepts.{state_after}
@@ -65,20 +66,34 @@ cost_exact n k s h = at (k == 0) refl
     at true e = let none : k ≡ 0 = eqb-true k 0 e in let same : n ≡ n + k = omega (arith, none) in h ∙ ap kept same
     at false e = ap (λ (o : Option ℕ). bound_plus o k) h ∙ kept_plus n k
 
--- registers that a word leaves, its cost apart
-pub registers_exact : (g : Parts) (r : Registers) (b : Bool) (done : List Done) (word : Word) (answer : Answer) → Unmoved word → ((n : ℕ) → place_after word n ≡ n) → RegistersMirror g r done → RegistersMirror g (paid (cost g word) (record r { polled = b })) (record { word = word; answer = answer } ∷ done)
-registers_exact g r b done word answer u place m =
+-- the registers after a word that leaves the index
+pub registers_set : (g : Parts) (r : Registers) (column : Span) (planes : Planes) (place : Span) (b : Bool) (done : List Done) (word : Word) (answer : Answer) → RegistersMirror g r done → IsExactly (column_after word (column_now done)) column → column_after word (column_now done) < 65536 → planes ≡ just_plane (plane_after word (plane_now done)) → plane_after word (plane_now done) ≤ 3 → ((base n : ℕ) → index_after base word n ≡ n) → place.hi ≡ kept (place_after word (place_now done)) → RegistersMirror g (paid (cost g word) (record r { column = column; planes = planes; place = place; polled = b })) (record { word = word; answer = answer } ∷ done)
+registers_set g r column planes place b done word answer m is_column column_low are_planes plane_low index is_place =
     record {
-      column = subst (λ (n : ℕ). IsExactly n r.column) (sym (u.column (column_now done))) m.column;
-      column_low = subst (λ (n : ℕ). n < 65536) (sym (u.column (column_now done))) m.column_low;
-      planes = m.planes ∙ ap just_plane (sym (u.plane (plane_now done)));
-      plane_low = subst (λ (n : ℕ). n ≤ 3) (sym (u.plane (plane_now done))) m.plane_low;
-      index = subst (λ (n : ℕ). IsExactly n r.index) (sym (u.index 0 (index_now 0 done))) m.index;
-      index_low = let same : index_after 0 word (index_now 0 done) ≡ index_now 0 done = u.index 0 (index_now 0 done) in let low = m.index_low in omega (arith, same, low);
-      page = m.page ∙ ap (λ (n : ℕ). record { lo = n % g.pages; hi = n % g.pages }) (sym (u.index 0 (index_now 0 done)));
-      place = m.place ∙ ap kept (sym (place (place_now done)));
+      column = is_column;
+      column_low = column_low;
+      planes = are_planes;
+      plane_low = plane_low;
+      index = subst (λ (n : ℕ). IsExactly n r.index) (sym (index 0 (index_now 0 done))) m.index;
+      index_low = let same : index_after 0 word (index_now 0 done) ≡ index_now 0 done = index 0 (index_now 0 done) in let low = m.index_low in omega (arith, same, low);
+      page = m.page ∙ ap (λ (n : ℕ). record { lo = n % g.pages; hi = n % g.pages }) (sym (index 0 (index_now 0 done)));
+      place = is_place;
       cost = cost_exact (cost_now g done) (cost g word) r.cost m.cost;
     }
+
+-- the registers after a word that leaves all but the place
+pub registers_moved : (g : Parts) (r : Registers) (place : Span) (b : Bool) (done : List Done) (word : Word) (answer : Answer) → Unmoved word → place.hi ≡ kept (place_after word (place_now done)) → RegistersMirror g r done → RegistersMirror g (paid (cost g word) (record r { place = place; polled = b })) (record { word = word; answer = answer } ∷ done)
+registers_moved g r place b done word answer u is_place m =
+    registers_set g r r.column r.planes place b done word answer m
+    (subst (λ (n : ℕ). IsExactly n r.column) (sym (u.column (column_now done))) m.column)
+    (subst (λ (n : ℕ). n < 65536) (sym (u.column (column_now done))) m.column_low)
+    (m.planes ∙ ap just_plane (sym (u.plane (plane_now done))))
+    (subst (λ (n : ℕ). n ≤ 3) (sym (u.plane (plane_now done))) m.plane_low)
+    u.index is_place
+
+-- registers that a word leaves, its cost apart
+pub registers_exact : (g : Parts) (r : Registers) (b : Bool) (done : List Done) (word : Word) (answer : Answer) → Unmoved word → ((n : ℕ) → place_after word n ≡ n) → RegistersMirror g r done → RegistersMirror g (paid (cost g word) (record r { polled = b })) (record { word = word; answer = answer } ∷ done)
+registers_exact g r b done word answer u place m = registers_moved g r r.place b done word answer u (m.place ∙ ap kept (sym (place (place_now done)))) m
 
 -- 2. polls
 

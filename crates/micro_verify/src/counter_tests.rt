@@ -1,4 +1,4 @@
-use crate::{Counter, VerifyRefusal, verify};
+use crate::{Counter, TextRefused, VerifyRefusal, verify};
 use linked_list_allocator::LocalHeap;
 use micro_claims::Reason;
 use micro_word::{Text, Word};
@@ -86,7 +86,7 @@ fn refusal<A: Allocator + Copy>(
     };
     match verify(text, Geometry::of(parts)?) {
         Ok(_) => Err(Fail::from("the text is accepted")),
-        Err(refused) => match refused.refusal {
+        Err(TextRefused { refusal, .. }) => match refusal {
             VerifyRefusal::OutOfMemory => Ok(None),
             VerifyRefusal::Refusal {
                 word,

@@ -1,4 +1,4 @@
-use crate::{VerifyRefusal, verify};
+use crate::{TextRefused, VerifyRefusal, verify};
 use micro_program::Verified;
 use micro_word::{Text, Word};
 use nand_geometry::{Geometry, Parts, SMALL_CHIP};
@@ -132,7 +132,7 @@ fn made(alloc: Global, seed: &mut u32, rows: u32, planes: u32) -> Result<Text, F
 fn accepted(text: Text, parts: Parts) -> Result<Verified, Fail> {
     match verify(text, Geometry::of(parts)?) {
         Ok(verified) => Ok(verified),
-        Err(refused) => match refused.refusal {
+        Err(TextRefused { refusal, .. }) => match refusal {
             VerifyRefusal::Refusal { .. } => Err(Fail::from("refused")),
             VerifyRefusal::OutOfMemory => Err(Fail::from("out of memory")),
         },

@@ -293,44 +293,44 @@ fn job_of<A: Allocator + Copy>(
 // The load of a job of the LUN `at` is refused so, with the job handed back.
 fn is_refused<A: Allocator + Copy>(
     core: &mut Core<A>,
-    l: Lun,
+    onto: Lun,
     job: Job<A>,
     at: Lun,
     fault: LoadFault,
 ) -> bool {
-    match core.load(l, job) {
+    match core.load(onto, job) {
         Ok(()) => false,
         Err(refused) => refused.fault == fault && refused.job.lun() == at,
     }
 }
 
-// What would be answered to the load of an erase for `parts` and the LUN `at` onto `l`.
+// What would be answered to the load of an erase for `parts` and the LUN `at` onto another LUN.
 fn admitted<A: Allocator + Copy>(
     alloc: A,
     core: &Core<A>,
-    l: Lun,
+    onto: Lun,
     parts: Parts,
     at: Lun,
 ) -> Result<Result<(), LoadFault>, Fail> {
     let job = job_of(alloc, parts, at, 0)?;
-    Ok(core.admits(l, &job))
+    Ok(core.admits(onto, &job))
 }
 
 // It is the erase on this LUN with no buffer.
-fn is_erase<A: Allocator>(done: &UnloadedJob<A>, l: Lun) -> bool {
+fn is_erase<A: Allocator>(done: &UnloadedJob<A>, lun: Lun) -> bool {
     done.job.text().words() == ERASE.as_slice()
-        && done.job.lun() == l
+        && done.job.lun() == lun
         && done.job.buffer().is_empty()
 }
 
 // An unload is answered so: with the code of the erase on this LUN, or a fault.
 fn is_unloaded<A: Allocator + Copy>(
     core: &mut Core<A>,
-    l: Lun,
+    lun: Lun,
     answer: Result<u8, UnloadFault>,
 ) -> bool {
-    match core.unload(l) {
-        Ok(done) => answer == Ok(done.code) && is_erase(&done, l),
+    match core.unload(lun) {
+        Ok(done) => answer == Ok(done.code) && is_erase(&done, lun),
         Err(fault) => answer == Err(fault),
     }
 }
@@ -435,36 +435,42 @@ fn is_loaded<A: Allocator + Copy>(
     alloc: A,
     core: &mut Core<A>,
     parts: Parts,
-    l: Lun,
+    lun: Lun,
     base: u32,
 ) -> Result<bool, Fail> {
-    let job = job_of(alloc, parts, l, base)?;
-    Ok(core.load(l, job).is_ok())
+    let job = job_of(alloc, parts, lun, base)?;
+    Ok(core.load(lun, job).is_ok())
 }
 
-// The load of an erase for `parts` and the LUN `at` onto `l` is refused so, and `admits` says it before.
+// The load of an erase for `parts` and the LUN `at` onto another LUN is refused so, and `admits` says it before.
 fn is_refused_twice<A: Allocator + Copy>(
     alloc: A,
     core: &mut Core<A>,
-    l: Lun,
+    onto: Lun,
     (parts, at): (Parts, Lun),
     fault: LoadFault,
 ) -> Result<bool, Fail> {
-    let asked = admitted(alloc, core, l, parts, at)?;
+    let asked = admitted(alloc, core, onto, parts, at)?;
     let job = job_of(alloc, parts, at, 0)?;
-    Ok(is_refused(core, l, job, at, fault) && asked == Err(fault))
+    Ok(is_refused(core, onto, job, at, fault) && asked == Err(fault))
 }
 
 // Whether what is tried comes as it must.
 fn comes<A: Allocator + Copy>(alloc: A, core: &mut Core<A>, wanted: Try) -> Result<bool, Fail> {
     match wanted {
-        Try::Load(parts, l, base) => is_loaded(alloc, core, parts, l, base),
-        Try::Refused(l, parts, at, fault) => is_refused_twice(alloc, core, l, (parts, at), fault),
-        Try::Admitted(parts, l) => Ok(admitted(alloc, core, l, parts, l)?.is_ok()),
+        Try::Load(parts, lun, base) => is_loaded(alloc, core, parts, lun, base),
+        Try::Refused(onto, parts, at, fault) => is_refused_twice(
+            alloc,
+            core,
+            onto,
+            (parts, at),
+            fault,
+        ),
+        Try::Admitted(parts, lun) => Ok(admitted(alloc, core, lun, parts, lun)?.is_ok()),
         Try::Steps(answers) => are_answered(core, answers),
-        Try::Ready(l, fail, came) => Ok(core.ready(l, fail) == came),
+        Try::Ready(lun, fail, came) => Ok(core.ready(lun, fail) == came),
         Try::NoArray => Ok(no_array_works(core)),
-        Try::Unload(l, answer) => Ok(is_unloaded(core, l, answer)),
+        Try::Unload(lun, answer) => Ok(is_unloaded(core, lun, answer)),
         Try::Legal(parts, targets) => is_legal(parts, targets, core.trace()),
         _ => Ok(is_seen(seen_of(core), core.trace(), wanted)),
     }

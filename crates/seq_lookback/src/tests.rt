@@ -65,22 +65,22 @@ fn erase_on(alloc: Global, parts: Parts, lun: Lun) -> Result<Job, Fail> {
 }
 
 // Two LUNs are loaded with an erase of block 1 each, stepped in turn with both ready after their first polls, and unloaded.
-fn events_in_turn(alloc: Global, parts: Parts, a: Lun, b: Lun) -> Result<Vec<Event>, Fail> {
+fn events_in_turn(alloc: Global, parts: Parts, one: Lun, other: Lun) -> Result<Vec<Event>, Fail> {
     let mut events = Vec::new(alloc);
-    events.push(Event::Load(a, erase_on(alloc, parts, a)?))?;
-    events.push(Event::Load(b, erase_on(alloc, parts, b)?))?;
+    events.push(Event::Load(one, erase_on(alloc, parts, one)?))?;
+    events.push(Event::Load(other, erase_on(alloc, parts, other)?))?;
     for _ in 0..7 {
-        events.push(Event::Step(a))?;
-        events.push(Event::Step(b))?;
+        events.push(Event::Step(one))?;
+        events.push(Event::Step(other))?;
     }
-    events.push(Event::Ready(a, false))?;
-    events.push(Event::Ready(b, false))?;
+    events.push(Event::Ready(one, false))?;
+    events.push(Event::Ready(other, false))?;
     for _ in 0..3 {
-        events.push(Event::Step(a))?;
-        events.push(Event::Step(b))?;
+        events.push(Event::Step(one))?;
+        events.push(Event::Step(other))?;
     }
-    events.push(Event::Unload(a))?;
-    events.push(Event::Unload(b))?;
+    events.push(Event::Unload(one))?;
+    events.push(Event::Unload(other))?;
     Ok(events)
 }
 
@@ -90,19 +90,19 @@ fn lun_agrees(
     alloc: Global,
     bus: &Bus,
     past: &[Item],
-    l: Lun,
+    lun: Lun,
 ) -> Result<(), Fail> {
-    let Some(told) = bus.lun_state(l) else {
+    let Some(told) = bus.lun_state(lun) else {
         return Err(Fail::from("a LUN is missing"));
     };
     let geometry = bus.geometry();
-    let facts = lun_facts(alloc, &geometry, past, l)?;
+    let facts = lun_facts(alloc, &geometry, past, lun)?;
     assert_eq!(rt; told.busy, facts.busy);
     assert_eq!(rt; told.latch, facts.latch);
     assert_eq!(rt; told.register, facts.register);
     assert_eq!(rt; told.column.map(u64::from), facts.column.output_column());
     assert_eq!(rt; told.queued, facts.queue.works().len());
-    assert_eq!(rt; told.caching, is_caching(alloc, &geometry, past, l)?);
+    assert_eq!(rt; told.caching, is_caching(alloc, &geometry, past, lun)?);
     assert_eq!(rt; told.array_busy, facts.array_busy);
     Ok(())
 }

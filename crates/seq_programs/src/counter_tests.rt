@@ -1,6 +1,6 @@
 use crate::programs::made;
 use micro_claims::Reason;
-use micro_verify::{Counter, VerifyRefusal, verify};
+use micro_verify::{Counter, TextRefused, VerifyRefusal, verify};
 use micro_word::{Text, Word};
 use nand_geometry::{Geometry, Parts, SMALL_CHIP};
 use onfi_cycle::Item;
@@ -23,7 +23,7 @@ fn counter_of(words: Vec<Word>) -> Result<Option<Counter>, Fail> {
     };
     match verify(text, Geometry::of(ONE_LUN)?) {
         Ok(_) => Ok(None),
-        Err(refused) => match refused.refusal {
+        Err(TextRefused { refusal, .. }) => match refusal {
             VerifyRefusal::OutOfMemory => Err(Fail::from("out of memory")),
             VerifyRefusal::Refusal {
                 reason,

@@ -72,7 +72,7 @@ impl ChannelDies {
     pub(crate) fn number(&self, lun: Lun) -> usize
         ensures { result ≡ lun.ce * self.now.geometry.luns + lun.lun }
     {
-        usize::from(lun.ce) * usize::from(self.geometry.parts().luns) + usize::from(lun.lun)
+        lun.place(self.geometry.parts().luns)
     }
 
     /// Puts another new die in the place of this number, if there is one.

@@ -49,7 +49,7 @@ use Rattle.die_model.specs.declared.Work.TheVariants as w
 use Rattle.die_model.specs.Die.{Die, work_begun, is_program, CanBegin, IsAfter}
 use Rattle.die_model.specs.Standing.{IsDieOf, WorkedBy, CanBeginSome, is_no_ready, CanWork, IsWorked}
 use Rattle.die_model.proofs.Standing.{IsInput, is_input, dies_go_on}
-use Rattle.target_bus.specs.Bus.{Entries, channel_on, opened_page, numbered, number_of, lun_at, StandFor, IsWorkedAt, FindsWork, IsStanding, IsNext, IsRunning, Traced, spent}
+use Rattle.target_bus.specs.Bus.{Entries, channel_on, opened_page, numbered, number_of, lun_at, StandFor, IsWorkedAt, FindsWork, IsStanding, Permits, IsNext, IsRunning, Traced, spent}
 use Rattle.target_bus.specs.declared.working.Worked.{Worked}
 use Rattle.target_bus.proofs.Numbers.{target_there, lun_there, numbered_number, number_apart, number_below, set_here, set_other, slice_get_none}
 use Rattle.nand_geometry.proofs.Booleans.{and_parts as both, or_parts as neither}
@@ -517,6 +517,13 @@ few_dies state opened dies past f =
     let luns = f.limits.luns_most in
     let same = f.count in
     omega (arith, most, luns, same)
+
+-- the dies as they are lent are those that stand
+pub few_lent : (state : BusView) (opened : List Entries) (dies lent : List Die) (past : List Item) → IsStanding state opened dies past → lent ≡ dies → length lent ≤ 16
+few_lent state opened dies lent past f same = let few = few_dies state opened dies past f in omega (arith, few, ap length same)
+
+pub permits_lent : (state : BusView) (opened : List Entries) (dies lent : List Die) (past : List Item) (i : Item) → IsStanding state opened dies past → lent ≡ dies → broken state.geometry (length state.targets) past i ≡ None → Permits state lent i
+permits_lent state opened dies lent past i f same h = record { opened = opened; past = past; standing = subst (λ (ds : List Die). IsStanding state opened ds past) (sym same) f; permitted = h }
 
 pub enough_due : (b : Bool) (works due later : ℕ) → works ≡ cond b 1 0 → later ≤ due + 16 → (b ≡ false → later ≤ due) → later ≤ due + 16 * works
 enough_due true works due later is most idle = omega (arith, is, most)

@@ -180,6 +180,12 @@ pub record Permits (state : BusView) (dies : List Die) (i : Item) : Type 0 where
   pub standing : IsStanding state opened dies past
   pub permitted : broken state.geometry (length state.targets) past i ≡ None
 
+-- these dies stand for whatever past the ones before stood for, with the item, where it is permitted
+abbrev pub StandOn : BusView → (dies after : List Die) → Item → Type 0
+StandOn state dies after i =
+    (opened : List Entries) (past : List Item) → IsStanding state opened dies past → broken state.geometry (length state.targets) past i ≡ None
+    → StandFor (channel_on state.geometry (length state.targets) opened) (i ∷ past) after
+
 -- they go on to stand, with the item
 abbrev pub GoOn : (state next : BusView) (dies after : List Die) → Item → Type 0
 GoOn state next dies after i = (opened : List Entries) (past : List Item) → IsStanding state opened dies past → IsStanding next opened after (i ∷ past)

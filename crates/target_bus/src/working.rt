@@ -1,12 +1,11 @@
 //! What an item does to the dies of a channel.
-ghost use Rattle.std.specs.Prelude.{◌≡◌, ℕ, ◌<◌, ◌≤◌, true, false, List, ◌∷◌, Some, None, IsOk, IfOk, IfSome, OnErr, length, slice_get, slice_set};
+ghost use Rattle.std.specs.Prelude.{◌≡◌, ℕ, ◌<◌, ◌≤◌, true, false, List, Some, None, IsOk, IfOk, IfSome, OnErr, length, slice_get, slice_set};
 ghost use Rattle.nand_geometry.specs.declared.parts.Parts.{Parts};
 ghost use Rattle.onfi_cycle.specs.declared.item.Item.{Item};
 ghost use Rattle.onfi_cycle.specs.declared.item.Item.TheVariants.{Cyc};
 ghost use Rattle.onfi_cycle.specs.Lun.{effect_on};
 ghost use Rattle.onfi_cycle.specs.Sequence.{facts_of, tail};
 ghost use Rattle.onfi_cycle.specs.Filling.{filling};
-ghost use Rattle.onfi_cycle.specs.Permitted.{broken};
 ghost use Rattle.onfi_cycle.specs.Channel.{is_cycle, cycle};
 ghost use Rattle.onfi_cycle.specs.State.{Follows};
 ghost use Rattle.onfi_cycle.specs.Working.{fills, begins};
@@ -14,7 +13,7 @@ ghost use Rattle.onfi_cycle.specs.Readies.{starts_work};
 ghost use Rattle.onfi_cycle.specs.declared.effect.Effect.TheVariants.{BecameReady, ArrayBecameReady};
 ghost use Rattle.die_model.specs.Die.{Die, IsAfter, is_program};
 ghost use Rattle.die_model.specs.Standing.{CanWork, WorkedBy};
-ghost use Rattle.target_bus.specs.Bus.{channel_on, Entries, FindsWork, IsStanding, Permits, StandFor, is_input, may_fill};
+ghost use Rattle.target_bus.specs.Bus.{FindsWork, Permits, StandOn, is_input, may_fill};
 
 use die_model::LunDie;
 use onfi_cycle::{BusState, Cycle, Effect, Filling, Item, Kind, Lun};
@@ -158,9 +157,7 @@ fn work_input<A: Allocator + Copy>(
     requires few { length dies.old ≤ 16 }
     requires permitted { Permits state.now dies.old (Cyc cycle) }
     requires input { is_input cycle.kind ≡ true }
-    ensures ok { IfOk result (λ _. (opened : List Entries) (past : List Item) → IsStanding state.now opened dies.old past
-        → broken state.now.geometry (length state.now.targets) past (Cyc cycle) ≡ None
-        → StandFor (channel_on state.now.geometry (length state.now.targets) opened) (Cyc cycle ∷ past) dies.new) }
+    ensures ok { IfOk result (λ _. StandOn state.now dies.old dies.new (Cyc cycle)) }
     ensures err { OnErr result (dies.new ≡ dies.old) }
     ensures memory { starts_work (Cyc cycle) ≡ false → IsOk result }
 {
@@ -185,9 +182,7 @@ fn work_found<A: Allocator + Copy>(
 ) -> Result<(), AllocError>
     requires few { length dies.old ≤ 16 }
     requires permitted { Permits state.now dies.old (Cyc cycle) }
-    ensures ok { IfOk result (λ _. (opened : List Entries) (past : List Item) → IsStanding state.now opened dies.old past
-        → broken state.now.geometry (length state.now.targets) past (Cyc cycle) ≡ None
-        → StandFor (channel_on state.now.geometry (length state.now.targets) opened) (Cyc cycle ∷ past) dies.new) }
+    ensures ok { IfOk result (λ _. StandOn state.now dies.old dies.new (Cyc cycle)) }
     ensures err { OnErr result (dies.new ≡ dies.old) }
     ensures memory { starts_work (Cyc cycle) ≡ false → IsOk result }
 {
@@ -214,9 +209,7 @@ pub fn work<A: Allocator + Copy>(
 ) -> Result<(), AllocError>
     requires few { length dies.old ≤ 16 }
     requires permitted { Permits state.now dies.old (Cyc cycle) }
-    ensures ok { IfOk result (λ _. (opened : List Entries) (past : List Item) → IsStanding state.now opened dies.old past
-        → broken state.now.geometry (length state.now.targets) past (Cyc cycle) ≡ None
-        → StandFor (channel_on state.now.geometry (length state.now.targets) opened) (Cyc cycle ∷ past) dies.new) }
+    ensures ok { IfOk result (λ _. StandOn state.now dies.old dies.new (Cyc cycle)) }
     ensures err { OnErr result (dies.new ≡ dies.old) }
     ensures memory { starts_work (Cyc cycle) ≡ false → IsOk result }
 {
@@ -232,9 +225,7 @@ pub fn end_work<A: Allocator + Copy>(state: &BusState, dies: &mut [LunDie<A>], r
     requires few { length dies.old ≤ 16 }
     requires ready { is_cycle ready ≡ false }
     requires permitted { Permits state.now dies.old ready }
-    ensures { (opened : List Entries) (past : List Item) → IsStanding state.now opened dies.old past
-        → broken state.now.geometry (length state.now.targets) past ready ≡ None
-        → StandFor (channel_on state.now.geometry (length state.now.targets) opened) (ready ∷ past) dies.new }
+    ensures { StandOn state.now dies.old dies.new ready }
 {
     // Its contract says that the rows which are named fit.
     state.facts_fit();

@@ -6,24 +6,19 @@ use Rattle.onfi_cycle.specs.Readies.{starts_work}
 use Rattle.onfi_cycle.proofs.Following.{refilled}
 use Rattle.die_model.specs.Die.{Die}
 use Rattle.target_bus.specs.Bus.{Traced, channel_on, IsNext, IsStanding, StandFor}
-use Rattle.target_bus.proofs.Standing.{runs_on, is_next, traced, err_gives, ok_gives, ok_clash, few_dies, enough_due}
+use Rattle.target_bus.proofs.Standing.{runs_on, is_next, traced, err_gives, ok_gives, ok_clash, few_lent, permits_lent, enough_due}
 use Rattle.target_bus.proofs.bus.Bus.put.Goals as goal
 
 pub work-requires-clause-few : goal.work-requires-clause-few
 work-requires-clause-few g c =
-    let few = few_dies c.self.inside.state c.self.inside.opened.items c.self.inside.dies.items (reverse c.self.inside.trace.items) c.self.invariant.standing in
-    omega (arith, few, ap length c.as_mut_slice.ensures.value)
+    few_lent c.self.inside.state c.self.inside.opened.items c.self.inside.dies.items _ (reverse c.self.inside.trace.items) c.self.invariant.standing c.as_mut_slice.ensures.value
 
 pub work-requires-clause-permitted : goal.work-requires-clause-permitted
 work-requires-clause-permitted g c =
     let state = c.self.inside.state in
     let past = reverse c.self.inside.trace.items in
-    record {
-      opened = c.self.inside.opened.items;
-      past = past;
-      standing = subst (λ (ds : List Die). IsStanding state c.self.inside.opened.items ds past) (sym c.as_mut_slice.ensures.value) c.self.invariant.standing;
-      permitted = sym (c.judge_cycle.ensures.past state.geometry (length state.targets) past c.self.invariant.standing.follows) ∙ c.in_default.is;
-    }
+    permits_lent state c.self.inside.opened.items c.self.inside.dies.items _ past (Cyc c.args.cycle) c.self.invariant.standing c.as_mut_slice.ensures.value
+    (sym (c.judge_cycle.ensures.past state.geometry (length state.targets) past c.self.invariant.standing.follows) ∙ c.in_default.is)
 
 pub invariant_of-self-then-is_err-2 : goal.invariant_of-self-then-is_err-2
 invariant_of-self-then-is_err-2 g c =

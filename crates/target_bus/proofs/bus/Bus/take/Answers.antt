@@ -8,7 +8,7 @@ use Rattle.onfi_cycle.specs.State.{Follows}
 use Rattle.onfi_cycle.specs.Readies.{starts_work}
 use Rattle.die_model.specs.Die.{Die}
 use Rattle.target_bus.specs.Bus.{Traced, channel_on, channel_of, IsNext, IsStanding, StandFor}
-use Rattle.target_bus.proofs.Standing.{runs_on, is_next, traced, ok_gives, few_dies, stands_output}
+use Rattle.target_bus.proofs.Standing.{runs_on, is_next, traced, ok_gives, few_lent, stands_output}
 use Rattle.target_bus.proofs.bus.Bus.take.Goals as goal
 
 pub invariant_of-self-2 : goal.invariant_of-self-2
@@ -45,8 +45,7 @@ returns-clause-ok g c =
 
 pub shown_byte-byte-requires : goal.shown_byte-byte-requires
 shown_byte-byte-requires g c =
-    let few = few_dies c.self.inside.state c.self.inside.opened.items c.self.inside.dies.items (reverse c.self.inside.trace.items) c.self.invariant.standing in
-    omega (arith, few, ap length c.as_slice.ensures.value)
+    few_lent c.self.inside.state c.self.inside.opened.items c.self.inside.dies.items _ (reverse c.self.inside.trace.items) c.self.invariant.standing c.as_slice.ensures.value
 
 pub push_reserved-requires : goal.push_reserved-requires
 push_reserved-requires g c =

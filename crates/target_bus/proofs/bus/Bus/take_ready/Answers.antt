@@ -4,24 +4,19 @@ use Rattle.onfi_cycle.specs.Permitted.{broken}
 use Rattle.onfi_cycle.proofs.Following.{refilled}
 use Rattle.die_model.specs.Die.{Die}
 use Rattle.target_bus.specs.Bus.{Traced, channel_on, IsNext, IsStanding, StandFor}
-use Rattle.target_bus.proofs.Standing.{runs_on, is_next, traced, not_some, few_dies}
+use Rattle.target_bus.proofs.Standing.{runs_on, is_next, traced, not_some, few_lent, permits_lent}
 use Rattle.target_bus.proofs.bus.Bus.take_ready.Goals as goal
 
 pub end_work-requires-clause-few : goal.end_work-requires-clause-few
 end_work-requires-clause-few g c =
-    let few = few_dies c.self.inside.state c.self.inside.opened.items c.self.inside.dies.items (reverse c.self.inside.trace.items) c.self.invariant.standing in
-    omega (arith, few, ap length c.as_mut_slice.ensures.value)
+    few_lent c.self.inside.state c.self.inside.opened.items c.self.inside.dies.items _ (reverse c.self.inside.trace.items) c.self.invariant.standing c.as_mut_slice.ensures.value
 
 pub end_work-requires-clause-permitted : goal.end_work-requires-clause-permitted
 end_work-requires-clause-permitted g c =
     let state = c.self.inside.state in
     let past = reverse c.self.inside.trace.items in
-    record {
-      opened = c.self.inside.opened.items;
-      past = past;
-      standing = subst (λ (ds : List Die). IsStanding state c.self.inside.opened.items ds past) (sym c.as_mut_slice.ensures.value) c.self.invariant.standing;
-      permitted = sym (c.judge.ensures.past state.geometry (length state.targets) past c.self.invariant.standing.follows) ∙ not_some c.judge.result (sym c.is_some.ensures ∙ c.if-is_some.false);
-    }
+    permits_lent state c.self.inside.opened.items c.self.inside.dies.items _ past c.args.ready c.self.invariant.standing c.as_mut_slice.ensures.value
+    (sym (c.judge.ensures.past state.geometry (length state.targets) past c.self.invariant.standing.follows) ∙ not_some c.judge.result (sym c.is_some.ensures ∙ c.if-is_some.false))
 
 pub push_reserved-requires : goal.push_reserved-requires
 push_reserved-requires g c =
