@@ -1,5 +1,5 @@
 -- The counts of the LUNs, one item more: those on its target one after another, and the others as they were.
-use Rattle.std.proofs.Common.{◌≡◌, ◌≢◌, ◌⊎◌, inl, inr, ℕ, zero, suc, ◌+◌, ◌*◌, ◌/◌, ◌%◌, ◌<◌, ◌≤◌, ◌==◌, ◌&&◌, true, false, Bool, cond, List, [], ◌∷◌, Some, refl, sym, ap, ◌∙◌, subst, arith, length, reverse, take, get_or, eqb}
+use Rattle.std.proofs.Common.{◌≡◌, ◌≢◌, ◌⊎◌, inl, inr, ℕ, zero, suc, ◌+◌, ◌*◌, ◌/◌, ◌%◌, ◌<◌, ◌≤◌, ◌==◌, ◌&&◌, true, false, Bool, cond, List, [], ◌∷◌, Some, refl, sym, ap, ◌∙◌, subst, arith, length, reverse, take, get_or, eqb, eqb-true, ◌-◌, nat_lt}
 use Rattle.std.specs.List.{slice_get}
 use Rattle.std.proofs.Math.Seq.{take-suc}
 use Rattle.std.proofs.lemmas.List.{reverse-append}
@@ -11,10 +11,13 @@ use Rattle.nand_geometry.specs.declared.parts.Parts.{Parts}
 use Rattle.onfi_cycle.specs.declared.lun.Lun.{Lun}
 use Rattle.onfi_cycle.specs.declared.item.Item.{Item}
 use Rattle.onfi_cycle.specs.declared.item.Item.TheVariants.{Cyc, Rdy, Ard}
+use Rattle.onfi_cycle.specs.declared.item.Kind.{Kind}
+use Rattle.onfi_cycle.specs.declared.item.Kind.TheVariants.{Cmd, Adr, Din, Dout}
+use Rattle.std.proofs.lemmas.Option.{slice_get_within}
 use Rattle.onfi_cycle.specs.Sequence.{target_of}
 use Rattle.target_bus.specs.Bus.{numbered}
 use Rattle.channel_work.specs.declared.tally.LunCount.{LunCount}
-use Rattle.channel_work.specs.Counts.{stands_after, polls_after, count_after, count_of, AreCounts, IsFewAt, counted_at, HaveCounted, HasCounted}
+use Rattle.channel_work.specs.Counts.{stands_after, polls_after, count_after, count_of, AreCounts, IsFewAt, counted_at, HaveCounted, HasCounted, poll_row, is_data_kind, gives_data, repeats_data, RepeatsAt}
 use Rattle.channel_work.proofs.Bounds.{few_at}
 
 -- an item on another target changes nothing
@@ -126,3 +129,72 @@ item_counted g trace at d before later low are has =
 -- a count that isn't reached yet can still grow
 pub still_few : (g : Parts) (i : Item) (before middle : List LunCount) (first lun : ℕ) → HaveCounted g i before middle first (first + lun) → ((n : ℕ) → n < 16 → IsFewAt before n) → first + lun < 16 → IsFewAt middle (first + lun)
 still_few g i before middle first lun h few small k here = few (first + lun) small k (sym (h.1 (first + lun) (inr (omega arith))) ∙ here)
+
+-- data after data changes no count
+
+both : (a b : Bool) → (a && b) ≡ true → (a ≡ true) × (b ≡ true)
+both true true h = (refl, refl)
+both true false h = cc
+both false b h = cc
+
+two_data : (many : Bool) (row : List ℕ) (l : Lun) (k : LunCount) (ce : ℕ) (j i : Item) → gives_data ce j ≡ true → gives_data ce i ≡ true → count_after many row l (count_after many row l k j) i ≡ count_after many row l k j
+two_data many row l k ce (Cyc b) (Cyc c) h m =
+    let first = both (b.ce == ce) _ h in
+    let second = both (c.ce == ce) _ m in
+    let same : b.ce ≡ c.ce = eqb-true b.ce ce first.0 ∙ sym (eqb-true c.ce ce second.0) in
+    ap (λ (n : ℕ). count_after many row l (count_after many row l k (Cyc b)) (Cyc (record { ce = n; kind = c.kind; byte = c.byte }))) (sym same) ∙
+    at (b.ce == l.ce) many b.kind first.1 c.kind second.1
+  where
+    after : (here many : Bool) → LunCount → Kind → ℕ → LunCount
+    after here many k kind byte = cond here (record { stands = stands_after many row k.stands kind byte; polls = polls_after many k.stands k.polls kind byte; works = k.works }) k
+
+    at : (here many : Bool) (x : Kind) → is_data_kind x ≡ true → (y : Kind) → is_data_kind y ≡ true → after here many (after here many k x b.byte) y c.byte ≡ after here many k x b.byte
+    at false many x p y q = refl
+    at true true Din p Din q = refl
+    at true true Din p Dout q = refl
+    at true true Dout p Din q = refl
+    at true true Dout p Dout q = refl
+    at true false Din p Din q = refl
+    at true false Din p Dout q = refl
+    at true false Dout p Din q = refl
+    at true false Dout p Dout q = refl
+    at true many Cmd p y q = cc
+    at true many Adr p y q = cc
+    at true many x p Cmd q = cc
+    at true many x p Adr q = cc
+two_data many row l k ce (Rdy a b c) i h m = cc
+two_data many row l k ce (Ard a b) i h m = cc
+two_data many row l k ce (Cyc b) (Rdy x y z) h m = cc
+two_data many row l k ce (Cyc b) (Ard x y) h m = cc
+
+turned_at : (trace : List Item) (at : ℕ) (d : Item) → at < length trace → reverse (take (at + 1) trace) ≡ get_or trace at d ∷ reverse (take at trace)
+turned_at trace at d low =
+    let next : at + 1 ≡ suc at = omega arith in
+    ap (λ (n : ℕ). reverse (take n trace)) next ∙ ap reverse (take-suc trace at d low) ∙ reverse-append (take at trace) (get_or trace at d ∷ [])
+
+pub repeated_counted : (g : Parts) (trace : List Item) (at : ℕ) (counts : List LunCount) → at < length trace → length counts ≡ 16 → AreCounts g counts (reverse (take at trace)) → RepeatsAt trace at → AreCounts g counts (reverse (take (at + 1) trace))
+repeated_counted g trace at counts low size are r = item_counted g trace at r.1.1.0 counts counts low are has
+  where
+    j : Item
+    j = get_or trace (at - 1) r.1.0
+
+    i : Item
+    i = get_or trace at r.1.1.0
+
+    past_is : reverse (take at trace) ≡ j ∷ reverse (take (at - 1) trace)
+    past_is =
+        let some = r.0 in
+        let one : at ≡ at - 1 + 1 = omega (arith, some) in
+        let before : at - 1 < length trace = omega (arith, low) in
+        ap (λ (n : ℕ). reverse (take n trace)) one ∙ turned_at trace (at - 1) r.1.0 before
+
+    some_is : (x y : LunCount) → Some x ≡ Some y → x ≡ y
+    some_is x y h = cc
+
+    has : HasCounted g i counts counts
+    has n k here =
+        let small : n < 16 = omega (arith, slice_get_within counts n k here, size) in
+        let is : k ≡ count_of g n (j ∷ reverse (take (at - 1) trace)) = some_is _ _ (sym here ∙ (are n small ∙ ap (λ (past : List Item). Some (count_of g n past)) past_is)) in
+        let parts = both (gives_data (target_of i) j) _ r.1.1.1 in
+        let kept = two_data (nat_lt 1 g.luns) (poll_row g (numbered g n)) (numbered g n) (count_of g n (reverse (take (at - 1) trace))) (target_of i) j i parts.0 parts.1 in
+        here ∙ ap (λ (x : LunCount). Some x) (is ∙ (sym kept ∙ ap (λ (x : LunCount). counted_at g i n x) (sym is)))

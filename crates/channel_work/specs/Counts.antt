@@ -1,5 +1,5 @@
 -- The busy polls and the readies of a LUN, counted in a trace item by item; the newest item comes first.
-use Rattle.std.specs.Prelude.{◌≡◌, ◌⊎◌, ℕ, ◌+◌, ◌-◌, ◌^◌, ◌<◌, ◌≤◌, ◌==◌, ◌&&◌, Bool, not, if◌then◌else◌, List, [], ◌∷◌, Option, Some, None, nat_le, nat_lt, slice_index}
+use Rattle.std.specs.Prelude.{◌≡◌, ◌⊎◌, ℕ, ◌+◌, ◌-◌, ◌^◌, ◌<◌, ◌≤◌, ◌==◌, ◌&&◌, Bool, true, false, not, if◌then◌else◌, List, [], ◌∷◌, Option, Some, None, nat_le, nat_lt, slice_index, slice_index_or}
 use Rattle.std.specs.List.{slice_get}
 use Rattle.nand_geometry.specs.declared.parts.Parts.{Parts}
 use Rattle.nand_geometry.specs.Row.{row_bytes_of}
@@ -7,7 +7,8 @@ use Rattle.onfi_cycle.specs.declared.lun.Lun.{Lun}
 use Rattle.onfi_cycle.specs.declared.item.Item.{Item}
 use Rattle.onfi_cycle.specs.declared.item.Item.TheVariants.{Cyc, Rdy, Ard}
 use Rattle.onfi_cycle.specs.declared.item.Kind.{Kind}
-use Rattle.onfi_cycle.specs.declared.item.Kind.TheVariants.{Cmd, Adr, Dout}
+use Rattle.onfi_cycle.specs.declared.item.Kind.TheVariants.{Cmd, Adr, Din, Dout}
+use Rattle.onfi_cycle.specs.Sequence.{target_of}
 use Rattle.micro_program.specs.Program.{is_ready_status}
 use Rattle.target_bus.specs.Bus.{numbered}
 use Rattle.channel_work.specs.declared.tally.LunCount.{LunCount}
@@ -72,3 +73,22 @@ HaveCounted g i before later first last =
 -- of each LUN one item more is counted
 abbrev pub HasCounted : Parts → Item → List LunCount → List LunCount → Type 0
 HasCounted g i before later = (n : ℕ) (k : LunCount) → slice_get before n ≡ Some k → slice_get later n ≡ Some (counted_at g i n k)
+
+abbrev pub is_data_kind : Kind → Bool
+is_data_kind Din = true
+is_data_kind Dout = true
+is_data_kind _ = false
+
+-- the item is data on the target
+abbrev pub gives_data : ℕ → Item → Bool
+gives_data ce (Cyc c) = c.ce == ce && is_data_kind c.kind
+gives_data ce (Rdy _ _ _) = false
+gives_data ce (Ard _ _) = false
+
+-- data that comes directly after data on its target: it is the output of no poll, and changes no count
+abbrev pub repeats_data : Item → Item → Bool
+repeats_data before i = gives_data (target_of i) before && gives_data (target_of i) i
+
+-- so does the item of this place
+abbrev pub RepeatsAt : List Item → ℕ → Type 0
+RepeatsAt trace at = (0 < at) × ((d : Item) × ((e : Item) × (repeats_data (slice_index_or trace (at - 1) d) (slice_index_or trace at e) ≡ true)))

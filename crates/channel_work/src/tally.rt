@@ -1,7 +1,7 @@
 //! The busy polls and the readies of each LUN, counted item by item.
-ghost use Rattle.std.specs.Prelude.{◌≡◌, ℕ, ◌-◌, ◌+◌, ◌^◌, ◌<◌, ◌≤◌, length, reverse, take, nat_lt};
+ghost use Rattle.std.specs.Prelude.{◌≡◌, ℕ, ◌-◌, ◌+◌, ◌^◌, ◌<◌, ◌≤◌, length, reverse, take, nat_lt, IsTrue};
 ghost use Rattle.target_bus.specs.Bus.{numbered};
-ghost use Rattle.channel_work.specs.Counts.{stands_after, polls_after, count_after, poll_row, AreCounts, IsFewAt, HaveCounted, HasCounted};
+ghost use Rattle.channel_work.specs.Counts.{stands_after, polls_after, count_after, poll_row, AreCounts, IsFewAt, HaveCounted, HasCounted, gives_data, repeats_data, RepeatsAt};
 
 use nand_geometry::Geometry;
 use onfi_cycle::{Item, Kind, Lun, MAX_CHANNEL_LUNS, Status};
@@ -183,6 +183,48 @@ fn count_on_target(counts: &mut [LunCount; MAX_CHANNEL_LUNS], geometry: &Geometr
     }
 }
 
+// The item is data on a target.
+fn gives_data(ce: u8, item: Item) -> bool
+    ensures { result ≡ gives_data ce item }
+{
+    match item {
+        Item::Cyc(cycle) => cycle.ce == ce && matches!(cycle.kind, Kind::Din | Kind::Dout),
+        _ => false,
+    }
+}
+
+// Data that comes directly after data on its target.
+fn repeats_data(before: Item, item: Item) -> bool
+    ensures { result ≡ repeats_data before item }
+{
+    gives_data(item.target(), before) && gives_data(item.target(), item)
+}
+
+// The item of a place is so: it changes no count.
+fn repeats_at(trace: &[Item], place: usize) -> bool
+    requires { place < length trace.now }
+    ensures { IsTrue result → RepeatsAt trace.now place }
+{
+    place > 0 && repeats_data(trace[place - 1], trace[place])
+}
+
+// Counts the item of a place.
+fn count_place(
+    counts: &mut [LunCount; MAX_CHANNEL_LUNS],
+    geometry: &Geometry,
+    trace: &[Item],
+    place: usize,
+)
+    requires place { place < length trace.now }
+    requires counts { AreCounts geometry.now counts.old (reverse (take place trace.now)) }
+    ensures { AreCounts geometry.now counts.new (reverse (take (place + 1) trace.now)) }
+{
+    if repeats_at(trace, place) {
+        return;
+    }
+    count_on_target(counts, geometry, trace[place]);
+}
+
 /// What is counted of each LUN, with the items of the trace from a place on.
 pub(crate) fn count_luns(
     counts: [LunCount; MAX_CHANNEL_LUNS],
@@ -198,7 +240,7 @@ pub(crate) fn count_luns(
     let trace = core.trace();
     let mut counted = counts;
     for place in from..trace.len() {
-        count_on_target(&mut counted, &geometry, trace[place]);
+        count_place(&mut counted, &geometry, trace, place);
     }
     counted
 }

@@ -1,5 +1,5 @@
 //! One LUN of a die: its pages, its registers, and what its array does.
-ghost use Rattle.std.specs.Prelude.{◌≡◌, ℕ, ◌%◌, ◌<◌, true, false, List, [], ◌∷◌, Some, None, IsOk, slice_set, slice_index_or, if◌then◌else◌, IfOk, OnErr, length, slice_get, replicate};
+ghost use Rattle.std.specs.Prelude.{◌≡◌, ℕ, ◌+◌, ◌%◌, ◌<◌, ◌≤◌, true, false, List, [], ◌∷◌, Some, None, IsOk, slice_set, slice_index_or, if◌then◌else◌, IfOk, OnErr, length, take, drop, slice_get, replicate};
 ghost use Rattle.nand_geometry.specs.Limits.{page_len, planes};
 ghost use Rattle.onfi_cycle.specs.declared.effect.Effect.TheVariants.{BecameReady, ArrayBecameReady};
 ghost use Rattle.die_model.specs.Standing.{WorkedBy, CanWork};
@@ -99,6 +99,17 @@ fn fetch<A: Allocator + Copy>(output: &mut Page<A>, pages: &Pages<A>, register: 
     }
 }
 
+// Copies the bytes from a place on, where there are as many as in the slice.
+fn copy_part(bytes: &[u8], from: usize, into: &mut [u8])
+    ensures { from + length into.old ≤ length bytes.now → into.new ≡ take (length into.old) (drop from bytes.now) }
+{
+    if from <= bytes.len() && into.len() <= bytes.len() - from {
+        let (_, rest) = bytes.split_at(from);
+        let (part, _) = rest.split_at(into.len());
+        into.copy_from_slice(part);
+    }
+}
+
 impl<A: Allocator + Copy> LunDie<A> {
     /// A die fresh from the factory: every byte of every page is FF.
     pub fn new(alloc: A, geometry: Geometry) -> Result<LunDie<A>, AllocError>
@@ -147,6 +158,19 @@ impl<A: Allocator + Copy> LunDie<A> {
             Register::Page(_) => self.output.bytes().get(column).copied(),
             Register::ParameterPage => self.parameters.get(column).copied(),
             Register::Identifier => IDENTIFIER.get(column).copied(),
+        }
+    }
+
+    /// Copies the bytes of its register from a column on, where it has as many as the slice.
+    pub fn copy_shown(&self, column: usize, into: &mut [u8])
+        ensures { column + length into.old ≤ length (bytes_shown self.now)
+            → into.new ≡ take (length into.old) (drop column (bytes_shown self.now)) }
+    {
+        match self.activity.register {
+            Register::Empty => copy_part(&[], column, into),
+            Register::Page(_) => copy_part(self.output.bytes(), column, into),
+            Register::ParameterPage => copy_part(self.parameters.as_slice(), column, into),
+            Register::Identifier => copy_part(&IDENTIFIER, column, into),
         }
     }
 

@@ -105,7 +105,7 @@ pub content_len : (g : Parts) (opening : Lun → PageAddress → List ℕ) → (
 content_len g opening h [] l p = h l p
 content_len g opening h (i ∷ past) l p = content_after_len g (effect_on g past i l) (pending_work g past l) p (content g opening past l p) (pending_whole g past l) (content_len g opening h past l p)
 
-register_bytes_len : (g : Parts) (parameters : List ℕ) (pages : PageAddress → List ℕ) (r : Register) → length parameters ≡ 768 → ((p : PageAddress) → length (pages p) ≡ page_len g) → length (register_bytes parameters pages r) ≡ register_len g r
+pub register_bytes_len : (g : Parts) (parameters : List ℕ) (pages : PageAddress → List ℕ) (r : Register) → length parameters ≡ 768 → ((p : PageAddress) → length (pages p) ≡ page_len g) → length (register_bytes parameters pages r) ≡ register_len g r
 register_bytes_len g parameters pages Empty h k = refl
 register_bytes_len g parameters pages (Page p) h k = k p
 register_bytes_len g parameters pages ParameterPage h k = h

@@ -21,3 +21,4 @@ pub mod Following
 pub mod Working
 pub mod Due
 pub mod Applied
+pub mod Outputs

@@ -20,3 +20,4 @@ pub mod Readies
 pub mod Look
 pub mod Applied
 pub mod Codes
+pub mod Outputs

@@ -12,9 +12,14 @@ ghost use Rattle.onfi_cycle.specs.Permitted.{broken};
 ghost use Rattle.onfi_cycle.specs.State.{BusView, Follows, judged, bus_after, bus};
 ghost use Rattle.onfi_cycle.specs.Look.{looked, look_after};
 ghost use Rattle.onfi_cycle.specs.Bounds.{BusFits};
+ghost use Rattle.onfi_cycle.specs.Channel.{cycle};
+ghost use Rattle.onfi_cycle.specs.declared.item.Kind.TheVariants.{Dout};
+ghost use Rattle.onfi_cycle.specs.Outputs.{with_outputs, broken_outputs, judged_outputs, after_outputs, given_bus};
 
 use crate::target_state::TargetState;
-use crate::{Effect, Filling, Forbidden, Item, Lun, LunState, MAX_TARGETS, TailFacts, judge};
+use crate::{
+    Cycle, Effect, Filling, Forbidden, Item, Kind, Lun, LunState, MAX_TARGETS, TailFacts, judge,
+};
 use arrayvec::ArrayVec;
 use nand_geometry::Geometry;
 use std::marker::Model;
@@ -74,6 +79,50 @@ fn apply_on(geometry: &Geometry, targets: &mut [TargetState], item: Item)
     target.apply(geometry, item);
 }
 
+// An output on a target; which byte it is isn't judged.
+#[inline(always)]
+fn output(ce: u8) -> Item
+    ensures { result ≡ cycle ce Dout 0 }
+{
+    Item::Cyc(Cycle {
+        ce,
+        kind: Kind::Dout,
+        byte: 0,
+    })
+}
+
+// The first rule that the first forbidden one of so many outputs on these targets breaks, one at least.
+fn judge_outputs_on(
+    geometry: &Geometry,
+    targets: &[TargetState],
+    ce: u8,
+    count: usize,
+) -> Option<Forbidden>
+    requires fits { BusFits (bus geometry.now targets.now) }
+    requires some { 0 < count }
+    ensures { result ≡ judged_outputs ce count (bus geometry.now targets.now) }
+{
+    if let Some(rule) = judge_on(geometry, targets, output(ce)) {
+        return Some(rule);
+    }
+    match target_at(targets, ce) {
+        None => None,
+        Some(target) => target.against_rest(geometry, count),
+    }
+}
+
+// Goes on by so many outputs, one at least, which are permitted on these targets.
+fn apply_outputs_on(geometry: &Geometry, targets: &mut [TargetState], ce: u8, count: usize)
+    requires fits { BusFits (bus geometry.now targets.old) }
+    requires some { 0 < count }
+    requires permitted { judged_outputs ce count (bus geometry.now targets.old) ≡ None }
+    ensures value { bus geometry.now targets.new ≡ after_outputs ce count (bus geometry.now targets.old) }
+    ensures fits { BusFits (bus geometry.now targets.new) }
+{
+    let target = &mut targets[usize::from(ce)];
+    target.give(geometry, count);
+}
+
 impl BusState {
     /// A channel to which nothing has happened: so many targets of this geometry, 4 at most.
     pub fn new(geometry: Geometry, targets: u8) -> BusState
@@ -125,6 +174,33 @@ impl BusState {
     {
         let geometry = self.geometry;
         apply_on(&geometry, self.targets.as_mut_slice(), item);
+    }
+
+    /// The first rule that the first forbidden one of so many outputs in a row on a target breaks, None where all are permitted.
+    /// It costs the same for any number of them.
+    pub fn judge_outputs(&self, ce: u8, count: usize) -> Option<Forbidden>
+        ensures state { result ≡ judged_outputs ce count self.now }
+        ensures past { (g : Parts) (n : ℕ) (past : List Item) (bytes : List ℕ) → Follows g n self.now past → length bytes ≡ count
+            → result ≡ broken_outputs g n ce bytes past }
+    {
+        if count == 0 {
+            return None;
+        }
+        judge_outputs_on(&self.geometry, self.targets.as_slice(), ce, count)
+    }
+
+    /// Goes on by so many outputs in a row that [`judge_outputs`](BusState::judge_outputs) permits. It costs the same for any
+    /// number of them.
+    pub fn apply_outputs(&mut self, ce: u8, count: usize)
+        requires { judged_outputs ce count self.old ≡ None }
+        ensures state { self.new ≡ after_outputs ce count self.old }
+        ensures past { (g : Parts) (n : ℕ) (past : List Item) (bytes : List ℕ) → Follows g n self.old past → length bytes ≡ count
+            → Follows g n self.new (with_outputs ce bytes past) }
+    {
+        if count > 0 {
+            let geometry = self.geometry;
+            apply_outputs_on(&geometry, self.targets.as_mut_slice(), ce, count);
+        }
     }
 
     /// What an item does to a LUN that is there.

@@ -1,6 +1,7 @@
 //! What the rules see of a LUN.
 ghost use Rattle.std.specs.Prelude.{◌≡◌, ◌^◌, ◌<◌, ◌≤◌};
 ghost use Rattle.onfi_cycle.specs.Lun.{is_cache_read, is_page_read};
+ghost use Rattle.onfi_cycle.specs.Outputs.{has_fewer};
 ghost use Rattle.onfi_cycle.specs.Rules.{caching, may_change_column, has_no_byte, is_past_register, continues_cache, ends_cache};
 
 use crate::{Command, Latch, PageAddress, ReadColumn, Register, WorkQueue};
@@ -98,5 +99,17 @@ impl<Q: WorkQueue> LunFacts<Q> {
             Some(column) => u64::from(self.register.len(geometry)) <= column,
         };
         self.latch.is_data() && is_outside
+    }
+
+    /// It shows data, and has fewer bytes left than these.
+    pub(crate) fn has_fewer(&self, geometry: &Geometry, count: usize) -> bool
+        ensures { result ≡ has_fewer geometry.now count self.now }
+    {
+        let len = u64::from(self.register.len(geometry));
+        let is_over = match self.column.output_column() {
+            None => false,
+            Some(column) => len < column || len - column < count as u64,
+        };
+        self.latch.is_data() && is_over
     }
 }

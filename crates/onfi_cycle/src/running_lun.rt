@@ -6,6 +6,7 @@ ghost use Rattle.onfi_cycle.specs.declared.latch.Latch.TheVariants.{Off};
 ghost use Rattle.onfi_cycle.specs.Effect.{cycle_effect};
 ghost use Rattle.onfi_cycle.specs.Lun.{view_after, queue_after, lun_view};
 ghost use Rattle.onfi_cycle.specs.Bounds.{LunFits};
+ghost use Rattle.onfi_cycle.specs.Outputs.{given_on};
 
 use crate::{
     Effect, Latch, LunFacts, PageAddress, Queued, ReadColumn, Register, RowQueue, TailFacts,
@@ -105,6 +106,16 @@ impl LunFacts<RowQueue> {
     {
         let latch_alone = if has_driver { self.latch } else { Latch::Off };
         self.apply(cycle_effect(geometry, *tail, latch_alone, cycle, number));
+    }
+
+    /// It gives so many bytes more, where it shows data.
+    pub(crate) fn give(&mut self, count: usize)
+        requires { (given_on count self.old).column.outputs ≤ 2 ^ 16 }
+        ensures { self.new ≡ given_on count self.old }
+    {
+        if self.latch.is_data() {
+            self.column.outputs += count;
+        }
     }
 
     /// It becomes ready, with failure or without.

@@ -1,5 +1,5 @@
 //! What a running channel keeps of a target: the facts of its tail, and those of each of its LUNs.
-ghost use Rattle.std.specs.Prelude.{◌≡◌, ℕ, ◌+◌, ◌^◌, ◌<◌, ◌≤◌, [], Some, length, slice_get};
+ghost use Rattle.std.specs.Prelude.{◌≡◌, ℕ, ◌+◌, ◌^◌, ◌<◌, ◌≤◌, [], Some, length, map, slice_get};
 ghost use Rattle.std.specs.Option.{option_copied};
 ghost use Rattle.std.specs.List.{list_any};
 ghost use Rattle.nand_geometry.specs.declared.parts.Parts.{Parts};
@@ -13,10 +13,11 @@ ghost use Rattle.onfi_cycle.specs.Readies.{target_due};
 ghost use Rattle.onfi_cycle.specs.State.{TargetView, target_view, effect_alone, has_driver, target_after};
 ghost use Rattle.onfi_cycle.specs.Look.{look_at_some};
 ghost use Rattle.onfi_cycle.specs.Bounds.{LunsFit, TargetFits};
+ghost use Rattle.onfi_cycle.specs.Outputs.{AreFew, given_on, given_target, against_rest};
 
 use crate::readies::due_of;
 use crate::{
-    Command, Effect, Filling, Item, Latch, Lun, LunFacts, LunState, RowQueue, TailFacts,
+    Command, Effect, Filling, Forbidden, Item, Latch, Lun, LunFacts, LunState, RowQueue, TailFacts,
     TargetCycle, driver, item_effect,
 };
 use arrayvec::ArrayVec;
@@ -148,6 +149,19 @@ fn apply_to_luns(
     }
 }
 
+// The LUNs of a target give so many bytes more, where they show data.
+fn give_from(luns: &mut [LunFacts<RowQueue>], count: usize)
+    requires { AreFew (map (given_on count) luns.old) }
+    ensures { luns.new ≡ map (given_on count) luns.old }
+{
+    if luns.is_empty() {
+        return;
+    }
+    let (first, rest) = luns.split_at_mut(1);
+    first[0].give(count);
+    give_from(rest, count);
+}
+
 // The LUN of this number becomes ready, if it is there.
 fn end_work(luns: &mut [LunFacts<RowQueue>], number: u8, failed: bool)
     ensures { luns.new ≡ one_after (Effect.BecameReady failed) number luns.old }
@@ -222,6 +236,27 @@ impl TargetState {
             Item::Cyc(cycle) => self.apply_cycle(geometry, TargetCycle::of(cycle.kind, cycle.byte)),
             Item::Rdy { lun, fail, .. } => end_work(self.luns.as_mut_slice(), lun, fail),
             Item::Ard { lun, .. } => end_array_work(self.luns.as_mut_slice(), lun),
+        }
+    }
+
+    /// Its one driver gives so many bytes more, one at least.
+    pub(crate) fn give(&mut self, geometry: &Geometry, count: usize)
+        requires limits { InLimits geometry.now }
+        requires fits { TargetFits geometry.now self.old }
+        requires few { AreFew (map (given_on count) self.old.luns) }
+        ensures { self.new ≡ given_target count self.old }
+    {
+        give_from(self.luns.as_mut_slice(), count);
+        self.tail.extend(TargetCycle::OutputCycle);
+    }
+
+    /// What is against so many outputs, one at least, whose first is permitted.
+    pub(crate) fn against_rest(&self, geometry: &Geometry, count: usize) -> Option<Forbidden>
+        ensures { result ≡ against_rest geometry.now count self.now.luns }
+    {
+        match driver(self.luns.as_slice()) {
+            Some(lun) if lun.has_fewer(geometry, count) => Some(Forbidden::ColumnOutside),
+            _ => None,
         }
     }
 

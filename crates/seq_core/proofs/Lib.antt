@@ -22,3 +22,4 @@ pub mod Played
 pub mod Steps
 pub mod Cores
 pub mod EventList
+pub mod Taken

@@ -4,3 +4,4 @@ pub mod Due
 pub mod Shown
 pub mod Opened
 pub mod ByKind
+pub mod Outputs

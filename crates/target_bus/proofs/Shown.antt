@@ -149,3 +149,9 @@ shown_at state opened dies past ce luns lun k r o at f h same found first low pl
         let by_driver : bus_byte s past ce ≡ shown s.geometry s.parameters s.opening past l = ap (byte_of_driver s past ce) all in
         let is : numbered state.geometry k ≡ l = ap (numbered state.geometry) number ∙ numbered_number state.geometry l below in
         has.1 ∙ ap (λ (n : ℕ). Some n) (sym (gives d (here ∙ e) has.0 f.follows there below (subst (λ (m : Lun). IsDieOf s past m d) is (f.stand k d e)) refl (sym by_driver ∙ has.1)))
+
+-- where an output is permitted, the one driver shows a byte
+pub permitted_shows : (s : Channel) → IsChannel s → (past : List Item) (ce byte : ℕ) → broken s.geometry s.targets past (cycle ce Dout byte) ≡ None → (b : ℕ) × (bus_byte s past ce ≡ Some b)
+permitted_shows s is past ce byte h =
+    let one = one_driver s.geometry s.targets past ce byte h in
+    outputs_show.has_byte s is past (record { ce = ce; lun = one.m }) byte h (ap (λ (ds : List ℕ). is_only ds one.m) one.is ∙ eq-eqb one.m one.m refl)

@@ -13,16 +13,20 @@ use Rattle.onfi_cycle.specs.declared.page_address.PageAddress.{PageAddress}
 use Rattle.onfi_cycle.specs.declared.forbidden.Forbidden.{Forbidden as Rule}
 use Rattle.onfi_cycle.specs.declared.filling.Filling.{Filling}
 use Rattle.onfi_cycle.specs.declared.effect.Effect.{Effect}
+use Rattle.onfi_cycle.specs.declared.latch.Latch.{Latch}
+use Rattle.onfi_cycle.specs.declared.latch.Latch.TheVariants.{Status, Data}
 use Rattle.onfi_cycle.specs.Sequence.{tail, facts_of}
 use Rattle.onfi_cycle.specs.Filling.{filling}
-use Rattle.onfi_cycle.specs.Lun.{effect_on}
+use Rattle.onfi_cycle.specs.Lun.{effect_on, option_plus}
+use Rattle.onfi_cycle.specs.Content.{shown_by, byte_at}
 use Rattle.onfi_cycle.specs.Permitted.{broken}
-use Rattle.onfi_cycle.specs.Channel.{Channel}
+use Rattle.onfi_cycle.specs.Outputs.{with_outputs}
+use Rattle.onfi_cycle.specs.Channel.{Channel, cycle, bus_byte}
 use Rattle.onfi_cycle.specs.State.{BusView, Follows}
 use Rattle.onfi_cycle.specs.Working.{fills, works_on}
 use Rattle.onfi_cycle.specs.Readies.{starts_work, bus_due}
 use Rattle.die_model.specs.Pages.{page_in}
-use Rattle.die_model.specs.Die.{Die, page_of, is_new}
+use Rattle.die_model.specs.Die.{Die, page_of, is_new, status_of, bytes_shown}
 use Rattle.die_model.specs.Standing.{IsDieOf}
 use Rattle.target_bus.specs.declared.working.Worked.{Worked}
 use Rattle.target_bus.specs.declared.refusal.BusFault.{BusFault}
@@ -129,6 +133,19 @@ pub record IsNext (old new : Traced) (i : Item) : Type 0 where
   pub past : new.past ≡ i ∷ old.past
   pub room : old.room ≤ new.room + spent i
 
+-- outputs of these bytes are permitted one after the other, and each is what the one driver of the target then shows
+abbrev pub AreShown : Channel → ℕ → List ℕ → List Item → Type 0
+AreShown s ce [] past = Unit {0}
+AreShown s ce (byte ∷ bytes) past =
+    (broken s.geometry s.targets past (cycle ce Dout byte) ≡ None) × (bus_byte s past ce ≡ Some byte) × AreShown s ce bytes (cycle ce Dout byte ∷ past)
+
+-- these outputs have happened on the channel, and nothing else
+pub record AreTaken (old new : Traced) (ce : ℕ) (bytes : List ℕ) : Type 0 where
+  pub channel : channel_of new ≡ channel_of old
+  pub shown : AreShown (channel_of old) ce bytes old.past
+  pub past : new.past ≡ with_outputs ce bytes old.past
+  pub room : old.room ≤ new.room + length bytes
+
 abbrev pub is_output : Kind → Bool
 is_output Dout = true
 is_output _ = false
@@ -195,6 +212,20 @@ pub record IsRunning (state : BusView) (opened : List Entries) (dies : List Die)
   pub standing : IsStanding state opened dies (reverse items)
   pub readies : bus_due state ≤ due
   pub places : len + room + due ≤ capacity
+
+-- the byte that a die shows after so many outputs, by its latch and the column of the first
+abbrev pub shown_later : Die → Latch → Option ℕ → ℕ → Option ℕ
+shown_later d latch column count = shown_by latch (status_of d) (byte_at (bytes_shown d) (option_plus count column))
+
+-- each of these bytes is what a die shows in its turn
+abbrev pub AreOf : Die → Latch → Option ℕ → List ℕ → Type 0
+AreOf d latch column bytes = (i byte : ℕ) → slice_get bytes i ≡ Some byte → shown_later d latch column i ≡ Some byte
+
+-- a die shows status, or so many bytes of its register from the column on
+abbrev pub HasBytes : Die → Latch → Option ℕ → ℕ → Type 0
+HasBytes d Status column count = Unit {0}
+HasBytes d Data (Some column) count = column + count ≤ length (bytes_shown d)
+HasBytes d _ _ count = ⊥
 
 abbrev pub first_of : List ℕ → Option ℕ
 first_of [] = None

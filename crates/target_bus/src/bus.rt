@@ -11,12 +11,15 @@ ghost use Rattle.onfi_cycle.specs.State.{Follows};
 ghost use Rattle.onfi_cycle.specs.Look.{look_after};
 ghost use Rattle.onfi_cycle.specs.Readies.{starts_work};
 ghost use Rattle.die_model.specs.Die.{Die, page_of};
-ghost use Rattle.target_bus.specs.Bus.{Traced, channel_of, number_of, StandFor, bus_fault, RefusesDies, Refuses, IsNext, is_output, IsRunning};
+ghost use Rattle.target_bus.specs.Bus.{Traced, channel_of, number_of, StandFor, bus_fault, RefusesDies, Refuses, IsNext, AreTaken, is_output, IsRunning};
+ghost use Rattle.onfi_cycle.specs.Outputs.{broken_outputs};
 
-use crate::going_on::{go_on, judge_cycle, judge_output, output, starting};
+use crate::going_on::{
+    go_on, go_on_by_outputs, judge_cycle, judge_output, output, push_outputs, starting,
+};
 use crate::opening::{are_new, are_targets, copy_pages, forget_array_pages};
 use crate::refusal::{BusFault, BusRefusal, DiesRefused};
-use crate::showing::shown_byte;
+use crate::showing::{copy_shown, shown_byte};
 use crate::working::{end_work, work};
 use die_model::{LunDie, Pages};
 use nand_geometry::Geometry;
@@ -201,6 +204,35 @@ impl<A: Allocator + Copy> Bus<A> {
         self.trace.push_reserved(item);
         self.room = left;
         Ok(byte)
+    }
+
+    /// Takes the bytes that the one driver of a target shows in a run of outputs, as many as the slice has, as [`take`](Bus::take) does
+    /// one by one. The run is judged once, and its bytes are copied.
+    ///
+    /// Errors, with all as it was: the first rule that the first forbidden output breaks; and where none is forbidden, want of memory.
+    pub fn take_all(&mut self, ce: u8, into: &mut [u8]) -> Result<(), BusRefusal>
+        ensures ok { IfOk result (λ _. AreTaken self.old self.new ce into.new) }
+        ensures err { IfErr result (λ e. ((bytes : List ℕ) → length bytes ≡ length into.old → Refuses e
+            (broken_outputs self.old.geometry self.old.targets ce bytes self.old.past)) × (self.new ≡ self.old) × (into.new ≡ into.old)) }
+        ensures memory { length into.old ≤ self.old.room → IfErr result (λ e. e ≢ BusRefusal.OutOfMemory) }
+    {
+        let count = into.len();
+        if let Some(rule) = self.state.judge_outputs(ce, count) {
+            return Err(BusRefusal::Forbidden(rule));
+        }
+        let left = self.room.saturating_sub(count);
+        let Some(places) = count.checked_add(left + self.due) else {
+            return Err(BusRefusal::OutOfMemory);
+        };
+        if self.trace.reserve(places).is_err() {
+            return Err(BusRefusal::OutOfMemory);
+        }
+        copy_shown(&self.state, self.dies.as_slice(), ce, into);
+        self.state.facts_fit();
+        go_on_by_outputs(&mut self.state, ce, count);
+        push_outputs(&mut self.trace, ce, into);
+        self.room = left;
+        Ok(())
     }
 
     /// A LUN becomes ready, with failure or without; false where it isn't there or isn't busy. It takes no memory.

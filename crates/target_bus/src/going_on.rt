@@ -1,5 +1,6 @@
 //! What the running state says of an item, how it goes on by one, and how many readies are to come.
-ghost use Rattle.std.specs.Prelude.{◌≡◌, ℕ, ◌+◌, ◌<◌, ◌≤◌, ◌^◌, true, false, ◌&&◌, not, List, ◌∷◌, None};
+ghost use Rattle.std.specs.Prelude.{◌≡◌, ℕ, ◌+◌, ◌<◌, ◌≤◌, ◌^◌, true, false, ◌&&◌, not, List, ◌∷◌, ◌++◌, None, length, map};
+ghost use Rattle.std.specs.Vec.{vec_len, vec_capacity};
 ghost use Rattle.nand_geometry.specs.declared.parts.Parts.{Parts};
 ghost use Rattle.onfi_cycle.specs.declared.item.Item.{Item};
 ghost use Rattle.onfi_cycle.specs.declared.item.Item.TheVariants.{Cyc};
@@ -8,9 +9,11 @@ ghost use Rattle.onfi_cycle.specs.Permitted.{broken};
 ghost use Rattle.onfi_cycle.specs.Channel.{is_cycle, cycle};
 ghost use Rattle.onfi_cycle.specs.State.{Follows, judged};
 ghost use Rattle.onfi_cycle.specs.Readies.{starts_work, bus_due};
+ghost use Rattle.onfi_cycle.specs.Outputs.{with_outputs, judged_outputs, after_outputs};
 ghost use Rattle.target_bus.specs.Bus.{starting};
 
 use onfi_cycle::{BusState, Cycle, Forbidden, Item, Kind, readies_are_due, starts_work};
+use std::alloc::Allocator;
 
 // The item may start work: a command alone can, and none other need be looked at.
 fn starts(item: Item) -> bool
@@ -121,4 +124,30 @@ fn go_on_counted(state: &mut BusState, item: Item, due: usize) -> usize
     state.facts_fit();
     state.apply(item);
     due - before + state.due(ce)
+}
+
+/// Goes on by a run of permitted outputs, which bring no ready.
+pub fn go_on_by_outputs(state: &mut BusState, ce: u8, count: usize)
+    requires { judged_outputs ce count state.old ≡ None }
+    ensures state { state.new ≡ after_outputs ce count state.old }
+    ensures past { (g : Parts) (n : ℕ) (past : List Item) (bytes : List ℕ) → Follows g n state.old past → length bytes ≡ count
+        → Follows g n state.new (with_outputs ce bytes past) }
+    ensures due { bus_due state.new ≤ bus_due state.old }
+{
+    // Laws: what an item leaves of the readies that are due, and that the facts of the state fit.
+    readies_are_due();
+    state.facts_fit();
+    state.apply_outputs(ce, count);
+}
+
+/// Adds the outputs of these bytes to a trace that has places for them.
+pub fn push_outputs<A: Allocator>(trace: &mut Vec<Item, A>, ce: u8, bytes: &[u8])
+    requires places { vec_len trace.old + length bytes.now ≤ vec_capacity trace.old }
+    ensures items { trace.new.items ≡ trace.old.items ++ map (λ byte. cycle ce Dout byte) bytes.now }
+    ensures len { vec_len trace.new ≡ vec_len trace.old + length bytes.now }
+    ensures capacity { vec_capacity trace.new ≡ vec_capacity trace.old }
+{
+    for byte in bytes {
+        trace.push_reserved(Item::Cyc(output(ce, *byte)));
+    }
 }

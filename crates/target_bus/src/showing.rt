@@ -6,14 +6,15 @@ ghost use Rattle.nand_geometry.specs.Page.{parameter_bytes};
 ghost use Rattle.onfi_cycle.specs.declared.item.Item.{Item};
 ghost use Rattle.onfi_cycle.specs.declared.item.Kind.TheVariants.{Dout};
 ghost use Rattle.onfi_cycle.specs.Effect.{is_off};
-ghost use Rattle.onfi_cycle.specs.Lun.{drivers_from, latch};
+ghost use Rattle.onfi_cycle.specs.Lun.{drivers_from, latch, read_column, output_column};
 ghost use Rattle.onfi_cycle.specs.Permitted.{broken};
 ghost use Rattle.onfi_cycle.specs.Channel.{Channel, cycle, bus_byte};
 ghost use Rattle.onfi_cycle.specs.Content.{shown, shown_by, byte_at};
 ghost use Rattle.onfi_cycle.specs.State.{Follows};
 ghost use Rattle.die_model.specs.Die.{status_of, bytes_shown};
 ghost use Rattle.die_model.specs.Standing.{IsDieOf};
-ghost use Rattle.target_bus.specs.Bus.{channel_on, Entries, first_of, IsStanding};
+ghost use Rattle.onfi_cycle.specs.Outputs.{judged_outputs};
+ghost use Rattle.target_bus.specs.Bus.{channel_on, Entries, first_of, IsStanding, AreShown, AreOf, HasBytes};
 
 use die_model::LunDie;
 use onfi_cycle::{BusState, Latch, Lun, LunState};
@@ -80,6 +81,53 @@ fn byte_of<A: Allocator + Copy>(state: &BusState, die: &LunDie<A>, lun: Lun) -> 
     match state.lun_state(lun) {
         None => 0,
         Some(look) => shown_as(die, look),
+    }
+}
+
+// Copies what a die shows in a run of outputs, its status or the bytes of its register from a column on, where it has them.
+fn copy_shown_as<A: Allocator + Copy>(die: &LunDie<A>, look: LunState, into: &mut [u8])
+    ensures { HasBytes die.now look.latch look.column (length into.old) → AreOf die.now look.latch look.column into.new }
+{
+    match (look.latch, look.column) {
+        (Latch::Status, _) => into.fill(die.status().0),
+        (Latch::Data, Some(column)) => die.copy_shown(column as usize, into),
+        _ => {}
+    }
+}
+
+// Copies what a LUN shows in a run of outputs.
+fn copy_of<A: Allocator + Copy>(state: &BusState, die: &LunDie<A>, lun: Lun, into: &mut [u8])
+    ensures { (g : Parts) (n : ℕ) (past : List Item) → Follows g n state.now past → lun.ce < n → lun.lun < g.luns
+        → HasBytes die.now (latch g past lun) (output_column (read_column g past lun)) (length into.old)
+        → AreOf die.now (latch g past lun) (output_column (read_column g past lun)) into.new }
+{
+    match state.lun_state(lun) {
+        None => {}
+        Some(look) => copy_shown_as(die, look, into),
+    }
+}
+
+/// Copies what the one driver of a target shows in a run of outputs, where they are permitted.
+pub fn copy_shown<A: Allocator + Copy>(
+    state: &BusState,
+    dies: &[LunDie<A>],
+    ce: u8,
+    into: &mut [u8],
+)
+    requires few { length dies.now ≤ 16 }
+    ensures { (opened : List Entries) (past : List Item) → IsStanding state.now opened dies.now past
+        → judged_outputs ce (length into.old) state.now ≡ None
+        → AreShown (channel_on state.now.geometry (length state.now.targets) opened) ce into.new past }
+{
+    // Its contract says that what is kept fits.
+    state.facts_fit();
+    let luns = state.geometry().parts().luns;
+    match first_driver(state, ce, luns, 0) {
+        None => {}
+        Some(lun) => match die_at(dies, Lun { ce, lun }.place(luns)) {
+            None => {}
+            Some(die) => copy_of(state, die, Lun { ce, lun }, into),
+        },
     }
 }
 

@@ -1,11 +1,23 @@
-use Rattle.std.proofs.Common.{refl}
-use Rattle.seq_core.proofs.Played.{next_taken, more_taken}
+use Rattle.std.proofs.Common.{◌≡◌, ◌++◌, List, ℕ, length, take, drop, sym, ap, ◌∙◌, arith}
+use Rattle.target_bus.specs.Bus.{channel_of}
+use Rattle.seq_core.proofs.Taken.{run_never_refused, taken_plays, written_is}
 use Rattle.seq_core.proofs.playing.take_all.Goals as goal
 
-pub take-requires-clause-own : goal.take-requires-clause-own
-take-requires-clause-own g c =
-    next_taken c.args.bus.now c.loop-index.bus c.args.lun c.args.len c.loop-index.index c.args.place c.args.buffer.now c.loop-index.buffer c.loop-index-test.true c.requires.own c.loop-index.invariant
+pub unreachable-requires : goal.unreachable-requires
+unreachable-requires g c =
+    run_never_refused (channel_of c.args.bus.now) c.trace-trace.ensures.channel c.args.lun c.args.len c.args.bus.now.past c.in-Err.field-0 c.requires.own
+    (λ bytes size. c.in-Err.ensures.err.0 bytes (size ∙ sym c.split_at_mut-part.ensures.front_len))
+    (c.in-Err.ensures.memory (omega (arith, c.split_at_mut-part.ensures.front_len, c.requires.room)))
 
-pub loop-index-preserved : goal.loop-index-preserved
-loop-index-preserved g c =
-    more_taken c.args.bus.now c.loop-index.bus c.take.new.bus c.args.lun.ce c.loop-index.index c.args.place c.take.result c.args.buffer.now c.loop-index.buffer _ c.loop-index.invariant c.take.ensures refl
+pub returns : goal.returns
+returns g c =
+    let bytes = c.take_all.new.into in
+    let buffer = c.args.buffer.now in
+    let size : length bytes ≡ c.args.len = c.take_all.auto.into ∙ c.split_at_mut-part.ensures.front_len in
+    let front = c.split_at_mut-rest.ensures.front in
+    let back = c.split_at_mut-part.ensures.back ∙ (ap (drop c.args.len) c.split_at_mut-rest.ensures.back ∙ ap (λ (n : ℕ). drop n (drop c.args.place buffer)) (sym size)) in (
+      bytes,
+      taken_plays c.args.bus.now c.take_all.new.self c.args.lun.ce c.args.len bytes size c.in-Ok.ensures.ok,
+      ap (λ (xs : List ℕ). xs ++ (bytes ++ c.split_at_mut-part.result.1.now)) front ∙
+          (ap (λ (xs : List ℕ). take c.args.place buffer ++ (bytes ++ xs)) back ∙ written_is bytes c.args.place buffer (omega (arith, size, c.requires.inside))),
+    )

@@ -1,0 +1,79 @@
+-- A run of outputs that is own: the bus permits it, and it is played.
+use Rattle.std.proofs.Common.{◌≡◌, ◌≢◌, ℕ, zero, suc, ◌+◌, ◌<◌, ◌≤◌, List, [], ◌∷◌, ◌++◌, Option, Some, None, refl, sym, ap, ◌∙◌, subst, arith, length, take, drop, replicate}
+use Rattle.std.specs.List.{slice_set}
+use Rattle.onfi_cycle.specs.declared.forbidden.Forbidden.{Forbidden as Rule}
+use Rattle.onfi_cycle.specs.declared.item.Item.{Item}
+use Rattle.onfi_cycle.specs.declared.item.Kind.TheVariants.{Dout}
+use Rattle.onfi_cycle.specs.declared.lun.Lun.{Lun}
+use Rattle.onfi_cycle.specs.Channel.{Channel, IsChannel, cycle, bus_byte}
+use Rattle.onfi_cycle.specs.Permitted.{broken}
+use Rattle.onfi_cycle.specs.Outputs.{with_outputs, broken_outputs, first_rule}
+use Rattle.micro_program.specs.Moves.{Move, Take, and_then}
+use Rattle.micro_program.specs.Program.{written}
+use Rattle.micro_program.specs.Played.{Played, played, with_byte}
+use Rattle.micro_program.specs.Safe.{MovesAreOwn}
+use Rattle.target_bus.specs.declared.refusal.BusRefusal.{BusRefusal}
+use Rattle.target_bus.specs.declared.refusal.BusRefusal.TheVariants.{OutOfMemory}
+use Rattle.target_bus.specs.Bus.{Traced, channel_of, Refuses, AreShown, AreTaken}
+use Rattle.target_bus.proofs.Shown.{permitted_shows}
+use Rattle.seq_core.specs.Calls.{Plays}
+use Rattle.seq_core.specs.Playing.{HasPlayed}
+use Rattle.seq_core.proofs.Played.{never_refused}
+
+-- 1. the bus permits it
+
+pub record IsPermittedRun (s : Channel) (ce len : ℕ) (past : List Item) : Type 0 where
+  pub bytes : List ℕ
+  pub count : length bytes ≡ len
+  pub permitted : broken_outputs s.geometry s.targets ce bytes past ≡ None
+
+pub own_run : (s : Channel) → IsChannel s → (l : Lun) (len : ℕ) (past : List Item) → MovesAreOwn s l (replicate len Take) past → IsPermittedRun s l.ce len past
+own_run s is l zero past own = record { bytes = []; count = refl; permitted = refl }
+own_run s is l (suc len) past own =
+    let shows = permitted_shows s is past l.ce 0 (own 0).0.permitted in
+    let rest = own_run s is l len (cycle l.ce Dout shows.0 ∷ past) ((own shows.0).1 shows.1) in
+    record {
+      bytes = shows.0 ∷ rest.bytes;
+      count = ap suc rest.count;
+      permitted = ap (λ (o : Option Rule). first_rule o (broken_outputs s.geometry s.targets l.ce rest.bytes (cycle l.ce Dout shows.0 ∷ past))) (own shows.0).0.permitted ∙ rest.permitted;
+    }
+
+pub run_never_refused : (s : Channel) → IsChannel s → (l : Lun) (len : ℕ) (past : List Item) (e : BusRefusal) → MovesAreOwn s l (replicate len Take) past → ((bytes : List ℕ) → length bytes ≡ len → Refuses e (broken_outputs s.geometry s.targets l.ce bytes past)) → e ≢ OutOfMemory → ⊥
+run_never_refused s is l len past e own refused some =
+    let run = own_run s is l len past own in
+    never_refused e _ (refused run.bytes run.count) run.permitted some
+
+-- 2. it is played
+
+shown_plays : (s : Channel) (ce : ℕ) (bytes : List ℕ) (past : List Item) → AreShown s ce bytes past → Plays s ce (replicate (length bytes) Take) past (with_outputs ce bytes past) bytes
+shown_plays s ce [] past h = refl
+shown_plays s ce (byte ∷ bytes) past h =
+    ap (λ (o : Option ℕ). and_then o (λ b. and_then (played s ce (replicate (length bytes) Take) (cycle ce Dout b ∷ past)) (with_byte b))) h.1 ∙
+    ap (λ (o : Option Played). and_then o (with_byte byte)) (shown_plays s ce bytes (cycle ce Dout byte ∷ past) h.2)
+
+pub taken_plays : (a b : Traced) (ce len : ℕ) (bytes : List ℕ) → length bytes ≡ len → AreTaken a b ce bytes → HasPlayed a b ce (replicate len Take) bytes len
+taken_plays a b ce len bytes size t =
+    subst (λ (n : ℕ). HasPlayed a b ce (replicate n Take) bytes n) size
+    (record {
+      same = t.channel;
+      plays = subst (λ (past : List Item). Plays (channel_of a) ce (replicate (length bytes) Take) a.past past bytes) (sym t.past) (shown_plays (channel_of a) ce bytes a.past t.shown);
+      room = t.room;
+    })
+
+-- 3. the buffer
+
+written_behind : (bytes : List ℕ) (place x : ℕ) (buffer : List ℕ) → written bytes (suc place) (x ∷ buffer) ≡ x ∷ written bytes place buffer
+written_behind [] place x buffer = refl
+written_behind (byte ∷ bytes) place x buffer =
+    let same : suc place + 1 ≡ suc (place + 1) = omega arith in
+    ap (λ (n : ℕ). written bytes n (x ∷ slice_set buffer place byte)) same ∙ written_behind bytes (place + 1) x (slice_set buffer place byte)
+
+written_first : (bytes buffer : List ℕ) → length bytes ≤ length buffer → written bytes 0 buffer ≡ bytes ++ drop (length bytes) buffer
+written_first [] buffer h = refl
+written_first (byte ∷ bytes) [] h = absurd (omega (arith, h))
+written_first (byte ∷ bytes) (x ∷ buffer) h = let less : length bytes ≤ length buffer = omega (arith, h) in written_behind bytes 0 byte buffer ∙ ap (λ (xs : List ℕ). byte ∷ xs) (written_first bytes buffer less)
+
+pub written_is : (bytes : List ℕ) (place : ℕ) (buffer : List ℕ) → place + length bytes ≤ length buffer → take place buffer ++ (bytes ++ drop (length bytes) (drop place buffer)) ≡ written bytes place buffer
+written_is bytes zero buffer h = let less : length bytes ≤ length buffer = omega (arith, h) in sym (written_first bytes buffer less)
+written_is bytes (suc place) [] h = absurd (omega (arith, h))
+written_is bytes (suc place) (x ∷ buffer) h = let less : place + length bytes ≤ length buffer = omega (arith, h) in ap (λ (xs : List ℕ). x ∷ xs) (written_is bytes place buffer less) ∙ sym (written_behind bytes place x buffer)

@@ -1,0 +1,10 @@
+use Rattle.std.proofs.Common.{◌≤◌, sym, subst}
+use Rattle.onfi_cycle.specs.State.{BusView}
+use Rattle.onfi_cycle.specs.Readies.{bus_due}
+use Rattle.target_bus.proofs.Outputs.{outputs_due}
+use Rattle.target_bus.proofs.going_on.go_on_by_outputs.Goals as goal
+
+pub returns-clause-due : goal.returns-clause-due
+returns-clause-due c =
+    subst (λ (s : BusView). bus_due s ≤ bus_due c.args.state.now) (sym c.apply_outputs.ensures.state)
+    (outputs_due c.readies_are_due.ensures c.args.ce c.args.count c.args.state.now c.requires c.facts_fit.ensures.state)
