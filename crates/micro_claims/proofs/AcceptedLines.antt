@@ -16,8 +16,8 @@ use Rattle.micro_word.specs.Text.{Microprogram}
 use Rattle.micro_claims.specs.declared.refusal.Reason.{Reason}
 use Rattle.micro_program.specs.Lines.{Line, unrolled}
 use Rattle.micro_program.specs.Program.{Job, Done}
-use Rattle.micro_program.specs.Step.{Stride, next_step}
-use Rattle.micro_program.specs.Safe.{Seat, loaded, after_step, IsSafe, IsJobOf, IsFine, LineIsFine, may_step}
+use Rattle.micro_program.specs.Step.{Stride, answered_step}
+use Rattle.micro_program.specs.Safe.{Seat, loaded, after_step, IsSafe, IsJobOf, IsFine, LineIsFine, may_step, AreTruthful}
 use Rattle.micro_claims.specs.State.{State, Closed, any_but_31, first_state, bounds_of}
 use Rattle.micro_claims.specs.Against.{command_not_for_programs, continues_unseen, is_unfit}
 use Rattle.micro_claims.specs.Reasons.{breaks_command_not_allowed, reason_against}
@@ -205,7 +205,7 @@ fine_here s j k seat c may = fine_lines s j k c.claim seat.past c.scene seat.don
 
 -- what the step of a sound word leaves is claimed
 Keeps : (s : Channel) (j : Job) (past : List Item) (done : List Done) (ahead : List Line) → Type 0
-Keeps s j past done ahead = (r : Stride) → next_step s j past ahead done ≡ Some r → r.code ≡ None → Claims s j (after_step r)
+Keeps s j past done ahead = (bytes : List ℕ) (r : Stride) → answered_step s.geometry j bytes past ahead done ≡ Some r → AreTruthful s.geometry j.lun past ahead bytes → r.code ≡ None → Claims s j (after_step r)
 
 line_keeps : (s : Channel) (j : Job) (past : List Item) (done : List Done) (line : Line) (rest : List Line) → SoundWord s j past done rest line.at line.word → Keeps s j past done (line ∷ rest)
 unfolding Keeps
@@ -213,15 +213,15 @@ line_keeps s j past done line rest w = w.step
 
 none_keeps : (s : Channel) (j : Job) (past : List Item) (done : List Done) → Keeps s j past done []
 unfolding Keeps
-none_keeps s j past done = λ r e code. cc
+none_keeps s j past done = λ bytes r e true_bytes code. cc
 
 lines_keep : (s : Channel) (j : Job) (k : KnownJob s j) (v : State) (past : List Item) (c : Scene) (done : List Done) (ahead : List Line) → IsScene s j.lun past c → Fits s.geometry j v done c true → accepts s.geometry (bounds_of j.text) None v ahead ≡ true → Keeps s j past done ahead
 lines_keep s j k v past c done [] scene f h = none_keeps s j past done
 lines_keep s j k v past c done (line ∷ rest) scene f h = line_keeps s j past done line rest (line_sound s j k v past c done line rest scene f h)
 
-step_keeps : (s : Channel) (j : Job) (k : KnownJob s j) (seat : Seat) (r : Stride) → Claims s j seat → may_step j seat ≡ true → next_step s j seat.past seat.ahead seat.done ≡ Some r → r.code ≡ None → Claims s j (after_step r)
+step_keeps : (s : Channel) (j : Job) (k : KnownJob s j) (seat : Seat) (bytes : List ℕ) (r : Stride) → Claims s j seat → may_step j seat ≡ true → answered_step s.geometry j bytes seat.past seat.ahead seat.done ≡ Some r → AreTruthful s.geometry j.lun seat.past seat.ahead bytes → r.code ≡ None → Claims s j (after_step r)
 unfolding Keeps
-step_keeps s j k seat r c may e code = lines_keep s j k c.claim seat.past c.scene seat.done seat.ahead c.is (settled s j seat c may) c.accepted r e code
+step_keeps s j k seat bytes r c may e true_bytes code = lines_keep s j k c.claim seat.past c.scene seat.done seat.ahead c.is (settled s j seat c may) c.accepted bytes r e true_bytes code
 
 -- 3. at first
 
@@ -293,7 +293,7 @@ accepted_is_safe text g some_rows accepted s j of =
     (record {
       fine = λ seat legal c may. fine_here s j k seat c may;
       first = λ past legal idle. first_fits s j past idle here;
-      step = λ seat r legal c may e code. step_keeps s j k seat r c may e code;
+      step = λ seat bytes r legal c may e true_bytes code. step_keeps s j k seat bytes r c may e true_bytes code;
       ready = ready_kept s j;
       other = other_kept s j k;
     })

@@ -6,7 +6,7 @@ use Rattle.onfi_cycle.specs.declared.item.Kind.TheVariants.{Dout}
 use Rattle.onfi_cycle.specs.declared.read_column.ReadColumn.{ReadColumn}
 use Rattle.onfi_cycle.specs.LunView.{LunView}
 use Rattle.onfi_cycle.specs.Sequence.{is_open}
-use Rattle.onfi_cycle.specs.Lun.{is_cache_read, output_column}
+use Rattle.onfi_cycle.specs.Lun.{is_busy, is_cache_read, output_column}
 use Rattle.onfi_cycle.specs.Channel.{Channel, is_open_on, cycle}
 use Rattle.micro_word.specs.declared.word.Word.{Word}
 use Rattle.micro_word.specs.declared.word.Word.TheVariants.{End, Wait, Yield, ReadStatus, BranchOnStatus, Jump}
@@ -14,15 +14,16 @@ use Rattle.micro_word.specs.Text.{Microprogram}
 use Rattle.micro_program.specs.Lines.{Line, from_place}
 use Rattle.micro_program.specs.Program.{Job, Done, Answer, Nothing, Polled, index_now, place_now, place_after, is_ready_status, cost, meets, status_now}
 use Rattle.micro_program.specs.Moves.{Move, Take, moves, and_then}
-use Rattle.micro_program.specs.Played.{Played, played}
-use Rattle.micro_program.specs.Step.{Stride, next_step, stride}
+use Rattle.micro_program.specs.Played.{Played, answered}
+use Rattle.micro_program.specs.Step.{Stride, answered_step, stride, first_byte}
 use Rattle.micro_program.specs.Safe.{after_step}
 use Rattle.micro_claims.specs.State.{State, Registers, KnownLun, OutputColumn, QueuedRows, NoRows, SomeRows, AnyRows, closed, bounds_of}
 use Rattle.micro_claims.specs.Against.{may_be_open, may_be_queued}
 use Rattle.micro_claims.specs.Reasons.{breaks_cycle_forbidden, breaks_address_unaligned, breaks_handover_in_sequence, breaks_buffer_passed, breaks_row_or_plane_outside, breaks_column_too_large, breaks_no_status, breaks_ends_too_soon, breaks_over_budget, breaks_command_not_allowed, reason_against}
 use Rattle.micro_claims.specs.Leaves.{with_registers, paid, status_shown, unread}
 use Rattle.micro_claims.specs.Accepts.{state_after, accepts}
-use Rattle.micro_program.proofs.Polls.{Polling, polling, own_poll, PollLeaves, poll_leaves, after_output, lost}
+use Rattle.micro_program.proofs.Polls.{Polling, polling, own_poll, poll_leaves, one_answer, after_output, lost}
+use Rattle.micro_program.proofs.Tracking.{answered_parts, quiet_step}
 use Rattle.micro_program.proofs.Scenes.{Scene, IsScene}
 use Rattle.micro_program.proofs.PollScenes.{polled_view, PolledScene, poll_scene}
 use Rattle.micro_claims.proofs.Fits.{RowsFit, latch_among, Below, RegistersFit, TailFits, LunFits, OutputColumnFits, Fits, is_unread, Now, now_of}
@@ -73,17 +74,21 @@ found_busy_lun g j l i view f = record { ready = λ e. cc; register = f.register
 open_on : (s : Channel) (j : Job) (past : List Item) (c : Scene) → IsScene s j.lun past c → is_open c.facts ≡ false → is_open_on past j.lun.ce ≡ false
 open_on s j past c scene h = ap is_open scene.facts ∙ h
 
--- what a step of a poll is
-poll_step : (s : Channel) (j : Job) (past : List Item) (done : List Done) (rest : List Line) (at : ℕ) (word : Word) (p : Polling s j past) (left : PollLeaves s j past p) → moves s.geometry j done word ≡ Some (p.before ++ (Take ∷ [])) → next_step s j past (record { at = at; word = word } ∷ rest) done ≡ Some (stride (record { at = at; word = word }) rest done (after_output j.lun.ce left.byte p.polled) word)
-poll_step s j past done rest at word p left moved =
-    let G : Option Played → Option Stride = λ o. and_then o (λ q. Some (stride (record { at = at; word = word }) rest done q word)) in
-    let F : Option (List Move) → Option Stride = λ m. and_then m (λ moved. G (played s j.lun.ce moved past)) in
-    ap F moved ∙ ap G left.is_played
+-- what a step of a poll is: one byte answers it
+record PollStep (s : Channel) (j : Job) (past : List Item) (p : Polling s j past) (line : Line) (rest : List Line) (done : List Done) (bytes : List ℕ) (r : Stride) : Type 0 where
+  byte : ℕ
+  bytes_are : bytes ≡ byte ∷ []
+  is_r : stride line rest done (after_output j.lun.ce byte p.polled) line.word ≡ r
 
-same_stride : (s : Channel) (j : Job) (o : Option Stride) (r0 r : Stride) → o ≡ Some r0 → o ≡ Some r → Claims s j (after_step r0) → Claims s j (after_step r)
-same_stride s j o r0 r e0 e h =
-    let same : r0 ≡ r = let both : Some r0 ≡ Some r = sym e0 ∙ e in cc in
-    subst (λ (x : Stride). Claims s j (after_step x)) same h
+poll_step : (s : Channel) (j : Job) (past : List Item) (done : List Done) (line : Line) (rest : List Line) (p : Polling s j past) (bytes : List ℕ) (r : Stride) → moves s.geometry j done line.word ≡ Some (p.before ++ (Take ∷ [])) → answered_step s.geometry j bytes past (line ∷ rest) done ≡ Some r → PollStep s j past p line rest done bytes r
+poll_step s j past done line rest p bytes r moved e =
+    let parts = answered_parts s.geometry j bytes past line rest done r e in
+    let same : parts.moved ≡ p.before ++ (Take ∷ []) = let both : Some parts.moved ≡ Some (p.before ++ (Take ∷ [])) = sym parts.is_moved ∙ moved in cc in
+    let one = one_answer j.lun.ce p.polled bytes parts.p (sym (p.answers bytes) ∙ (sym (ap (λ (m : List Move). answered j.lun.ce m bytes past) same) ∙ parts.is_p)) in
+    record { byte = one.byte; bytes_are = one.bytes_are; is_r = ap (λ (q : Played). stride line rest done q line.word) (sym one.is_q) ∙ parts.is_r }
+
+same_stride : (s : Channel) (j : Job) (r0 r : Stride) → r0 ≡ r → Claims s j (after_step r0) → Claims s j (after_step r)
+same_stride s j r0 r same h = subst (λ (x : Stride). Claims s j (after_step x)) same h
 
 -- stat
 pub sound_stat : (s : Channel) (j : Job) (k : KnownJob s j) (v : State) (past : List Item) (c : Scene) (done : List Done) (rest : List Line) (at : ℕ) → IsScene s j.lun past c → Fits s.geometry j v done c true → NoReasons s.geometry j.text v ReadStatus → accepts s.geometry (bounds_of j.text) None (state_after s.geometry v ReadStatus) rest ≡ true → SoundWord s j past done rest at ReadStatus
@@ -91,8 +96,6 @@ unfolding state_after breaks_cycle_forbidden
 sound_stat s j k v past c done rest at scene f clear acc =
     let shut = closed_tail s.geometry j v.target (now_of j done) c.facts (f.tail refl) clear.no_cycle_forbidden in
     let p = polling s j past k.limits k.status_row k.there (open_on s j past c scene shut) in
-    let left = poll_leaves s k.is_channel j past k.there p in
-    let behind = poll_scene s j past c k.there scene p left in
     record {
       fine = record {
         moved = p.before ++ (Take ∷ []);
@@ -103,13 +106,16 @@ sound_stat s j k v past c done rest at scene f clear acc =
         closed = λ e. cc;
         idle = λ e. cc;
       };
-      step = λ r e code. same_stride s j _ (stride (record { at = at; word = ReadStatus }) rest done (after_output j.lun.ce left.byte p.polled) ReadStatus) r (poll_step s j past done rest at ReadStatus p left p.moves_are) e
+      step = λ bytes r e true_bytes code.
+          let one = poll_step s j past done (record { at = at; word = ReadStatus }) rest p bytes r p.moves_are e in
+          let behind = poll_scene s j past c k.there scene p one.byte (poll_leaves s j past p one.byte) in
+          same_stride s j (stride (record { at = at; word = ReadStatus }) rest done (after_output j.lun.ce one.byte p.polled) ReadStatus) r one.is_r
           (record {
             claim = state_after s.geometry v ReadStatus;
             scene = behind.now;
             is = behind.is;
-            fits = poll_fits s j v done (record { word = ReadStatus; answer = Polled left.byte } ∷ done) _ c behind (record v.lun { column = unread v.lun.column }) _
-                (unmoved s.geometry j v v.registers.place true done ReadStatus (Polled left.byte) f.registers clear (record { column = λ n. refl; plane = λ n. refl; index = λ b n. refl }) f.registers.place)
+            fits = poll_fits s j v done (record { word = ReadStatus; answer = Polled one.byte } ∷ done) _ c behind (record v.lun { column = unread v.lun.column }) _
+                (unmoved s.geometry j v v.registers.place true done ReadStatus (Polled one.byte) f.registers clear (record { column = λ n. refl; plane = λ n. refl; index = λ b n. refl }) f.registers.place)
                 (poll_lun s.geometry j v.lun (index_now j.base done) c.view f.lun);
             accepted = acc;
           });
@@ -189,7 +195,10 @@ sound_wait s j k v past c done rest at scene f clear acc =
         closed = λ e. open_on s j past c scene shut;
         idle = λ e. cc;
       };
-      step = λ r e code. same_stride s j _ (stride (record { at = at; word = Wait }) rest done (after_output j.lun.ce left.byte p.polled) Wait) r (poll_step s j past done rest at Wait p left p.moves_are) e (said (is_ready_status left.byte) refl);
+      step = λ bytes r e true_bytes code.
+          let one = poll_step s j past done (record { at = at; word = Wait }) rest p bytes r p.moves_are e in
+          same_stride s j (stride (record { at = at; word = Wait }) rest done (after_output j.lun.ce one.byte p.polled) Wait) r one.is_r
+          (said one.byte (is_ready_status one.byte) refl (λ h. true_bytes (ap (λ (xs : List ℕ). is_ready_status (first_byte xs)) one.bytes_are ∙ h)));
     }
   where
     shut : is_open c.facts ≡ false
@@ -198,35 +207,29 @@ sound_wait s j k v past c done rest at scene f clear acc =
     p : Polling s j past
     p = polling s j past k.limits k.status_row k.there (open_on s j past c scene shut)
 
-    left : PollLeaves s j past p
-    left = poll_leaves s k.is_channel j past k.there p
+    behind : (byte : ℕ) → PolledScene s j.lun (cycle j.lun.ce Dout byte ∷ p.polled) c
+    behind byte = poll_scene s j past c k.there scene p byte (poll_leaves s j past p byte)
 
-    later : List Item
-    later = cycle j.lun.ce Dout left.byte ∷ p.polled
-
-    behind : PolledScene s j.lun (cycle j.lun.ce Dout left.byte ∷ p.polled) c
-    behind = poll_scene s j past c k.there scene p left
-
-    said : (b : Bool) → is_ready_status left.byte ≡ b → Claims s j (after_step (stride (record { at = at; word = Wait }) rest done (after_output j.lun.ce left.byte p.polled) Wait))
-    said true e =
-        let ready : c.view.busy ≡ false = sym (ap (λ (w : LunView). w.busy) scene.view) ∙ left.says e in
+    said : (byte : ℕ) (b : Bool) → is_ready_status byte ≡ b → (is_ready_status byte ≡ true → is_busy s.geometry past j.lun ≡ false) → Claims s j (after_step (stride (record { at = at; word = Wait }) rest done (after_output j.lun.ce byte p.polled) Wait))
+    said byte true e says =
+        let ready : c.view.busy ≡ false = sym (ap (λ (w : LunView). w.busy) scene.view) ∙ says e in
         rw e
         (record {
           claim = state_after s.geometry v Wait;
-          scene = behind.now;
-          is = behind.is;
-          fits = poll_fits s j v done (record { word = Wait; answer = Polled left.byte } ∷ done) _ c behind (record v.lun { busy = false; column = unread v.lun.column }) _
-              (unmoved s.geometry j v v.registers.place true done Wait (Polled left.byte) f.registers clear (record { column = λ n. refl; plane = λ n. refl; index = λ b n. refl }) f.registers.place)
+          scene = (behind byte).now;
+          is = (behind byte).is;
+          fits = poll_fits s j v done (record { word = Wait; answer = Polled byte } ∷ done) _ c (behind byte) (record v.lun { busy = false; column = unread v.lun.column }) _
+              (unmoved s.geometry j v v.registers.place true done Wait (Polled byte) f.registers clear (record { column = λ n. refl; plane = λ n. refl; index = λ b n. refl }) f.registers.place)
               (found_ready_lun s.geometry j (record v.lun { column = unread v.lun.column }) (index_now j.base done) (polled_view c.view) (poll_lun s.geometry j v.lun (index_now j.base done) c.view f.lun) ready);
           accepted = acc;
         })
-    said false e =
+    said byte false e says =
         rw e
         (record {
           claim = waiting_where (ltb 1 s.geometry.luns) v;
-          scene = behind.now;
-          is = behind.is;
-          fits = subst (λ (x : Bool). Fits s.geometry j (waiting_where (ltb 1 s.geometry.luns) v) done behind.now x) (sym (closed_knows (ltb 1 s.geometry.luns) behind.now behind.closed)) (waiting_fits s j v done _ c behind f (ltb 1 s.geometry.luns) refl);
+          scene = (behind byte).now;
+          is = (behind byte).is;
+          fits = subst (λ (x : Bool). Fits s.geometry j (waiting_where (ltb 1 s.geometry.luns) v) done (behind byte).now x) (sym (closed_knows (ltb 1 s.geometry.luns) (behind byte).now (behind byte).closed)) (waiting_fits s j v done _ c (behind byte) f (ltb 1 s.geometry.luns) refl);
           accepted = waiting_accepted s.geometry j.text v (ltb 1 s.geometry.luns) rest at acc;
         })
 
@@ -286,7 +289,7 @@ sound_yield s j k v past c done rest at scene f clear acc =
         closed = λ e. open_on s j past c scene shut;
         idle = λ e. cc;
       };
-      step = λ r e code. same_stride s j _ (stride (record { at = at; word = Yield }) rest done (record { past = past; bytes = [] }) Yield) r refl e
+      step = λ bytes r e true_bytes code. same_stride s j (stride (record { at = at; word = Yield }) rest done (record { past = past; bytes = [] }) Yield) r (quiet_step s.geometry j bytes past (record { at = at; word = Yield }) rest done r refl e)
           (record {
             claim = yielded several v;
             scene = c;
@@ -325,9 +328,9 @@ sound_end s j k v past c done rest at code scene f clear =
           no_queue = ap (λ (w : LunView). w.queue) view ∙ no_rows s.geometry (index_now j.base done) v.lun.queue c.view two.1 f.lun.queue;
         };
       };
-      step = λ r e none.
+      step = λ bytes r e true_bytes none.
           let r0 : Stride = stride (record { at = at; word = End code }) rest done (record { past = past; bytes = [] }) (End code) in
-          let same : r0 ≡ r = let both : Some r0 ≡ Some r = e in cc in
+          let same : r0 ≡ r = quiet_step s.geometry j bytes past (record { at = at; word = End code }) rest done r refl e in
           let ended : Some code ≡ r.code = ap (λ (x : Stride). x.code) same in
           cc;
     }
@@ -358,7 +361,7 @@ unfolding state_after
 sound_jump s j k v past c done rest at target scene f clear acc =
     record {
       fine = record { moved = []; is_moved = refl; own = tt; inside = refl; budget = within_budget s.geometry j v done (Jump target) f.registers clear; closed = λ e. cc; idle = λ e. cc };
-      step = λ r e code. same_stride s j _ (stride (record { at = at; word = Jump target }) rest done (record { past = past; bytes = [] }) (Jump target)) r refl e
+      step = λ bytes r e true_bytes code. same_stride s j (stride (record { at = at; word = Jump target }) rest done (record { past = past; bytes = [] }) (Jump target)) r (quiet_step s.geometry j bytes past (record { at = at; word = Jump target }) rest done r refl e)
           (record {
             claim = state_after s.geometry v (Jump target);
             scene = c;
@@ -373,7 +376,7 @@ unfolding state_after
 sound_branch s j k v past c done rest at mask target scene f clear acc taken =
     record {
       fine = record { moved = []; is_moved = refl; own = tt; inside = refl; budget = within_budget s.geometry j v done (BranchOnStatus mask target) f.registers clear; closed = λ e. cc; idle = λ e. cc };
-      step = λ r e code. same_stride s j _ (stride (record { at = at; word = BranchOnStatus mask target }) rest done (record { past = past; bytes = [] }) (BranchOnStatus mask target)) r refl e
+      step = λ bytes r e true_bytes code. same_stride s j (stride (record { at = at; word = BranchOnStatus mask target }) rest done (record { past = past; bytes = [] }) (BranchOnStatus mask target)) r (quiet_step s.geometry j bytes past (record { at = at; word = BranchOnStatus mask target }) rest done r refl e)
           (record {
             claim = state_after s.geometry v (BranchOnStatus mask target);
             scene = c;

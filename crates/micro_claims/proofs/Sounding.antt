@@ -22,10 +22,10 @@ use Rattle.micro_claims.specs.Leaves.{paid}
 use Rattle.micro_claims.specs.Accepts.{state_after, accepts}
 use Rattle.micro_program.specs.Program.{Job, Done, Answer, Nothing, Polled, Got, column_now, column_after, plane_now, plane_after, index_now, index_after, place_now, place_after, cost, cost_now, fits}
 use Rattle.micro_program.specs.Moves.{Move, moves}
-use Rattle.micro_program.specs.Played.{Played, played}
-use Rattle.micro_program.specs.Step.{Stride, Went, next_step, stride, did, first_byte}
-use Rattle.micro_program.specs.Safe.{Seat, after_step, is_end, lets_go, WordIsFine}
-use Rattle.micro_program.proofs.Tracking.{step_parts}
+use Rattle.micro_program.specs.Played.{Played, answered}
+use Rattle.micro_program.specs.Step.{Stride, Went, answered_step, stride, did, first_byte}
+use Rattle.micro_program.specs.Safe.{Seat, after_step, is_end, lets_go, WordIsFine, AreTruthful}
+use Rattle.micro_program.proofs.Tracking.{answered_parts}
 use Rattle.micro_program.proofs.Scenes.{Scene, IsScene}
 use Rattle.micro_program.proofs.SceneMoves.{MovesAllowed, scene_after, moves_own, moves_lead}
 use Rattle.micro_claims.proofs.Fits.{Below, InSpan, InRange, RegistersFit, Fits}
@@ -133,7 +133,7 @@ unmoved g j v place b done word answer f clear u below =
 
 pub record SoundWord (s : Channel) (j : Job) (past : List Item) (done : List Done) (rest : List Line) (at : ℕ) (word : Word) : Type 0 where
   pub fine : WordIsFine s j past done word
-  pub step : (r : Stride) → next_step s j past (record { at = at; word = word } ∷ rest) done ≡ Some r → r.code ≡ None → Claims s j (after_step r)
+  pub step : (bytes : List ℕ) (r : Stride) → answered_step s.geometry j bytes past (record { at = at; word = word } ∷ rest) done ≡ Some r → AreTruthful s.geometry j.lun past (record { at = at; word = word } ∷ rest) bytes → r.code ≡ None → Claims s j (after_step r)
 
 -- the words that are done at once, and lead to the next line
 abbrev pub is_plain : Word → Bool
@@ -180,17 +180,17 @@ plain_sound s j k v past c done rest at word moved plain is registers clear is_m
         closed = λ e. let none = plain_lets_none word plain in cc;
         idle = λ e. let none = plain_ends_none word plain in cc;
       };
-      step = λ r e code.
-          let parts = step_parts s j past (record { at = at; word = word }) rest done r e in
+      step = λ bytes r e true_bytes code.
+          let parts = answered_parts s.geometry j bytes past (record { at = at; word = word }) rest done r e in
           let same : moved ≡ parts.moved = same_moves moved parts.moved _ is_moved parts.is_moved in
-          let plays : played s j.lun.ce moved past ≡ Some parts.p = ap (λ (m : List Move). played s j.lun.ce m past) same ∙ parts.is_p in
+          let plays : answered j.lun.ce moved bytes past ≡ Some parts.p = ap (λ (m : List Move). answered j.lun.ce m bytes past) same ∙ parts.is_p in
           let went = plain_stride (record { at = at; word = word }) rest done parts.p word plain in
           let is_did : did parts.p word went.0 rest done Went ≡ r = sym went.1 ∙ parts.is_r in
           subst (λ (x : Stride). Claims s j (after_step x)) is_did
           (record {
             claim = state_after s.geometry v word;
             scene = scene_after s.geometry j.lun.lun moved c;
-            is = moves_lead s j.lun past c moved parts.p k.there is allowed plays;
+            is = moves_lead s j.lun past c moved bytes parts.p k.there is allowed plays;
             fits = behind went.0;
             accepted = acc;
           });

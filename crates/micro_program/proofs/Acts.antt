@@ -8,9 +8,9 @@ use Rattle.micro_word.specs.declared.word.Word.TheVariants.{End, Get, Wait, Read
 use Rattle.micro_program.specs.Lines.{Line, from_place}
 use Rattle.micro_program.specs.Program.{Job, Done, Answer, Nothing, Polled, Got, status_now, is_ready_status, meets}
 use Rattle.micro_program.specs.Played.{Played}
-use Rattle.micro_program.specs.Step.{Stride, stride, waited, first_byte, next_step}
+use Rattle.micro_program.specs.Step.{Stride, stride, waited, first_byte, answered_step}
 use Rattle.micro_program.specs.Safe.{starts, steps, readies, others}
-use Rattle.micro_program.proofs.Tracking.{step_parts}
+use Rattle.micro_program.proofs.Tracking.{answered_parts}
 use Rattle.micro_program.specs.Actions.{action, asks, acts, acts_from, answers_of, actions_of, WalkGivesActs}
 
 -- leaving out lines while acting is acting on the lines from the target on
@@ -67,15 +67,15 @@ stride_splits g j at rest done p (Jump target) e before =
 stride_splits g j at rest done p word e before = silent g j word (line_at at word ∷ rest) rest done refl (λ more. refl) before
 
 -- a step that doesn't end the program
-step_splits : (s : Channel) (j : Job) (past : List Item) (ahead : List Line) (done : List Done) (r : Stride) → next_step s j past ahead done ≡ Some r → r.code ≡ None → Splits s.geometry j ahead done → Splits s.geometry j r.ahead r.done
-step_splits s j past [] done r e code before = cc
-step_splits s j past (line ∷ rest) done r e code before =
-    let parts = step_parts s j past line rest done r e in
-    subst (λ (q : Stride). Splits s.geometry j q.ahead q.done) parts.is_r
-    (stride_splits s.geometry j line.at rest done parts.p line.word (ap (λ (q : Stride). q.code) parts.is_r ∙ code) before)
+step_splits : (g : Parts) (j : Job) (bytes : List ℕ) (past : List Item) (ahead : List Line) (done : List Done) (r : Stride) → answered_step g j bytes past ahead done ≡ Some r → r.code ≡ None → Splits g j ahead done → Splits g j r.ahead r.done
+step_splits g j bytes past [] done r e code before = cc
+step_splits g j bytes past (line ∷ rest) done r e code before =
+    let parts = answered_parts g j bytes past line rest done r e in
+    subst (λ (q : Stride). Splits g j q.ahead q.done) parts.is_r
+    (stride_splits g j line.at rest done parts.p line.word (ap (λ (q : Stride). q.code) parts.is_r ∙ code) before)
 
 pub walk_gives_acts : WalkGivesActs
 walk_gives_acts s j _ (starts past legal idle) more = refl
-walk_gives_acts s j _ (steps seat r reach may e code) more = step_splits s j seat.past seat.ahead seat.done r e code (walk_gives_acts s j seat reach) more
+walk_gives_acts s j _ (steps seat bytes r reach may e true_bytes code) more = step_splits s.geometry j bytes seat.past seat.ahead seat.done r e code (walk_gives_acts s j seat reach) more
 walk_gives_acts s j _ (readies seat i reach h p) more = walk_gives_acts s j seat reach more
 walk_gives_acts s j _ (others seat c m reach free own there ne) more = walk_gives_acts s j seat reach more

@@ -1,5 +1,5 @@
 -- The scene behind a status poll.
-use Rattle.std.proofs.Common.{◌≡◌, true, false, List, ◌∷◌, refl, sym, ap, ◌∙◌}
+use Rattle.std.proofs.Common.{◌≡◌, ℕ, true, false, List, ◌∷◌, refl, sym, ap, ◌∙◌}
 use Rattle.onfi_cycle.specs.declared.lun.Lun.{Lun}
 use Rattle.onfi_cycle.specs.declared.item.Item.{Item}
 use Rattle.onfi_cycle.specs.declared.item.Kind.TheVariants.{Dout}
@@ -26,8 +26,8 @@ pub record PolledScene (s : Channel) (l : Lun) (later : List Item) (before : Sce
   pub view : now.view ≡ polled_view before.view
   pub sole : now.sole ≡ true
 
-pub poll_scene : (s : Channel) (j : Job) (past : List Item) (c : Scene) → is_there s j.lun ≡ true → IsScene s j.lun past c → (p : Polling s j past) (left : PollLeaves s j past p) → PolledScene s j.lun (cycle j.lun.ce Dout left.byte ∷ p.polled) c
-poll_scene s j past c there is p left =
+pub poll_scene : (s : Channel) (j : Job) (past : List Item) (c : Scene) → is_there s j.lun ≡ true → IsScene s j.lun past c → (p : Polling s j past) (byte : ℕ) (left : PollLeaves s j past p byte) → PolledScene s j.lun (cycle j.lun.ce Dout byte ∷ p.polled) c
+poll_scene s j past c there is p byte left =
     record {
       now = record { facts = facts_after OutputCycle (facts_of (tail p.polled j.lun.ce)); view = polled_view c.view; sole = true };
       is = record { facts = next.facts; view = next.view ∙ kept; sole = λ e. next.sole refl };
@@ -48,8 +48,8 @@ poll_scene s j past c there is p left =
     now_is : IsScene s j.lun p.polled now
     now_is = record { facts = refl; view = view_is ∙ ap polled_view is.view; sole = λ e. p.one }
 
-    next : IsScene s j.lun (cycle j.lun.ce Dout left.byte ∷ p.polled) (record { facts = facts_after OutputCycle (facts_of (tail p.polled j.lun.ce)); view = polled_view c.view; sole = true })
-    next = scene_next s j.lun p.polled now there now_is Dout left.byte (record { closed = p.closed; sole = refl; has_byte = refl; inside = refl })
+    next : IsScene s j.lun (cycle j.lun.ce Dout byte ∷ p.polled) (record { facts = facts_after OutputCycle (facts_of (tail p.polled j.lun.ce)); view = polled_view c.view; sole = true })
+    next = scene_next s j.lun p.polled now there now_is Dout byte (record { closed = p.closed; sole = refl; has_byte = refl; inside = refl })
 
     kept : polled_view c.view ≡ polled_view c.view
     kept = refl

@@ -24,7 +24,7 @@ use Rattle.onfi_cycle.specs.Content.{status, shown}
 use Rattle.onfi_cycle.specs.Channel.{Channel, IsChannel, IsOwn, is_there, is_open_on, cycle, byte_of_driver, bus_byte}
 use Rattle.micro_program.specs.Program.{Job, is_ready_status}
 use Rattle.micro_program.specs.Moves.{Move, Give, Take, poll}
-use Rattle.micro_program.specs.Played.{Played, played}
+use Rattle.micro_program.specs.Played.{Played, answered, played}
 use Rattle.micro_program.specs.Safe.{MovesAreOwn}
 use Rattle.micro_program.proofs.Below.{facts, outputs}
 use Rattle.micro_program.proofs.Basics.{eqb_self, there_lun}
@@ -43,6 +43,7 @@ pub record Polling (s : Channel) (j : Job) (past : List Item) : Type 0 where
   pub moves_are : poll s.geometry j ≡ Some (before ++ (Take ∷ []))
   pub own : MovesAreOwn s j.lun (Take ∷ []) polled → MovesAreOwn s j.lun (before ++ (Take ∷ [])) past
   pub plays : played s j.lun.ce (before ++ (Take ∷ [])) past ≡ played s j.lun.ce (Take ∷ []) polled
+  pub answers : (bytes : List ℕ) → answered j.lun.ce (before ++ (Take ∷ [])) bytes past ≡ answered j.lun.ce (Take ∷ []) bytes polled
   pub closed : is_open_on polled j.lun.ce ≡ false
   pub one : is_only (drivers s.geometry polled j.lun.ce) j.lun.lun ≡ true
   pub shows : latch s.geometry polled j.lun ≡ Status
@@ -71,6 +72,7 @@ polling_by_70 s j past several there closed =
       moves_are = rw several refl;
       own = λ last. (own_status s j.lun past there several closed, last);
       plays = refl;
+      answers = λ bytes. refl;
       closed = subst (λ (t : List TargetCycle). is_open (facts_of t) ≡ false) (sym (tail_status past j.lun.ce)) refl;
       one = subst (λ (n : ℕ). is_only (drivers_from (λ m. latch s.geometry (cycle j.lun.ce Cmd 0x70 ∷ past) (record { ce = j.lun.ce; lun = m })) n 0) j.lun.lun ≡ true) (sym one) (rw (latch_status s.geometry past j.lun.ce 0) zero_is);
       shows = latch_status s.geometry past j.lun.ce j.lun.lun;
@@ -147,6 +149,7 @@ polling_by_78 s j past limits row several there closed =
       moves_are = rw (several, row.there) refl;
       own = λ last. (own_enhanced s j.lun past there enhanced closed, (own_address s j.lun p1 row.r1 (CommandCycle ReadStatusEnhanced ∷ []) there t1 (judge_enhanced_1 s.geometry _ row.r1) refl, (own_address s j.lun p2 row.r2 (AddressCycle row.r1 ∷ (CommandCycle ReadStatusEnhanced ∷ [])) there t2 (judge_enhanced_2 s.geometry _ row.r1 row.r2) refl, (own_address s j.lun p3 row.r3 (AddressCycle row.r2 ∷ (AddressCycle row.r1 ∷ (CommandCycle ReadStatusEnhanced ∷ []))) there t3 (judge_enhanced_3 s.geometry _ row.r1 row.r2 row.r3 row.inside) (eq-eqb _ _ named), last))));
       plays = refl;
+      answers = λ bytes. refl;
       closed = subst (λ (t : List TargetCycle). is_open (facts_of t) ≡ false) (sym t4) refl;
       one = only_from (λ m. latch s.geometry p4 (record { ce = j.lun.ce; lun = m })) j.lun.lun (λ m. latch_enhanced s.geometry p3 j.lun.ce m row.r1 row.r2 row.r3 t3 ∙ ap (λ (n : ℕ). cond (n == m) Status Off) named) s.geometry.luns 0 (omega arith) (let b : j.lun.lun < s.geometry.luns = there_lun s j.lun there in omega arith);
       shows = latch_enhanced s.geometry p3 j.lun.ce j.lun.lun row.r1 row.r2 row.r3 t3 ∙ rw (eq-eqb (parts_of s.geometry (row_of row.r1 row.r2 row.r3)).lun j.lun.lun named) refl;
@@ -218,7 +221,7 @@ own_output s j past byte there p =
 
 -- the cycles of a poll are own
 pub own_poll : (s : Channel) (j : Job) (past : List Item) → is_there s j.lun ≡ true → (p : Polling s j past) → MovesAreOwn s j.lun (p.before ++ (Take ∷ [])) past
-own_poll s j past there p = p.own (λ byte. (own_output s j past byte there p, λ e. tt))
+own_poll s j past there p = p.own (λ byte. (own_output s j past byte there p, tt))
 
 byte_of_only : (s : Channel) (past : List Item) (l : Lun) (ds : List ℕ) → is_only ds l.lun ≡ true → byte_of_driver s past l.ce ds ≡ shown s.geometry s.parameters s.opening past l
 byte_of_only s past l [] h = cc
@@ -229,15 +232,35 @@ byte_of_only s past l (d ∷ (e ∷ ds)) h = cc
 abbrev pub after_output : ℕ → ℕ → List Item → Played
 after_output ce byte past = record { past = cycle ce Dout byte ∷ past; bytes = byte ∷ [] }
 
--- what a poll leaves: it is played, its byte is the status, and it leaves the work of the LUN and nothing open
-pub record PollLeaves (s : Channel) (j : Job) (past : List Item) (p : Polling s j past) : Type 0 where
-  pub byte : ℕ
-  pub shown : bus_byte s p.polled j.lun.ce ≡ Some byte
-  pub is_played : played s j.lun.ce (p.before ++ (Take ∷ [])) past ≡ Some (after_output j.lun.ce byte p.polled)
-  pub says : is_ready_status byte ≡ true → is_busy s.geometry past j.lun ≡ false
-  pub says_not : is_ready_status byte ≡ false → is_busy s.geometry past j.lun ≡ true
+-- what a poll leaves that is answered by a byte: the work of the LUN as it was, and nothing open
+pub record PollLeaves (s : Channel) (j : Job) (past : List Item) (p : Polling s j past) (byte : ℕ) : Type 0 where
+  pub is_played : answered j.lun.ce (p.before ++ (Take ∷ [])) (byte ∷ []) past ≡ Some (after_output j.lun.ce byte p.polled)
   pub leaves : Calm s.geometry past (cycle j.lun.ce Dout byte ∷ p.polled) j.lun
   pub closed : is_open_on (cycle j.lun.ce Dout byte ∷ p.polled) j.lun.ce ≡ false
+
+pub poll_leaves : (s : Channel) (j : Job) (past : List Item) (p : Polling s j past) (byte : ℕ) → PollLeaves s j past p byte
+poll_leaves s j past p byte =
+    record {
+      is_played = p.answers (byte ∷ []);
+      leaves = calmer s.geometry past p.polled _ j.lun p.leaves output;
+      closed = outputs.closes p.polled j.lun.ce byte;
+    }
+  where
+    output : Calm s.geometry p.polled (cycle j.lun.ce Dout byte ∷ p.polled) j.lun
+    output = calm_cycle s.geometry p.polled j.lun Dout byte (either_calm (is_data (latch_alone s.geometry p.polled j.lun)) DataOutput Unaffected refl refl)
+
+-- a poll that is played was answered by one byte
+pub record PollAnswered (ce : ℕ) (polled : List Item) (bytes : List ℕ) (q : Played) : Type 0 where
+  pub byte : ℕ
+  pub bytes_are : bytes ≡ byte ∷ []
+  pub is_q : q ≡ after_output ce byte polled
+
+pub one_answer : (ce : ℕ) (polled : List Item) (bytes : List ℕ) (q : Played) → answered ce (Take ∷ []) bytes polled ≡ Some q → PollAnswered ce polled bytes q
+one_answer ce polled [] q e = cc
+one_answer ce polled (byte ∷ []) q e =
+    let both : Some (after_output ce byte polled) ≡ Some q = e in
+    record { byte = byte; bytes_are = refl; is_q = let same : after_output ce byte polled ≡ q = cc in sym same }
+one_answer ce polled (byte ∷ (b ∷ bytes)) q e = cc
 
 -- a status that says ready is that of a ready LUN
 ready_said : (busy array_busy failed : Bool) → is_ready_status (cond busy 0x80 (cond array_busy 0xc0 (cond failed 0xe1 0xe0))) ≡ true → busy ≡ false
@@ -251,23 +274,24 @@ unready_said false true f h = cc
 unready_said false false true h = cc
 unready_said false false false h = cc
 
-pub poll_leaves : (s : Channel) → IsChannel s → (j : Job) (past : List Item) → is_there s j.lun ≡ true → (p : Polling s j past) → PollLeaves s j past p
-poll_leaves s is j past there p =
+-- on a model a poll shows the status
+pub record PollShows (s : Channel) (j : Job) (past : List Item) (p : Polling s j past) : Type 0 where
+  pub byte : ℕ
+  pub is_played : played s j.lun.ce (p.before ++ (Take ∷ [])) past ≡ Some (after_output j.lun.ce byte p.polled)
+  pub says : is_ready_status byte ≡ true → is_busy s.geometry past j.lun ≡ false
+  pub says_not : is_ready_status byte ≡ false → is_busy s.geometry past j.lun ≡ true
+
+pub poll_shows : (s : Channel) → IsChannel s → (j : Job) (past : List Item) → is_there s j.lun ≡ true → (p : Polling s j past) → PollShows s j past p
+poll_shows s is j past there p =
     record {
       byte = b.0;
-      shown = b.1;
       is_played = p.plays ∙ rw b.1 refl;
       says = λ t. sym p.leaves.busy ∙ ready_said _ _ _ (subst (λ (n : ℕ). is_ready_status n ≡ true) said t);
       says_not = λ t. sym p.leaves.busy ∙ unready_said _ _ _ (subst (λ (n : ℕ). is_ready_status n ≡ false) said t);
-      leaves = calmer s.geometry past p.polled _ j.lun p.leaves output;
-      closed = outputs.closes p.polled j.lun.ce b.0;
     }
   where
     b : (n : ℕ) × (bus_byte s p.polled j.lun.ce ≡ Some n)
     b = outputs.has_byte s is p.polled j.lun 0 (own_output s j past 0 there p).permitted p.one
-
-    output : Calm s.geometry p.polled (cycle j.lun.ce Dout b.0 ∷ p.polled) j.lun
-    output = calm_cycle s.geometry p.polled j.lun Dout b.0 (either_calm (is_data (latch_alone s.geometry p.polled j.lun)) DataOutput Unaffected refl refl)
 
     said : b.0 ≡ status s.geometry p.polled j.lun
     said =

@@ -9,7 +9,7 @@ use Rattle.onfi_cycle.specs.declared.target_cycle.TargetCycle.TheVariants.{Outpu
 use Rattle.onfi_cycle.specs.Sequence.{target_cycle}
 use Rattle.onfi_cycle.specs.Channel.{Channel, is_there}
 use Rattle.micro_program.specs.Moves.{Move, Give, Take}
-use Rattle.micro_program.specs.Played.{Played, played}
+use Rattle.micro_program.specs.Played.{Played, answered}
 use Rattle.micro_program.specs.Safe.{MovesAreOwn}
 use Rattle.micro_program.proofs.Scenes.{Scene, IsScene, Allowed, scene_behind}
 use Rattle.micro_program.proofs.Stepping.{own_cycle, scene_next}
@@ -38,14 +38,14 @@ tracked : (s : Channel) (l : Lun) (last : Scene) → is_there s l ≡ true → A
 tracked s l last there =
     record {
       give = λ kind byte rest past c. (own_cycle s l past c.now there c.is kind byte c.allowed.0, record { now = scene_behind s.geometry l.lun (target_cycle kind byte) c.now; is = scene_next s l past c.now there c.is kind byte c.allowed.0; allowed = c.allowed.1; leads = c.leads });
-      take = λ rest past c byte. (own_cycle s l past c.now there c.is Dout byte c.allowed.0, λ e. record { now = scene_behind s.geometry l.lun OutputCycle c.now; is = scene_next s l past c.now there c.is Dout byte c.allowed.0; allowed = c.allowed.1; leads = c.leads });
+      take = λ rest past c byte. (own_cycle s l past c.now there c.is Dout byte c.allowed.0, record { now = scene_behind s.geometry l.lun OutputCycle c.now; is = scene_next s l past c.now there c.is Dout byte c.allowed.0; allowed = c.allowed.1; leads = c.leads });
     }
 
 pub moves_own : (s : Channel) (l : Lun) (past : List Item) (c : Scene) (moved : List Move) → is_there s l ≡ true → IsScene s l past c → MovesAllowed s.geometry l.lun moved c → MovesAreOwn s l moved past
 moves_own s l past c moved there is a =
     own_moves s l (Leading s l (scene_after s.geometry l.lun moved c)) (tracked s l (scene_after s.geometry l.lun moved c) there) moved past (record { now = c; is = is; allowed = a; leads = refl })
 
-pub moves_lead : (s : Channel) (l : Lun) (past : List Item) (c : Scene) (moved : List Move) (p : Played) → is_there s l ≡ true → IsScene s l past c → MovesAllowed s.geometry l.lun moved c → played s l.ce moved past ≡ Some p → IsScene s l p.past (scene_after s.geometry l.lun moved c)
-moves_lead s l past c moved p there is a plays =
-    let end = after_moves s l (Leading s l (scene_after s.geometry l.lun moved c)) (tracked s l (scene_after s.geometry l.lun moved c) there) moved past p (record { now = c; is = is; allowed = a; leads = refl }) plays in
+pub moves_lead : (s : Channel) (l : Lun) (past : List Item) (c : Scene) (moved : List Move) (bytes : List ℕ) (p : Played) → is_there s l ≡ true → IsScene s l past c → MovesAllowed s.geometry l.lun moved c → answered l.ce moved bytes past ≡ Some p → IsScene s l p.past (scene_after s.geometry l.lun moved c)
+moves_lead s l past c moved bytes p there is a plays =
+    let end = after_moves s l (Leading s l (scene_after s.geometry l.lun moved c)) (tracked s l (scene_after s.geometry l.lun moved c) there) moved bytes past p (record { now = c; is = is; allowed = a; leads = refl }) plays in
     subst (λ (x : Scene). IsScene s l p.past x) end.leads end.is

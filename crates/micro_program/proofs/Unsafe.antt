@@ -2,7 +2,7 @@
 use Rattle.std.proofs.Common.{◌≡◌, ℕ, ◌≤◌, true, false, List, [], ◌∷◌, Some, None, refl, sym, subst, arith}
 use Rattle.std.proofs.lemmas.List.{length-replicate}
 use Rattle.nand_geometry.specs.Limits.{width, InLimits}
-use Rattle.onfi_cycle.specs.declared.item.Kind.TheVariants.{Cmd, Adr}
+use Rattle.onfi_cycle.specs.declared.item.Kind.TheVariants.{Cmd, Adr, Dout}
 use Rattle.onfi_cycle.specs.declared.item.Item.{Item}
 use Rattle.onfi_cycle.specs.declared.forbidden.Forbidden.TheVariants.{CommandUnknown}
 use Rattle.onfi_cycle.specs.Command.{command}
@@ -14,10 +14,10 @@ use Rattle.micro_word.specs.declared.word.Word.TheVariants.{End, Command, Addres
 use Rattle.micro_word.specs.Text.{Microprogram}
 use Rattle.micro_program.specs.Lines.{Line, unrolling, unrolled}
 use Rattle.micro_program.specs.Moves.{Move, Give}
-use Rattle.micro_program.specs.Program.{Job, Done, Nothing}
+use Rattle.micro_program.specs.Program.{Job, Done, Nothing, Polled}
 use Rattle.micro_program.specs.Step.{Stride, Went}
 use Rattle.micro_program.specs.Safe.{Seat, Reaches, starts, steps, loaded, after_step, may_step, MovesAreOwn, IsFine}
-use Rattle.micro_program.specs.Unsafe.{one_lun, text, erase_then, IsUnsafe, SomeAreUnsafe}
+use Rattle.micro_program.specs.Unsafe.{one_lun, text, erase_then, IsUnsafe, SomeAreUnsafe, TruthIsNeeded}
 use Rattle.micro_program.proofs.Runs.{on, job, line}
 
 limits : InLimits one_lun
@@ -96,12 +96,12 @@ stride_d0 rest = record { past = cycle 0 Cmd 0xd0 ∷ after_row; ahead = (unroll
 at_row : (budget : ℕ) (rest : List Word) → Reaches (on one_lun) (job_of (text budget (erase_then rest))) (after_step (stride_row rest))
 unfolding unrolled width
 at_row budget rest =
-    steps (after_step (stride_60 rest)) (stride_row rest)
-    (steps (loaded (job_of (text budget (erase_then rest))) []) (stride_60 rest) (fresh (text budget (erase_then rest))) refl refl refl)
-    refl refl refl
+    steps (after_step (stride_60 rest)) [] (stride_row rest)
+    (steps (loaded (job_of (text budget (erase_then rest))) []) [] (stride_60 rest) (fresh (text budget (erase_then rest))) refl refl (λ h. cc) refl)
+    refl refl (λ h. cc) refl
 
 at_d0 : (budget : ℕ) (rest : List Word) → Reaches (on one_lun) (job_of (text budget (erase_then rest))) (after_step (stride_d0 rest))
-at_d0 budget rest = steps (after_step (stride_row rest)) (stride_d0 rest) (at_row budget rest) refl refl refl
+at_d0 budget rest = steps (after_step (stride_row rest)) [] (stride_d0 rest) (at_row budget rest) refl refl (λ h. cc) refl
 
 -- an erase whose budget is one short
 budget_one_short_is_unsafe : IsUnsafe 4 (erase_then (Wait ∷ (End 0 ∷ [])))
@@ -134,7 +134,7 @@ yield_in_a_sequence_is_unsafe : IsUnsafe 1 (Command 0x60 ∷ (Yield ∷ (End 0 �
 unfolding unrolled command
 yield_in_a_sequence_is_unsafe =
     refused 1 (Command 0x60 ∷ (Yield ∷ (End 0 ∷ []))) (after_step stride_lone)
-    (steps (loaded (job_of (text 1 (Command 0x60 ∷ (Yield ∷ (End 0 ∷ []))))) []) stride_lone (fresh (text 1 (Command 0x60 ∷ (Yield ∷ (End 0 ∷ []))))) refl refl refl) refl
+    (steps (loaded (job_of (text 1 (Command 0x60 ∷ (Yield ∷ (End 0 ∷ []))))) []) [] stride_lone (fresh (text 1 (Command 0x60 ∷ (Yield ∷ (End 0 ∷ []))))) refl refl (λ h. cc) refl) refl
     (λ f. let open_there : true ≡ false = f.closed refl in cc)
 
 pub some_are_unsafe : SomeAreUnsafe
@@ -146,4 +146,27 @@ some_are_unsafe =
       yield_in_a_sequence = yield_in_a_sequence_is_unsafe;
       budget_one_short = budget_one_short_is_unsafe;
       end_while_busy = end_while_busy_is_unsafe;
+    }
+
+-- an erase whose `wait` is told ready while its LUN is busy
+abbrev after_lie : List Item
+after_lie = cycle 0 Dout 0xe0 ∷ (cycle 0 Cmd 0x70 ∷ (cycle 0 Cmd 0xd0 ∷ after_row))
+
+abbrev stride_lie : Stride
+stride_lie = record { past = after_lie; ahead = line 4 (End 0) ∷ []; done = record { word = Wait; answer = Polled 0xe0 } ∷ done_d0; code = None; outcome = Went }
+
+pub truth_is_needed : TruthIsNeeded
+unfolding command width effect_on
+truth_is_needed =
+    record {
+      s = on one_lun;
+      j = job_of (text 5 (erase_then (Wait ∷ (End 0 ∷ []))));
+      of = record { is_channel = is_channel; of_channel = refl; of_geometry = refl; of_text = refl; there = refl; made = record { rows = omega arith; buffer = refl; cache = λ h. refl } };
+      seat = after_step (stride_d0 (Wait ∷ (End 0 ∷ [])));
+      reach = at_d0 5 (Wait ∷ (End 0 ∷ []));
+      may = refl;
+      r = stride_lie;
+      is_r = refl;
+      goes_on = refl;
+      unfit = λ f. let busy : true ≡ false = (f.idle refl).ready in cc;
     }

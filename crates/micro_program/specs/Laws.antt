@@ -1,5 +1,5 @@
 -- Laws of steps, for the crates above.
-use Rattle.std.specs.Prelude.{◌≡◌, ◌≢◌, ℕ, ◌≤◌, true, false, List, ◌∷◌, Some}
+use Rattle.std.specs.Prelude.{◌≡◌, ◌≢◌, ℕ, ◌≤◌, true, false, List, ◌∷◌, Option, Some, length}
 use Rattle.onfi_cycle.specs.declared.lun.Lun.{Lun}
 use Rattle.onfi_cycle.specs.declared.item.Item.{Item}
 use Rattle.onfi_cycle.specs.Lun.{is_busy}
@@ -7,14 +7,15 @@ use Rattle.onfi_cycle.specs.Permitted.{is_legal}
 use Rattle.onfi_cycle.specs.Channel.{Channel, IsChannel, IsIdle, same_lun, is_there, is_open_on}
 use Rattle.micro_program.specs.Lines.{Line}
 use Rattle.micro_program.specs.Program.{Job, Done, all_fit, cost_now}
-use Rattle.micro_program.specs.Step.{Stride, NotReady, keeps_bus, next_step}
-use Rattle.micro_program.specs.Safe.{Reaches, WordIsFine, AddsOwn}
+use Rattle.micro_program.specs.Moves.{outputs}
+use Rattle.micro_program.specs.Step.{Stride, NotReady, keeps_bus, answered_step, next_step}
+use Rattle.micro_program.specs.Safe.{Reaches, WordIsFine, AddsOwn, AreTruthful}
 
 -- a step is defined, what it adds to the trace is its LUN's own, and the program stays inside buffer and budget; where it
 -- ends its LUN is idle and it doesn't keep the bus, and where it lets the bus go nothing is open on its target
-pub record StepGoesWell (s : Channel) (j : Job) (past : List Item) (line : Line) (rest : List Line) (done : List Done) : Type 0 where
+pub record StepGoesWell (s : Channel) (j : Job) (past : List Item) (done : List Done) (step : Option Stride) : Type 0 where
   pub r : Stride
-  pub is_r : next_step s j past (line ∷ rest) done ≡ Some r
+  pub is_r : step ≡ Some r
   pub adds : AddsOwn s j.lun past r.past
   pub inside : all_fit j.text.buffer done ≡ true → all_fit j.text.buffer r.done ≡ true
   pub budget : cost_now s.geometry done ≤ j.text.budget → cost_now s.geometry r.done ≤ j.text.budget
@@ -22,11 +23,29 @@ pub record StepGoesWell (s : Channel) (j : Job) (past : List Item) (line : Line)
   pub no_bus : (code : ℕ) → r.code ≡ Some code → keeps_bus r.outcome ≡ false
   pub closed : keeps_bus r.outcome ≡ false → is_open_on r.past j.lun.ce ≡ false
 
--- the law: a step of a fine word goes well
+-- the law: a step of a fine word goes well, whatever bytes its outputs give
+abbrev pub AnsweredStepsGoWell : Type 0
+AnsweredStepsGoWell =
+    (s : Channel) (j : Job) (past : List Item) (line : Line) (rest : List Line) (done : List Done) (fine : WordIsFine s j past done line.word) (bytes : List ℕ)
+    → length bytes ≡ outputs fine.moved → StepGoesWell s j past done (answered_step s.geometry j bytes past (line ∷ rest) done)
+
+-- the law: a step of a fine word goes well on a model
 abbrev pub FineStepsGoWell : Type 0
 FineStepsGoWell =
     (s : Channel) → IsChannel s → (j : Job) (past : List Item) (line : Line) (rest : List Line) (done : List Done) → WordIsFine s j past done line.word
-    → StepGoesWell s j past line rest done
+    → StepGoesWell s j past done (next_step s j past (line ∷ rest) done)
+
+-- a step with these bytes, which are truthful
+pub record TruthfulStep (s : Channel) (j : Job) (past : List Item) (ahead : List Line) (done : List Done) (r : Stride) : Type 0 where
+  pub bytes : List ℕ
+  pub is_step : answered_step s.geometry j bytes past ahead done ≡ Some r
+  pub truthful : AreTruthful s.geometry j.lun past ahead bytes
+
+-- the law: the bytes that a model gives in a step of a fine word are truthful
+abbrev pub ModelsAreTruthful : Type 0
+ModelsAreTruthful =
+    (s : Channel) → IsChannel s → (j : Job) (past : List Item) (line : Line) (rest : List Line) (done : List Done) (r : Stride) → is_there s j.lun ≡ true → WordIsFine s j past done line.word
+    → next_step s j past (line ∷ rest) done ≡ Some r → TruthfulStep s j past (line ∷ rest) done r
 
 -- what a LUN's own cycles leave: a legal trace, the seats of jobs on other LUNs that don't have the bus, other LUNs idle that
 -- were idle, and other targets open or not as they were

@@ -15,6 +15,12 @@ pub data Move : Type 0 where
   Give : (kind : Kind) (byte : ℕ) → Move
   Take : Move
 
+-- how many bytes some moves take
+abbrev pub outputs : List Move → ℕ
+outputs [] = 0
+outputs (Give kind byte ∷ rest) = outputs rest
+outputs (Take ∷ rest) = outputs rest + 1
+
 -- where there is a value, go on with it
 abbrev pub and_then : {A B : Type 0} → Option A → (A → Option B) → Option B
 and_then None f = None

@@ -1,5 +1,5 @@
 -- What a verifier promises of a text, and all that whoever runs it may rest on: a program alone, whatever else the channel does.
-use Rattle.std.specs.Prelude.{◌≡◌, ℕ, ◌+◌, ◌%◌, ◌≤◌, Bool, true, false, ◌||◌, not, List, [], ◌∷◌, Some, None, length}
+use Rattle.std.specs.Prelude.{◌≡◌, ℕ, ◌+◌, ◌%◌, ◌≤◌, Bool, true, false, ◌||◌, ◌&&◌, not, List, [], ◌∷◌, Some, None, length}
 use Rattle.nand_geometry.specs.declared.parts.Parts.{Parts}
 use Rattle.nand_geometry.specs.Limits.{indices}
 use Rattle.onfi_cycle.specs.declared.lun.Lun.{Lun}
@@ -7,15 +7,16 @@ use Rattle.onfi_cycle.specs.declared.item.Cycle.{Cycle}
 use Rattle.onfi_cycle.specs.declared.item.Kind.TheVariants.{Dout}
 use Rattle.onfi_cycle.specs.declared.item.Item.{Item}
 use Rattle.onfi_cycle.specs.declared.item.Item.TheVariants.{Cyc}
+use Rattle.onfi_cycle.specs.Lun.{is_busy}
 use Rattle.onfi_cycle.specs.Permitted.{broken, is_legal}
-use Rattle.onfi_cycle.specs.Channel.{Channel, IsChannel, IsIdle, IsOwn, same_lun, is_there, is_cycle, cycle, is_open_on, bus_byte}
+use Rattle.onfi_cycle.specs.Channel.{Channel, IsChannel, IsIdle, IsOwn, same_lun, is_there, is_cycle, cycle, is_open_on}
 use Rattle.micro_word.specs.declared.word.Word.{Word}
 use Rattle.micro_word.specs.declared.word.Word.TheVariants.{End, Wait, Yield}
 use Rattle.micro_word.specs.Text.{Microprogram}
 use Rattle.micro_program.specs.Lines.{Line, unrolled, continues_cache_read}
-use Rattle.micro_program.specs.Program.{Job, Done, place_now, fits, cost, cost_now}
-use Rattle.micro_program.specs.Moves.{Move, Give, Take, moves}
-use Rattle.micro_program.specs.Step.{Stride, keeps_bus, next_step}
+use Rattle.micro_program.specs.Program.{Job, Done, is_ready_status, place_now, fits, cost, cost_now}
+use Rattle.micro_program.specs.Moves.{Move, Give, Take, moves, is_wait}
+use Rattle.micro_program.specs.Step.{Stride, keeps_bus, first_byte, answered_step}
 
 -- a program in the midst of its work: the trace of the channel, its lines to come, its words done, and whether it has the bus
 pub record Seat : Type 0 where
@@ -40,16 +41,26 @@ after_item i seat = record { past = i ∷ seat.past; ahead = seat.ahead; done = 
 abbrev pub may_step : Job → Seat → Bool
 may_step j seat = seat.holding || not (is_open_on seat.past j.lun.ce)
 
+-- the next word is a `wait`, and these bytes say ready
+abbrev pub ends_wait : List Line → List ℕ → Bool
+ends_wait [] bytes = false
+ends_wait (line ∷ rest) bytes = is_wait line.word && is_ready_status (first_byte bytes)
+
+-- these bytes are truthful: they end a `wait` only where its LUN is ready
+abbrev pub AreTruthful : Parts → Lun → List Item → List Line → List ℕ → Type 0
+AreTruthful g l past ahead bytes = ends_wait ahead bytes ≡ true → is_busy g past l ≡ false
+
 -- what a program may come to
 pub data Reaches (s : Channel) (j : Job) : Seat → Type 0 where
   -- it is loaded, after any legal trace that leaves its LUN idle
   starts :
       (past : List Item) → is_legal s.geometry s.targets past ≡ true → IsIdle s.geometry past j.lun
       → Reaches s j (loaded j past)
-  -- it makes a step that doesn't end it
+  -- it makes a step that doesn't end it, whatever its outputs give, if that is truthful
   steps :
-      (seat : Seat) (r : Stride) → Reaches s j seat → may_step j seat ≡ true
-      → next_step s j seat.past seat.ahead seat.done ≡ Some r → r.code ≡ None
+      (seat : Seat) (bytes : List ℕ) (r : Stride) → Reaches s j seat → may_step j seat ≡ true
+      → answered_step s.geometry j bytes seat.past seat.ahead seat.done ≡ Some r
+      → AreTruthful s.geometry j.lun seat.past seat.ahead bytes → r.code ≡ None
       → Reaches s j (after_step r)
   -- some LUN, or its array, becomes ready
   readies :
@@ -61,13 +72,12 @@ pub data Reaches (s : Channel) (j : Job) : Seat → Type 0 where
       → IsOwn s m seat.past (Cyc c) → is_there s m ≡ true → same_lun m j.lun ≡ false
       → Reaches s j (after_item (Cyc c) seat)
 
--- each cycle of some moves is permitted where it comes and is one of this LUN, whatever byte an output gives; what comes
--- after an output may rest on its being the byte shown
+-- each cycle of some moves is permitted where it comes and is one of this LUN, whatever bytes the outputs give
 abbrev pub MovesAreOwn : Channel → Lun → List Move → List Item → Type 0
 MovesAreOwn s l [] past = Unit {0}
 MovesAreOwn s l (Give kind byte ∷ rest) past = IsOwn s l past (cycle l.ce kind byte) × MovesAreOwn s l rest (cycle l.ce kind byte ∷ past)
 MovesAreOwn s l (Take ∷ rest) past =
-    (byte : ℕ) → IsOwn s l past (cycle l.ce Dout byte) × (bus_byte s past l.ce ≡ Some byte → MovesAreOwn s l rest (cycle l.ce Dout byte ∷ past))
+    (byte : ℕ) → IsOwn s l past (cycle l.ce Dout byte) × MovesAreOwn s l rest (cycle l.ce Dout byte ∷ past)
 
 -- the words at which a program may let the bus go
 abbrev pub lets_go : Word → Bool

@@ -1,5 +1,6 @@
 -- One step of a program: its next word.
 use Rattle.std.specs.Prelude.{ℕ, Bool, true, false, if◌then◌else◌, List, [], ◌∷◌, Option, Some, None}
+use Rattle.nand_geometry.specs.declared.parts.Parts.{Parts}
 use Rattle.onfi_cycle.specs.declared.item.Item.{Item}
 use Rattle.onfi_cycle.specs.Channel.{Channel}
 use Rattle.micro_word.specs.declared.word.Word.{Word}
@@ -7,7 +8,7 @@ use Rattle.micro_word.specs.declared.word.Word.TheVariants.{End, Get, Wait, Yiel
 use Rattle.micro_program.specs.Lines.{Line, from_place}
 use Rattle.micro_program.specs.Program.{Job, Done, Answer, Nothing, Polled, Got, status_now, is_ready_status, meets}
 use Rattle.micro_program.specs.Moves.{moves, and_then}
-use Rattle.micro_program.specs.Played.{Played, played}
+use Rattle.micro_program.specs.Played.{Played, answered, played}
 
 -- how a step went: the program ended, it let the bus go, its LUN wasn't ready yet, or it goes on
 pub data Outcome : Type 0 where
@@ -59,7 +60,13 @@ stride line rest done p (BranchOnStatus mask target) =
 stride line rest done p (Jump target) = did p line.word Nothing (from_place target rest) done Went
 stride line rest done p _ = did p line.word Nothing rest done Went
 
--- a step of the next word after a past, where its moves are there and each output has a byte
+-- a step of the next word after a past, whose outputs give these bytes
+abbrev pub answered_step : Parts → Job → List ℕ → List Item → List Line → List Done → Option Stride
+answered_step g j bytes past [] done = None
+answered_step g j bytes past (line ∷ rest) done =
+    and_then (moves g j done line.word) (λ moved. and_then (answered j.lun.ce moved bytes past) (λ p. Some (stride line rest done p line.word)))
+
+-- the same on a model, where its moves are there and each output has a byte
 abbrev pub next_step : Channel → Job → List Item → List Line → List Done → Option Stride
 next_step s j past [] done = None
 next_step s j past (line ∷ rest) done =

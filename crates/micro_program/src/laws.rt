@@ -2,7 +2,7 @@
 
 ghost use Rattle.micro_program.specs.Moves.{CostsCountMoves, BufferKeepsLength};
 ghost use Rattle.micro_program.specs.Actions.{WalkGivesActs};
-ghost use Rattle.micro_program.specs.Laws.{FineStepsGoWell, OwnCyclesPassOthers};
+ghost use Rattle.micro_program.specs.Laws.{AnsweredStepsGoWell, FineStepsGoWell, ModelsAreTruthful, OwnCyclesPassOthers};
 
 /// The cost of a word of a text, but `wait`, is the number of its cycles.
 pub fn costs_count_moves()
@@ -20,10 +20,20 @@ pub fn walk_gives_acts()
     ensures { WalkGivesActs }
 {}
 
-/// A step of a fine word is defined, adds to the trace what is its LUN's own, and keeps the program inside its buffer
-/// and budget. Where it ends the program its LUN is idle, and where it lets the bus go nothing is open.
+/// A step of a fine word adds to the trace what is its LUN's own, whatever bytes its outputs give, and keeps the program inside its
+/// buffer and budget. Where it ends the program its LUN is idle, and where it lets the bus go nothing is open.
+pub fn answered_steps_go_well()
+    ensures { AnsweredStepsGoWell }
+{}
+
+/// The same of a step on a model, where each output has a byte.
 pub fn fine_steps_go_well()
     ensures { FineStepsGoWell }
+{}
+
+/// What a model gives in a step of a fine word is truthful: so whatever holds of all truthful bytes holds on models.
+pub fn models_are_truthful()
+    ensures { ModelsAreTruthful }
 {}
 
 /// What a step adds to a legal trace leaves it legal, and passes the others by: a job on another LUN stays at a seat that it
@@ -59,4 +69,12 @@ ghost use Rattle.micro_program.specs.Unsafe.{SomeAreUnsafe};
 /// one short, an `end` while the LUN is busy.
 pub fn some_are_unsafe()
     ensures { SomeAreUnsafe }
+{}
+
+ghost use Rattle.micro_program.specs.Unsafe.{TruthIsNeeded};
+
+/// Truth is needed: an erase that waits, which is safe, comes to an `end` that isn't fine where its `wait` is told ready while its LUN
+/// is busy.
+pub fn truth_is_needed()
+    ensures { TruthIsNeeded }
 {}

@@ -25,6 +25,7 @@ use Rattle.seq_core.specs.After.{After, after, after_stride, after_slot_step, is
 use Rattle.seq_core.specs.Lawful.{LawfulSlot, LawfulWorld, has_bus}
 use Rattle.seq_core.specs.Headline.{EventGoesWell}
 use Rattle.seq_core.specs.Alone.{alone_on, alone_behind, HasEndedAlone, AloneProgramsEnd}
+use Rattle.seq_core.specs.Live.{ReadiesMakeTruth}
 use Rattle.seq_core.proofs.Below.{step_parts, unready_busy, readies_leave, view_at, there_lun}
 use Rattle.seq_core.proofs.Slots.{there_ce, same_lun_self, there_of_slot, slot_same}
 use Rattle.seq_core.proofs.Main.{events_go_well}
@@ -69,13 +70,13 @@ stride_leaves line rest done p _ = (refl, omega arith)
 
 -- 2. a busy LUN becomes ready
 
-busy_is_permitted : (s : Channel) (past : List Item) (l : Lun) → is_there s l ≡ true → is_busy s.geometry past l ≡ true → is_permitted s.geometry s.targets past (Rdy l.ce l.lun false) ≡ true
+pub busy_is_permitted : (s : Channel) (past : List Item) (l : Lun) (fail : Bool) → is_there s l ≡ true → is_busy s.geometry past l ≡ true → is_permitted s.geometry s.targets past (Rdy l.ce l.lun fail) ≡ true
 unfolding breaks_not_there
-busy_is_permitted s past l there busy =
+busy_is_permitted s past l fail there busy =
     let target : leb s.targets l.ce ≡ false = let b = there_ce s l there in grind (arith, nat_tests) in
     rw (target, view_at s.geometry past l (there_lun s l there), busy) refl
 
-ready_at : (g : Parts) (past : List Item) (l : Lun) (fail : Bool) → is_busy g (Rdy l.ce l.lun fail ∷ past) l ≡ false
+pub ready_at : (g : Parts) (past : List Item) (l : Lun) (fail : Bool) → is_busy g (Rdy l.ce l.lun fail ∷ past) l ≡ false
 ready_at g past l fail = ap (λ (v : LunView). v.busy) (readies_leave.own g past l fail)
 
 -- 3. turns
@@ -196,7 +197,7 @@ ends s is (suc turns) w l x may few = at t.r.outcome refl t.leaves (ends s is tu
     at WasNotReady e h again =
         let busy = t.unready e in
         let i : Item = Rdy l.ce l.lun false in
-        let permitted = busy_is_permitted s w1.past l (there_of_slot s w l x may.is) busy.1 in
+        let permitted = busy_is_permitted s w1.past l false (there_of_slot s w l x may.is) busy.1 in
         let w2 : World = record { past = i ∷ w1.past; slots = w1.slots; holder = w1.holder } in
         let k = events_go_well s w1 (Ready l false) is t.lawful tt in
         let came : after s w1 (Ready l false) ≡ Some (record { world = w2; reply = ToReady true }) = rw permitted refl in
@@ -213,3 +214,7 @@ pub alone_programs_end : AloneProgramsEnd
 alone_programs_end s is w l x turns law slot running free few =
     let low : weight s w.past l x.ahead ≤ turns = omega (arith, few, light (is_busy s.geometry w.past l)) in
     ends s is turns w l x (record { lawful = law; is = slot; running = running; free = free }) low
+
+-- a ready makes an answer truthful that says so of a busy LUN
+pub readies_make_truth : ReadiesMakeTruth
+readies_make_truth s past l fail there busy = (busy_is_permitted s past l fail there busy, ready_at s.geometry past l fail)

@@ -3,9 +3,9 @@ use Rattle.onfi_cycle.specs.Steps.{FactsGoOn, ReadiesChange}
 use Rattle.onfi_cycle.proofs.Keeping.{facts_go_on, readies_change}
 pub use Rattle.onfi_cycle.proofs.Keeping.{view_at}
 pub use Rattle.onfi_cycle.proofs.Following.{refilled}
-use Rattle.micro_program.specs.Laws.{FineStepsGoWell, OwnCyclesPassOthers, UnreadyIsBusy}
-use Rattle.micro_program.proofs.Waiting.{unready_is_busy}
-use Rattle.micro_program.proofs.Strides.{fine_step}
+use Rattle.micro_program.specs.Laws.{AnsweredStepsGoWell, FineStepsGoWell, ModelsAreTruthful, OwnCyclesPassOthers, UnreadyIsBusy}
+use Rattle.micro_program.proofs.Waiting.{unready_is_busy, models_are_truthful}
+use Rattle.micro_program.proofs.Strides.{fine_step, answered_goes_well}
 use Rattle.micro_program.proofs.Passing.{own_cycles_pass_others}
 use Rattle.micro_program.specs.Actions.{WalkGivesActs}
 use Rattle.micro_program.proofs.Acts.{walk_gives_acts}
@@ -13,7 +13,8 @@ use Rattle.micro_walk.specs.Erase.{EraseIsSafe}
 use Rattle.micro_walk.proofs.Erase.{erase_is_safe}
 use Rattle.micro_program.specs.Moves.{BufferKeepsLength, CostsCountMoves}
 use Rattle.micro_program.proofs.Costs.{buffer_len, cost_is}
-pub use Rattle.micro_program.proofs.Tracking.{StepParts, step_parts}
+pub use Rattle.micro_program.proofs.Tracking.{StepParts, step_parts, AnsweredParts, answered_parts}
+pub use Rattle.micro_program.proofs.Strides.{model_step}
 pub use Rattle.micro_program.proofs.Basics.{eqb_self, there_lun}
 
 pub facts : FactsGoOn
@@ -24,6 +25,12 @@ readies_leave = readies_change
 
 pub fine_steps : FineStepsGoWell
 fine_steps = fine_step
+
+pub models_truthful : ModelsAreTruthful
+models_truthful = models_are_truthful
+
+pub answered_steps : AnsweredStepsGoWell
+answered_steps = answered_goes_well
 
 pub own_cycles_pass : OwnCyclesPassOthers
 own_cycles_pass = own_cycles_pass_others

@@ -1,5 +1,5 @@
 -- A step changes nothing of the buffer but what its `get` fills, and takes as many bytes as its word asks for.
-use Rattle.std.proofs.Common.{◌≡◌, ◌≢◌, ℕ, zero, suc, ◌+◌, ◌<◌, ◌≤◌, ◌⊎◌, inl, inr, Bool, true, false, ◌&&◌, ◌||◌, cond, leb, ltb, List, [], ◌∷◌, ◌++◌, Option, Some, None, refl, sym, ap, ◌∙◌, subst, arith, length, replicate, get_or, get_or-set_other}
+use Rattle.std.proofs.Common.{◌≡◌, ◌≢◌, ℕ, zero, suc, ◌+◌, ◌<◌, ◌≤◌, ◌⊎◌, inl, inr, Bool, true, false, ◌&&◌, cond, leb, ltb, List, [], ◌∷◌, ◌++◌, Option, Some, None, refl, sym, ap, ◌∙◌, subst, arith, length, replicate, get_or, get_or-set_other}
 use Rattle.std.proofs.lemmas.Bool.Decides.{nat_tests}
 use Rattle.std.specs.List.{slice_set}
 use Rattle.nand_geometry.specs.declared.parts.Parts.{Parts}
@@ -13,11 +13,11 @@ use Rattle.micro_word.specs.declared.word.Word.TheVariants.{End, Command, Addres
 use Rattle.micro_program.specs.Lines.{Line}
 use Rattle.micro_program.specs.Program.{Job, Done, Answer, Nothing, Polled, Got, written, buffer_after, buffer_now, place_now, is_ready_status}
 use Rattle.micro_program.specs.Moves.{Move, Give, Take, and_then, moves, gives, poll, address, put_bytes}
-use Rattle.micro_program.specs.Played.{Played, played}
-use Rattle.micro_program.specs.Step.{Stride, Went, NotReady, did, Outcome, first_byte, stride, next_step}
+use Rattle.micro_program.specs.Played.{Played, answered, played, with_byte}
+use Rattle.micro_program.specs.Step.{Stride, Went, NotReady, did, Outcome, first_byte, stride, answered_step}
 use Rattle.seq_core.specs.Buffer.{fills, is_filled, KeepsOthers}
 use Rattle.seq_core.specs.Made.{cycles_of, takes, bytes_told}
-use Rattle.seq_core.proofs.Below.{keeps_length, step_parts}
+use Rattle.seq_core.proofs.Below.{keeps_length, answered_parts}
 use Rattle.seq_core.proofs.Plays.{took}
 use Rattle.nand_geometry.proofs.Booleans.{or_parts as neither}
 
@@ -128,6 +128,27 @@ plays_cycles s ce (Take ∷ moved) past later bytes e =
       count = sym (ap length t.bytes_are) ∙ ap suc r.count;
     }
 
+-- the same of moves whose outputs give these bytes
+pub answered_cycles : (ce : ℕ) (moved : List Move) (answers : List ℕ) (past : List Item) (p : Played) → answered ce moved answers past ≡ Some p → PlaysCycles ce moved past p.past p.bytes
+answered_cycles ce [] [] past p e =
+    let both : Some (let q : Played = record { past = past; bytes = [] } in q) ≡ Some p = e in
+    let same : record { past = past; bytes = [] } ≡ p = cc in
+    subst (λ (q : Played). PlaysCycles ce [] past q.past q.bytes) same (record { past_is = refl; count = refl })
+answered_cycles ce [] (byte ∷ answers) past p e = cc
+answered_cycles ce (Give kind byte ∷ moved) answers past p e =
+    let r = answered_cycles ce moved answers (cycle ce kind byte ∷ past) p e in
+    record { past_is = r.past_is; count = r.count }
+answered_cycles ce (Take ∷ moved) [] past p e = cc
+answered_cycles ce (Take ∷ moved) (byte ∷ answers) past p e = at (answered ce moved answers (cycle ce Dout byte ∷ past)) refl e (λ q f. answered_cycles ce moved answers (cycle ce Dout byte ∷ past) q f)
+  where
+    at : (o : Option Played) → answered ce moved answers (cycle ce Dout byte ∷ past) ≡ o → and_then o (with_byte byte) ≡ Some p → ((q : Played) → answered ce moved answers (cycle ce Dout byte ∷ past) ≡ Some q → PlaysCycles ce moved (cycle ce Dout byte ∷ past) q.past q.bytes) → PlaysCycles ce (Take ∷ moved) past p.past p.bytes
+    at None f h again = cc
+    at (Some q) f h again =
+        let both : Some (let x : Played = record { past = q.past; bytes = byte ∷ q.bytes } in x) ≡ Some p = h in
+        let same : record { past = q.past; bytes = byte ∷ q.bytes } ≡ p = cc in
+        let r = again q f in
+        subst (λ (x : Played). PlaysCycles ce (Take ∷ moved) past x.past x.bytes) same (record { past_is = r.past_is; count = ap suc r.count })
+
 -- 3. what a stride leaves of the words done: one more, or a `wait` that comes again
 
 pub record IsOneMore (line : Line) (done : List Done) (p : Played) (r : Stride) : Type 0 where
@@ -204,10 +225,10 @@ stride_past line rest done p Wait = at (is_ready_status (first_byte p.bytes))
     at false = refl
 stride_past line rest done p _ = refl
 
-pub step_leaves : (s : Channel) (j : Job) (past : List Item) (line : Line) (rest : List Line) (done : List Done) (r : Stride) → next_step s j past (line ∷ rest) done ≡ Some r → StepLeaves s j past line rest done r
-step_leaves s j past line rest done r e =
-    let parts = step_parts s j past line rest done r e in
-    let plays = plays_cycles s j.lun.ce parts.moved past parts.p.past parts.p.bytes parts.is_p in
+pub step_leaves : (s : Channel) (j : Job) (bytes : List ℕ) (past : List Item) (line : Line) (rest : List Line) (done : List Done) (r : Stride) → answered_step s.geometry j bytes past (line ∷ rest) done ≡ Some r → StepLeaves s j past line rest done r
+step_leaves s j bytes past line rest done r e =
+    let parts = answered_parts s.geometry j bytes past line rest done r e in
+    let plays = answered_cycles j.lun.ce parts.moved bytes past parts.p parts.is_p in
     record {
       moved = parts.moved;
       is_moved = parts.is_moved;
@@ -219,8 +240,8 @@ step_leaves s j past line rest done r e =
           (stride_leaves line rest done parts.p line.word refl (plays.count ∙ moves_take s.geometry j done line.word parts.moved parts.is_moved));
     }
 
-pub step_keeps : (s : Channel) (j : Job) (past : List Item) (line : Line) (rest : List Line) (done : List Done) (r : Stride) → next_step s j past (line ∷ rest) done ≡ Some r → KeepsOthers done j.buffer (buffer_now j.buffer done) → KeepsOthers r.done j.buffer (buffer_now j.buffer r.done)
-step_keeps s j past line rest done r e kept = let left = step_leaves s j past line rest done r e in at left.p left.leaves
+pub step_keeps : (s : Channel) (j : Job) (bytes : List ℕ) (past : List Item) (line : Line) (rest : List Line) (done : List Done) (r : Stride) → answered_step s.geometry j bytes past (line ∷ rest) done ≡ Some r → KeepsOthers done j.buffer (buffer_now j.buffer done) → KeepsOthers r.done j.buffer (buffer_now j.buffer r.done)
+step_keeps s j bytes past line rest done r e kept = let left = step_leaves s j bytes past line rest done r e in at left.p left.leaves
   where
     of : (now : List Done) → r.done ≡ now → KeepsOthers now j.buffer (buffer_now j.buffer now) → KeepsOthers r.done j.buffer (buffer_now j.buffer r.done)
     of now is h = subst (λ (x : List Done). KeepsOthers x j.buffer (buffer_now j.buffer x)) (sym is) h

@@ -9,17 +9,18 @@ use Rattle.onfi_cycle.specs.Permitted.{broken, is_permitted}
 use Rattle.onfi_cycle.specs.Channel.{Channel, IsChannel, is_there, is_open_on, same_lun, is_cycle}
 use Rattle.micro_program.specs.Lines.{Line}
 use Rattle.micro_program.specs.Program.{Job, Done}
-use Rattle.micro_program.specs.Moves.{and_then}
-use Rattle.micro_program.specs.Step.{Stride, keeps_bus, next_step}
-use Rattle.micro_program.specs.Safe.{Seat, Reaches, steps, readies, StaysFine, IsMade, LineIsFine, AddsOwn}
-use Rattle.micro_program.specs.Laws.{StepGoesWell, PassesOthers}
+use Rattle.micro_program.specs.Moves.{and_then, outputs}
+use Rattle.micro_program.specs.Step.{Stride, keeps_bus, answered_step, next_step}
+use Rattle.micro_program.specs.Safe.{Seat, Reaches, steps, readies, StaysFine, IsMade, LineIsFine, AddsOwn, AreTruthful}
+use Rattle.micro_program.specs.Laws.{StepGoesWell, TruthfulStep, PassesOthers}
 use Rattle.seq_core.specs.declared.stepped.Stepped.{Stepped}
 use Rattle.seq_core.specs.declared.stepped.Stepped.TheVariants.{Empty, Held, Ended}
 use Rattle.seq_core.specs.World.{Slot, World, slot_of}
 use Rattle.seq_core.specs.Reply.{Reply, ToStep}
 use Rattle.seq_core.specs.After.{After, is_held, stands, after_stride, after_slot_step, after_step, after_item}
 use Rattle.seq_core.specs.Lawful.{IsWithin, DoesItsText, HasSeat, LawfulSlot, LawfulAt, has_bus, has_bus_on, LawfulWorld}
-use Rattle.seq_core.proofs.Below.{facts, readies_leave, fine_steps, own_cycles_pass, walk_gives}
+use Rattle.seq_core.specs.Live.{NextTakes, LiveStepsGoWell}
+use Rattle.seq_core.proofs.Below.{facts, readies_leave, fine_steps, answered_steps, models_truthful, own_cycles_pass, walk_gives}
 use Rattle.seq_core.proofs.Buffers.{step_keeps}
 use Rattle.seq_core.proofs.Texts.{ended_text}
 use Rattle.seq_core.proofs.Slots.{same_lun_is, same_lun_self, slot_same, slot_other, there_of_slot}
@@ -84,15 +85,15 @@ other_target n m h e = clash (eq-eqb n m e) h
     clash a b = cc
 
 -- a step of a job that goes on: it is defined, its own, and keeps the world lawful
-record Strides (s : Channel) (w : World) (j : Job) (ahead : List Line) (done : List Done) : Type 0 where
+pub record Strides (s : Channel) (w : World) (j : Job) (step : Option Stride) : Type 0 where
   pub r : Stride
-  pub is_r : next_step s j w.past ahead done ≡ Some r
+  pub is_r : step ≡ Some r
   pub own : AddsOwn s j.lun w.past r.past
   pub lawful : LawfulWorld s (after_stride s w j.lun j r).world
 
-strides : (s : Channel) → IsChannel s → (w : World) → LawfulWorld s w → (j : Job) (ahead : List Line) (done : List Done) → is_there s j.lun ≡ true → is_held w.holder j.lun ≡ false → IsMade j → StaysFine s j → IsWithin s (record { job = j; ahead = ahead; done = done; code = None }) → Reaches s j (record { past = w.past; ahead = ahead; done = done; holding = has_bus w.holder j.lun }) → LineIsFine s j w.past done ahead → Strides s w j ahead done
-strides s is w law j [] done there free made safe within reach fine = absurd fine
-strides s is w law j (line ∷ rest) done there free made safe within reach fine =
+-- a step that goes well, on a model or on a real bus, if its bytes are truthful
+pub well_stepped : (s : Channel) (w : World) → LawfulWorld s w → (j : Job) (line : Line) (rest : List Line) (done : List Done) → is_there s j.lun ≡ true → is_held w.holder j.lun ≡ false → IsMade j → StaysFine s j → IsWithin s (record { job = j; ahead = line ∷ rest; done = done; code = None }) → Reaches s j (record { past = w.past; ahead = line ∷ rest; done = done; holding = has_bus w.holder j.lun }) → (step : Option Stride) (f : StepGoesWell s j w.past done step) → TruthfulStep s j w.past (line ∷ rest) done f.r → Strides s w j step
+well_stepped s w law j line rest done there free made safe within reach step f answered =
     record {
       r = f.r;
       is_r = f.is_r;
@@ -106,9 +107,6 @@ strides s is w law j (line ∷ rest) done there free made safe within reach fine
       };
     }
   where
-    f : StepGoesWell s j w.past line rest done
-    f = fine_steps s is j w.past line rest done fine
-
     passes : PassesOthers s j.lun w.past f.r.past
     passes = own_cycles_pass s j.lun w.past f.r.past there law.legal f.adds
 
@@ -119,17 +117,17 @@ strides s is w law j (line ∷ rest) done there free made safe within reach fine
     x = record { job = j; ahead = f.r.ahead; done = f.r.done; code = f.r.code }
 
     here : (code : Option ℕ) → f.r.code ≡ code → HasSeat s f.r.past (keeps_bus f.r.outcome) x code
-    here None e = steps (record { past = w.past; ahead = line ∷ rest; done = done; holding = has_bus w.holder j.lun }) f.r reach (may_step_now s w j.lun w.holder free law.closed) f.is_r e
+    here None e = steps (record { past = w.past; ahead = line ∷ rest; done = done; holding = has_bus w.holder j.lun }) answered.bytes f.r reach (may_step_now s w j.lun w.holder free law.closed) answered.is_step answered.truthful e
     here (Some code) e = (f.idle code e, f.no_bus code e)
 
     text : (code : Option ℕ) → f.r.code ≡ code → DoesItsText s x code
     text None e = walk_gives s j (record { past = f.r.past; ahead = f.r.ahead; done = f.r.done; holding = keeps_bus f.r.outcome }) (here None e)
-    text (Some code) e = ended_text s j w.past line rest done f.r code f.is_r e (walk_gives s j (record { past = w.past; ahead = line ∷ rest; done = done; holding = has_bus w.holder j.lun }) reach)
+    text (Some code) e = ended_text s j answered.bytes w.past line rest done f.r code answered.is_step e (walk_gives s j (record { past = w.past; ahead = line ∷ rest; done = done; holding = has_bus w.holder j.lun }) reach)
 
     own_slot : LawfulAt s f.r.past (has_bus holder j.lun) j.lun (Some x)
     own_slot =
         subst (λ (b : Bool). LawfulSlot s f.r.past b j.lun x) (sym (new_bus (keeps_bus f.r.outcome) j.lun))
-        (record { lun = refl; made = made; safe = safe; within = record { inside = f.inside within.inside; others = step_keeps s j w.past line rest done f.r f.is_r within.others; budget = f.budget within.budget }; text = text f.r.code refl; seat = here f.r.code refl })
+        (record { lun = refl; made = made; safe = safe; within = record { inside = f.inside within.inside; others = step_keeps s j answered.bytes w.past line rest done f.r answered.is_step within.others; budget = f.budget within.budget }; text = text f.r.code refl; seat = here f.r.code refl })
 
     at_lun : (m : Lun) → is_there s m ≡ true → (b : Bool) → same_lun j.lun m ≡ b → LawfulAt s f.r.past (has_bus holder m) m (slot_of s (after_stride s w j.lun j f.r).world m)
     at_lun m m_there true e =
@@ -144,6 +142,63 @@ strides s is w law j (line ∷ rest) done there free made safe within reach fine
     at_target : (ce : ℕ) → has_bus_on holder ce ≡ false → (b : Bool) → (j.lun.ce == ce) ≡ b → is_open_on f.r.past ce ≡ false
     at_target ce h true e = subst (λ (n : ℕ). is_open_on f.r.past n ≡ false) (eqb-true j.lun.ce ce e) (f.closed (new_bus_on (keeps_bus f.r.outcome) j.lun ce e h))
     at_target ce h false e = passes.targets ce (other_target j.lun.ce ce e) ∙ law.closed ce (free_elsewhere w.holder j.lun ce free e)
+
+-- a step on a model
+strides : (s : Channel) → IsChannel s → (w : World) → LawfulWorld s w → (j : Job) (ahead : List Line) (done : List Done) → is_there s j.lun ≡ true → is_held w.holder j.lun ≡ false → IsMade j → StaysFine s j → IsWithin s (record { job = j; ahead = ahead; done = done; code = None }) → Reaches s j (record { past = w.past; ahead = ahead; done = done; holding = has_bus w.holder j.lun }) → LineIsFine s j w.past done ahead → Strides s w j (next_step s j w.past ahead done)
+strides s is w law j [] done there free made safe within reach fine = absurd fine
+strides s is w law j (line ∷ rest) done there free made safe within reach fine =
+    let f = fine_steps s is j w.past line rest done fine in
+    well_stepped s w law j line rest done there free made safe within reach (next_step s j w.past (line ∷ rest) done) f (models_truthful s is j w.past line rest done f.r there fine f.is_r)
+
+-- a step on a real bus, whose outputs give any truthful bytes
+pub answered_strides : (s : Channel) (w : World) → LawfulWorld s w → (l : Lun) (x : Slot) (holding : Bool) → has_bus w.holder l ≡ holding → is_held w.holder l ≡ false → is_there s l ≡ true → x.code ≡ None → LawfulSlot s w.past holding l x → NextTakes s w x
+answered_strides s w law l x holding has free there goes h = at x.ahead refl (h.safe seat reach may)
+  where
+    reach_of : (code : Option ℕ) → code ≡ None → HasSeat s w.past holding x code → Reaches s x.job (record { past = w.past; ahead = x.ahead; done = x.done; holding = holding })
+    reach_of None e k = k
+    reach_of (Some code) e k = cc
+
+    seat : Seat
+    seat = record { past = w.past; ahead = x.ahead; done = x.done; holding = holding }
+
+    reach : Reaches s x.job seat
+    reach = reach_of x.code goes h.seat
+
+    lun_there : is_there s x.job.lun ≡ true
+    lun_there = subst (λ (k : Lun). is_there s k ≡ true) (sym h.lun) there
+
+    lun_free : is_held w.holder x.job.lun ≡ false
+    lun_free = subst (λ (k : Lun). is_held w.holder k ≡ false) (sym h.lun) free
+
+    lun_has : has_bus w.holder x.job.lun ≡ holding
+    lun_has = subst (λ (k : Lun). has_bus w.holder k ≡ holding) (sym h.lun) has
+
+    may : (holding || not (is_open_on w.past x.job.lun.ce)) ≡ true
+    may = subst (λ (b : Bool). (b || not (is_open_on w.past x.job.lun.ce)) ≡ true) lun_has (may_step_now s w x.job.lun w.holder lun_free law.closed)
+
+    at : (ahead : List Line) → x.ahead ≡ ahead → LineIsFine s x.job w.past x.done ahead → NextTakes s w x
+    at [] e fine = absurd fine
+    at (line ∷ rest) e fine =
+        record {
+          count = outputs fine.moved;
+          is_count = rw e (rw fine.is_moved refl);
+          goes = λ bytes many truthful.
+              let ahead_is : line ∷ rest ≡ x.ahead = sym e in
+              let f = answered_steps s x.job w.past line rest x.done fine bytes many in
+              let within : IsWithin s (record { job = x.job; ahead = line ∷ rest; done = x.done; code = None }) = record { inside = h.within.inside; others = h.within.others; budget = h.within.budget } in
+              let reach_line = subst (λ (ls : List Line). Reaches s x.job (record { past = w.past; ahead = ls; done = x.done; holding = holding })) e reach in
+              let reach_here = subst (λ (b : Bool). Reaches s x.job (record { past = w.past; ahead = line ∷ rest; done = x.done; holding = b })) (sym lun_has) reach_line in
+              let true_here = subst (λ (ls : List Line). AreTruthful s.geometry x.job.lun w.past ls bytes) e truthful in
+              let k = well_stepped s w law x.job line rest x.done lun_there lun_free h.made h.safe within reach_here (answered_step s.geometry x.job bytes w.past (line ∷ rest) x.done) f (record { bytes = bytes; is_step = f.is_r; truthful = true_here }) in
+              record { r = k.r; is_r = subst (λ (ls : List Line). answered_step s.geometry x.job bytes w.past ls x.done ≡ Some k.r) ahead_is k.is_r; own = k.own; lawful = k.lawful };
+        }
+
+pub live_steps_go_well : LiveStepsGoWell
+live_steps_go_well s w l x law e goes free =
+    let there = there_of_slot s w l x e in
+    let at_l = law.slots l there in
+    let h : LawfulSlot s w.past (has_bus w.holder l) l x = subst (λ (o : Option Slot). LawfulAt s w.past (has_bus w.holder l) l o) e at_l in
+    answered_strides s w law l x (has_bus w.holder l) refl free there goes h
 
 -- a ready keeps a slot lawful
 ready_keeps_seat : (s : Channel) (past : List Item) (i : Item) (holding : Bool) (x : Slot) (code : Option ℕ) → is_cycle i ≡ false → broken s.geometry s.targets past i ≡ None → HasSeat s past holding x code → HasSeat s (i ∷ past) holding x code

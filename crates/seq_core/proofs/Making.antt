@@ -30,7 +30,7 @@ use Rattle.seq_core.proofs.Slots.{same_lun_is, slot_same, slot_other, there_of_s
 use Rattle.seq_core.proofs.Loads.{loadable}
 use Rattle.seq_core.proofs.Runnings.{same_after, same_ran}
 use Rattle.seq_core.specs.Lawful.{IsWithin}
-use Rattle.seq_core.proofs.Below.{costs_count}
+use Rattle.seq_core.proofs.Below.{costs_count, step_parts, model_step}
 use Rattle.seq_core.proofs.Buffers.{StrideLeaves, StepLeaves, step_leaves}
 
 -- 1. the cycles of moves stand before what was made so far
@@ -79,7 +79,9 @@ making_stride : (s : Channel) (past : List Item) (j : Job) (line : Line) (rest :
 making_stride s past j line rest done code r run e m = at left.leaves
   where
     left : StepLeaves s j past line rest done r
-    left = step_leaves s j past line rest done r e
+    left =
+        let parts = step_parts s j past line rest done r e in
+        step_leaves s j parts.p.bytes past line rest done r (model_step s j past line rest done r parts)
 
     items : (bytes : List ℕ) → bytes ≡ left.p.bytes → cycles_of j.lun.ce left.moved bytes run.made ≡ added past r.past ++ run.made
     items bytes is =

@@ -61,7 +61,7 @@ plays_append s ce (Take ∷ a) b p q r xs ys h k =
 pub own_first : (s : Channel) (l : Lun) (a b : List Move) (past : List Item) → MovesAreOwn s l (a ++ b) past → MovesAreOwn s l a past
 own_first s l [] b past h = tt
 own_first s l (Give kind byte ∷ a) b past h = (h.0, own_first s l a b (cycle l.ce kind byte ∷ past) h.1)
-own_first s l (Take ∷ a) b past h = λ byte. ((h byte).0, λ e. own_first s l a b (cycle l.ce Dout byte ∷ past) ((h byte).1 e))
+own_first s l (Take ∷ a) b past h = λ byte. ((h byte).0, own_first s l a b (cycle l.ce Dout byte ∷ past) (h byte).1)
 
 -- and those behind them are, once they are played
 pub own_rest : (s : Channel) (l : Lun) (a b : List Move) (past later : List Item) (bytes : List ℕ) → MovesAreOwn s l (a ++ b) past → Plays s l.ce a past later bytes → MovesAreOwn s l b later
@@ -69,7 +69,7 @@ own_rest s l [] b past later bytes h k = subst (λ (t : List Item). MovesAreOwn 
 own_rest s l (Give kind byte ∷ a) b past later bytes h k = own_rest s l a b (cycle l.ce kind byte ∷ past) later bytes h.1 k
 own_rest s l (Take ∷ a) b past later bytes h k =
     let t = took s l.ce a past later bytes k in
-    own_rest s l a b (cycle l.ce Dout t.byte ∷ past) later t.more ((h t.byte).1 t.is_byte) t.plays
+    own_rest s l a b (cycle l.ce Dout t.byte ∷ past) later t.more (h t.byte).1 t.plays
 
 -- the first k + 1 of some bytes
 pub take_next : {X : Type 0} (xs : List X) (k : ℕ) (d : X) → k < length xs → take (k + 1) xs ≡ take k xs ++ (get_or xs k d ∷ [])

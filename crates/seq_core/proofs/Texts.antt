@@ -7,11 +7,11 @@ use Rattle.micro_word.specs.declared.word.Word.TheVariants.{End, Wait}
 use Rattle.micro_program.specs.Lines.{Line}
 use Rattle.micro_program.specs.Program.{Job, Done, Polled, is_ready_status}
 use Rattle.micro_program.specs.Played.{Played}
-use Rattle.micro_program.specs.Step.{Stride, Went, NotReady, did, first_byte, stride, next_step}
+use Rattle.micro_program.specs.Step.{Stride, Went, NotReady, did, first_byte, stride, answered_step}
 use Rattle.micro_program.specs.Actions.{acts, answers_of}
 use Rattle.seq_core.specs.World.{Slot}
 use Rattle.seq_core.specs.Lawful.{HasEnded, DoesItsText}
-use Rattle.seq_core.proofs.Below.{step_parts}
+use Rattle.seq_core.proofs.Below.{answered_parts}
 
 append_none : {A : Type 0} (xs : List A) (ys : List A) → (xs ++ []) ++ ys ≡ xs ++ ys
 append_none [] ys = refl
@@ -42,8 +42,8 @@ stride_ends s j at rest done p Wait code e before = absurd (never (is_ready_stat
     never false e = cc
 stride_ends s j at rest done p word code e before = cc
 
-pub ended_text : (s : Channel) (j : Job) (past : List Item) (line : Line) (rest : List Line) (done : List Done) (r : Stride) (code : ℕ) → next_step s j past (line ∷ rest) done ≡ Some r → r.code ≡ Some code → DoesItsText s (going_on j (line ∷ rest) done) None → HasEnded s (slot_after j r) code
-ended_text s j past line rest done r code is_r e before =
-    let parts = step_parts s j past line rest done r is_r in
+pub ended_text : (s : Channel) (j : Job) (bytes : List ℕ) (past : List Item) (line : Line) (rest : List Line) (done : List Done) (r : Stride) (code : ℕ) → answered_step s.geometry j bytes past (line ∷ rest) done ≡ Some r → r.code ≡ Some code → DoesItsText s (going_on j (line ∷ rest) done) None → HasEnded s (slot_after j r) code
+ended_text s j bytes past line rest done r code is_r e before =
+    let parts = answered_parts s.geometry j bytes past line rest done r is_r in
     subst (λ (q : Stride). HasEnded s (slot_after j q) code) parts.is_r
     (stride_ends s j line.at rest done parts.p line.word code (ap (λ (q : Stride). q.code) parts.is_r ∙ e) before)

@@ -7,6 +7,7 @@ pub mod Buffer
 pub mod Made
 pub mod Lawful
 pub mod Headline
+pub mod Live
 pub mod Loops
 pub mod Progress
 pub mod Job

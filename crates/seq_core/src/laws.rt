@@ -62,3 +62,17 @@ pub fn runs_go_on()
 pub fn unloads_give_back()
     ensures { UnloadsGiveBack }
 {}
+
+ghost use Rattle.seq_core.specs.Live.{LiveStepsGoWell, ReadiesMakeTruth};
+
+/// A step on a real bus. In a lawful world, whatever truthful bytes the chips give to the outputs of a program's next word: its cycles
+/// are permitted where they come and its LUN's own, it stays inside buffer and budget, and the world that it leaves is lawful.
+pub fn live_steps_go_well()
+    ensures { LiveStepsGoWell }
+{}
+
+/// Truth can be had: where a poll says ready of a LUN that is busy in the trace, a ready of it is permitted before the poll, and then the
+/// LUN isn't busy.
+pub fn readies_make_truth()
+    ensures { ReadiesMakeTruth }
+{}
