@@ -5,7 +5,7 @@ use Rattle.std.proofs.Math.Seq.{take-suc}
 use Rattle.std.proofs.lemmas.List.{reverse-append}
 use Rattle.std.proofs.Math.Nat.{mod-lt, mul-le-mul_right}
 use Rattle.std.proofs.lemmas.Nat.{div-mul-add, mod-mul-add, div-add-mod'}
-use Rattle.std.proofs.lemmas.Bool.{ne_eqb}
+use Rattle.std.proofs.lemmas.Bool.{ne_eqb, and_parts}
 use Rattle.std.proofs.lemmas.Bool.Decides.{eqb_tells}
 use Rattle.nand_geometry.specs.declared.parts.Parts.{Parts}
 use Rattle.onfi_cycle.specs.declared.lun.Lun.{Lun}
@@ -17,7 +17,7 @@ use Rattle.std.proofs.lemmas.Option.{slice_get_within}
 use Rattle.onfi_cycle.specs.Sequence.{target_of}
 use Rattle.target_bus.specs.Bus.{numbered}
 use Rattle.channel_work.specs.declared.tally.LunCount.{LunCount}
-use Rattle.channel_work.specs.Counts.{stands_after, polls_after, count_after, count_of, AreCounts, IsFewAt, counted_at, HaveCounted, HasCounted, poll_row, is_data_kind, gives_data, repeats_data, RepeatsAt}
+use Rattle.channel_work.specs.Counts.{stands_after, polls_after, count_after, count_of, AreCounts, IsFewAt, counted_at, HaveCounted, HasCounted, poll_row, is_data_kind, gives_data, RepeatsAt}
 use Rattle.channel_work.proofs.Bounds.{few_at}
 
 -- an item on another target changes nothing
@@ -132,15 +132,10 @@ still_few g i before middle first lun h few small k here = few (first + lun) sma
 
 -- data after data changes no count
 
-both : (a b : Bool) → (a && b) ≡ true → (a ≡ true) × (b ≡ true)
-both true true h = (refl, refl)
-both true false h = cc
-both false b h = cc
-
 two_data : (many : Bool) (row : List ℕ) (l : Lun) (k : LunCount) (ce : ℕ) (j i : Item) → gives_data ce j ≡ true → gives_data ce i ≡ true → count_after many row l (count_after many row l k j) i ≡ count_after many row l k j
 two_data many row l k ce (Cyc b) (Cyc c) h m =
-    let first = both (b.ce == ce) _ h in
-    let second = both (c.ce == ce) _ m in
+    let first = and_parts (b.ce == ce) _ h in
+    let second = and_parts (c.ce == ce) _ m in
     let same : b.ce ≡ c.ce = eqb-true b.ce ce first.0 ∙ sym (eqb-true c.ce ce second.0) in
     ap (λ (n : ℕ). count_after many row l (count_after many row l k (Cyc b)) (Cyc (record { ce = n; kind = c.kind; byte = c.byte }))) (sym same) ∙
     at (b.ce == l.ce) many b.kind first.1 c.kind second.1
@@ -195,6 +190,6 @@ repeated_counted g trace at counts low size are r = item_counted g trace at r.1.
     has n k here =
         let small : n < 16 = omega (arith, slice_get_within counts n k here, size) in
         let is : k ≡ count_of g n (j ∷ reverse (take (at - 1) trace)) = some_is _ _ (sym here ∙ (are n small ∙ ap (λ (past : List Item). Some (count_of g n past)) past_is)) in
-        let parts = both (gives_data (target_of i) j) _ r.1.1.1 in
+        let parts = and_parts (gives_data (target_of i) j) _ r.1.1.1 in
         let kept = two_data (nat_lt 1 g.luns) (poll_row g (numbered g n)) (numbered g n) (count_of g n (reverse (take (at - 1) trace))) (target_of i) j i parts.0 parts.1 in
         here ∙ ap (λ (x : LunCount). Some x) (is ∙ (sym kept ∙ ap (λ (x : LunCount). counted_at g i n x) (sym is)))

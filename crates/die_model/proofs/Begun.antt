@@ -2,6 +2,7 @@
 use Rattle.std.proofs.Common.{◌≡◌, ℕ, ◌<◌, ◌==◌, Bool, true, false, ◌&&◌, ◌||◌, not, cond, eq-eqb, List, [], ◌∷◌, Option, Some, None, length, replicate, refl, sym, ap, subst, ◌∙◌}
 use Rattle.std.proofs.lemmas.List.{length-replicate}
 use Rattle.std.specs.Option.{unwrap_or, is_some}
+use Rattle.std.proofs.lemmas.Bool.{and_from, not-true, or_left, or_parts as neither}
 use Rattle.nand_geometry.specs.declared.parts.Parts.{Parts}
 use Rattle.nand_geometry.specs.Limits.{page_len, planes}
 use Rattle.onfi_cycle.specs.declared.page_address.PageAddress.{PageAddress}
@@ -12,7 +13,7 @@ use Rattle.onfi_cycle.specs.declared.effect.Effect.TheVariants.{BecameReady}
 use Rattle.onfi_cycle.specs.declared.register.Register.{Register}
 use Rattle.onfi_cycle.specs.declared.register.Register.TheVariants.{Empty, Page}
 use Rattle.onfi_cycle.specs.Lun.{busy_after, queue_after, register_after}
-use Rattle.onfi_cycle.specs.Content.{ArrayWork, left_by_all, same_page, queued_work_after, pending_work_after, content_after, failed_after, is_some_work}
+use Rattle.onfi_cycle.specs.Content.{ArrayWork, same_page, queued_work_after, pending_work_after, content_after, failed_after, is_some_work}
 use Rattle.onfi_cycle.specs.Rules.{has_some, some_queued_clashes}
 use Rattle.die_model.specs.declared.work.Work.{Work}
 use Rattle.die_model.specs.declared.work.Work.TheVariants as w
@@ -21,7 +22,6 @@ use Rattle.onfi_cycle.specs.Bounds.{is_row}
 use Rattle.die_model.specs.declared.activity.Activity.{Activity}
 use Rattle.die_model.specs.Die.{Die, die_with, bytes_taken, plane_bytes, works_of, effect_of, is_row_of, row_of_work, goes_with, is_reset, queue_with, closes, page_to_keep, AreKept, are_erases, are_programs, HasRows, IsDie, ShowsPage}
 use Rattle.die_model.proofs.Kept.{Entries, same_parts}
-use Rattle.nand_geometry.proofs.Booleans.{or_parts as neither}
 
 -- the die with an activity
 abbrev pub die_of : Parts → Entries → List (List ℕ) → Activity → Die
@@ -146,15 +146,11 @@ still len at old new k (Program q ∷ queue) h = (ap is_some (k q) ∙ of (is_gi
     of true = refl
     of false = h.0
 
-both : (x y : Bool) → x ≡ true → y ≡ true → (x && y) ≡ true
-both true y h k = k
-both false y h k = cc
-
 same_itself : (at : PageAddress) → same_page at at ≡ true
 same_itself at = of at.block at.page
   where
     of : (b m : ℕ) → (b == b && m == m) ≡ true
-    of b m = both (b == b) (m == m) (eq-eqb b b refl) (eq-eqb m m refl)
+    of b m = and_from (b == b) (m == m) (eq-eqb b b refl) (eq-eqb m m refl)
 
 placed : (len : ℕ) (at : PageAddress) (old new : Entries) → Keeps len (Some at) old new → is_some (kept new at) ≡ true
 placed len at old new k = ap is_some (k at) ∙ ap (λ (b : Bool). is_some (cond b (Some (page_in len old at)) (kept old at))) (same_itself at)
@@ -181,23 +177,11 @@ all_programs g at [] h = refl
 all_programs g at (Erase q ∷ queue) h = cc
 all_programs g at (Program q ∷ queue) h = all_programs g at queue (neither _ _ h).1
 
-not_true : (b : Bool) → not b ≡ true → b ≡ false
-not_true true h = cc
-not_true false h = refl
-
-or_second : (a b : Bool) → b ≡ true → (a || b) ≡ true
-or_second true b h = refl
-or_second false b h = h
-
-or_first : (a b : Bool) → a ≡ true → (a || b) ≡ true
-or_first true b h = refl
-or_first false b h = cc
-
 pub alike_begun : (g : Parts) (work : Work) (queue : List Queued) → goes_with g work queue ≡ true → (are_erases queue || are_programs queue) ≡ true → (are_erases (queue_with work queue) || are_programs (queue_with work queue)) ≡ true
-alike_begun g (w.Program at) queue t h = all_programs g at queue (not_true _ t)
-alike_begun g (w.Erase at) queue t h = or_first _ _ (all_erases g at queue (not_true _ t))
-alike_begun g (w.Queue (Erase at)) queue t h = or_first _ _ (all_erases g at queue (not_true _ t))
-alike_begun g (w.Queue (Program at)) queue t h = all_programs g at queue (not_true _ t)
+alike_begun g (w.Program at) queue t h = all_programs g at queue (not-true _ t)
+alike_begun g (w.Erase at) queue t h = or_left _ _ (all_erases g at queue (not-true _ t))
+alike_begun g (w.Queue (Erase at)) queue t h = or_left _ _ (all_erases g at queue (not-true _ t))
+alike_begun g (w.Queue (Program at)) queue t h = all_programs g at queue (not-true _ t)
 alike_begun g w.Reset queue t h = refl
 alike_begun g (w.Read at) queue t h = h
 alike_begun g w.Identifier queue t h = h

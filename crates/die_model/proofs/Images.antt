@@ -19,8 +19,8 @@ use Rattle.onfi_cycle.specs.declared.register.Register.{Register}
 use Rattle.onfi_cycle.specs.declared.register.Register.TheVariants.{Empty, Page, ParameterPage, Identifier}
 use Rattle.onfi_cycle.specs.Rules.{has_some, is_empty}
 use Rattle.std.specs.List.{starts_with}
+use Rattle.std.proofs.lemmas.Bool.{and_parts as first_true}
 use Rattle.die_model.proofs.Kept.{Entries, ChangesAt, kept_after, same_parts}
-use Rattle.nand_geometry.proofs.Booleans.{and_parts as first_true}
 
 -- ---- writing
 

@@ -1,5 +1,5 @@
 -- An image gives the pages of its die again.
-use Rattle.std.proofs.Common.{◌≡◌, ℕ, zero, suc, ◌+◌, ◌-◌, ◌*◌, ◌/◌, ◌%◌, ◌^◌, ◌<◌, ◌≤◌, ◌==◌, Bool, true, false, ◌&&◌, cond, not, List, [], ◌∷◌, ◌++◌, append_assoc, Option, Some, None, Result, Ok, Err, IfOk, length, drop, take, replicate, ltb, eqb, eq-eqb, eqb-true, refl, sym, ap, subst, ◌∙◌, arith}
+use Rattle.std.proofs.Common.{◌≡◌, ℕ, zero, suc, ◌+◌, ◌-◌, ◌*◌, ◌/◌, ◌%◌, ◌^◌, ◌<◌, ◌≤◌, ◌==◌, Bool, true, false, ◌&&◌, cond, not, List, [], ◌∷◌, ◌++◌, Option, Some, None, Result, Ok, Err, IfOk, length, drop, take, replicate, ltb, eq-eqb, eqb-true, refl, sym, ap, subst, ◌∙◌, arith}
 use Rattle.std.proofs.lemmas.Bool.Decides.{nat_tests}
 use Rattle.std.proofs.lemmas.List.Elements.{All-head, All-tail}
 use Rattle.std.proofs.lemmas.Map.Keys.{sorted_head, sorted_tail}
@@ -10,14 +10,12 @@ use Rattle.std.specs.declared.cmp.Ordering.TheVariants.{Less, Equal, Greater}
 use Rattle.std.specs.Ordering.{nat_cmp, ordering_then, is_eq}
 use Rattle.std.specs.List.{All, AllByRecursion}
 use Rattle.std.specs.List.Sorted.{IsStrictlySortedBy}
-use Rattle.std.specs.Map.{keys_of, lookup}
-use Rattle.std.specs.BTreeMap.{is_at}
+use Rattle.std.specs.Map.{keys_of}
 use Rattle.std.specs.Option.{unwrap_or}
 use Rattle.nand_geometry.specs.declared.parts.Parts.{Parts}
 use Rattle.nand_geometry.specs.declared.row_parts.RowParts.{RowParts}
-use Rattle.nand_geometry.specs.Limits.{width, page_bits, block_bits, page_len, InLimits}
+use Rattle.nand_geometry.specs.Limits.{page_bits, block_bits, page_len, InLimits}
 use Rattle.nand_geometry.specs.Row.{row_number, parts_of, is_inside}
-use Rattle.nand_geometry.specs.Reading.{u32_at}
 use Rattle.nand_geometry.proofs.FieldLemmas.{width_fits, beside}
 use Rattle.nand_geometry.proofs.RowLemmas.{row_fits}
 use Rattle.onfi_cycle.specs.declared.page_address.PageAddress.{PageAddress}
@@ -26,9 +24,9 @@ use Rattle.onfi_cycle.specs.Content.{same_page}
 use Rattle.onfi_cycle.specs.Effect.{page_address}
 use Rattle.die_model.specs.declared.refusal.ImageFault.{ImageFault}
 use Rattle.die_model.specs.Pages.{row_cmp, kept, page_in, AreInOrder}
-use Rattle.die_model.specs.Image.{four, are_blank, is_written, entry, entries_of, count_of, header, magic, image_of}
+use Rattle.die_model.specs.Image.{four, are_blank, is_written, entry, entries_of, count_of, header, image_of}
 use Rattle.die_model.specs.Loading.{first_row, first_page, first_bytes, entry_len, is_page, row_fault, or_later, entries_fault, told, page_told, image_fault, count_told, has_numbers, ArePages, IsLoaded, Restores, ImagesRestore}
-use Rattle.die_model.specs.Die.{Die, page_of}
+use Rattle.die_model.specs.Die.{Die}
 use Rattle.die_model.proofs.Kept.{Entries, row_same, same_parts}
 
 pub images_restore : ImagesRestore

@@ -1,5 +1,6 @@
 -- What a die shows that stands for its LUN.
 use Rattle.std.proofs.Common.{◌≡◌, ℕ, Bool, true, false, ◌&&◌, not, cond, List, [], ◌∷◌, refl, ap, ◌∙◌}
+use Rattle.std.proofs.lemmas.Bool.{not-true, and_parts as both}
 use Rattle.nand_geometry.specs.Page.{parameter_bytes}
 use Rattle.onfi_cycle.specs.declared.page_address.PageAddress.{PageAddress}
 use Rattle.onfi_cycle.specs.declared.queued.Queued.{Queued}
@@ -10,17 +11,12 @@ use Rattle.onfi_cycle.specs.Content.{content, register_bytes}
 use Rattle.onfi_cycle.specs.Rules.{is_empty, has_some}
 use Rattle.die_model.specs.Die.{page_of, works_of}
 use Rattle.die_model.specs.Standing.{DiesShow}
-use Rattle.nand_geometry.proofs.Booleans.{and_parts as both}
 
 same_bytes : (parameters : List ℕ) (f g : PageAddress → List ℕ) (x : Register) → ((p : PageAddress) → f p ≡ g p) → register_bytes parameters f x ≡ register_bytes parameters g x
 same_bytes parameters f g r.Empty h = refl
 same_bytes parameters f g (r.Page p) h = h p
 same_bytes parameters f g r.ParameterPage h = refl
 same_bytes parameters f g r.Identifier h = refl
-
-no : (b : Bool) → not b ≡ true → b ≡ false
-no true h = cc
-no false h = refl
 
 empty_is : (x : Register) → is_empty x ≡ true → x ≡ r.Empty
 empty_is r.Empty h = refl
@@ -52,13 +48,13 @@ dies_show =
             pages = pages;
             register = empty_is d.register e.0;
             array_page = array_page;
-            busy = no d.busy a.0;
-            caching = no d.caching c.0;
-            array_busy = no d.array_busy b.0;
+            busy = not-true d.busy a.0;
+            caching = not-true d.caching c.0;
+            array_busy = not-true d.array_busy b.0;
             queue = none_is d.queued f.0;
             queued = ap (works_of d.geometry d.planes) (none_is d.queued f.0);
             pending = ap (works_of d.geometry d.planes) (none_is d.pending h.0);
-            failed = no d.failed h.1;
+            failed = not-true d.failed h.1;
             count = count;
             open_program = λ named here. let x : false ≡ true = named in cc;
           };

@@ -41,11 +41,12 @@ use Rattle.onfi_cycle.specs.Command.{is_page_program, at_last_row, addresses_the
 use Rattle.onfi_cycle.specs.LunView.{LunView}
 use Rattle.std.specs.List.{slice_get}
 use Rattle.std.proofs.lemmas.Bool.Decides.{nat_tests}
+use Rattle.std.proofs.lemmas.Bool.{or_left, and_parts as both, or_parts as neither}
+use Rattle.onfi_cycle.proofs.Booleans.{and_rest, clash}
 use Rattle.nand_geometry.specs.Row.{parts_of}
 use Rattle.onfi_cycle.proofs.Passed.{permitted_keeps}
 use Rattle.onfi_cycle.proofs.Keeping.{view_at}
 use Rattle.die_model.proofs.Tails.{stays, no_opening, blank}
-use Rattle.nand_geometry.proofs.Booleans.{and_parts as both, or_parts as neither}
 
 -- 1. the bytes of a program that starts are those of its tail
 
@@ -57,10 +58,6 @@ choice : (g : Parts) (t : TailFacts) (lun : ℕ) (b : Bool) (x y : Effect) → (
 choice g t lun true x y f h = f refl
 choice g t lun false x y f h = h
 
-or_first : (a b : Bool) → a ≡ true → (a || b) ≡ true
-or_first true b h = refl
-or_first false b h = cc
-
 command_programs : (g : Parts) (t : TailFacts) (latch : Latch) (c : Command) (lun : ℕ) → Programs g t lun (command_effect g t latch c lun)
 command_programs g t latch k.Read lun = tt
 command_programs g t latch k.ReadStatus lun = tt
@@ -71,10 +68,10 @@ command_programs g t latch k.ReadCacheEnd lun = choice g t lun (is_off latch) e.
 command_programs g t latch k.ChangeReadColumnConfirm lun = choice g t lun (wants_command t k.ChangeReadColumnConfirm && not (is_off latch)) (e.ReadColumnChanged t.column) e.Unaffected (λ _. tt) tt
 command_programs g t latch k.ProgramConfirm lun =
     choice g t lun (wants_command t k.ProgramConfirm && names_lun g (row t) lun) (e.ProgramStarted false (page_address g (row t))) e.Unaffected
-    (λ h. record { named = or_first (takes_inputs t.phase) (wants_column t.phase) (both _ _ h).0; here = (both _ _ h).1; page = refl }) tt
+    (λ h. record { named = or_left (takes_inputs t.phase) (wants_column t.phase) (both _ _ h).0; here = (both _ _ h).1; page = refl }) tt
 command_programs g t latch k.ProgramPlane lun =
     choice g t lun (wants_command t k.ProgramPlane && names_lun g (row t) lun) (e.ProgramStarted true (page_address g (row t))) e.Unaffected
-    (λ h. record { named = or_first (takes_inputs t.phase) (wants_column t.phase) (both _ _ h).0; here = (both _ _ h).1; page = refl }) tt
+    (λ h. record { named = or_left (takes_inputs t.phase) (wants_column t.phase) (both _ _ h).0; here = (both _ _ h).1; page = refl }) tt
 command_programs g t latch c lun = choice g t lun (wants_command t c && names_lun g (row t) lun) (confirm_effect g t c) e.Unaffected (λ _. tt) tt
 
 address_programs : (g : Parts) (t : TailFacts) (byte : ℕ) (c : Command) (n lun : ℕ) → Programs g t lun (address_effect g t byte c n lun)
@@ -282,10 +279,6 @@ works_nil : (g : Parts) (r q : List (List ℕ)) (rows : List Queued) → works_o
 works_nil g r q [] h = refl
 works_nil g r q (x ∷ rows) h = cc
 
-not_true : (b : Bool) → not b ≡ false → b ≡ true
-not_true true h = refl
-not_true false h = cc
-
 -- a register of another plane isn't looked at
 apart_works : (g : Parts) (registers : List (List ℕ)) (at : PageAddress) (w : List ℕ) (rows : List Queued) → some_queued_clashes g false at rows ≡ false → works_of g (set registers (at.block % planes g) w) rows ≡ works_of g registers rows
 apart_works g registers at w [] h = refl
@@ -296,10 +289,6 @@ apart_works g registers at w (Program q ∷ rows) h =
     let other : q.block % planes g ≢ at.block % planes g = λ same. clash (at.block % planes g == q.block % planes g) (eq-eqb _ _ (sym same)) planes_differ in
     ap (λ (x : List ℕ). ProgramsPage q x ∷ works_of g (set registers (at.block % planes g) w) rows) (get_or-set_other registers (at.block % planes g) (q.block % planes g) w [] other)
     ∙ ap (λ (x : List ArrayWork). ProgramsPage q (plane_bytes g registers q) ∷ x) (apart_works g registers at w rows parts.1)
-  where
-    clash : (b : Bool) → b ≡ true → b ≡ false → ⊥
-    clash true p q = cc
-    clash false p q = cc
 
 abbrev with_planes : Die → List (List ℕ) → Die
 with_planes d r = record d { planes = r }
@@ -387,7 +376,7 @@ input_goes_on : (s : Channel) (past : List Item) (i : Item) (l : Lun) (old new :
 input_goes_on s past i l old new at column byte j fits f w =
     let g = s.geometry in
     let t = tail past l.ce in
-    let named = or_first (takes_inputs (data_phase t)) (wants_column (data_phase t)) j.takes in
+    let named = or_left (takes_inputs (data_phase t)) (wants_column (data_phase t)) j.takes in
     let before = f.open_program named j.here in
     let bytes = set (plane_bytes g old.planes at) column byte in
     let registers = set old.planes (at.block % planes g) bytes in
@@ -458,11 +447,7 @@ program_addresses_array k.PageProgram n h = h
 program_addresses_array c n h = cc
 
 program_refuses : (g : Parts) (c : Command) (n : ℕ) (p : PageAddress) (rows : List Queued) → (is_page_program c && at_last_row c n) ≡ true → (at_last_row c n && refused_by g c p rows) ≡ false → some_queued_clashes g false p rows ≡ false
-program_refuses g k.PageProgram n p rows h r = second (at_last_row k.PageProgram n) _ h r
-  where
-    second : (a b : Bool) → a ≡ true → (a && b) ≡ false → b ≡ false
-    second true b h r = r
-    second false b h r = cc
+program_refuses g k.PageProgram n p rows h r = and_rest (at_last_row k.PageProgram n) _ h r
 program_refuses g c n p rows h r = cc
 
 -- what a test says of the named LUN where it isn't broken
@@ -473,10 +458,6 @@ named_test g past l row test low h =
   where
     eqb_is : (a b : ℕ) → (a == b) ≡ true → a ≡ b
     eqb_is a b h = grind (arith, nat_tests)
-
-not_and : (a b : Bool) → a ≡ true → (a && b) ≡ false → b ≡ false
-not_and true b h k = k
-not_and false b h k = cc
 
 -- F9 and F10 at it: the LUN is ready, and its queue goes together with the page
 record Passed (g : Parts) (past : List Item) (l : Lun) (at : PageAddress) : Type 0 where
@@ -493,7 +474,7 @@ passed g n past i l at h low j =
     let f10 : breaks_queue_clash g t (luns_of g past l.ce) (AddressCycle j.byte) ≡ false = subst (λ (k : TargetCycle). breaks_queue_clash g t (luns_of g past l.ce) k ≡ false) j.cycle (subst (λ (ce : ℕ). breaks_queue_clash g (facts_of (tail past ce)) (luns_of g past ce) (target_cycle j.c.kind j.c.byte) ≡ false) same rules.f10) in
     let ends : ends_row addresses_the_array t ≡ true = ap (opened (λ c n. addresses_the_array c && at_last_row c n)) j.opens ∙ program_addresses_array j.o.opener j.o.addresses j.ends in
     record {
-      ready = sym (named_test g past l (row_with t j.byte) (λ v. v.busy) low j.here) ∙ not_and _ _ ends f9;
+      ready = sym (named_test g past l (row_with t j.byte) (λ v. v.busy) low j.here) ∙ and_rest _ _ ends f9;
       apart =
           ap (λ (p : PageAddress). some_queued_clashes g false p (queue g past l)) j.page
           ∙ program_refuses g j.o.opener j.o.addresses (page_address g (row_with t j.byte)) (queue g past l) j.ends

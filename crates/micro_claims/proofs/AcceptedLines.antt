@@ -1,6 +1,7 @@
 -- Accepted means safe: what is accepted from the first claim is a program that stays fine.
 use Rattle.std.proofs.Common.{◌≡◌, ℕ, ◌+◌, ◌%◌, ◌<◌, ◌≤◌, Bool, true, false, ◌&&◌, ◌||◌, not, ltb, is_none, List, [], ◌∷◌, Option, Some, None, refl, sym, ap, ◌∙◌, subst, arith}
 use Rattle.std.proofs.lemmas.Nat.{pow_pos}
+use Rattle.std.proofs.lemmas.Bool.{and_parts, or_parts}
 use Rattle.nand_geometry.specs.declared.parts.Parts.{Parts}
 use Rattle.nand_geometry.specs.Limits.{indices}
 use Rattle.onfi_cycle.specs.declared.command.Command.{Command}
@@ -24,7 +25,6 @@ use Rattle.micro_claims.specs.Reasons.{breaks_command_not_allowed, reason_agains
 use Rattle.micro_claims.specs.Accepts.{state_after, goes_on, accepts}
 use Rattle.micro_program.proofs.Below.{rows}
 use Rattle.micro_program.proofs.Basics.{there_lun}
-use Rattle.nand_geometry.proofs.Booleans.{and_parts, or_parts}
 use Rattle.micro_program.proofs.Claiming.{stays_fine}
 use Rattle.micro_program.proofs.Scenes.{Scene, IsScene}
 use Rattle.micro_claims.proofs.Fits.{closer_among, Fits}

@@ -1,6 +1,8 @@
 -- An address word that nothing is against: its bytes, and what stands at the place where it begins.
 use Rattle.std.proofs.Common.{◌≡◌, ℕ, zero, suc, ◌+◌, ◌*◌, ◌/◌, ◌%◌, ◌≤◌, ◌<◌, ◌==◌, Bool, true, false, ◌&&◌, ◌||◌, cond, not, ltb, nat_le, List, [], ◌∷◌, ◌++◌, Option, Some, None, refl, sym, ap, ◌∙◌, arith, eqb-true, take, drop}
 use Rattle.std.proofs.lemmas.Bool.Decides.{nat_tests}
+use Rattle.std.proofs.lemmas.Bool.{and_right, not-false, or_parts}
+use Rattle.onfi_cycle.proofs.Booleans.{and_rest}
 use Rattle.nand_geometry.specs.declared.parts.Parts.{Parts}
 use Rattle.nand_geometry.specs.Limits.{planes, indices}
 use Rattle.nand_geometry.specs.Row.{indexed, row_number, row_cycles, row_bytes_of, ReadsBack}
@@ -18,8 +20,6 @@ use Rattle.micro_program.proofs.Basics.{there_lun}
 use Rattle.micro_claims.proofs.Fits.{RegistersFit, Address, all_bytes, facts_behind, RowIs}
 use Rattle.micro_claims.proofs.Numbers.{surely}
 use Rattle.micro_claims.proofs.Sounding.{KnownJob}
-use Rattle.micro_claims.proofs.Commands.{not_no}
-use Rattle.nand_geometry.proofs.Booleans.{or_parts}
 
 -- 1. nothing is against it at its place
 
@@ -33,10 +33,6 @@ pub record PlaceClear (g : Parts) (v : State) (from count : ℕ) (p : Place) : T
 clash : {X : Type 0} (b : Bool) → b ≡ true → b ≡ false → X
 clash true h k = cc
 clash false h k = cc
-
-and_no_more : (a b : Bool) → a ≡ true → (a && b) ≡ false → b ≡ false
-and_no_more true b h k = k
-and_no_more false b h k = cc
 
 -- the tests of one place, with their values as variables
 tests : (zero_left idn same second past : Bool) (refused few : Bool) (surely : Bool) → (second ≡ true → past ≡ false → surely ≡ false) → (second ≡ false → surely ≡ false) → idn ≡ false
@@ -61,8 +57,8 @@ place_clear g j v done from count p f idn out elsewhere past =
       left = t.0;
       begins = eqb-true from (next_address p) t.1;
       few = grind (arith, nat_tests, refused.0);
-      row = λ e. and_no_more (nat_le 5 (from + count)) (row_refused v p) e (and_no_more (from == next_address p) _ t.1 (assoc (from == next_address p) (nat_le 5 (from + count)) (row_refused v p) refused.1));
-      column = λ e. not_no _ (t.3 e);
+      row = λ e. and_rest (nat_le 5 (from + count)) (row_refused v p) e (and_rest (from == next_address p) _ t.1 (assoc (from == next_address p) (nat_le 5 (from + count)) (row_refused v p) refused.1));
+      column = λ e. not-false _ (t.3 e);
     }
   where
     assoc : (a b d : Bool) → (a && b && d) ≡ false → (a && (b && d)) ≡ false
@@ -76,14 +72,10 @@ place_clear g j v done from count p f idn out elsewhere past =
 
     not_past : has_second_column from count ≡ true → not (is_at_most (bound_plus v.registers.column.hi 1) (column_limit g v p)) ≡ false → surely_past g v from count p ≡ false
     not_past e h =
-        let most = surely (column_now done) v.registers.column.hi 1 (column_limit g v p) f.column.most (not_no _ h) in
+        let most = surely (column_now done) v.registers.column.hi 1 (column_limit g v p) f.column.most (not-false _ h) in
         let least = f.column.least in
         let below : nat_le (column_limit g v p) v.registers.column.lo ≡ false = grind (arith, nat_tests, most, least) in
-        ends (from == next_address p && has_second_column from count) (nat_le (column_limit g v p) v.registers.column.lo) below
-      where
-        ends : (a b : Bool) → b ≡ false → (a && b) ≡ false
-        ends true b h = h
-        ends false b h = refl
+        and_right (from == next_address p && has_second_column from count) (nat_le (column_limit g v p) v.registers.column.lo) below
 
 -- 2. its bytes
 
@@ -91,12 +83,12 @@ place_clear g j v done from count p f idn out elsewhere past =
 row_there : (s : Channel) (j : Job) (k : KnownJob s j) (v : State) (done : List Done) (from count : ℕ) → RegistersFit s.geometry j v.registers done → row_outside s.geometry j.text.rows v from count ≡ false → ltb 2 (from + count) ≡ true → ReadsBack s.geometry j.lun.lun (index_now j.base done) (plane_now done)
 row_there s j k v done from count f inside row =
     let g = s.geometry in
-    let both = or_parts (not (is_at_most (bound_plus v.registers.index.hi 1) j.text.rows)) (not (are_below (planes g) v.registers.planes)) (and_no_more (ltb 2 (from + count)) _ row inside) in
-    let most = surely f.over v.registers.index.hi 1 j.text.rows f.index.most (not_no _ both.0) in
+    let both = or_parts (not (is_at_most (bound_plus v.registers.index.hi 1) j.text.rows)) (not (are_below (planes g) v.registers.planes)) (and_rest (ltb 2 (from + count)) _ row inside) in
+    let most = surely f.over v.registers.index.hi 1 j.text.rows f.index.most (not-false _ both.0) in
     let is = f.over_is in
     let top = k.rows in
     let low : index_now j.base done < indices g = omega (arith, most, is, top) in
-    let plane : plane_now done < planes g = below_count (planes g) (plane_now done) v.registers.planes (not_no _ both.1) f.plane in
+    let plane : plane_now done < planes g = below_count (planes g) (plane_now done) v.registers.planes (not-false _ both.1) f.plane in
     rows g j.lun.lun (index_now j.base done) (plane_now done) k.limits (there_lun s j.lun k.there) low plane
 
 -- a row that has bytes is of a plane that is there

@@ -1,5 +1,7 @@
 -- Commands are sound: of each, what the claim allows, and what it leaves.
 use Rattle.std.proofs.Common.{◌≡◌, ℕ, ◌+◌, ◌%◌, ◌==◌, Bool, true, false, ◌&&◌, ◌||◌, cond, not, ltb, List, [], ◌∷◌, Option, Some, None, refl, sym, ap, ◌∙◌, subst, arith, eq-eqb}
+use Rattle.std.proofs.lemmas.Bool.{not-false, not-true, and_parts, or_parts}
+use Rattle.std.proofs.Math.Bool.{or-true}
 use Rattle.nand_geometry.specs.declared.parts.Parts.{Parts}
 use Rattle.nand_geometry.specs.declared.row_parts.RowParts.{RowParts}
 use Rattle.nand_geometry.specs.Row.{row_of, parts_of}
@@ -37,15 +39,10 @@ use Rattle.micro_claims.specs.Accepts.{state_after, accepts}
 use Rattle.micro_program.proofs.Scenes.{Scene, IsScene, CommandAllowed, shown_alone, sole_behind, scene_behind}
 use Rattle.micro_program.specs.Moves.{Give}
 use Rattle.micro_claims.proofs.Fits.{ColumnBegun, closer_among, Address, is_place, RegistersFit, TailFits, ColumnFits, RowIs, NameFits, ShowsFit, LunFits, OutputColumnFits, RegisterFits, Below, latch_among, register_among, Fits, Now, now_of}
-use Rattle.nand_geometry.proofs.Booleans.{and_parts, or_parts}
 use Rattle.micro_claims.proofs.Tails.{closed_tail, closed_fits, opener_fits, whole_read, whole_erase, whole_column, Programming, programming}
 use Rattle.micro_claims.proofs.Sounding.{KnownJob, NoReasons, unmoved, SoundWord, plain_sound}
 
 -- 1. what serves all of them
-
-pub not_no : (b : Bool) → not b ≡ false → b ≡ true
-not_no true h = refl
-not_no false h = cc
 
 pub out_of_place : (g : Parts) (text : Microprogram) (v : State) (byte : ℕ) (d : Command) → command byte ≡ d → NoReasons g text v (CommandWord byte) → command_out_of_place g v d ≡ false
 unfolding breaks_cycle_forbidden
@@ -82,9 +79,6 @@ same_either true = refl
 same_either false = refl
 
 -- what an opener needs
-not_yes : (b : Bool) → not b ≡ true → b ≡ false
-not_yes true h = cc
-not_yes false h = refl
 
 record Opening (v : State) (c : Scene) : Type 0 where
   closed : is_open c.facts ≡ false
@@ -144,14 +138,14 @@ changes (Some w) (Some r) c shows fits ready shown page = (shows.0, rw (is_shown
   where
     is_shown : (x : Latch) → latch_among w x ≡ true → is_data x ≡ true
     is_shown Off h = cc
-    is_shown Status h = let none = not_yes w.status shown in cc
+    is_shown Status h = let none = not-true w.status shown in cc
     is_shown Data h = refl
 
     is_held : (x : Register) → register_among r x ≡ true → is_page_or_parameters x ≡ true
     is_held Empty h = cc
     is_held (Page p) h = refl
     is_held ParameterPage h = refl
-    is_held Identifier h = let none = not_yes r.identifier page in cc
+    is_held Identifier h = let none = not-true r.identifier page in cc
 
 pub sound_05 : (s : Channel) (j : Job) (k : KnownJob s j) (v : State) (past : List Item) (c : Scene) (done : List Done) (rest : List Line) (at byte : ℕ) → command byte ≡ ChangeReadColumn → IsScene s j.lun past c → Fits s.geometry j v done c true → NoReasons s.geometry j.text v (CommandWord byte) → accepts s.geometry (bounds_of j.text) None (state_after s.geometry v (CommandWord byte)) rest ≡ true → SoundWord s j past done rest at (CommandWord byte)
 sound_05 s j k v past c done rest at byte is scene f clear acc =
@@ -159,7 +153,7 @@ sound_05 s j k v past c done rest at byte is scene f clear acc =
     let held = or_parts (not (shows_only_data v.target.shows) || v.lun.busy) (not (has_page_or_parameters v.lun.register)) free.1 in
     let ready = or_parts (not (shows_only_data v.target.shows)) v.lun.busy held.0 in
     let o = opening s.geometry j v done c f free.0 ready.1 in
-    let may = changes v.target.shows v.lun.register c f.shows f.lun.register o.ready (not_no _ ready.0) (not_no _ held.1) in
+    let may = changes v.target.shows v.lun.register c f.shows f.lun.register o.ready (not-false _ ready.0) (not-false _ held.1) in
     plain_opener s j k v past c done rest at byte ChangeReadColumn is scene f clear ((o.closed, o.ready), may.0, may.1) refl refl (same_either (wants_command c.facts ChangeReadColumn && names_lun s.geometry (row c.facts) j.lun.lun)) refl acc
 
 -- 3. closers
@@ -178,7 +172,7 @@ wanted g text v byte d is fit closer clear =
     let fitting = subst (λ (b : Bool). cond b false (cond (is_opener d) (may_be_open v || opener_refused g v d) all) ≡ false) fit (out_of_place g text v byte d is clear) in
     let closing = subst (λ (b : Bool). cond b (may_be_open v || opener_refused g v d) all ≡ false) closer fitting in
     let both = or_parts (not (place_wants d v.target.tail)) (closer_refused v d) closing in
-    record { places = not_no _ both.0; not_refused = both.1 }
+    record { places = not-false _ both.0; not_refused = both.1 }
 
 -- work that leaves no register, and an empty queue
 started_fits : (g : Parts) (j : Job) (v : State) (i : ℕ) (view : LunView) → view.queue ≡ [] → closer_among other_closer view.closer ≡ true → LunFits g j (work_started NoRows v).lun i view
@@ -243,13 +237,9 @@ read_shown : (g : Parts) (o : Option Shown) (c d : Scene) → d.sole ≡ (c.sole
 read_shown g (Some w) c d sole latch f = (sole ∙ rw f.0 refl, ap (latch_among (record { status = false; register = true })) latch)
 read_shown g None c d sole latch f = at (ltb 1 g.luns) refl
   where
-    or_yes : (b : Bool) → (b || true) ≡ true
-    or_yes true = refl
-    or_yes false = refl
-
     at : (b : Bool) → ltb 1 g.luns ≡ b → ShowsFit (cond b None data_shown) d
     at true e = tt
-    at false e = (sole ∙ (ap (λ (b : Bool). c.sole || not b) e ∙ or_yes c.sole), ap (latch_among (record { status = false; register = true })) latch)
+    at false e = (sole ∙ (ap (λ (b : Bool). c.sole || not b) e ∙ or-true c.sole), ap (latch_among (record { status = false; register = true })) latch)
 
 pub sound_30 : (s : Channel) (j : Job) (k : KnownJob s j) (v : State) (past : List Item) (c : Scene) (done : List Done) (rest : List Line) (at byte : ℕ) → command byte ≡ ReadConfirm → IsScene s j.lun past c → Fits s.geometry j v done c true → NoReasons s.geometry j.text v (CommandWord byte) → accepts s.geometry (bounds_of j.text) None (state_after s.geometry v (CommandWord byte)) rest ≡ true → SoundWord s j past done rest at (CommandWord byte)
 sound_30 s j k v past c done rest at byte is scene f clear acc =

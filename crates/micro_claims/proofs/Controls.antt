@@ -1,5 +1,6 @@
 -- Words that ask for the status, let the bus go, branch or end are sound; and registers.
 use Rattle.std.proofs.Common.{◌≡◌, ℕ, ◌==◌, Bool, true, false, ◌&&◌, ◌||◌, cond, not, ltb, List, [], ◌∷◌, ◌++◌, Option, Some, None, refl, sym, ap, ◌∙◌, subst}
+use Rattle.std.proofs.lemmas.Bool.{or_parts}
 use Rattle.nand_geometry.specs.declared.parts.Parts.{Parts}
 use Rattle.onfi_cycle.specs.declared.item.Item.{Item}
 use Rattle.onfi_cycle.specs.declared.item.Kind.TheVariants.{Dout}
@@ -13,7 +14,7 @@ use Rattle.micro_word.specs.declared.word.Word.TheVariants.{End, Wait, Yield, Re
 use Rattle.micro_word.specs.Text.{Microprogram}
 use Rattle.micro_program.specs.Lines.{Line, from_place}
 use Rattle.micro_program.specs.Program.{Job, Done, Answer, Nothing, Polled, index_now, place_now, place_after, is_ready_status, cost, meets, status_now}
-use Rattle.micro_program.specs.Moves.{Move, Take, moves, and_then}
+use Rattle.micro_program.specs.Moves.{Move, Take, moves}
 use Rattle.micro_program.specs.Played.{Played, answered}
 use Rattle.micro_program.specs.Step.{Stride, answered_step, stride, first_byte}
 use Rattle.micro_program.specs.Safe.{after_step}
@@ -29,7 +30,6 @@ use Rattle.micro_program.proofs.PollScenes.{polled_view, PolledScene, poll_scene
 use Rattle.micro_claims.proofs.Fits.{RowsFit, latch_among, Below, RegistersFit, TailFits, LunFits, OutputColumnFits, Fits, is_unread, Now, now_of}
 use Rattle.micro_claims.proofs.Tails.{closed_tail, closed_fits}
 use Rattle.micro_claims.proofs.Sounding.{KnownJob, Claims, NoReasons, Unmoved, unmoved, within_budget, SoundWord}
-use Rattle.nand_geometry.proofs.Booleans.{or_parts}
 use Rattle.micro_claims.proofs.SoundAddress.{not_caching}
 
 -- 1. the claim behind a poll

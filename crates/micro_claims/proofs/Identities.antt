@@ -1,6 +1,7 @@
 -- The identifier and the parameter page: their commands and their one address are sound.
 use Rattle.std.proofs.Common.{◌≡◌, ℕ, zero, suc, ◌≤◌, ◌==◌, Bool, true, false, ◌&&◌, ◌||◌, not, ltb, nat_le, List, [], ◌∷◌, Option, Some, None, refl, sym, ap, ◌∙◌, subst, arith, eqb-true, take}
 use Rattle.std.proofs.lemmas.Bool.Decides.{nat_tests}
+use Rattle.std.proofs.lemmas.Bool.{not-false, and_parts, or_parts}
 use Rattle.nand_geometry.specs.declared.parts.Parts.{Parts}
 use Rattle.onfi_cycle.specs.declared.command.Command.{Command}
 use Rattle.onfi_cycle.specs.declared.command.Command.TheVariants.{ReadId, ReadParameterPage}
@@ -28,13 +29,12 @@ use Rattle.micro_claims.specs.Against.{may_be_open, may_be_queued, opener_refuse
 use Rattle.micro_claims.specs.Reasons.{breaks_cycle_forbidden}
 use Rattle.micro_claims.specs.Leaves.{identity_read, address_leaves_at, with_registers, paid, data_shown}
 use Rattle.micro_claims.specs.Accepts.{state_after, accepts}
-use Rattle.nand_geometry.proofs.Booleans.{and_parts, or_parts}
 use Rattle.micro_program.proofs.Scenes.{Scene, IsScene, AddressAllowed, scene_behind}
 use Rattle.micro_claims.proofs.Fits.{Address, ShowsFit, TailFits, latch_among, facts_behind, bytes_of, RegistersFit, Opened, opener_facts, PlaceIs, RowsFit, LunFits, Fits, now_of}
 use Rattle.micro_claims.proofs.Numbers.{in_exactly}
 use Rattle.micro_claims.proofs.Tails.{every_place, no_place, closed_tail, closed_fits}
 use Rattle.micro_claims.proofs.Sounding.{KnownJob, NoReasons, unmoved, SoundWord, plain_sound}
-use Rattle.micro_claims.proofs.Commands.{not_no, plain_opener, same_either}
+use Rattle.micro_claims.proofs.Commands.{plain_opener, same_either}
 use Rattle.micro_claims.proofs.MoreCommands.{declared, opener_free}
 use Rattle.micro_claims.proofs.SoundAddress.{not_caching, sound_address}
 use Rattle.micro_claims.proofs.Indices.{only_is}
@@ -76,7 +76,7 @@ record Identity (g : Parts) (j : Job) (done : List Done) (from count : ℕ) (o :
   takes : takes_address o (byte_of_column from (column_now done)) ≡ true
 
 identity : (g : Parts) (j : Job) (v : State) (done : List Done) (from count : ℕ) (o : Command) → RegistersFit g j v.registers done → (ltb 1 g.luns || not (count == 1) || not (is_identity_byte o from (only v.registers.column))) ≡ false → Identity g j done from count o
-identity g j v done from count o f refused = by (only v.registers.column) refl (not_no _ both.1)
+identity g j v done from count o f refused = by (only v.registers.column) refl (not-false _ both.1)
   where
     both : ((ltb 1 g.luns || not (count == 1)) ≡ false) × (not (is_identity_byte o from (only v.registers.column)) ≡ false)
     both = or_parts (ltb 1 g.luns || not (count == 1)) (not (is_identity_byte o from (only v.registers.column))) refused
@@ -89,7 +89,7 @@ identity g j v done from count o f refused = by (only v.registers.column) refl (
     by (Some x) e h =
         let two = and_parts (nat_le from 1) (takes_address o (byte_of_column from x)) h in
         let is : column_now done ≡ x = only_is (column_now done) v.registers.column.lo v.registers.column.hi x f.column.least f.column.most e in
-        record { single = alone.0; one = eqb-true count 1 (not_no _ alone.1); low = grind (arith, nat_tests, two.0); takes = ap (λ (m : ℕ). takes_address o (byte_of_column from m)) is ∙ two.1 }
+        record { single = alone.0; one = eqb-true count 1 (not-false _ alone.1); low = grind (arith, nat_tests, two.0); takes = ap (λ (m : ℕ). takes_address o (byte_of_column from m)) is ∙ two.1 }
 
 -- the byte of the word
 pub identity_bytes : (g : Parts) (j : Job) (done : List Done) (from : ℕ) → from ≤ 1 → address g j done from 1 ≡ Some (byte_of_column from (column_now done) ∷ [])

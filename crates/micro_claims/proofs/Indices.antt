@@ -4,6 +4,7 @@ use Rattle.std.proofs.Common.{◌≡◌, ℕ, zero, suc, ◌+◌, ◌*◌, ◌/�
 use Rattle.std.proofs.lemmas.Bool.Decides.{nat_tests}
 use Rattle.std.proofs.lemmas.Nat.{mod_below}
 use Rattle.std.proofs.Math.Nat.{div-add-mod, mul-add-mod_self_left}
+use Rattle.std.proofs.lemmas.Bool.{and_parts}
 use Rattle.nand_geometry.specs.declared.parts.Parts.{Parts}
 use Rattle.onfi_cycle.specs.declared.item.Item.{Item}
 use Rattle.onfi_cycle.specs.declared.queued.Queued.{Queued}
@@ -19,7 +20,6 @@ use Rattle.micro_claims.specs.Against.{is_inside_address}
 use Rattle.micro_claims.specs.Reasons.{breaks_address_unaligned}
 use Rattle.micro_claims.specs.Leaves.{drift_more, drift_set, and_drift, rows_at, named_moved, rows_moved, page_plus, drift_of}
 use Rattle.micro_claims.specs.Accepts.{state_after, accepts}
-use Rattle.nand_geometry.proofs.Booleans.{and_parts}
 use Rattle.micro_program.proofs.Scenes.{Scene, IsScene}
 use Rattle.micro_claims.proofs.Fits.{Below, InRange, Address, Now, now_of, DriftFits, NameFits, TailFits, RowFits, AllFit, RowsFit, LunFits, Fits}
 use Rattle.micro_claims.proofs.Numbers.{below_cost, in_exactly, in_plus}

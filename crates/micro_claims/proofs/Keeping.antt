@@ -1,6 +1,7 @@
 -- What comes between the words of a program keeps what is claimed of it.
-use Rattle.std.proofs.Common.{◌≡◌, inl, inr, ℕ, ◌==◌, Bool, true, false, ◌&&◌, cond, not, ltb, List, ◌∷◌, Option, Some, None, refl, sym, ap, ◌∙◌, subst, arith, eqb-true, eq-eqb}
+use Rattle.std.proofs.Common.{◌≡◌, inl, inr, ℕ, ◌==◌, Bool, true, false, ◌&&◌, cond, ltb, List, ◌∷◌, Option, Some, None, refl, sym, ap, ◌∙◌, subst, arith, eqb-true, eq-eqb}
 use Rattle.std.proofs.lemmas.Bool.Decides.{nat_tests}
+use Rattle.std.proofs.lemmas.Bool.{not-true, and_parts, and_from}
 use Rattle.nand_geometry.specs.declared.parts.Parts.{Parts}
 use Rattle.onfi_cycle.specs.declared.lun.Lun.{Lun}
 use Rattle.onfi_cycle.specs.declared.item.Item.{Item}
@@ -26,7 +27,6 @@ use Rattle.micro_program.specs.Safe.{Seat, after_item}
 use Rattle.micro_claims.specs.State.{KnownLun, OutputColumn, Shown}
 use Rattle.micro_program.proofs.Below.{readies, own_cycles, targets}
 use Rattle.micro_program.proofs.Basics.{there_lun}
-use Rattle.nand_geometry.proofs.Booleans.{and_parts, and_true}
 use Rattle.micro_program.proofs.Scenes.{Scene}
 use Rattle.micro_program.proofs.Stepping.{drivers_same}
 use Rattle.micro_claims.proofs.Fits.{RegisterFits, RowsFit, closer_among, latch_among, Below, ShowsFit, OutputFits, OutputColumnFits, LunFits, is_unread}
@@ -176,13 +176,9 @@ kept_column : (o : Option OutputColumn) (old new : ReadColumn) → is_unread o �
 kept_column None old new unread same f = tt
 kept_column (Some k) old new unread (inl e) f = subst (λ (c : ReadColumn). OutputFits k c) (sym e) f
 kept_column (Some k) old new unread (inr lost) f =
-    let none = f.unread (is_no k.read unread) in
+    let none = f.unread (not-true k.read unread) in
     let some : ltb 0 0 ≡ true = subst (λ (n : ℕ). ltb 0 n ≡ true) none lost.1 in
     cc
-  where
-    is_no : (b : Bool) → not b ≡ true → b ≡ false
-    is_no true h = cc
-    is_no false h = refl
 
 -- a LUN of the same target: there are several
 here_kept : (s : Channel) (j : Job) (k : KnownJob s j) (seat : Seat) (c : Cycle) (kept : KeepsLun s.geometry seat.past (Cyc c) j.lun) → Claims s j seat → seat.holding ≡ false → ltb 1 s.geometry.luns ≡ true → Claims s j (after_item (Cyc c) seat)
@@ -247,7 +243,7 @@ other_kept s j k seat c m legal claims free own there ne = at (m.ce == j.lun.ce)
     at true e = here_kept s j k seat c kept claims free (several (m.lun == j.lun.lun) refl)
       where
         several : (b : Bool) → (m.lun == j.lun.lun) ≡ b → ltb 1 s.geometry.luns ≡ true
-        several true f = let both : same_lun m j.lun ≡ true = and_true (m.ce == j.lun.ce) (m.lun == j.lun.lun) e f in cc
+        several true f = let both : same_lun m j.lun ≡ true = and_from (m.ce == j.lun.ce) (m.lun == j.lun.lun) e f in cc
         several false f =
             let low = there_lun s m there in
             let high = there_lun s j.lun k.there in

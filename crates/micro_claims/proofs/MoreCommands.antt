@@ -1,6 +1,7 @@
 -- Queued erases and programs, resets and cache reads are sound.
 use Rattle.std.proofs.Common.{◌≡◌, ℕ, ◌+◌, ◌*◌, ◌/◌, ◌%◌, ◌==◌, Bool, true, false, ◌&&◌, ◌||◌, cond, not, ltb, List, [], ◌∷◌, Option, Some, None, refl, sym, ap, ◌∙◌, subst, arith, eqb-true}
 use Rattle.std.proofs.lemmas.Bool.Decides.{nat_tests}
+use Rattle.std.proofs.lemmas.Bool.{not-false, and_parts, or_parts}
 use Rattle.nand_geometry.specs.declared.parts.Parts.{Parts}
 use Rattle.nand_geometry.specs.declared.row_parts.RowParts.{RowParts}
 use Rattle.nand_geometry.specs.Limits.{planes}
@@ -31,13 +32,12 @@ use Rattle.micro_claims.specs.Leaves.{work_started, rows_at, goes_along, queued_
 use Rattle.micro_claims.specs.Accepts.{state_after, accepts}
 use Rattle.micro_program.specs.Program.{Job, Done, index_now}
 use Rattle.micro_claims.proofs.PlaneSets.{among_first, among_second}
-use Rattle.nand_geometry.proofs.Booleans.{and_parts, or_parts}
 use Rattle.micro_program.proofs.Scenes.{Scene, IsScene, shown_alone, scene_behind}
 use Rattle.micro_claims.proofs.Fits.{latch_among, DriftFits, Address, NameFits, RowIs, is_of_kind, page_of, RowFits, AllFit, RowsFit, closer_among, LunFits, Fits, now_of}
 use Rattle.micro_claims.proofs.Numbers.{below_plus, in_exactly, surely}
 use Rattle.micro_claims.proofs.Tails.{closed_tail, closed_fits, whole_erase_plane, programming}
 use Rattle.micro_claims.proofs.Sounding.{KnownJob, NoReasons, SoundWord}
-use Rattle.micro_claims.proofs.Commands.{not_no, command_sound, shows_kept, wanted, row_names, program_row, driven, out_of_place}
+use Rattle.micro_claims.proofs.Commands.{command_sound, shows_kept, wanted, row_names, program_row, driven, out_of_place}
 
 -- 1. what is declared
 
@@ -97,10 +97,6 @@ page_of_row : (g : Parts) (j : Job) (t : TailFacts) (a : Address) → row t ≡ 
 page_of_row g j t a e r =
     (ap (λ (n : ℕ). (parts_of g n).page) e ∙ ap (λ (p : RowParts). p.page) r.reads, ap (λ (n : ℕ). (parts_of g n).block) e ∙ ap (λ (p : RowParts). p.block) r.reads)
 
-multi : (b : Bool) → not b ≡ false → b ≡ true
-multi true h = refl
-multi false h = cc
-
 -- D1h
 pub sound_d1 : (s : Channel) (j : Job) (k : KnownJob s j) (v : State) (past : List Item) (c : Scene) (done : List Done) (rest : List Line) (at byte : ℕ) → command byte ≡ BlockErasePlane → IsScene s j.lun past c → Fits s.geometry j v done c true → NoReasons s.geometry j.text v (CommandWord byte) → accepts s.geometry (bounds_of j.text) None (state_after s.geometry v (CommandWord byte)) rest ≡ true → SoundWord s j past done rest at (CommandWord byte)
 sound_d1 s j k v past c done rest at byte is scene f clear acc =
@@ -112,7 +108,7 @@ sound_d1 s j k v past c done rest at byte is scene f clear acc =
     let names = row_names g j c.facts w.address row_is (w.row refl) in
     let page = page_of_row g j c.facts w.address row_is (w.row refl) in
     let effect : cycle_effect g c.facts (shown_alone c) (CommandCycle BlockErasePlane) j.lun.lun ≡ EraseStarted true (page_address g (row c.facts)) = rw (wants, names) refl in
-    command_sound s j k v past c done rest at byte BlockErasePlane is scene f clear ((wants, names), multi g.multi_plane dec.fit) refl
+    command_sound s j k v past c done rest at byte BlockErasePlane is scene f clear ((wants, names), not-false g.multi_plane dec.fit) refl
     (closed_fits g j None None v.target.shows (now_of j done) _ (ap (λ (t : TailFacts). is_open (facts_after (CommandCycle BlockErasePlane) t)) w.facts))
     (shows_kept v.target.shows c (scene_behind g j.lun.lun (CommandCycle BlockErasePlane) c) (λ e. e) (ap (λ (e : Effect). (view_after e c.view).latch) effect) f.shows)
     (subst (λ (e : Effect). LunFits g j (work_started (queued_more true v.lun.queue v.target.named) v).lun (index_now j.base done) (view_after e c.view)) (sym effect)
@@ -143,7 +139,7 @@ sound_11 s j k v past c done rest at byte is scene f clear acc =
     let names = row_names g j c.facts p.address row_is p.row in
     let page = page_of_row g j c.facts p.address row_is p.row in
     let effect : cycle_effect g c.facts (shown_alone c) (CommandCycle ProgramPlane) j.lun.lun ≡ ProgramStarted true (page_address g (row c.facts)) = rw (wants, names) refl in
-    command_sound s j k v past c done rest at byte ProgramPlane is scene f clear ((wants, names), multi g.multi_plane dec.fit) refl
+    command_sound s j k v past c done rest at byte ProgramPlane is scene f clear ((wants, names), not-false g.multi_plane dec.fit) refl
     (closed_fits g j None None v.target.shows (now_of j done) _ (rw p.program.begun refl))
     (shows_kept v.target.shows c (scene_behind g j.lun.lun (CommandCycle ProgramPlane) c) (λ e. e) (ap (λ (e : Effect). (view_after e c.view).latch) effect) f.shows)
     (subst (λ (e : Effect). LunFits g j (work_started (queued_more false v.lun.queue v.target.named) v).lun (index_now j.base done) (view_after e c.view)) (sym effect)
@@ -196,11 +192,11 @@ sound_31 s j k v past c done rest at byte is scene f clear acc =
     let drive = driven v.target.shows c f.shows one.0 in
     let ready = f.lun.ready one.1 in
     let read = page_read v.lun.last c.view.closer f.lun.last two.1 in
-    let base = k.cache (not_no _ dec.cache) in
-    let most = surely c.view.array_page.page v.lun.cached.page.hi 2 g.pages (f.lun.cached base two.1) (not_no _ three.1) in
+    let base = k.cache (not-false _ dec.cache) in
+    let most = surely c.view.array_page.page v.lun.cached.page.hi 2 g.pages (f.lun.cached base two.1) (not-false _ three.1) in
     let next : ltb (c.view.array_page.page + 1) g.pages ≡ true = grind (arith, nat_tests, most) in
     let effect : cycle_effect g c.facts (shown_alone c) (CommandCycle ReadCacheSequential) j.lun.lun ≡ CacheReadContinued = rw (drive.0, drive.1) refl in
-    command_sound s j k v past c done rest at byte ReadCacheSequential is scene f clear (record { closed = shut; declared = multi g.cache dec.fit; sole = drive.0; passes = rw (ready, read, next) refl }) refl
+    command_sound s j k v past c done rest at byte ReadCacheSequential is scene f clear (record { closed = shut; declared = not-false g.cache dec.fit; sole = drive.0; passes = rw (ready, read, next) refl }) refl
     (closed_fits g j None None data_shown (now_of j done) _ refl)
     (drive.0, ap (λ (e : Effect). latch_among (record { status = false; register = true }) (view_after e c.view).latch) effect)
     (subst (λ (e : Effect). LunFits g j (command_leaves g v ReadCacheSequential).lun (index_now j.base done) (view_after e c.view)) (sym effect)
@@ -220,7 +216,7 @@ sound_3f s j k v past c done rest at byte is scene f clear acc =
     let ready = f.lun.ready one.1 in
     let read = cache_only v.lun.last c.view.closer f.lun.last two.1 three.1 in
     let effect : cycle_effect g c.facts (shown_alone c) (CommandCycle ReadCacheEnd) j.lun.lun ≡ CacheReadEnded = rw (drive.0, drive.1) refl in
-    command_sound s j k v past c done rest at byte ReadCacheEnd is scene f clear (record { closed = shut; declared = multi g.cache dec.fit; sole = drive.0; passes = rw (ready, read) refl }) refl
+    command_sound s j k v past c done rest at byte ReadCacheEnd is scene f clear (record { closed = shut; declared = not-false g.cache dec.fit; sole = drive.0; passes = rw (ready, read) refl }) refl
     (closed_fits g j None None data_shown (now_of j done) _ refl)
     (drive.0, ap (λ (e : Effect). latch_among (record { status = false; register = true }) (view_after e c.view).latch) effect)
     (subst (λ (e : Effect). LunFits g j (command_leaves g v ReadCacheEnd).lun (index_now j.base done) (view_after e c.view)) (sym effect)

@@ -2,11 +2,11 @@
 use Rattle.std.proofs.Common.{◌≡◌, ℕ, ◌+◌, ◌*◌, ◌/◌, ◌%◌, ◌≤◌, ◌<◌, ◌==◌, Bool, true, false, ◌&&◌, cond, nat_le, ltb, Option, Some, None, List, refl, sym, ap, ◌∙◌, subst, arith, eqb-true}
 use Rattle.std.proofs.lemmas.Nat.{div_below, le-div, mod_below}
 use Rattle.std.proofs.Math.Nat.{div-add-mod, mul-add-mod_self_left}
+use Rattle.std.proofs.lemmas.Bool.{and_parts}
 use Rattle.nand_geometry.specs.declared.parts.Parts.{Parts}
 use Rattle.micro_program.specs.Program.{Job, Done, index_now}
 use Rattle.micro_claims.specs.State.{State, PageRange}
 use Rattle.micro_claims.specs.Leaves.{greatest_page_of, name_now}
-use Rattle.nand_geometry.proofs.Booleans.{and_parts}
 use Rattle.micro_claims.proofs.Fits.{Below, InRange, RegistersFit, RowNamed}
 use Rattle.micro_claims.proofs.Addressing.{AddressNow, of_now}
 

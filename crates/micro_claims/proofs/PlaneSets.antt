@@ -1,15 +1,9 @@
 -- Sets of planes: who is in them.
 use Rattle.std.proofs.Common.{◌≡◌, ℕ, zero, suc, ◌≤◌, ◌<◌, ◌==◌, Bool, true, false, ◌&&◌, ◌||◌, not, nat_le, refl, sym, ap, ◌∙◌, arith, eqb-true, eq-eqb}
 use Rattle.std.proofs.lemmas.Bool.Decides.{nat_tests}
+use Rattle.std.proofs.lemmas.Bool.{and_parts, or_left, or_right}
+use Rattle.onfi_cycle.proofs.Booleans.{and_rest}
 use Rattle.micro_claims.specs.Planes.{Planes, has_plane, just_plane, either_plane, share_a_plane, are_below}
-
-or_left : (a b : Bool) → a ≡ true → (a || b) ≡ true
-or_left true b h = refl
-or_left false b h = cc
-
-or_right : (a b : Bool) → b ≡ true → (a || b) ≡ true
-or_right true b h = refl
-or_right false b h = h
 
 -- the one plane of a set of one
 pub just_has : (n : ℕ) → n ≤ 3 → has_plane n (just_plane n) ≡ true
@@ -47,10 +41,6 @@ none_of false true c d h = cc
 none_of false false true d h = cc
 none_of false false false true h = cc
 
-held : (a b : Bool) → a ≡ true → (a && b) ≡ false → b ≡ false
-held true b h k = k
-held false b h k = cc
-
 pub below_count : (count n : ℕ) (p : Planes) → are_below count p ≡ true → has_plane n p ≡ true → n < count
 below_count count n p h has = at n has (none_of (p.zero && nat_le count 0) (p.one && nat_le count 1) (p.two && nat_le count 2) (p.three && nat_le count 3) h)
   where
@@ -58,10 +48,10 @@ below_count count n p h has = at n has (none_of (p.zero && nat_le count 0) (p.on
     above m e = grind (arith, nat_tests, e)
 
     at : (n : ℕ) → has_plane n p ≡ true → ((p.zero && nat_le count 0) ≡ false) × ((p.one && nat_le count 1) ≡ false) × ((p.two && nat_le count 2) ≡ false) × ((p.three && nat_le count 3) ≡ false) → n < count
-    at zero has b = above 0 (held p.zero (nat_le count 0) has b.0)
-    at (suc zero) has b = above 1 (held p.one (nat_le count 1) has b.1)
-    at (suc (suc zero)) has b = above 2 (held p.two (nat_le count 2) has b.2)
-    at (suc (suc (suc zero))) has b = above 3 (held p.three (nat_le count 3) has b.3)
+    at zero has b = above 0 (and_rest p.zero (nat_le count 0) has b.0)
+    at (suc zero) has b = above 1 (and_rest p.one (nat_le count 1) has b.1)
+    at (suc (suc zero)) has b = above 2 (and_rest p.two (nat_le count 2) has b.2)
+    at (suc (suc (suc zero))) has b = above 3 (and_rest p.three (nat_le count 3) has b.3)
     at (suc (suc (suc (suc m)))) has b = cc
 
 none_shared : (a b c d : Bool) → (a || b || c || d) ≡ false → (a ≡ false) × (b ≡ false) × (c ≡ false) × (d ≡ false)
@@ -110,15 +100,11 @@ below_all count p h = at p.zero p.one p.two p.three refl refl refl refl
 pub shared : (p q : Planes) → share_a_plane p q ≡ true → (n : ℕ) × ((has_plane n p ≡ true) × (has_plane n q ≡ true))
 shared p q h = at (p.zero && q.zero) refl (p.one && q.one) refl (p.two && q.two) refl (p.three && q.three) refl h
   where
-    both : (a b : Bool) → (a && b) ≡ true → (a ≡ true) × (b ≡ true)
-    both true b e = (refl, e)
-    both false b e = cc
-
     at : (a : Bool) → (p.zero && q.zero) ≡ a → (b : Bool) → (p.one && q.one) ≡ b → (c : Bool) → (p.two && q.two) ≡ c → (d : Bool) → (p.three && q.three) ≡ d → (a || b || c || d) ≡ true → (n : ℕ) × ((has_plane n p ≡ true) × (has_plane n q ≡ true))
-    at true ea b eb c ec d ed h = (0, both p.zero q.zero ea)
-    at false ea true eb c ec d ed h = (1, both p.one q.one eb)
-    at false ea false eb true ec d ed h = (2, both p.two q.two ec)
-    at false ea false eb false ec true ed h = (3, both p.three q.three ed)
+    at true ea b eb c ec d ed h = (0, and_parts p.zero q.zero ea)
+    at false ea true eb c ec d ed h = (1, and_parts p.one q.one eb)
+    at false ea false eb true ec d ed h = (2, and_parts p.two q.two ec)
+    at false ea false eb false ec true ed h = (3, and_parts p.three q.three ed)
     at false ea false eb false ec false ed h = cc
 
 pub sharing : (p q : Planes) (n : ℕ) → has_plane n p ≡ true → has_plane n q ≡ true → share_a_plane p q ≡ true

@@ -2,6 +2,7 @@
 use Rattle.std.proofs.Common.{◌≡◌, ℕ, zero, suc, ◌+◌, ◌-◌, ◌*◌, ◌/◌, ◌%◌, ◌≤◌, ◌<◌, ◌==◌, Bool, true, false, ◌&&◌, ◌||◌, cond, not, ltb, nat_le, List, [], ◌∷◌, Option, Some, None, refl, sym, ap, ◌∙◌, subst, arith, eq-eqb, eqb-true, take, drop}
 use Rattle.std.proofs.lemmas.Bool.Decides.{nat_tests}
 use Rattle.std.proofs.lemmas.Nat.{div-mul-add, mod-mul-add}
+use Rattle.std.proofs.lemmas.Bool.{not-false, or_from, and_from, or_parts}
 use Rattle.nand_geometry.specs.declared.parts.Parts.{Parts}
 use Rattle.nand_geometry.specs.declared.row_parts.RowParts.{RowParts}
 use Rattle.nand_geometry.specs.Limits.{InLimits, planes, page_len}
@@ -37,7 +38,6 @@ use Rattle.micro_program.specs.Program.{Job, Done, column_now, plane_now, index_
 use Rattle.micro_program.specs.Lines.{Line}
 use Rattle.micro_program.specs.Moves.{gives, and_then}
 use Rattle.micro_word.specs.declared.word.Word.TheVariants.{Address as AddressWord}
-use Rattle.nand_geometry.proofs.Booleans.{and_true, or_parts}
 use Rattle.micro_program.proofs.Scenes.{Scene, IsScene, AddressAllowed, scene_behind}
 use Rattle.micro_program.proofs.SceneMoves.{MovesAllowed}
 use Rattle.micro_claims.proofs.Fits.{holds_address, is_of_kind, page_of, RowFits, AllFit, ColumnBegun, Fits, RegisterFits, Below, RegistersFit, Address, all_bytes, bytes_of, opener_facts, facts_behind, InProgram, Opened, PlaceIs, has_column, has_row, now_of, IsNow, ColumnFits, NameFits, RowIs, TailFits, ShowsFit, RowsFit, closer_among, LunFits}
@@ -88,12 +88,8 @@ kind_goes g false p (Program q) kind clear = clear
 none_clashes : (g : Parts) (now : ℕ) (erase : Bool) (queued : Planes) (d : Drift) (p : PageAddress) (plane : ℕ) (regs : Planes) (qs : List Queued) → AllFit (RowFits g now erase queued d) qs → d.ahead ≡ d.behind → plane < planes g → has_plane plane regs ≡ true → share_a_plane regs queued ≡ false → p.page ≡ now % g.pages → p.block ≡ now / g.pages * planes g + plane → some_queued_clashes g erase p qs ≡ false
 none_clashes g now erase queued d p plane regs [] f same low among apart page block = refl
 none_clashes g now erase queued d p plane regs (q ∷ qs) f same low among apart page block =
-    or_false (queued_clashes g erase p q) (some_queued_clashes g erase p qs) (kind_goes g erase p q f.0.kind clear) (none_clashes g now erase queued d p plane regs qs f.1 same low among apart page block)
+    or_from (queued_clashes g erase p q) (some_queued_clashes g erase p qs) (kind_goes g erase p q f.0.kind clear) (none_clashes g now erase queued d p plane regs qs f.1 same low among apart page block)
   where
-    or_false : (a b : Bool) → a ≡ false → b ≡ false → (a || b) ≡ false
-    or_false true b h k = cc
-    or_false false b h k = k
-
     index_is : now ≡ f.0.index
     index_is = let e = f.0.drift in omega (arith, e, same)
 
@@ -108,12 +104,8 @@ queue_goes g now (SomeRows erase queued d) queue regs o p plane f clear low amon
     let three = or_parts (is_read o || not (same_test erase (is_erase o)) || not (d.ahead == d.behind)) (share_a_plane regs queued) clear in
     let two = or_parts (is_read o || not (same_test erase (is_erase o))) (not (d.ahead == d.behind)) three.0 in
     let one = or_parts (is_read o) (not (same_test erase (is_erase o))) two.0 in
-    by o erase one.0 (is_yes _ one.1) (none_clashes g now erase queued d p plane regs queue f (eqb-true d.ahead d.behind (is_yes _ two.1)) low among three.1 page block)
+    by o erase one.0 (not-false _ one.1) (none_clashes g now erase queued d p plane regs queue f (eqb-true d.ahead d.behind (not-false _ two.1)) low among three.1 page block)
   where
-    is_yes : (b : Bool) → not b ≡ false → b ≡ true
-    is_yes true h = refl
-    is_yes false h = cc
-
     by : (o : Command) (e : Bool) → is_read o ≡ false → same_test e (is_erase o) ≡ true → some_queued_clashes g e p queue ≡ false → refused_by g o p queue ≡ false
     by Read e read kind clear = cc
     by BlockErase true read kind clear = clear
@@ -169,7 +161,7 @@ carried_now n limit small low =
     (e, subst (λ (m : ℕ). nat_le limit m ≡ false) (sym e) (grind (arith, nat_tests, low)))
 
 second_of : (from count n : ℕ) → from ≡ n → n ≤ 1 → 1 < n + count → has_second_column from count ≡ true
-second_of from count n e low high = and_true (nat_le from 1) (nat_le 2 (from + count)) (grind (arith, nat_tests, e, low)) (grind (arith, nat_tests, e, high))
+second_of from count n e low high = and_from (nat_le from 1) (nat_le 2 (from + count)) (grind (arith, nat_tests, e, low)) (grind (arith, nat_tests, e, high))
 
 page_small : (g : Parts) → InLimits g → page_len g ≤ 20480
 page_small g l = let x = l.page_bytes_most in let y = l.spare_bytes_most in omega (arith, x, y)
@@ -269,7 +261,7 @@ goes_read s j v c done from count n old w clear here is now column =
         (λ x y. (now (inside x)).bytes (let z : ltb 2 (0 + n) ≡ true = grind (arith, nat_tests, y) in z))
       where
         inside : ltb 0 n ≡ true → (ltb 0 n && ltb n 5) ≡ true
-        inside x = and_true (ltb 0 n) (ltb n 5) x (let y : (5 - n == 0) ≡ false = clear.left in grind (arith, nat_tests, y))
+        inside x = and_from (ltb 0 n) (ltb n 5) x (let y : (5 - n == 0) ≡ false = clear.left in grind (arith, nat_tests, y))
 
     scene_is : c ≡ scene_at Read a c.view c.sole n
     scene_is = λ i. record { facts = facts_are i; view = c.view; sole = c.sole }
@@ -310,7 +302,7 @@ goes_program s j v c done from count n old w clear here is now column =
         (λ x y. (now (inside x)).bytes (let z : ltb 2 (0 + n) ≡ true = grind (arith, nat_tests, y) in z))
       where
         inside : ltb 0 n ≡ true → (ltb 0 n && ltb n 5) ≡ true
-        inside x = and_true (ltb 0 n) (ltb n 5) x (let y : (5 - n == 0) ≡ false = clear.left in grind (arith, nat_tests, y))
+        inside x = and_from (ltb 0 n) (ltb n 5) x (let y : (5 - n == 0) ≡ false = clear.left in grind (arith, nat_tests, y))
 
     scene_is : c ≡ scene_at PageProgram a c.view c.sole n
     scene_is = λ i. record { facts = facts_are i; view = c.view; sole = c.sole }
@@ -405,7 +397,7 @@ goes_erase s j v c done from count n old w clear here is now =
         row : ltb 0 n ≡ true → (old.r1 ≡ w.address.r1) × (old.r2 ≡ w.address.r2) × (old.r3 ≡ w.address.r3)
         row x =
             let y : (3 - n == 0) ≡ false = clear.left in
-            let i = now (and_true (ltb 0 n) (ltb n 3) x (grind (arith, nat_tests, y))) in
+            let i = now (and_from (ltb 0 n) (ltb n 3) x (grind (arith, nat_tests, y))) in
             let reaches : ltb 2 (from + count) ≡ true = grind (arith, nat_tests, x, begins) in
             let there = i.bytes (let z : ltb 2 (2 + n) ≡ true = grind (arith, nat_tests, x) in z) in
             same_bytes _ old.r1 old.r2 old.r3 w.address.r1 w.address.r2 w.address.r3 there (w.address.bytes reaches)
@@ -497,7 +489,7 @@ goes_column s j v c done from count n old w clear here is now =
         (λ x y. (now (inside x)).bytes (let z : ltb 2 (0 + n) ≡ true = grind (arith, nat_tests, y) in z))
       where
         inside : ltb 0 n ≡ true → (ltb 0 n && ltb n 2) ≡ true
-        inside x = and_true (ltb 0 n) (ltb n 2) x (let y : (2 - n == 0) ≡ false = clear.left in grind (arith, nat_tests, y))
+        inside x = and_from (ltb 0 n) (ltb n 2) x (let y : (2 - n == 0) ≡ false = clear.left in grind (arith, nat_tests, y))
 
     scene_is : c ≡ scene_at ChangeReadColumn a c.view c.sole n
     scene_is = λ i. record { facts = facts_are i; view = c.view; sole = c.sole }

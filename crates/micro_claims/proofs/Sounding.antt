@@ -1,6 +1,7 @@
 -- A word is sound: where a claim fits and nothing is against it, the word is fine, and the claim behind it fits.
 use Rattle.std.proofs.Common.{◌≡◌, ℕ, ◌+◌, ◌%◌, ◌≤◌, Bool, true, false, ◌&&◌, ◌||◌, cond, not, ltb, List, ◌∷◌, length, Option, Some, None, refl, sym, ap, ◌∙◌, subst, arith}
 use Rattle.std.proofs.lemmas.Bool.Decides.{nat_tests}
+use Rattle.std.proofs.lemmas.Bool.{not-false}
 use Rattle.nand_geometry.specs.declared.parts.Parts.{Parts}
 use Rattle.nand_geometry.specs.Limits.{InLimits, indices}
 use Rattle.nand_geometry.specs.Row.{ReadsBack}
@@ -94,11 +95,8 @@ unfolding breaks_over_budget
 within_budget g j v done word f clear = at (ltb 0 (cost g word)) refl clear.no_over_budget
   where
     at : (b : Bool) → ltb 0 (cost g word) ≡ b → (b && not (is_at_most (bound_plus v.registers.cost.hi (cost g word)) j.text.budget)) ≡ false → cost_now g done + cost g word ≤ j.text.budget
-    at true e h = surely (cost_now g done) v.registers.cost.hi (cost g word) j.text.budget f.cost (is_yes _ h)
-      where
-        is_yes : (b : Bool) → not b ≡ false → b ≡ true
-        is_yes true h = refl
-        is_yes false h = cc
+    at true e h = surely (cost_now g done) v.registers.cost.hi (cost g word) j.text.budget f.cost (not-false _ h)
+
     at false e h = let least = f.within in let none : cost g word ≡ 0 = grind (arith, nat_tests) in omega (arith, least, none)
 
 -- the registers after a word that leaves the index

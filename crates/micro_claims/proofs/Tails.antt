@@ -1,6 +1,7 @@
 -- Places of the tail: what the facts of the tail are there.
 use Rattle.std.proofs.Common.{◌≡◌, ℕ, zero, suc, ◌==◌, Bool, true, false, ◌&&◌, ◌||◌, ltb, nat_le, Option, None, refl, sym, ap, ◌∙◌, subst, arith, eqb-true, take}
 use Rattle.std.proofs.lemmas.Bool.Decides.{nat_tests}
+use Rattle.std.proofs.lemmas.Bool.{and_parts}
 use Rattle.nand_geometry.specs.declared.parts.Parts.{Parts}
 use Rattle.onfi_cycle.specs.declared.command.Command.{Command}
 use Rattle.onfi_cycle.specs.declared.command.Command.TheVariants.{Read, ReadConfirm, ChangeReadColumn, ChangeReadColumnConfirm, BlockErase, BlockEraseConfirm, BlockErasePlane, PageProgram, ReadId, ReadParameterPage}
@@ -13,7 +14,6 @@ use Rattle.micro_program.specs.Program.{Job}
 use Rattle.micro_claims.specs.Spans.{Span}
 use Rattle.micro_claims.specs.State.{KnownTarget, Place, Closed, After, InData, InColumn, Unknown, Shown, NamedRow}
 use Rattle.micro_claims.specs.Against.{is_open_place, place_wants, is_data_command, is_inside_address}
-use Rattle.nand_geometry.proofs.Booleans.{and_parts}
 use Rattle.micro_claims.proofs.Fits.{holds_address, Address, bytes_of, opener_facts, facts_behind, is_place, InProgram, Opened, PlaceIs, has_column, has_row, Now, ColumnFits, NameFits, RowIs, TailFits}
 
 -- 1. what is tested of the place that is claimed is so of the place

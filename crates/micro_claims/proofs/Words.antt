@@ -1,6 +1,8 @@
 -- Outputs, inputs and registers are sound.
 use Rattle.std.proofs.Common.{◌≡◌, ℕ, zero, suc, ◌+◌, ◌≤◌, Bool, true, false, ◌&&◌, ◌||◌, cond, not, nat_le, min, List, [], ◌∷◌, Option, Some, None, refl, sym, ap, ◌∙◌, subst, arith, length, replicate}
 use Rattle.std.proofs.lemmas.Bool.Decides.{nat_tests}
+use Rattle.std.proofs.lemmas.Bool.{not-false, or_parts}
+use Rattle.onfi_cycle.proofs.Booleans.{and_rest}
 use Rattle.nand_geometry.specs.declared.parts.Parts.{Parts}
 use Rattle.nand_geometry.specs.Limits.{InLimits, page_len}
 use Rattle.onfi_cycle.specs.declared.item.Item.{Item}
@@ -31,8 +33,7 @@ use Rattle.micro_claims.proofs.Fits.{Below, TailFits, ShowsFit, LunFits, OutputF
 use Rattle.micro_claims.proofs.Numbers.{below_plus, surely}
 use Rattle.micro_claims.proofs.Tails.{closed_tail, closed_fits, programming}
 use Rattle.micro_claims.proofs.Sounding.{KnownJob, NoReasons, unmoved, SoundWord, plain_sound}
-use Rattle.micro_claims.proofs.Commands.{not_no, shows_kept}
-use Rattle.nand_geometry.proofs.Booleans.{or_parts}
+use Rattle.micro_claims.proofs.Commands.{shows_kept}
 use Rattle.micro_claims.proofs.Transfers.{Outputs, status_outputs, data_outputs, CanRead, inputs_go}
 use Rattle.micro_program.proofs.Costs.{buffer_len}
 
@@ -80,10 +81,6 @@ record GetClear (g : Parts) (v : State) (n buffer : ℕ) : Type 0 where
   inside : may_show_data v.target.shows ≡ true → is_at_most (bound_plus (column_bound v.lun.column) n) (least_length g v.lun.register) ≡ true
   place : is_at_most (bound_plus v.registers.place.hi n) buffer ≡ true
 
-and_no_more : (a b : Bool) → a ≡ true → (a && b) ≡ false → b ≡ false
-and_no_more true b h k = k
-and_no_more false b h k = cc
-
 get_clear : (g : Parts) (j : Job) (v : State) (n : ℕ) → NoReasons g j.text v (Get n) → GetClear g v n j.text.buffer
 unfolding breaks_cycle_forbidden breaks_buffer_passed breaks_column_too_large
 get_clear g j v n clear =
@@ -91,13 +88,13 @@ get_clear g j v n clear =
     let one = or_parts (may_be_open v) (not (drives v.target.shows)) two.0 in
     record {
       closed = one.0;
-      driven = not_no _ one.1;
+      driven = not-false _ one.1;
       ready = λ e.
-          let three = or_parts (v.lun.busy || not (has_register v.lun.register)) (not (has_column v.lun.column)) (and_no_more (may_show_data v.target.shows) _ e two.1) in
+          let three = or_parts (v.lun.busy || not (has_register v.lun.register)) (not (has_column v.lun.column)) (and_rest (may_show_data v.target.shows) _ e two.1) in
           let four = or_parts v.lun.busy (not (has_register v.lun.register)) three.0 in
-          (four.0, not_no _ four.1, not_no _ three.1);
-      inside = λ e. not_no _ (and_no_more (may_show_data v.target.shows) _ e clear.no_column_too_large);
-      place = not_no _ clear.no_buffer_passed;
+          (four.0, not-false _ four.1, not-false _ three.1);
+      inside = λ e. not-false _ (and_rest (may_show_data v.target.shows) _ e clear.no_column_too_large);
+      place = not-false _ clear.no_buffer_passed;
     }
 
 -- what outputs lead to
@@ -224,7 +221,7 @@ record PutClear (g : Parts) (v : State) (n buffer : ℕ) : Type 0 where
 
 put_clear : (g : Parts) (j : Job) (v : State) (n : ℕ) → NoReasons g j.text v (Put n) → PutClear g v n j.text.buffer
 unfolding breaks_cycle_forbidden breaks_buffer_passed breaks_column_too_large
-put_clear g j v n clear = record { data_open = not_no _ clear.no_cycle_forbidden; inside = not_no _ clear.no_column_too_large; place = not_no _ clear.no_buffer_passed }
+put_clear g j v n clear = record { data_open = not-false _ clear.no_cycle_forbidden; inside = not-false _ clear.no_column_too_large; place = not-false _ clear.no_buffer_passed }
 
 -- the column of the tail, so many inputs on
 column_on : (o : Option Span) (column n limit : ℕ) → ColumnFits column o → is_at_most (bound_plus (span_bound o) n) limit ≡ true → (column + n ≤ limit) × ColumnFits (column + n) (span_more n o)

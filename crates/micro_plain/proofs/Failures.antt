@@ -1,6 +1,7 @@
 -- What is known of the last word, to which failures lead: it may end, whatever states met there.
 use Rattle.std.proofs.Common.{◌≡◌, Bool, true, false, not, ◌||◌, cond, Option, Some, None, refl, ap}
 use Rattle.std.specs.Prelude.{is_none}
+use Rattle.std.proofs.lemmas.Bool.{not-true, or_from, or_parts as neither}
 use Rattle.nand_geometry.specs.declared.parts.Parts.{Parts}
 use Rattle.micro_word.specs.declared.word.Word.TheVariants.{End}
 use Rattle.micro_word.specs.Text.{Microprogram}
@@ -15,16 +16,11 @@ use Rattle.micro_claims.specs.Order.{same_place}
 use Rattle.micro_claims.specs.Joins.{joined, joined_rows}
 use Rattle.micro_claims.specs.Reasons.{reason_against, breaks_cycle_forbidden, breaks_address_unaligned, breaks_handover_in_sequence, breaks_buffer_passed, breaks_row_or_plane_outside, breaks_column_too_large, breaks_no_status, breaks_ends_too_soon, breaks_over_budget, breaks_command_not_allowed}
 use Rattle.micro_walk.specs.Faults.{met, reason_at}
-use Rattle.nand_geometry.proofs.Booleans.{or_parts as neither}
 
 -- what no way leads to may stand there, and what is known to be idle
 abbrev pub may_end : Option State → Bool
 may_end None = true
 may_end (Some s) = not (may_be_unready s)
-
-either : (a b : Bool) → a ≡ false → b ≡ false → (a || b) ≡ false
-either false b h k = k
-either true b h k = absurd cc
 
 closed_place : (p q : Place) (same : Bool) → is_open_place p ≡ false → is_open_place q ≡ false → is_open_place (cond same p (cond (is_open_place p || is_open_place q) Unknown Closed)) ≡ false
 closed_place p q true hp hq = hp
@@ -45,22 +41,18 @@ ready_joined s t hs ht =
     let t1 = neither (t.lun.busy || is_open_place t.target.tail || may_be_queued t.lun.queue) t.lun.last.cache ht in
     let t2 = neither (t.lun.busy || is_open_place t.target.tail) (may_be_queued t.lun.queue) t1.0 in
     let t3 = neither t.lun.busy (is_open_place t.target.tail) t2.0 in
-    either _ _
-    (either _ _
-    (either _ _ (either _ _ s3.0 t3.0) (closed_place s.target.tail t.target.tail (same_place s.target.tail t.target.tail) s3.1 t3.1))
+    or_from _ _
+    (or_from _ _
+    (or_from _ _ (or_from _ _ s3.0 t3.0) (closed_place s.target.tail t.target.tail (same_place s.target.tail t.target.tail) s3.1 t3.1))
     (no_rows s.lun.queue t.lun.queue s2.1 t2.1))
-    (either _ _ s1.1 t1.1)
-
-false_of : (a : Bool) → not a ≡ true → a ≡ false
-false_of false h = refl
-false_of true h = cc
+    (or_from _ _ s1.1 t1.1)
 
 pub met_may_end : (f : Option State) (t : State) → may_end f ≡ true → may_be_unready t ≡ false → may_end (Some (met f t)) ≡ true
 met_may_end None t h k = ap not k
-met_may_end (Some s) t h k = ap not (ready_joined s t (false_of (may_be_unready s) h) k)
+met_may_end (Some s) t h k = ap not (ready_joined s t (not-true (may_be_unready s) h) k)
 
 -- then nothing is against an `end`
 pub end_is_fine : (g : Parts) (x : Microprogram) (f : Option State) → may_end f ≡ true → is_none (reason_at g (bounds_of x) f (End 1)) ≡ true
 unfolding reason_against breaks_cycle_forbidden breaks_address_unaligned breaks_handover_in_sequence breaks_buffer_passed breaks_row_or_plane_outside breaks_column_too_large breaks_no_status breaks_ends_too_soon breaks_over_budget breaks_command_not_allowed
 end_is_fine g x None h = refl
-end_is_fine g x (Some s) h = let ready = false_of (may_be_unready s) h in rw (ready) refl
+end_is_fine g x (Some s) h = let ready = not-true (may_be_unready s) h in rw (ready) refl

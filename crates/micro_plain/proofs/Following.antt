@@ -2,6 +2,7 @@
 use Rattle.std.proofs.Common.{◌≡◌, ℕ, ◌+◌, ◌<◌, ◌≤◌, Bool, true, ◌&&◌, List, [], ◌∷◌, Option, Some, None, refl, ap, ◌∙◌, arith, length}
 use Rattle.std.specs.Prelude.{is_none}
 use Rattle.std.proofs.lemmas.List.{length-set}
+use Rattle.std.proofs.lemmas.Bool.{and_parts as both}
 use Rattle.nand_geometry.specs.declared.parts.Parts.{Parts}
 use Rattle.micro_word.specs.declared.word.Word.{Word}
 use Rattle.micro_word.specs.declared.word.Word.TheVariants.{End, BranchOnStatus, Loop, Next, Jump}
@@ -14,7 +15,6 @@ use Rattle.micro_claims.specs.Accepts.{state_after}
 use Rattle.micro_claims.specs.Certificate.{claim}
 use Rattle.micro_walk.specs.Faults.{met, reached, led, led_from, reason_at, fault_or, followed}
 use Rattle.micro_walk.proofs.Ahead.{claim_there, claim_elsewhere}
-use Rattle.nand_geometry.proofs.Booleans.{and_parts as both}
 
 -- each branch leads to the last word, and `end 1` stands behind the first `end`
 abbrev pub AreLed : (last : ℕ) → List Word → Type 0

@@ -3,6 +3,7 @@ use Rattle.std.proofs.Common.{◌≡◌, ℕ, ◌+◌, ◌*◌, ◌^◌, ◌≤�
 use Rattle.std.proofs.Math.Nat.{le-max_left, le-max_right, max-le}
 use Rattle.std.proofs.lemmas.Bool.Decides.{nat_tests}
 use Rattle.std.proofs.Math.Pow.{pow_mono}
+use Rattle.std.proofs.lemmas.Bool.{or_parts as neither}
 use Rattle.nand_geometry.specs.declared.parts.Parts.{Parts}
 use Rattle.nand_geometry.specs.Limits.{InLimits, page_len, planes, indices}
 use Rattle.micro_claims.specs.Planes.{just_plane, are_below}
@@ -10,7 +11,6 @@ use Rattle.micro_plain.specs.declared.operation.PlainOp.{PlainOp}
 use Rattle.micro_plain.specs.declared.operation.PlainOp.TheVariants.{Read, Program, Erase}
 use Rattle.micro_plain.specs.declared.refusal.PlainFault.TheVariants.{NoOperations, TooManyWords}
 use Rattle.micro_plain.specs.Plain.{operations_len, plain_words, row_of, rows_of, buffer_end, buffer_of, budget_of, is_row_outside, are_bytes_outside, is_outside, first_outside, outside_fault, plain_fault}
-use Rattle.nand_geometry.proofs.Booleans.{or_parts as neither}
 use Rattle.micro_plain.proofs.Shapes.{words_long}
 
 -- the row and the plane of an operation

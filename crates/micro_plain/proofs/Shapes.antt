@@ -1,6 +1,7 @@
 -- The shape of a plain text: how long it is, that it has no loops, where its branches lead, and its end.
 use Rattle.std.proofs.Common.{◌≡◌, ℕ, zero, suc, ◌+◌, ◌-◌, ◌<◌, ◌==◌, Bool, true, false, ◌&&◌, nat_lt, List, [], ◌∷◌, ◌++◌, None, refl, sym, ap, ◌∙◌, arith, length, drop}
 use Rattle.std.specs.List.{slice_get}
+use Rattle.std.proofs.lemmas.Bool.{and_parts as both}
 use Rattle.micro_word.specs.declared.word.Word.{Word}
 use Rattle.micro_word.specs.declared.word.Word.TheVariants.{Loop, Next}
 use Rattle.micro_program.specs.Nested.{loops, closer, first_of}
@@ -10,7 +11,6 @@ use Rattle.micro_plain.specs.declared.operation.PlainOp.{PlainOp}
 use Rattle.micro_plain.specs.declared.operation.PlainOp.TheVariants.{Read, Program, Erase}
 use Rattle.micro_plain.specs.Plain.{operation_words, operations_len, words_from, plain_words}
 use Rattle.micro_plain.proofs.Basics.{lt_test, not_zero}
-use Rattle.nand_geometry.proofs.Booleans.{and_parts as both}
 use Rattle.micro_plain.proofs.Following.{AreLed}
 
 pub words_long : (failure : ℕ) (ops : List PlainOp) → length (words_from failure ops) ≡ operations_len ops + 2

@@ -1,5 +1,6 @@
 -- Effects that leave the work, the register and the queue of a LUN, and change its latch and column at most.
 use Rattle.std.proofs.Common.{◌≡◌, ℕ, Bool, true, false, cond, List, ◌∷◌, Option, refl, sym, ap, ◌∙◌, subst}
+use Rattle.onfi_cycle.proofs.Booleans.{eqb_self}
 use Rattle.nand_geometry.specs.declared.parts.Parts.{Parts}
 use Rattle.onfi_cycle.specs.declared.lun.Lun.{Lun}
 use Rattle.onfi_cycle.specs.declared.item.Item.{Item}
@@ -15,7 +16,6 @@ use Rattle.onfi_cycle.specs.Sequence.{target_cycle, tail, facts_of}
 use Rattle.onfi_cycle.specs.Effect.{cycle_effect}
 use Rattle.onfi_cycle.specs.Lun.{latch_alone, effect_on, is_busy, busy_after, closer, closer_after, is_cache_read, is_array_busy, array_busy_after, is_caching, array_page, array_page_after, register, register_after, queue, queue_after}
 use Rattle.onfi_cycle.specs.Channel.{IsIdle, cycle}
-use Rattle.micro_program.proofs.Basics.{eqb_self}
 
 abbrev pub is_calm : Effect → Bool
 is_calm Unaffected = true

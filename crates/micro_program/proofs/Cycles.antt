@@ -2,6 +2,8 @@
 use Rattle.std.specs.List.{list_any}
 use Rattle.std.proofs.Common.{◌≡◌, ℕ, true, false, cond, not, List, [], ◌∷◌, Some, None, refl, sym, ap, subst, arith, ltb, leb, eq-eqb}
 use Rattle.std.proofs.lemmas.Bool.Decides.{nat_tests}
+use Rattle.std.proofs.lemmas.Bool.{and_parts, and_from}
+use Rattle.onfi_cycle.proofs.Booleans.{eqb_self}
 use Rattle.nand_geometry.specs.declared.parts.Parts.{Parts}
 use Rattle.nand_geometry.specs.Row.{row_of, parts_of, is_inside}
 use Rattle.onfi_cycle.specs.declared.lun.Lun.{Lun}
@@ -20,8 +22,7 @@ use Rattle.onfi_cycle.specs.Lun.{luns_of}
 use Rattle.onfi_cycle.specs.Rules.{ends_row, named_lun_is, driver, caching, some_queued_clashes, breaks_not_there, breaks_command_unknown, breaks_sequence_open, breaks_several_luns, breaks_no_column_to_change, breaks_command_misplaced, breaks_address_misplaced, breaks_row_outside, breaks_lun_busy, breaks_queue_clash, breaks_input_misplaced, breaks_no_sole_driver, breaks_data_not_ready, breaks_column_outside, breaks_cache_read_misplaced}
 use Rattle.onfi_cycle.specs.Permitted.{broken, judge_cycle}
 use Rattle.onfi_cycle.specs.Channel.{Channel, IsIdle, IsOwn, is_there, is_open_on, cycle}
-use Rattle.micro_program.proofs.Basics.{eqb_self, there_lun}
-use Rattle.nand_geometry.proofs.Booleans.{and_parts, and_true}
+use Rattle.micro_program.proofs.Basics.{there_lun}
 use Rattle.micro_program.proofs.Views.{some_at, never}
 
 -- a cycle on a target that is there is permitted where it breaks no rule beside the first
@@ -41,7 +42,7 @@ pub own_address : (s : Channel) (l : Lun) (past : List Item) (byte : ℕ) (t : L
 own_address s l past byte t there e judged named =
     record {
       permitted = permitted_cycle s past l Adr byte there (subst (λ (u : List TargetCycle). judge_cycle s.geometry (facts_of u) (luns_of s.geometry past l.ce) (AddressCycle byte) ≡ None) (sym e) judged);
-      own = and_true _ _ (eqb_self l.ce) (subst (λ (u : List TargetCycle). cond (ends_row (λ c. true) (facts_of u)) (names_lun s.geometry (row_with (facts_of u) byte) l.lun) true ≡ true) (sym e) named);
+      own = and_from _ _ (eqb_self l.ce) (subst (λ (u : List TargetCycle). cond (ends_row (λ c. true) (facts_of u)) (names_lun s.geometry (row_with (facts_of u) byte) l.lun) true ≡ true) (sym e) named);
     }
 
 -- 1. Block Erase
@@ -89,7 +90,7 @@ unfolding command
 own_confirm s l past r1 r2 r3 there e named =
     record {
       permitted = permitted_cycle s past l Cmd 0xd0 there (subst (λ (u : List TargetCycle). judge_cycle s.geometry (facts_of u) (luns_of s.geometry past l.ce) (CommandCycle BlockEraseConfirm) ≡ None) (sym e) (judge_confirm s.geometry (luns_of s.geometry past l.ce) r1 r2 r3));
-      own = and_true _ _ (eqb_self l.ce) (subst (λ (u : List TargetCycle). names_lun s.geometry (row (facts_of u)) l.lun ≡ true) (sym e) (eq-eqb _ _ named));
+      own = and_from _ _ (eqb_self l.ce) (subst (λ (u : List TargetCycle). names_lun s.geometry (row (facts_of u)) l.lun ≡ true) (sym e) (eq-eqb _ _ named));
     }
 
 -- 2. Read Status and Read Status Enhanced

@@ -1,6 +1,7 @@
 -- What a scene allows is permitted and the LUN's own.
 use Rattle.std.specs.List.{list_any}
 use Rattle.std.proofs.Common.{◌≡◌, ℕ, ◌<◌, Bool, true, false, ◌&&◌, ◌||◌, not, ltb, nat_le, Option, Some, None, List, refl, sym, ap, ◌∙◌, subst, arith, ltb-false, eqb-true}
+use Rattle.std.proofs.lemmas.Bool.{and_right, or_from}
 use Rattle.nand_geometry.specs.declared.parts.Parts.{Parts}
 use Rattle.nand_geometry.specs.Limits.{page_len}
 use Rattle.nand_geometry.specs.Row.{parts_of}
@@ -153,15 +154,10 @@ from_command g t u luns c d e f h =
     subst (λ (x : TailFacts). judge_cycle g x luns (CommandCycle c) ≡ None) (sym e) (subst (λ (x : Command). judge_cycle g u luns (CommandCycle x) ≡ None) (sym f) h)
 
 -- 2. addresses
-
-and_no : (a b : Bool) → b ≡ false → (a && b) ≡ false
-and_no true b h = h
-and_no false b h = refl
-
 -- what is no last row cycle ends no row of any opener
 ends_none : (among : Command → Bool) (o : Option Opening) → opened (λ c n. true && at_last_row c n) o ≡ false → opened (λ c n. among c && at_last_row c n) o ≡ false
 ends_none among None h = refl
-ends_none among (Some o) h = and_no (among o.opener) (at_last_row o.opener o.addresses) h
+ends_none among (Some o) h = and_right (among o.opener) (at_last_row o.opener o.addresses) h
 
 refused_none : (g : Parts) (p : PageAddress) (q : List Queued) (o : Option Opening) → opened (λ c n. true && at_last_row c n) o ≡ false → is_refused_by g o p q ≡ false
 refused_none g p q None h = refl
@@ -179,10 +175,6 @@ judge_address g t luns b f7 f8 f9 f10 f14 f15 = rw (f7, f8, f9, f10, f14, f15) r
 both_no : (a b : Bool) → (a ≡ true → b ≡ false) → (a && b) ≡ false
 both_no true b h = h refl
 both_no false b h = refl
-
-or_no : (a b : Bool) → a ≡ false → b ≡ false → (a || b) ≡ false
-or_no true b h k = cc
-or_no false b h k = k
 
 is_not : (b : Bool) → b ≡ true → not b ≡ false
 is_not true h = refl
@@ -207,7 +199,7 @@ address_judged s l past c byte there k a = at (ends_row (λ d. true) c.facts) re
 
     f14 : breaks_column_outside g c.facts luns (AddressCycle byte) ≡ false
     f14 =
-        or_no (second_of_page c.facts && nat_le (page_len g) (column_with c.facts byte)) _ (both_no (second_of_page c.facts) _ a.column)
+        or_from (second_of_page c.facts && nat_le (page_len g) (column_with c.facts byte)) _ (both_no (second_of_page c.facts) _ a.column)
         (both_no (second_column is_change_read_column c.facts) _ (λ e. let r = a.read_column e in let one : driver luns ≡ Some c.view = facts.sole_driver g past l (k.sole r.0) ∙ ap Some k.view in ap (is_some_and (λ v. nat_le (register_len g v.register) (column_with c.facts byte))) one ∙ r.1))
 
     -- the LUN that a row names passes as this one does

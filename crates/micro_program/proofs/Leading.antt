@@ -1,9 +1,9 @@
 -- The lines of a text without branches and loops are its words.
 use Rattle.std.proofs.Common.{◌≡◌, ℕ, ◌+◌, true, List, [], ◌∷◌, refl, ap, ◌∙◌}
+use Rattle.std.proofs.lemmas.Bool.{and_parts}
 use Rattle.micro_word.specs.declared.word.Word.{Word}
 use Rattle.micro_word.specs.declared.word.Word.TheVariants.{BranchOnStatus, Loop, Next, Jump}
 use Rattle.micro_program.specs.Lines.{Line, Unrolling, word_before, unrolling, unrolled, leads_on, all_lead_on, lines_from, LinesAreWords}
-use Rattle.nand_geometry.proofs.Booleans.{and_parts}
 
 leading_before : (line : Line) (u : Unrolling) (word : Word) → leads_on word ≡ true → (word_before line u word).lines ≡ line ∷ u.lines
 leading_before line u (BranchOnStatus mask target) h = cc

@@ -2,9 +2,9 @@
 use Rattle.std.proofs.Common.{◌≡◌, ℕ, ◌+◌, ◌<◌, ◌≤◌, ◌==◌, true, ◌&&◌, List, Option, Some, None, refl, ap, arith, length}
 use Rattle.std.specs.Prelude.{nat_le, nat_lt}
 use Rattle.std.proofs.lemmas.Bool.Decides.{nat_tests}
+use Rattle.std.proofs.lemmas.Bool.{and_parts}
 use Rattle.micro_word.specs.declared.word.Word.{Word}
 use Rattle.micro_program.specs.Nested.{closer, LeadsForward, is_same, leads_forward}
-use Rattle.nand_geometry.proofs.Booleans.{and_parts}
 
 le_of : (a b : ℕ) → nat_le a b ≡ true → a ≤ b
 le_of a b h = grind (arith, nat_tests)

@@ -1,10 +1,10 @@
 -- Texts without loops and branches have the shape that places ask for.
 use Rattle.std.proofs.Common.{◌≡◌, ℕ, zero, suc, ◌+◌, true, List, [], ◌∷◌, Some, refl, ap, ◌∙◌, subst, arith, length, drop, ◌≤◌}
 use Rattle.std.specs.List.{slice_get}
+use Rattle.std.proofs.lemmas.Bool.{and_parts}
 use Rattle.micro_word.specs.declared.word.Word.{Word}
 use Rattle.micro_word.specs.declared.word.Word.TheVariants.{BranchOnStatus, Loop, Next, Jump}
 use Rattle.micro_program.specs.Lines.{Line, Unrolling, word_before, unrolling, leads_on, all_lead_on}
-use Rattle.nand_geometry.proofs.Booleans.{and_parts}
 use Rattle.micro_program.specs.Places.{from_word, FitsAt, IsShaped}
 
 outer_before : (line : Line) (u : Unrolling) (word : Word) → leads_on word ≡ true → (word_before line u word).outer ≡ u.outer

@@ -1,6 +1,8 @@
 -- A status poll: its cycles are own wherever nothing is open, it leaves the LUN's work, and what it shows is the status.
 use Rattle.std.proofs.Common.{◌≡◌, ℕ, zero, suc, ◌+◌, ◌<◌, ◌≤◌, ◌==◌, Bool, true, false, ◌||◌, cond, List, [], ◌∷◌, ◌++◌, Some, refl, sym, ap, ◌∙◌, subst, arith, ltb, ltb-true, ltb-false, eq-eqb, eqb-true}
 use Rattle.std.proofs.lemmas.Bool.Decides.{nat_tests}
+use Rattle.std.proofs.lemmas.Bool.{and_from}
+use Rattle.onfi_cycle.proofs.Booleans.{eqb_self}
 use Rattle.nand_geometry.specs.declared.parts.Parts.{Parts}
 use Rattle.nand_geometry.specs.declared.row_parts.RowParts.{RowParts}
 use Rattle.nand_geometry.specs.Limits.{InLimits}
@@ -27,8 +29,7 @@ use Rattle.micro_program.specs.Moves.{Move, Give, Take, poll}
 use Rattle.micro_program.specs.Played.{Played, answered, played}
 use Rattle.micro_program.specs.Safe.{MovesAreOwn}
 use Rattle.micro_program.proofs.Below.{facts, outputs}
-use Rattle.micro_program.proofs.Basics.{eqb_self, there_lun}
-use Rattle.nand_geometry.proofs.Booleans.{and_true}
+use Rattle.micro_program.proofs.Basics.{there_lun}
 use Rattle.micro_program.proofs.Calm.{Calm, calmer, either_calm, calm_cycle, calm_after, own_effect}
 use Rattle.micro_program.proofs.Cycles.{permitted_cycle, tail_more, own_address, own_status, tail_status, own_enhanced, tail_enhanced, judge_enhanced_1, judge_enhanced_2, judge_enhanced_3, judge_output}
 
@@ -216,7 +217,7 @@ pub own_output : (s : Channel) (j : Job) (past : List Item) (byte : ℕ) → is_
 own_output s j past byte there p =
     record {
       permitted = permitted_cycle s p.polled j.lun Dout byte there (judge_output s.geometry _ _ (lun_view s.geometry p.polled j.lun) p.closed (facts.sole_driver s.geometry p.polled j.lun p.one) (ap is_data p.shows));
-      own = and_true _ _ (eqb_self j.lun.ce) p.one;
+      own = and_from _ _ (eqb_self j.lun.ce) p.one;
     }
 
 -- the cycles of a poll are own

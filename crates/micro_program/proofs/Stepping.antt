@@ -1,5 +1,7 @@
 -- A cycle that a scene allows is own, and leads to the scene behind it.
 use Rattle.std.proofs.Common.{◌≡◌, ◌⊎◌, inl, inr, ℕ, zero, suc, ◌+◌, Bool, true, false, ◌&&◌, ◌||◌, cond, not, ltb, Option, Some, None, List, ◌∷◌, refl, sym, ap, ◌∙◌, subst, eqb-true, eq-eqb}
+use Rattle.std.proofs.lemmas.Bool.{not-true, or_cases, and_parts, and_from}
+use Rattle.onfi_cycle.proofs.Booleans.{eqb_self}
 use Rattle.nand_geometry.specs.declared.parts.Parts.{Parts}
 use Rattle.onfi_cycle.specs.declared.command.Command.{Command}
 use Rattle.onfi_cycle.specs.declared.command.Command.TheVariants.{Read, ReadConfirm, ChangeReadColumnConfirm, BlockEraseConfirm, BlockErasePlane, ReadStatus, ReadStatusEnhanced, ProgramConfirm, ProgramPlane, ReadId, ReadParameterPage, Reset, ReadCacheSequential, ReadCacheEnd}
@@ -24,8 +26,7 @@ use Rattle.onfi_cycle.specs.Permitted.{broken, judge_cycle}
 use Rattle.onfi_cycle.specs.OtherLun.{keeps_to}
 use Rattle.onfi_cycle.specs.Channel.{Channel, IsOwn, is_there, cycle}
 use Rattle.micro_program.proofs.Below.{facts, driver_on}
-use Rattle.micro_program.proofs.Basics.{eqb_self, there_lun}
-use Rattle.nand_geometry.proofs.Booleans.{and_parts, and_true}
+use Rattle.micro_program.proofs.Basics.{there_lun}
 use Rattle.micro_program.proofs.Calm.{own_effect}
 use Rattle.micro_program.proofs.Cycles.{permitted_cycle}
 use Rattle.micro_program.proofs.Scenes.{Scene, IsScene, CommandAllowed, AddressAllowed, Allowed, shown_alone, command_sole, opener_sole, address_sole, sole_behind, scene_behind}
@@ -66,7 +67,7 @@ pub own_cycle : (s : Channel) (l : Lun) (past : List Item) (c : Scene) → is_th
 own_cycle s l past c there k kind byte a =
     record {
       permitted = permitted_cycle s past l kind byte there (subst (λ (t : TailFacts). judge_cycle s.geometry t (luns_of s.geometry past l.ce) (target_cycle kind byte) ≡ None) (sym k.facts) (cycle_judged s l past c there k (target_cycle kind byte) a));
-      own = and_true _ _ (eqb_self l.ce) (cycle_keeps_to s l past c k (target_cycle kind byte) a);
+      own = and_from _ _ (eqb_self l.ce) (cycle_keeps_to s l past c k (target_cycle kind byte) a);
     }
 
 -- 2. what the LUN is behind it
@@ -182,14 +183,6 @@ identity_lights g t byte n _ y lun wants h = cc
 off_by : (x y : Latch) → x ≡ y → is_off y ≡ false → is_off x ≡ false
 off_by x y e h = ap is_off e ∙ h
 
-not_true : (b : Bool) → not b ≡ true → b ≡ false
-not_true true h = cc
-not_true false h = refl
-
-or_cases : (a b : Bool) → (a || b) ≡ true → (a ≡ true) ⊎ (b ≡ true)
-or_cases true b h = inl refl
-or_cases false b h = inr h
-
 sole_next : (s : Channel) (l : Lun) (past : List Item) (c : Scene) → is_there s l ≡ true → IsScene s l past c → (kind : Kind) (byte : ℕ) (d : TargetCycle) → target_cycle kind byte ≡ d → Allowed s.geometry l.lun c d → lun_view s.geometry (cycle l.ce kind byte ∷ past) l ≡ view_after (cycle_effect s.geometry c.facts (shown_alone c) d l.lun) c.view → sole_behind s.geometry c d ≡ true → is_only (drivers s.geometry (cycle l.ce kind byte ∷ past) l.ce) l.lun ≡ true
 sole_next s l past c there k kind byte d is a view h = by d is a view h
   where
@@ -207,7 +200,7 @@ sole_next s l past c there k kind byte d is a view h = by d is a view h
     by_command ReadStatus is a view h = cc
     by_command ReadConfirm is a view h = elim (or_cases c.sole (not (ltb 1 g.luns)) h) [
       | inl e ↦ still (CommandCycle ReadConfirm) is (command_leaves_off g l.lun c ReadConfirm refl a) e
-      | inr e ↦ sole_of_one s l (cycle l.ce kind byte ∷ past) there (not_true (ltb 1 g.luns) e) (off_by _ Data (latch_is (CommandCycle ReadConfirm) view ∙ read_lights g c.facts (shown_alone c) c.view.latch l.lun a.0 a.1) refl)
+      | inr e ↦ sole_of_one s l (cycle l.ce kind byte ∷ past) there (not-true (ltb 1 g.luns) e) (off_by _ Data (latch_is (CommandCycle ReadConfirm) view ∙ read_lights g c.facts (shown_alone c) c.view.latch l.lun a.0 a.1) refl)
     ]
     by_command d is a view h = still (CommandCycle d) is (command_leaves_off g l.lun c d refl a) h
 
@@ -218,7 +211,7 @@ sole_next s l past c there k kind byte d is a view h = by d is a view h
         lights : (d : Command) → o.opener ≡ d → reads_identity d ≡ true → not (ltb 1 g.luns) ≡ true → is_only (drivers g (cycle l.ce kind byte ∷ past) l.ce) l.lun ≡ true
         lights d f q one =
             let effect : cycle_effect g c.facts (shown_alone c) (AddressCycle b) l.lun ≡ address_effect g c.facts b o.opener o.addresses l.lun = ap (λ (p : Option Opening). opening_address_effect g c.facts b p l.lun) e in
-            sole_of_one s l (cycle l.ce kind byte ∷ past) there (not_true (ltb 1 g.luns) one)
+            sole_of_one s l (cycle l.ce kind byte ∷ past) there (not-true (ltb 1 g.luns) one)
             (off_by _ Data (latch_is (AddressCycle b) view ∙ (ap (λ (x : Effect). latch_after x c.view.latch) effect ∙ identity_lights g c.facts b o.addresses o.opener c.view.latch l.lun a.wanted (ap reads_identity f ∙ q))) refl)
 
         by_opener : (d : Command) → o.opener ≡ d → opener_sole g c.sole d ≡ true → is_only (drivers g (cycle l.ce kind byte ∷ past) l.ce) l.lun ≡ true

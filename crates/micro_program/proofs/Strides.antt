@@ -1,5 +1,6 @@
 -- What the stride of a word leaves.
 use Rattle.std.proofs.Common.{◌≡◌, ℕ, ◌+◌, ◌≤◌, ◌⊎◌, Bool, true, false, List, [], ◌∷◌, Some, refl, sym, ap, ◌∙◌, subst, inl, inr}
+use Rattle.std.proofs.lemmas.Bool.{and_from}
 use Rattle.onfi_cycle.specs.declared.item.Item.{Item}
 use Rattle.micro_word.specs.declared.word.Word.{Word}
 use Rattle.micro_word.specs.declared.word.Word.TheVariants.{End, Get, Wait, Yield, ReadStatus}
@@ -11,7 +12,6 @@ use Rattle.micro_program.specs.Played.{Played, answered}
 use Rattle.micro_program.specs.Step.{Stride, stride, waited, first_byte, keeps_bus, answered_step, next_step}
 use Rattle.micro_program.specs.Safe.{AddsOwn, lets_go, is_end}
 use Rattle.micro_program.specs.Laws.{AnsweredStepsGoWell, FineStepsGoWell}
-use Rattle.nand_geometry.proofs.Booleans.{and_true}
 use Rattle.micro_program.proofs.Tracking.{StepParts}
 use Rattle.micro_program.proofs.Walk.{walked, shown, played_is, poll_closes}
 
@@ -62,7 +62,7 @@ closed_after s j done (End code) moved bytes past p m plays goes closed = subst 
 closed_after s j done _ moved bytes past p m plays goes closed = cc
 
 inside_after : (buffer : ℕ) (word : Word) (done new : List Done) → IsDoneOrAgain word done new → fits buffer (place_now done) word ≡ true → all_fit buffer done ≡ true → all_fit buffer new ≡ true
-inside_after buffer word done new (inl d) f h = rw d.1 (and_true (fits buffer (place_now done) word) (all_fit buffer done) f h)
+inside_after buffer word done new (inl d) f h = rw d.1 (and_from (fits buffer (place_now done) word) (all_fit buffer done) f h)
 inside_after buffer word done new (inr e) f h = rw e h
 
 budget_after : (s : Channel) (budget : ℕ) (word : Word) (done new : List Done) → IsDoneOrAgain word done new → cost_now s.geometry done + cost s.geometry word ≤ budget → cost_now s.geometry done ≤ budget → cost_now s.geometry new ≤ budget

@@ -2,6 +2,7 @@
 use Rattle.std.proofs.Common.{◌≡◌, ℕ, ◌*◌, ◌<◌, ◌≤◌, Bool, true, false, ◌&&◌, List, [], ◌∷◌, ◌++◌, Some, refl, sym, ap, ◌∙◌, arith}
 use Rattle.std.proofs.lemmas.Nat.{pow_pos}
 use Rattle.std.proofs.Math.Nat.{one-le-mul, le-div_iff_mul-le}
+use Rattle.std.proofs.lemmas.Bool.{and_parts}
 use Rattle.nand_geometry.specs.declared.parts.Parts.{Parts}
 use Rattle.nand_geometry.specs.Limits.{InLimits, indices, planes}
 use Rattle.onfi_cycle.specs.declared.item.Item.{Item}
@@ -20,7 +21,6 @@ use Rattle.micro_program.proofs.Basics.{there_lun}
 use Rattle.micro_program.proofs.Polls.{polling, poll_leaves, poll_shows, after_output}
 use Rattle.micro_program.proofs.Tracking.{StepParts, step_parts}
 use Rattle.micro_program.proofs.Strides.{model_step}
-use Rattle.nand_geometry.proofs.Booleans.{and_parts}
 
 some_index : (g : Parts) → InLimits g → 0 < indices g
 some_index g limits =

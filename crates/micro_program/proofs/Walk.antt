@@ -1,5 +1,6 @@
 -- Moves that are own are played, and what they add is their LUN's own.
-use Rattle.std.proofs.Common.{◌≡◌, ℕ, ◌+◌, length, arith, ◌==◌, Bool, true, false, cond, List, [], ◌∷◌, ◌++◌, Option, Some, None, refl, sym, ap, subst, ltb}
+use Rattle.std.proofs.Common.{◌≡◌, ℕ, ◌+◌, length, arith, ◌==◌, Bool, true, false, cond, List, [], ◌∷◌, ◌++◌, Option, Some, None, refl, sym, subst, ltb}
+use Rattle.std.proofs.lemmas.Bool.{and_parts}
 use Rattle.nand_geometry.specs.Row.{row_bytes_of}
 use Rattle.onfi_cycle.specs.declared.lun.Lun.{Lun}
 use Rattle.onfi_cycle.specs.declared.item.Item.{Item}
@@ -14,7 +15,6 @@ use Rattle.micro_program.specs.Program.{Job}
 use Rattle.micro_program.specs.Played.{Played, answered, played, with_byte}
 use Rattle.micro_program.specs.Safe.{MovesAreOwn, cycles_on, AllOwn, AddsOwn}
 use Rattle.micro_program.proofs.Below.{facts, outputs as outputs_show}
-use Rattle.nand_geometry.proofs.Booleans.{and_parts}
 
 -- what moves leave that come after a past, which itself added to a start
 pub record Walked (s : Channel) (l : Lun) (moved : List Move) (bytes : List ℕ) (start past : List Item) : Type 0 where

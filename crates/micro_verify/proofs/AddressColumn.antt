@@ -1,5 +1,6 @@
 -- The two addresses of 85h: how they are judged, what they leave, and where they stop.
 use Rattle.std.proofs.Common.{◌≡◌, ℕ, zero, suc, ◌+◌, ◌*◌, ◌/◌, ◌%◌, ◌≤◌, ◌<◌, Bool, true, false, ◌&&◌, ◌||◌, cond, nat_le, List, ◌∷◌, Option, Some, None, refl, ap, ◌∙◌, arith, length, take, drop}
+use Rattle.std.proofs.Math.Bool.{or-false}
 use Rattle.nand_geometry.specs.declared.parts.Parts.{Parts}
 use Rattle.nand_geometry.specs.Limits.{page_len}
 use Rattle.onfi_cycle.specs.declared.forbidden.Forbidden.TheVariants.{AddressMisplaced, ColumnOutside}
@@ -34,14 +35,10 @@ first_judged g c a byte b =
     plain_judged g c byte (rw (b.alone, b.program.phase) refl) (ap (opened (λ d n. true && at_last_row d n)) b.alone) (ap (opened (λ d n. addresses_the_array d && at_last_row d n)) b.alone) (λ p q. ap (λ (o : Option Opening). is_refused_by g o p q) b.alone)
     ∙ (rw (b.alone, b.program.phase) refl)
 
-or_false : (b : Bool) → (b || false) ≡ b
-or_false true = refl
-or_false false = refl
-
 pub second_judged : (g : Parts) (c : Lone) (a : Address) (column : ℕ) → column < 65536 → ColumnBegun 1 (with_column a column) c.facts → judged g c (AddressCycle (column / 256 % 256)) ≡ column_rule (page_len g) column
 second_judged g c a column low b =
     plain_judged g c (column / 256 % 256) (rw (b.alone, b.program.phase) refl) (ap (opened (λ d n. true && at_last_row d n)) b.alone) (ap (opened (λ d n. addresses_the_array d && at_last_row d n)) b.alone) (λ p q. ap (λ (o : Option Opening). is_refused_by g o p q) b.alone)
-    ∙ (rw (b.alone, b.program.phase) (ap (λ (x : Bool). cond x (Some ColumnOutside) None) (or_false _ ∙ ap (nat_le (page_len g)) whole)))
+    ∙ (rw (b.alone, b.program.phase) (ap (λ (x : Bool). cond x (Some ColumnOutside) None) (or-false _ ∙ ap (nat_le (page_len g)) whole)))
   where
     whole : column_with c.facts (column / 256 % 256) ≡ column
     whole = ap (λ (n : ℕ). n % 256 + 256 * (column / 256 % 256)) (b.column refl) ∙ carried_is column low

@@ -1,6 +1,8 @@
 -- An address is exact: where it is refused its cause stands, and else it goes and what it leaves is mirrored.
 use Rattle.std.proofs.lemmas.Bool.Decides.{nat_tests}
 use Rattle.std.proofs.Common.{◌≡◌, ℕ, ◌+◌, ◌-◌, ◌≤◌, ◌==◌, Bool, true, false, ◌&&◌, ◌||◌, cond, not, ltb, nat_le, Some, length, refl, sym, ap, ◌∙◌, arith, eqb-true, ◌<◌}
+use Rattle.std.proofs.lemmas.Bool.{not-false, and_parts, or_parts}
+use Rattle.onfi_cycle.proofs.Booleans.{and_rest}
 use Rattle.nand_geometry.specs.declared.parts.Parts.{Parts}
 use Rattle.nand_geometry.specs.Limits.{page_len, indices, planes}
 use Rattle.onfi_cycle.specs.declared.command.Command.{Command}
@@ -19,11 +21,9 @@ use Rattle.micro_claims.specs.Against.{first_address, is_inside_address, byte_of
 use Rattle.micro_claims.specs.Reasons.{breaks_cycle_forbidden, breaks_address_unaligned, breaks_row_or_plane_outside, breaks_column_too_large, reason_against, breaks_handover_in_sequence, breaks_buffer_passed, breaks_no_status, breaks_ends_too_soon, breaks_command_not_allowed}
 use Rattle.micro_claims.specs.Accepts.{state_after}
 use Rattle.micro_program.specs.Program.{Job, column_now, index_now, plane_now}
-use Rattle.nand_geometry.proofs.Booleans.{and_parts, or_parts}
-use Rattle.micro_claims.proofs.Commands.{not_no}
 use Rattle.micro_claims.proofs.Fits.{has_column, has_row, RowIs, IsNow, now_of, is_place}
 use Rattle.micro_claims.proofs.Sounding.{no_reasons}
-use Rattle.micro_verify.proofs.AddressTests.{carries_is, more_left, and_left, taken}
+use Rattle.micro_verify.proofs.AddressTests.{carries_is, more_left, taken}
 use Rattle.micro_verify.specs.Lazy.{lone_job, Run}
 use Rattle.micro_verify.proofs.Lone.{Lone, IsLone}
 use Rattle.micro_verify.proofs.Mirrors.{Mirrors, TailMirror, PlaceMirror, NameIs, BoundIs, is_read_column}
@@ -48,7 +48,7 @@ use Rattle.micro_verify.specs.Cause.{Cause, WordStops, is_of_cycle_forbidden, be
 -- the row is there where it is needed and isn't outside
 row_inside : (s : Channel) (text : Microprogram) (r : Run) (from count : ℕ) → IsFit s text → is_outside s.geometry text.rows r (AddressWord from count) ≡ false → ltb 2 (from + count) ≡ true → (index_now 0 r.done < indices s.geometry) × (plane_now r.done < planes s.geometry)
 row_inside s text r from count k inside e =
-    let both = or_parts (nat_le text.rows (index_now 0 r.done)) (nat_le (planes s.geometry) (plane_now r.done)) (and_left (ltb 2 (from + count)) _ e inside) in
+    let both = or_parts (nat_le text.rows (index_now 0 r.done)) (nat_le (planes s.geometry) (plane_now r.done)) (and_rest (ltb 2 (from + count)) _ e inside) in
     let index : index_now 0 r.done < text.rows = grind (arith, nat_tests, both.0) in
     let top = k.inside in
     (omega (arith, index, top), grind (arith, nat_tests, both.1))
@@ -74,7 +74,7 @@ address_cause s text v r c from count some few k is m reason e = by reason (reas
         let two = or_parts (is_misplaced g r (AddressWord from count) || is_outside g text.rows r (AddressWord from count)) (wants_identity (tail_now r) && ltb 2 (from + count)) bytes in
         let one = or_parts (is_misplaced g r (AddressWord from count)) (is_outside g text.rows r (AddressWord from count)) two.0 in
         refused_stops s text v r c from count (word one.1) (sym (ap (λ (t : TailFacts). begins_wrong t from count) is.facts) ∙ one.0)
-        (λ wants. let short = and_left (wants_identity (tail_now r)) (ltb 2 (from + count)) (ap wants_identity is.facts ∙ wants) two.1 in grind (arith, nat_tests, short)) h
+        (λ wants. let short = and_rest (wants_identity (tail_now r)) (ltb 2 (from + count)) (ap wants_identity is.facts ∙ wants) two.1 in grind (arith, nat_tests, short)) h
 
     by : (reason : Reason) → reason_holds g text v (AddressWord from count) reason ≡ true → reason_against g (bounds_of text) v (AddressWord from count) ≡ Some reason → Cause s j r (AddressWord from count) reason
     by CycleForbidden h e = λ bytes. stops h bytes
@@ -97,8 +97,8 @@ one_byte s text v r c from count o n m clear =
     let known : only v.registers.column ≡ Some (column_now r.done) = only_is (column_now r.done) v.registers.column (let x = m.registers.column_low in omega (arith, x)) m.registers.column in
     let two = or_parts (ltb 1 s.geometry.luns || not (count == 1)) (not (is_identity_byte o from (only v.registers.column))) clear in
     let alone = or_parts (ltb 1 s.geometry.luns) (not (count == 1)) two.0 in
-    let byte = and_parts (nat_le from 1) (takes_address o (byte_of_column from (column_now r.done))) (sym (ap (is_identity_byte o from) known) ∙ not_no _ two.1) in
-    record { one = eqb-true count 1 (not_no _ alone.1); low = let x = byte.0 in grind (arith, nat_tests, x); takes = byte.1 }
+    let byte = and_parts (nat_le from 1) (takes_address o (byte_of_column from (column_now r.done))) (sym (ap (is_identity_byte o from) known) ∙ not-false _ two.1) in
+    record { one = eqb-true count 1 (not-false _ alone.1); low = let x = byte.0 in grind (arith, nat_tests, x); takes = byte.1 }
 
 -- 90h or ECh
 identity_goes : (s : Channel) (text : Microprogram) (v : State) (r : Run) (c : Lone) (from count : ℕ) (o : Command) (n : ℕ) → IsFit s text → IsLone s r.past c → Mirrors s.geometry (lone_job s.geometry text) v r.done c → reads_identity o ≡ true → c ≡ asked o c.view → v.target.tail ≡ After o n → OneByte r from count o → Goes s text (state_after s.geometry v (AddressWord from count)) r (AddressWord from count)

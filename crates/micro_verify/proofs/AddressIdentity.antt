@@ -1,6 +1,7 @@
 -- The one address of 90h and ECh: how it is judged, and where it stops.
 use Rattle.std.proofs.lemmas.Bool.Decides.{nat_tests}
 use Rattle.std.proofs.Common.{◌≡◌, ℕ, zero, suc, ◌+◌, ◌/◌, ◌%◌, ◌≤◌, ◌==◌, Bool, true, false, ◌&&◌, ◌||◌, not, nat_le, List, [], ◌∷◌, Some, None, refl, ap, ◌∙◌, arith, length, take, drop, eqb-true}
+use Rattle.std.proofs.lemmas.Bool.{not-true}
 use Rattle.nand_geometry.specs.declared.parts.Parts.{Parts}
 use Rattle.onfi_cycle.specs.declared.command.Command.{Command}
 use Rattle.onfi_cycle.specs.declared.command.Command.TheVariants.{ReadId, ReadParameterPage}
@@ -73,10 +74,6 @@ identity_stops s text r c from count o k is here reads some few refused = by fro
     b1 : ℕ
     b1 = column_now r.done / 256 % 256
 
-    is_no : (b : Bool) → not b ≡ true → b ≡ false
-    is_no true h = cc
-    is_no false h = refl
-
     -- at its first byte
     at_once : (from count : ℕ) (xs : List ℕ) (byte : ℕ) → address g (lone_job g text) r.done from count ≡ Some (take count (byte ∷ xs)) → 1 ≤ count → count ≤ length (byte ∷ xs) → takes_address o byte ≡ false → WordStops s (lone_job g text) r (AddressWord from count) is_of_cycle_forbidden
     at_once from count xs byte bytes some few wrong =
@@ -84,8 +81,8 @@ identity_stops s text r c from count o k is here reads some few refused = by fro
 
     by : (from count : ℕ) → 1 ≤ count → from + count ≤ 2 → (not (count == 1) || not (nat_le from 1 && takes_address o (byte_of_column from (column_now r.done)))) ≡ true → address g (lone_job g text) r.done from count ≡ Some (take count (drop from (column_bytes (column_now r.done)))) → WordStops s (lone_job g text) r (AddressWord from count) is_of_cycle_forbidden
     by from zero some few refused bytes = absurd (omega (arith, some))
-    by zero (suc zero) some few refused bytes = at_once 0 1 (b1 ∷ []) b0 bytes some (omega arith) (is_no _ refused)
-    by (suc zero) (suc zero) some few refused bytes = at_once 1 1 [] b1 bytes some (omega arith) (is_no _ refused)
+    by zero (suc zero) some few refused bytes = at_once 0 1 (b1 ∷ []) b0 bytes some (omega arith) (not-true _ refused)
+    by (suc zero) (suc zero) some few refused bytes = at_once 1 1 [] b1 bytes some (omega arith) (not-true _ refused)
     by zero (suc (suc zero)) some few refused bytes = on (takes_address o b0) refl
       where
         on : (b : Bool) → takes_address o b0 ≡ b → WordStops s (lone_job g text) r (AddressWord 0 2) is_of_cycle_forbidden

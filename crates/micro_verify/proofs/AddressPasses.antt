@@ -1,6 +1,7 @@
 -- An address of an opener that nothing is against: its cycles pass, and where they lead.
 use Rattle.std.proofs.lemmas.Bool.Decides.{nat_tests}
 use Rattle.std.proofs.Common.{◌≡◌, ℕ, ◌+◌, ◌≤◌, ◌<◌, ◌==◌, Bool, true, false, ◌&&◌, ◌||◌, cond, not, ltb, nat_le, List, ◌∷◌, Option, Some, refl, sym, ap, ◌∙◌, subst, arith, take, drop, eqb-true}
+use Rattle.std.proofs.lemmas.Bool.{or_parts}
 use Rattle.nand_geometry.specs.declared.parts.Parts.{Parts}
 use Rattle.onfi_cycle.specs.declared.command.Command.{Command}
 use Rattle.onfi_cycle.specs.declared.item.Kind.TheVariants.{Adr}
@@ -17,7 +18,6 @@ use Rattle.micro_claims.specs.Leaves.{with_target, with_registers, paid, target_
 use Rattle.micro_claims.specs.Accepts.{state_after}
 use Rattle.micro_program.specs.Program.{Job, column_now, index_now}
 use Rattle.micro_program.specs.Moves.{address, gives, and_then}
-use Rattle.nand_geometry.proofs.Booleans.{or_parts}
 use Rattle.micro_claims.proofs.Fits.{Address, bytes_of, takes_column, now_of}
 use Rattle.micro_claims.proofs.Addressing.{of_now, carried_is}
 use Rattle.micro_claims.proofs.SoundAddress.{leaves_target}

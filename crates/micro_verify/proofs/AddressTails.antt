@@ -1,6 +1,7 @@
 -- What the addresses of an opener make of the tail.
 use Rattle.std.proofs.lemmas.Bool.Decides.{nat_tests}
 use Rattle.std.proofs.Common.{◌≡◌, ℕ, ◌+◌, ◌-◌, ◌/◌, ◌%◌, ◌≤◌, ◌==◌, Bool, true, false, ◌&&◌, ◌||◌, cond, not, ltb, nat_le, List, Option, Some, refl, sym, ap, ◌∙◌, subst, arith, take, length, eqb-true, eq-eqb}
+use Rattle.std.proofs.lemmas.Bool.{not-false, and_parts, and_from, or_parts}
 use Rattle.nand_geometry.specs.declared.parts.Parts.{Parts}
 use Rattle.onfi_cycle.specs.declared.command.Command.{Command}
 use Rattle.onfi_cycle.specs.declared.command.Command.TheVariants.{Read, ChangeReadColumn, PageProgram}
@@ -21,8 +22,6 @@ use Rattle.micro_claims.specs.Against.{first_address, same_test, is_read, is_era
 use Rattle.micro_claims.specs.Planes.{share_a_plane}
 use Rattle.micro_claims.specs.Leaves.{greatest_page_of, name_now, goes_along, opener_leads_to, address_leads_to, target_after_addresses}
 use Rattle.micro_program.specs.Program.{Job, Done, column_now, index_now}
-use Rattle.nand_geometry.proofs.Booleans.{and_parts, and_true, or_parts}
-use Rattle.micro_claims.proofs.Commands.{not_no}
 use Rattle.micro_claims.proofs.Fits.{Address, bytes_of, opener_facts, facts_behind, takes_column, takes_row, has_column, has_row, is_place, now_of}
 use Rattle.micro_claims.proofs.Addressing.{AddressNow, of_now, carried_is}
 use Rattle.micro_claims.proofs.AddressSteps.{carried}
@@ -73,11 +72,11 @@ along_now g now (SomeRows kind queued d) queue planes o m clear =
     let three = or_parts (is_read o || not (same_test kind (is_erase o)) || not (d.ahead == d.behind)) (share_a_plane planes queued) clear in
     let two = or_parts (is_read o || not (same_test kind (is_erase o))) (not (d.ahead == d.behind)) three.0 in
     let one = or_parts (is_read o) (not (same_test kind (is_erase o))) two.0 in
-    let same : d.ahead ≡ d.behind = eqb-true d.ahead d.behind (not_no _ two.1) in
+    let same : d.ahead ≡ d.behind = eqb-true d.ahead d.behind (not-false _ two.1) in
     let ahead : d.ahead ≡ now - m.index = ap (λ (x : Drift). x.ahead) m.drift in
     let behind : d.behind ≡ m.index - now = ap (λ (x : Drift). x.behind) m.drift in
-    and_true (same_test (is_erase o) kind) (0 == d.ahead && 0 == d.behind) (turned kind (is_erase o) (not_no _ one.1))
-    (and_true (0 == d.ahead) (0 == d.behind) (eq-eqb 0 d.ahead (omega (arith, same, ahead, behind))) (eq-eqb 0 d.behind (omega (arith, same, ahead, behind))))
+    and_from (same_test (is_erase o) kind) (0 == d.ahead && 0 == d.behind) (turned kind (is_erase o) (not-false _ one.1))
+    (and_from (0 == d.ahead) (0 == d.behind) (eq-eqb 0 d.ahead (omega (arith, same, ahead, behind))) (eq-eqb 0 d.behind (omega (arith, same, ahead, behind))))
   where
     turned : (a b : Bool) → same_test a b ≡ true → same_test b a ≡ true
     turned true true h = refl
@@ -116,7 +115,7 @@ column_led s text v r c from count o n w x takes both most old = at (nat_le from
     at false e =
         let two : 2 ≤ n = later (nat_le from 1) refl e in
         let some : nat_le 2 n ≡ true = grind (arith, nat_tests, two) in
-        subst (λ (k : ℕ). BoundIs k v.target.column) (ap (λ (y : Lone). input_column y.facts) x.here ∙ (input_is o a n takes two (omega (arith, most)) ∙ sym behind_is)) (old (and_true (takes_column o) (nat_le 2 n) takes some))
+        subst (λ (k : ℕ). BoundIs k v.target.column) (ap (λ (y : Lone). input_column y.facts) x.here ∙ (input_is o a n takes two (omega (arith, most)) ∙ sym behind_is)) (old (and_from (takes_column o) (nat_le 2 n) takes some))
       where
         later : (b : Bool) → nat_le from 1 ≡ b → (b && nat_le 2 (from + count)) ≡ false → 2 ≤ n
         later true f e = let high : nat_le 2 (from + count) ≡ true = grind (arith, nat_tests, begins, both) in let both : true ≡ false = sym high ∙ e in cc

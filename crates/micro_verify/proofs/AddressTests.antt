@@ -76,10 +76,6 @@ second_holds from count low high =
 
 -- 3. tests
 
-pub and_left : (a b : Bool) → a ≡ true → (a && b) ≡ false → b ≡ false
-and_left true b h k = k
-and_left false b h k = cc
-
 pub and_third : (a b d : Bool) → a ≡ true → b ≡ true → (a && b && d) ≡ false → d ≡ false
 and_third true true d h k e = e
 and_third true false d h k e = cc

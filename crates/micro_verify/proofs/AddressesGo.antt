@@ -1,6 +1,7 @@
 -- Addresses that nothing is against go, and what they leave is mirrored: those of an opener, those of 85h, the one of 90h or ECh.
 use Rattle.std.proofs.lemmas.Bool.Decides.{nat_tests}
 use Rattle.std.proofs.Common.{◌≡◌, ℕ, zero, suc, ◌+◌, ◌*◌, ◌/◌, ◌%◌, ◌≤◌, ◌==◌, Bool, true, false, ◌||◌, cond, nat_le, List, [], ◌∷◌, Option, Some, None, refl, sym, ap, ◌∙◌, subst, arith, take, drop, length, eqb-true}
+use Rattle.std.proofs.lemmas.Bool.{and_parts, or_parts}
 use Rattle.nand_geometry.specs.declared.parts.Parts.{Parts}
 use Rattle.nand_geometry.specs.Limits.{page_len}
 use Rattle.onfi_cycle.specs.declared.command.Command.{Command}
@@ -22,7 +23,6 @@ use Rattle.micro_claims.specs.Against.{first_address, takes_identity_at, is_insi
 use Rattle.micro_claims.specs.Leaves.{name_now, after_few, opener_leads_to, address_leads_to, target_after_addresses}
 use Rattle.micro_program.specs.Program.{Job, column_now, index_now}
 use Rattle.micro_program.specs.Moves.{address}
-use Rattle.nand_geometry.proofs.Booleans.{and_parts, or_parts}
 use Rattle.micro_claims.proofs.Fits.{Address, all_bytes, bytes_of, takes_row, has_column, has_row, is_place, RowIs, IsNow, ColumnBegun, now_of}
 use Rattle.micro_claims.proofs.Addressing.{of_now, carried_is}
 use Rattle.micro_claims.proofs.SoundAddress.{few_is, with_column, first_led, second_led, row_with_column}

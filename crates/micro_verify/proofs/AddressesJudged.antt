@@ -11,6 +11,7 @@ use Rattle.onfi_cycle.specs.declared.item.Kind.TheVariants.{Adr}
 use Rattle.onfi_cycle.specs.declared.latch.Latch.{Latch}
 use Rattle.onfi_cycle.specs.declared.target_cycle.TargetCycle.TheVariants.{AddressCycle}
 use Rattle.std.specs.List.{slice_get}
+use Rattle.std.proofs.Math.Bool.{or-false}
 use Rattle.onfi_cycle.specs.declared.page_address.PageAddress.{PageAddress}
 use Rattle.onfi_cycle.specs.declared.queued.Queued.{Queued}
 use Rattle.onfi_cycle.specs.Command.{addresses_the_array, is_change_read_column}
@@ -40,10 +41,6 @@ plain_judged g c byte wanted ends array refuses =
     let none = named_none (slice_get (c.view ∷ []) (parts_of g (row_with c.facts byte)).lun) (λ v. is_refused_by g c.facts.opening (page_address g (row_with c.facts byte)) v.queue) (λ v. refuses _ _) in
     rw (wanted, ends, array, none) refl
 
-or_false : (b : Bool) → (b || false) ≡ b
-or_false true = refl
-or_false false = refl
-
 -- the row is inside, and of the only LUN
 pub record RowThere (g : Parts) (a : Address) : Type 0 where
   pub inside : is_inside g (parts_of g (row_of a.r1 a.r2 a.r3)) ≡ true
@@ -72,7 +69,7 @@ IsJudged g o a view i = judged g (cursor o a view i) (AddressCycle (nth i (bytes
 pub read_judged : (g : Parts) (a : Address) (view : LunView) (i : ℕ) → i ≤ 4 → (i ≡ 4 → RowThere g a) → IsJudged g Read a view i
 unfolding breaks_command_unknown breaks_sequence_open breaks_several_luns breaks_no_column_to_change breaks_command_misplaced breaks_address_misplaced breaks_row_outside breaks_lun_busy breaks_queue_clash breaks_input_misplaced breaks_no_sole_driver breaks_data_not_ready breaks_column_outside breaks_cache_read_misplaced
 read_judged g a view zero few row = plain_judged g (cursor Read a view 0) (nth 0 (bytes_of Read a)) refl refl refl (λ p q. refl)
-read_judged g a view (suc zero) few row = plain_judged g (cursor Read a view 1) (nth 1 (bytes_of Read a)) refl refl refl (λ p q. refl) ∙ ap (λ (b : Bool). cond b (Some ColumnOutside) None) (or_false (nat_le (page_len g) (carried a)))
+read_judged g a view (suc zero) few row = plain_judged g (cursor Read a view 1) (nth 1 (bytes_of Read a)) refl refl refl (λ p q. refl) ∙ ap (λ (b : Bool). cond b (Some ColumnOutside) None) (or-false (nat_le (page_len g) (carried a)))
 read_judged g a view (suc (suc zero)) few row = plain_judged g (cursor Read a view 2) (nth 2 (bytes_of Read a)) refl refl refl (λ p q. refl)
 read_judged g a view (suc (suc (suc zero))) few row = plain_judged g (cursor Read a view 3) (nth 3 (bytes_of Read a)) refl refl refl (λ p q. refl)
 read_judged g a view (suc (suc (suc (suc zero)))) few row =
@@ -89,7 +86,7 @@ read_judged g a view (suc (suc (suc (suc (suc i))))) few row = absurd (omega (ar
 pub program_judged : (g : Parts) (a : Address) (view : LunView) (i : ℕ) → i ≤ 4 → (i ≡ 4 → RowThere g a) → IsJudged g PageProgram a view i
 unfolding breaks_command_unknown breaks_sequence_open breaks_several_luns breaks_no_column_to_change breaks_command_misplaced breaks_address_misplaced breaks_row_outside breaks_lun_busy breaks_queue_clash breaks_input_misplaced breaks_no_sole_driver breaks_data_not_ready breaks_column_outside breaks_cache_read_misplaced
 program_judged g a view zero few row = plain_judged g (cursor PageProgram a view 0) (nth 0 (bytes_of PageProgram a)) refl refl refl (λ p q. refl)
-program_judged g a view (suc zero) few row = plain_judged g (cursor PageProgram a view 1) (nth 1 (bytes_of PageProgram a)) refl refl refl (λ p q. refl) ∙ ap (λ (b : Bool). cond b (Some ColumnOutside) None) (or_false (nat_le (page_len g) (carried a)))
+program_judged g a view (suc zero) few row = plain_judged g (cursor PageProgram a view 1) (nth 1 (bytes_of PageProgram a)) refl refl refl (λ p q. refl) ∙ ap (λ (b : Bool). cond b (Some ColumnOutside) None) (or-false (nat_le (page_len g) (carried a)))
 program_judged g a view (suc (suc zero)) few row = plain_judged g (cursor PageProgram a view 2) (nth 2 (bytes_of PageProgram a)) refl refl refl (λ p q. refl)
 program_judged g a view (suc (suc (suc zero))) few row = plain_judged g (cursor PageProgram a view 3) (nth 3 (bytes_of PageProgram a)) refl refl refl (λ p q. refl)
 program_judged g a view (suc (suc (suc (suc zero)))) few row =

@@ -2,8 +2,8 @@
 use Rattle.std.proofs.lemmas.Bool.Decides.{nat_tests}
 use Rattle.micro_claims.specs.declared.place.Place.TheVariants.{After}
 use Rattle.micro_claims.specs.Against.{first_address}
-use Rattle.nand_geometry.proofs.Booleans.{and_true}
 use Rattle.std.proofs.Common.{◌≡◌, ℕ, zero, suc, ◌+◌, ◌≤◌, ◌<◌, Bool, true, false, ◌&&◌, ltb, List, [], ◌∷◌, refl, sym, ap, ◌∙◌, arith, take, eq-eqb}
+use Rattle.std.proofs.lemmas.Bool.{and_from}
 use Rattle.nand_geometry.specs.declared.parts.Parts.{Parts}
 use Rattle.nand_geometry.specs.declared.row_parts.RowParts.{RowParts}
 use Rattle.nand_geometry.specs.Limits.{InLimits, planes, indices}
@@ -75,7 +75,7 @@ started : (g : Parts) (j : Job) (done : List Done) (from count n cycles : ℕ) (
 started g j done from count n cycles o old now is_cycles few begins some first begun = (λ x. (begun (inside x)).column, λ y. let x : ltb 0 n ≡ true = grind (arith, nat_tests, y) in let i = begun (inside x) in let place : ltb 2 (first_address o + n) ≡ true = ap (λ (m : ℕ). ltb 2 (m + n)) first ∙ (let z : ltb 2 (0 + n) ≡ true = grind (arith, nat_tests, y) in z) in same_bytes _ old.r1 old.r2 old.r3 now.r1 now.r2 now.r3 (i.bytes place) (now.bytes (let z : ltb 2 (from + count) ≡ true = grind (arith, nat_tests, y, begins) in z)))
   where
     inside : ltb 0 n ≡ true → (ltb 0 n && ltb n (address_cycles o)) ≡ true
-    inside x = and_true (ltb 0 n) (ltb n (address_cycles o)) x (let z : n < address_cycles o = omega (arith, few, is_cycles) in grind (arith, nat_tests, z))
+    inside x = and_from (ltb 0 n) (ltb n (address_cycles o)) x (let z : n < address_cycles o = omega (arith, few, is_cycles) in grind (arith, nat_tests, z))
 
 erase_facts : (n : ℕ) (a b : Address) → (ltb 0 n ≡ true → (a.r1 ≡ b.r1) × (a.r2 ≡ b.r2) × (a.r3 ≡ b.r3)) → facts_behind (opener_facts BlockErase) (take n (bytes_of BlockErase a)) ≡ facts_behind (opener_facts BlockErase) (take n (bytes_of BlockErase b))
 erase_facts zero a b r = refl
@@ -92,6 +92,6 @@ facts_now g j done from count n BlockErase old t now carries few begins some is 
   where
     row : ltb 0 n ≡ true → (old.r1 ≡ now.r1) × (old.r2 ≡ now.r2) × (old.r3 ≡ now.r3)
     row x =
-        let i = begun (and_true (ltb 0 n) (ltb n 3) x (let z : n < 3 = few in grind (arith, nat_tests, z))) in
+        let i = begun (and_from (ltb 0 n) (ltb n 3) x (let z : n < 3 = few in grind (arith, nat_tests, z))) in
         same_bytes _ old.r1 old.r2 old.r3 now.r1 now.r2 now.r3 (i.bytes (let z : ltb 2 (2 + n) ≡ true = grind (arith, nat_tests, x) in z)) (now.bytes (let z : ltb 2 (from + count) ≡ true = grind (arith, nat_tests, x, begins) in z))
 facts_now g j done from count n _ old t now carries few begins some is begun = cc

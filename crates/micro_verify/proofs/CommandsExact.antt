@@ -3,6 +3,7 @@ use Rattle.std.proofs.lemmas.Bool.Decides.{nat_tests}
 use Rattle.std.proofs.lemmas.Nat.{mod_below}
 use Rattle.std.proofs.Math.Nat.{div-add-mod, mul-add-div_right}
 use Rattle.std.proofs.Common.{◌≡◌, ℕ, zero, suc, ◌+◌, ◌-◌, ◌*◌, ◌/◌, ◌%◌, ◌≤◌, ◌<◌, ◌==◌, Bool, true, false, ◌&&◌, ◌||◌, cond, not, ltb, nat_le, List, [], ◌∷◌, Option, Some, None, refl, sym, ap, ◌∙◌, subst, arith, eqb-true, take}
+use Rattle.std.proofs.lemmas.Bool.{not-true, and_parts, or_parts}
 use Rattle.nand_geometry.specs.declared.parts.Parts.{Parts}
 use Rattle.nand_geometry.specs.declared.row_parts.RowParts.{RowParts}
 use Rattle.nand_geometry.specs.Limits.{planes}
@@ -58,7 +59,6 @@ use Rattle.micro_claims.specs.Reasons.{reason_against, breaks_cycle_forbidden, b
 use Rattle.micro_claims.specs.Accepts.{state_after}
 use Rattle.micro_verify.specs.Lazy.{lone_job, Run}
 use Rattle.micro_verify.specs.Cause.{Cause, WordStops, is_of_cycle_forbidden, index_of, next_page_outside}
-use Rattle.nand_geometry.proofs.Booleans.{and_parts, or_parts}
 use Rattle.micro_claims.proofs.Fits.{Address, bytes_of, opener_facts, facts_behind, RowIs, Now, now_of, has_row, has_column, InProgram, ColumnBegun, is_of_kind, page_of}
 use Rattle.micro_claims.proofs.Tails.{no_address, closed_by, only_read, only_erase, only_erase_plane, only_column}
 use Rattle.micro_claims.proofs.Sounding.{NoReasons, no_reasons}
@@ -96,7 +96,7 @@ past_rows : (s : Channel) (text : Microprogram) (v : State) (r : Run) (c : Lone)
 past_rows s text v r c low is m ReadCacheSequential h out =
     let g = s.geometry in
     let both = and_parts (not (is_unfit g ReadCacheSequential)) (not (is_at_most (bound_plus v.lun.cached.index.hi 2) text.rows)) h in
-    let fit = not_true (is_unfit g ReadCacheSequential) both.0 in
+    let fit = not-true (is_unfit g ReadCacheSequential) both.0 in
     let free : (may_be_open v || opener_refused g v ReadCacheSequential) ≡ false = sym (ap (λ (b : Bool). cond b false (may_be_open v || opener_refused g v ReadCacheSequential)) fit) ∙ out in
     let all = or_parts (may_be_open v) (opener_refused g v ReadCacheSequential) free in
     let three = or_parts (not (drives v.target.shows) || v.lun.busy || v.lun.last.other) _ all.1 in
@@ -104,10 +104,6 @@ past_rows s text v r c low is m ReadCacheSequential h out =
     let exact : not (is_at_most (bound_plus v.lun.cached.index.hi 2) text.rows) ≡ not (nat_le (index_of g c.view.array_page + 2) text.rows) =
     ap (λ (o : Option ℕ). not (is_at_most (bound_plus o 2) text.rows)) (m.cached_index other) ∙ ap not (exact_test (index_of g c.view.array_page) 2 text.rows low) in
     ap (λ (w : LunView). nat_le text.rows (index_of g w.array_page + 1)) is.view ∙ next_outside text.rows (index_of g c.view.array_page) (sym exact ∙ both.1)
-  where
-    not_true : (b : Bool) → not b ≡ true → b ≡ false
-    not_true true h = cc
-    not_true false h = refl
 past_rows s text v r c low is m _ h out = cc
 
 pub command_cause : (s : Channel) (text : Microprogram) (v : State) (r : Run) (c : Lone) (byte : ℕ) → IsFit s text → IsLone s r.past c → Mirrors s.geometry (lone_job s.geometry text) v r.done c → continues_unseen (bounds_of text) (command byte) ≡ false → (reason : Reason) → reason_against s.geometry (bounds_of text) v (CommandWord byte) ≡ Some reason → Cause s (lone_job s.geometry text) r (CommandWord byte) reason

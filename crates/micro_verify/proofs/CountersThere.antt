@@ -3,6 +3,7 @@ use Rattle.std.proofs.Common.{◌≡◌, ℕ, true, false, List, [], ◌∷◌, 
 use Rattle.std.specs.List.{slice_get}
 use Rattle.std.proofs.Math.Seq.{take-append_seam}
 use Rattle.std.proofs.lemmas.List.{reverse-reverse}
+use Rattle.std.proofs.lemmas.Bool.{and_parts}
 use Rattle.onfi_cycle.specs.declared.forbidden.Forbidden.{Forbidden}
 use Rattle.onfi_cycle.specs.declared.item.Item.{Item}
 use Rattle.onfi_cycle.specs.declared.item.Kind.TheVariants.{Dout}
@@ -11,7 +12,6 @@ use Rattle.onfi_cycle.specs.Permitted.{broken, is_legal, is_permitted}
 use Rattle.onfi_cycle.specs.Channel.{Channel, cycle, bus_byte}
 use Rattle.micro_program.specs.Moves.{Move, Give, Take, and_then}
 use Rattle.micro_program.specs.Played.{Played, played, with_byte}
-use Rattle.nand_geometry.proofs.Booleans.{and_parts}
 use Rattle.micro_verify.specs.Lazy.{item_of, counter_in, awaited}
 use Rattle.micro_verify.specs.Counters.{CountersAreThere}
 

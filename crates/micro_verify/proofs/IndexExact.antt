@@ -2,6 +2,8 @@
 use Rattle.std.proofs.Math.Nat.{min-eq_left, min-eq_right}
 use Rattle.std.proofs.Common.{◌≡◌, ℕ, ◌+◌, ◌-◌, ◌%◌, ◌≤◌, ◌<◌, ◌==◌, Bool, true, false, ◌&&◌, nat_le, List, [], ◌∷◌, length, Option, Some, None, refl, sym, ap, ◌∙◌, subst, arith, min, eqb-true}
 use Rattle.std.proofs.lemmas.Bool.Decides.{nat_tests}
+use Rattle.std.proofs.lemmas.Bool.{and_parts, and_from}
+use Rattle.onfi_cycle.proofs.Booleans.{eqb_self}
 use Rattle.nand_geometry.specs.declared.parts.Parts.{Parts}
 use Rattle.onfi_cycle.specs.declared.queued.Queued.{Queued}
 use Rattle.onfi_cycle.specs.LunView.{LunView}
@@ -28,8 +30,6 @@ use Rattle.micro_claims.specs.Accepts.{state_after}
 use Rattle.micro_claims.proofs.Fits.{Address, Now, now_of}
 use Rattle.micro_claims.proofs.Indices.{mod_more}
 use Rattle.micro_claims.proofs.Sounding.{no_reasons}
-use Rattle.micro_program.proofs.Basics.{eqb_self}
-use Rattle.nand_geometry.proofs.Booleans.{and_parts, and_true}
 use Rattle.micro_verify.specs.Lazy.{lone_job, Run}
 use Rattle.micro_verify.specs.Cause.{Cause}
 use Rattle.micro_verify.proofs.Lone.{Lone, IsAlone, IsLone}
@@ -155,7 +155,7 @@ goes_on g old new move erase (Some n) (SomeRows kind planes d) queue moves m h =
         let behinds : f.behind ≡ d.behind = eqb-true f.behind d.behind both.1 in
         let same : f ≡ d = λ i. record { ahead = aheads i; behind = behinds i } in
         subst (λ (o : Option Drift). goes_along erase o (SomeRows kind planes (drift_from new m.index)) ≡ true) (sym (ap move same ∙ moved))
-        (and_true (same_test erase kind) _ parts.0 (rw (eqb_self (new - m.index), eqb_self (m.index - new)) refl))
+        (and_from (same_test erase kind) _ parts.0 (rw (eqb_self (new - m.index), eqb_self (m.index - new)) refl))
 
 -- 3. rowadd
 

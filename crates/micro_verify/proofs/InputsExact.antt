@@ -1,6 +1,7 @@
 -- Inputs are exact: at which one a `put` stops, and what it leaves.
 use Rattle.std.proofs.lemmas.Bool.Decides.{nat_tests}
-use Rattle.std.proofs.Common.{◌≡◌, ℕ, zero, suc, ◌+◌, ◌-◌, ◌≤◌, ◌<◌, ◌==◌, Bool, true, false, ◌&&◌, ◌||◌, cond, not, ltb, nat_le, List, [], ◌∷◌, ◌++◌, Option, Some, None, refl, sym, ap, ◌∙◌, subst, arith, replicate, length, take}
+use Rattle.std.proofs.Common.{◌≡◌, ℕ, zero, suc, ◌+◌, ◌-◌, ◌≤◌, ◌<◌, ◌==◌, Bool, true, false, ◌&&◌, ◌||◌, cond, ltb, nat_le, List, [], ◌∷◌, ◌++◌, Option, Some, None, refl, sym, ap, ◌∙◌, subst, arith, replicate, length, take}
+use Rattle.std.proofs.lemmas.Bool.{not-false, not-true}
 use Rattle.nand_geometry.specs.declared.parts.Parts.{Parts}
 use Rattle.nand_geometry.specs.Limits.{page_len}
 use Rattle.onfi_cycle.specs.declared.data_phase.DataPhase.TheVariants.{Inputs, FirstColumn, SecondColumn}
@@ -186,7 +187,7 @@ unfolding state_after breaks_cycle_forbidden breaks_address_unaligned breaks_han
 put_exact s text v r c n some k is m =
     record {
       cause = λ reason e. by reason (reason_is s.geometry text v (Put n) reason e) e;
-      goes = λ e f. let clear = no_reasons s.geometry text v (Put n) e in goes (in_put g text v r c m (is_yes _ clear.no_cycle_forbidden)) (bytes_there g text r n (sym place_test ∙ is_yes _ clear.no_buffer_passed)) clear.no_column_too_large;
+      goes = λ e f. let clear = no_reasons s.geometry text v (Put n) e in goes (in_put g text v r c m (not-false _ clear.no_cycle_forbidden)) (bytes_there g text r n (sym place_test ∙ not-false _ clear.no_buffer_passed)) clear.no_column_too_large;
     }
   where
     g : Parts
@@ -194,14 +195,6 @@ put_exact s text v r c n some k is m =
 
     j : Job
     j = lone_job g text
-
-    is_no : (b : Bool) → not b ≡ true → b ≡ false
-    is_no true h = cc
-    is_no false h = refl
-
-    is_yes : (b : Bool) → not b ≡ false → b ≡ true
-    is_yes true h = refl
-    is_yes false h = cc
 
     place_test : is_at_most (bound_plus v.registers.place.hi n) text.buffer ≡ nat_le (place_now r.done + n) text.buffer
     place_test = ap (λ (o : Option ℕ). is_at_most (bound_plus o n) text.buffer) m.registers.place ∙ exact_test (place_now r.done) n text.buffer k.buffer
@@ -225,7 +218,7 @@ put_exact s text v r c n some k is m =
         count = b.count
 
         over : nat_le (input_column c.facts + n) (page_len g) ≡ false
-        over = sym (page_test p) ∙ is_no _ h
+        over = sym (page_test p) ∙ not-true _ h
 
         begins : (x : Bool) → nat_le (page_len g) (input_column c.facts) ≡ x → WordStops s j r (Put n) is_of_column_too_large
         begins true e =
@@ -242,16 +235,16 @@ put_exact s text v r c n some k is m =
             put_stops s text r c n (page_len g - input_column c.facts) is_of_column_too_large b x k.alone is pass.pass ColumnOutside (in_place g (lone_after g (gives Din (take (page_len g - input_column c.facts) b.bytes)) c) x.byte (ap takes_inputs pass.program.program.phase) ∙ ap (λ (y : Bool). cond y (Some ColumnOutside) None) full) refl
 
     by : (reason : Reason) → reason_holds g text v (Put n) reason ≡ true → reason_against g (bounds_of text) v (Put n) ≡ Some reason → Cause s j r (Put n) reason
-    by CycleForbidden h e = λ lacks. stops_astray (is_no _ h) (bytes_there g text r n (is_yes _ lacks))
-    by BufferPassed h e = sym place_test ∙ is_no _ h
-    by ColumnTooLarge h e = let low = lowest_column_too_large g text v (Put n) e in stops_past (in_put g text v r c m (is_yes _ low.no_cycle_forbidden)) (bytes_there g text r n (sym place_test ∙ is_yes _ low.no_buffer_passed)) h
+    by CycleForbidden h e = λ lacks. stops_astray (not-true _ h) (bytes_there g text r n (not-false _ lacks))
+    by BufferPassed h e = sym place_test ∙ not-true _ h
+    by ColumnTooLarge h e = let low = lowest_column_too_large g text v (Put n) e in stops_past (in_put g text v r c m (not-false _ low.no_cycle_forbidden)) (bytes_there g text r n (sym place_test ∙ not-false _ low.no_buffer_passed)) h
     by OverBudget h e = cost_cause g v r (Put n) text.budget k.budget m.registers h
     by _ h e = cc
 
     goes : InPut g j v r c → Bytes text g r n → input_past g v n ≡ false → Goes s text (state_after g v (Put n)) r (Put n)
     goes p b past =
         let count = b.count in
-        let inside : nat_le (input_column c.facts + n) (page_len g) ≡ true = sym (page_test p) ∙ is_yes _ past in
+        let inside : nat_le (input_column c.facts + n) (page_len g) ≡ true = sym (page_test p) ∙ not-false _ past in
         let most : input_column c.facts + length b.bytes ≤ page_len g = grind (arith, nat_tests, inside, count) in
         let pass = inputs_pass g p.address b.bytes c p.inputs most in
         goes_by s text (state_after g v (Put n)) r (Put n) (gives Din b.bytes) r.past c k.alone b.is_moved refl is pass.pass

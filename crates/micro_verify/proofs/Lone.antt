@@ -1,6 +1,7 @@
 -- The LUN of a channel that has no other: what it and its tail are tells by itself which cycle is permitted, by which rule it isn't, and
 -- what each cycle leaves.
 use Rattle.std.proofs.Common.{◌≡◌, ℕ, Bool, true, false, ◌||◌, ◌&&◌, Option, Some, None, List, [], ◌∷◌, ◌++◌, refl, sym, ap, ◌∙◌, subst, arith}
+use Rattle.std.proofs.Math.Bool.{or-true}
 use Rattle.nand_geometry.specs.declared.parts.Parts.{Parts}
 use Rattle.onfi_cycle.specs.declared.forbidden.Forbidden.{Forbidden}
 use Rattle.onfi_cycle.specs.declared.forbidden.Forbidden.TheVariants.{NoSoleDriver}
@@ -101,14 +102,10 @@ pub record Plays (s : Channel) (moved : List Move) (past : List Item) (c : Lone)
   pub plays : played s 0 moved past ≡ Some p
   pub is : IsLone s p.past (lone_after s.geometry moved c)
 
-silent : (o : Bool) → (o || true) ≡ true
-silent true = refl
-silent false = refl
-
 -- where the LUN is off, an output breaks a rule
 no_driver : (g : Parts) (c : Lone) → c.view.latch ≡ Off → judged g c OutputCycle ≡ None → ⊥
 unfolding breaks_command_unknown breaks_sequence_open breaks_several_luns breaks_no_column_to_change breaks_command_misplaced breaks_address_misplaced breaks_row_outside breaks_lun_busy breaks_queue_clash breaks_input_misplaced breaks_no_sole_driver
-no_driver g c e h = let x : judged g c OutputCycle ≡ Some NoSoleDriver = rw (e, silent (is_open c.facts)) refl in let y : Some NoSoleDriver ≡ None = sym x ∙ h in cc
+no_driver g c e h = let x : judged g c OutputCycle ≡ Some NoSoleDriver = rw (e, or-true (is_open c.facts)) refl in let y : Some NoSoleDriver ≡ None = sym x ∙ h in cc
 
 drives : (s : Channel) (past : List Item) (c : Lone) → IsAlone s → IsLone s past c → judged s.geometry c OutputCycle ≡ None → is_only (drivers s.geometry past 0) 0 ≡ true
 drives s past c k is h = on c.view.latch refl

@@ -1,8 +1,9 @@
 -- A new bus of one die.
-use Rattle.std.proofs.Common.{◌≡◌, ℕ, zero, suc, ◌*◌, ◌==◌, Bool, true, false, List, [], ◌∷◌, ◌++◌, Some, None, refl, sym, ap, ◌∙◌, subst, arith, eq-eqb, replicate, length, map}
+use Rattle.std.proofs.Common.{◌≡◌, ℕ, zero, suc, ◌*◌, ◌==◌, Bool, true, false, List, [], ◌∷◌, ◌++◌, Some, None, refl, sym, ap, ◌∙◌, subst, arith, replicate, length, map}
 use Rattle.std.proofs.Math.Path.{fun_ext}
 use Rattle.std.specs.Bool.{beq}
 use Rattle.std.specs.Prelude.{slice_index_or}
+use Rattle.onfi_cycle.proofs.Booleans.{eqb_self}
 use Rattle.nand_geometry.specs.declared.parts.Parts.{Parts}
 use Rattle.nand_geometry.specs.Limits.{page_len}
 use Rattle.nand_geometry.specs.Page.{parameter_bytes}
@@ -11,16 +12,12 @@ use Rattle.onfi_cycle.specs.declared.page_address.PageAddress.{PageAddress}
 use Rattle.onfi_cycle.specs.Channel.{Channel}
 use Rattle.die_model.specs.Pages.{page_in}
 use Rattle.die_model.specs.Die.{Die, new_die}
-use Rattle.target_bus.specs.Bus.{Traced, channel_of, channel_on, number_of, opened_page, bus_fault, RefusesDies}
+use Rattle.target_bus.specs.Bus.{Traced, channel_on, number_of, opened_page, bus_fault, RefusesDies}
 use Rattle.target_bus.specs.declared.refusal.BusFault.{BusFault}
 use Rattle.target_bus.specs.declared.refusal.BusFault.TheVariants.{DiesMissing, DieUnfit}
-use Rattle.micro_verify.specs.Lazy.{lone_channel}
 use Rattle.micro_verify.specs.Playing.{IsNewBus}
 
 -- 1. the bus takes it
-
-self : (n : ℕ) → (n == n) ≡ true
-self n = eq-eqb n n refl
 
 bself : (b : Bool) → beq b b ≡ true
 bself true = refl
@@ -28,7 +25,7 @@ bself false = refl
 
 pub one_die : (g : Parts) → g.luns ≡ 1 → bus_fault g (new_die g ∷ []) ≡ None
 one_die g one =
-    rw (one, self g.page_bytes, self g.spare_bytes, self g.pages, self g.blocks, self g.plane_bits, bself g.enhanced, bself g.multi_plane, bself g.cache) refl
+    rw (one, eqb_self g.page_bytes, eqb_self g.spare_bytes, eqb_self g.pages, eqb_self g.blocks, eqb_self g.plane_bits, bself g.enhanced, bself g.multi_plane, bself g.cache) refl
 
 -- 2. its channel
 

@@ -1,6 +1,7 @@
 -- Outputs are exact: at which one a `get` stops, and what it leaves.
 use Rattle.std.proofs.lemmas.Bool.Decides.{nat_tests}
-use Rattle.std.proofs.Common.{◌≡◌, ℕ, zero, suc, ◌+◌, ◌-◌, ◌≤◌, ◌<◌, Bool, true, false, ◌&&◌, ◌||◌, cond, not, ltb, nat_le, List, [], ◌∷◌, ◌++◌, Option, Some, None, refl, sym, ap, ◌∙◌, subst, arith, replicate, length, take}
+use Rattle.std.proofs.Common.{◌≡◌, ℕ, zero, suc, ◌+◌, ◌-◌, ◌≤◌, ◌<◌, Bool, true, false, ◌&&◌, ◌||◌, cond, not, ltb, nat_le, List, [], ◌∷◌, ◌++◌, Option, Some, None, refl, sym, ap, ◌∙◌, subst, arith, replicate, take}
+use Rattle.std.proofs.lemmas.Bool.{not-false, not-true, or_parts}
 use Rattle.nand_geometry.specs.declared.parts.Parts.{Parts}
 use Rattle.onfi_cycle.specs.declared.forbidden.Forbidden.{Forbidden}
 use Rattle.onfi_cycle.specs.declared.forbidden.Forbidden.TheVariants.{NoSoleDriver, DataNotReady, ColumnOutside}
@@ -35,7 +36,6 @@ use Rattle.micro_claims.specs.Reasons.{reason_against, breaks_cycle_forbidden, b
 use Rattle.micro_claims.specs.Accepts.{state_after}
 use Rattle.micro_claims.proofs.Fits.{Address, facts_behind, bytes_of, opener_facts}
 use Rattle.micro_claims.proofs.Sounding.{no_reasons}
-use Rattle.nand_geometry.proofs.Booleans.{or_parts}
 use Rattle.micro_claims.proofs.Transfers.{read_on, read_one}
 use Rattle.micro_verify.specs.Lazy.{lone_job, Run}
 use Rattle.micro_verify.specs.Cause.{Cause, WordStops, is_of_cycle_forbidden, is_of_column_too_large}
@@ -295,10 +295,6 @@ get_exact s text v r c n some k is m =
     empty : c.facts.is_empty ≡ true → Shut c.facts
     empty = shut_where m.tail.place m.tail.address c.facts m.tail.is
 
-    not_no : (b : Bool) → not b ≡ true → b ≡ false
-    not_no true h = cc
-    not_no false h = refl
-
     past_test : (at : ℕ) (o : OutputColumn) → v.lun.column ≡ Some o → o.at.hi ≡ kept at → is_at_most (bound_plus (column_bound v.lun.column) n) (least_length g v.lun.register) ≡ nat_le (at + n) (register_len g c.view.register)
     past_test at o here bound =
         (λ i. is_at_most (bound_plus (column_bound (here i)) n) (least_length g (m.lun.register i))) ∙ ((λ i. is_at_most (bound_plus (bound i) n) (length_is g c.view.register i)) ∙ exact_test at n (register_len g c.view.register) (register_small s k.alone c.view.register))
@@ -310,7 +306,7 @@ get_exact s text v r c n some k is m =
         cc
     stops_past (SeenData at o x here is_column bound) h =
         let shown = ap (λ (q : Option Shown). may_show_data q && not (is_at_most (bound_plus (column_bound v.lun.column) n) (least_length g v.lun.register))) (m.shows ∙ ap shows_of x.latch) in
-        let past : nat_le (at + n) (register_len g c.view.register) ≡ false = sym (past_test at o here bound) ∙ not_no _ (sym shown ∙ h) in
+        let past : nat_le (at + n) (register_len g c.view.register) ≡ false = sym (past_test at o here bound) ∙ not-true _ (sym shown ∙ h) in
         by_length at (register_len g c.view.register) refl x past
       where
         by_length : (at len : ℕ) → register_len g c.view.register ≡ len → ShowsData c at → nat_le (at + n) (register_len g c.view.register) ≡ false → WordStops s j r (Get n) is_of_column_too_large
@@ -333,7 +329,7 @@ get_exact s text v r c n some k is m =
 
     by : (reason : Reason) → reason_holds g text v (Get n) reason ≡ true → reason_against g (bounds_of text) v (Get n) ≡ Some reason → Cause s j r (Get n) reason
     by CycleForbidden h e = λ bytes. let t = unseen_stops g c (sym (refused_is g text v r c m) ∙ h) in get_stops s text r c n 0 is_of_cycle_forbidden (omega (arith, some)) k.alone is tt t.0 t.1.0 t.1.1
-    by BufferPassed h e = sym (ap (λ (o : Option ℕ). is_at_most (bound_plus o n) text.buffer) m.registers.place ∙ exact_test (place_now r.done) n text.buffer k.buffer) ∙ not_no _ h
+    by BufferPassed h e = sym (ap (λ (o : Option ℕ). is_at_most (bound_plus o n) text.buffer) m.registers.place ∙ exact_test (place_now r.done) n text.buffer k.buffer) ∙ not-true _ h
     by ColumnTooLarge h e = stops_past (seen g text v r c m (lowest_column_too_large g text v (Get n) e).no_cycle_forbidden) h
     by OverBudget h e = cost_cause g v r (Get n) text.budget k.budget m.registers h
     by _ h e = cc
@@ -363,7 +359,7 @@ get_exact s text v r c n some k is m =
         goes_with c.view (status_outputs g n c x empty) refl (subst (λ (q : Option OutputColumn). LunMirror g (record v.lun { column = q }) (index_now 0 r.done) c.view) (sym same) m.lun)
     goes (SeenData at o x here is_column bound) past =
         let shown = ap (λ (q : Option Shown). may_show_data q && not (is_at_most (bound_plus (column_bound v.lun.column) n) (least_length g v.lun.register))) (m.shows ∙ ap shows_of x.latch) in
-        let inside : nat_le (at + n) (register_len g c.view.register) ≡ true = sym (past_test at o here bound) ∙ is_yes _ (sym shown ∙ past) in
+        let inside : nat_le (at + n) (register_len g c.view.register) ≡ true = sym (past_test at o here bound) ∙ not-false _ (sym shown ∙ past) in
         let most : at + n ≤ register_len g c.view.register = grind (arith, nat_tests, inside) in
         let read : column_read v.target.shows n v.lun.column ≡ Some (record { at = plus_between o.at n n; read = true }) = (λ i. column_read (m.shows i) n (here i)) ∙ ap (λ (l : Latch). column_read (shows_of l) n (Some o)) x.latch in
         goes_with (read_on n c.view) (data_outputs g n c at x empty most) refl
@@ -382,10 +378,6 @@ get_exact s text v r c n some k is m =
           cached_index = m.lun.cached_index;
         }))
       where
-        is_yes : (b : Bool) → not b ≡ false → b ≡ true
-        is_yes true h = refl
-        is_yes false h = cc
-
         some_read : (k : ℕ) → true ≡ ltb 0 (k + n)
         some_read k = let more : 0 < k + n = omega (arith, some) in grind (arith, nat_tests, more)
 

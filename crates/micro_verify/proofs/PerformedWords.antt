@@ -1,5 +1,5 @@
 -- What performing a word makes of the run of its text.
-use Rattle.std.proofs.Common.{◌≡◌, ℕ, zero, suc, ◌+◌, ◌*◌, ◌<◌, ◌≤◌, Bool, true, false, cond, leb, ltb, not, List, [], ◌∷◌, ◌++◌, Option, Some, None, is_none, refl, sym, ap, ◌∙◌, subst, arith, length, map, replicate, reverse, drop, get_or}
+use Rattle.std.proofs.Common.{◌≡◌, ℕ, zero, suc, ◌+◌, ◌*◌, ◌<◌, ◌≤◌, Bool, true, false, cond, leb, List, [], ◌∷◌, ◌++◌, Option, Some, None, is_none, refl, sym, ap, ◌∙◌, subst, arith, length, map, replicate, reverse, drop, get_or}
 use Rattle.std.proofs.Math.Seq.{drop-cons}
 use Rattle.std.proofs.lemmas.Bool.Decides.{nat_tests}
 use Rattle.nand_geometry.specs.declared.parts.Parts.{Parts}
@@ -14,7 +14,7 @@ use Rattle.micro_word.specs.declared.word.Word.{Word}
 use Rattle.micro_word.specs.declared.word.Word.TheVariants.{End, Command, Address, Get, Put, Seek, Column, RowAdd, Row, Plane, Wait, Yield, ReadStatus, BranchOnStatus, Loop, Next, Jump}
 use Rattle.micro_word.specs.Word.{IsInRange}
 use Rattle.target_bus.specs.Bus.{Traced, channel_of}
-use Rattle.micro_program.specs.Program.{Job, Done as Past, column_now, plane_now, index_now, place_now, buffer_now, written}
+use Rattle.micro_program.specs.Program.{Job, Done as Past, index_now, place_now, buffer_now, written}
 use Rattle.micro_program.specs.Moves.{Move, Give, Take, and_then, part, column_bytes, address, gives, put_bytes, poll, moves}
 use Rattle.micro_program.specs.Played.{Played, played}
 use Rattle.micro_program.proofs.Bytes.{short_part}

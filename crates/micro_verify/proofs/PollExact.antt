@@ -1,5 +1,6 @@
 -- A poll of a lone LUN: its cycles pass, and the claim behind mirrors what they leave.
 use Rattle.std.proofs.Common.{◌≡◌, Bool, true, false, ◌||◌, cond, ltb, List, [], ◌∷◌, Option, Some, None, refl, sym, ap, ◌∙◌, subst}
+use Rattle.std.proofs.Math.Bool.{or-false, or-true}
 use Rattle.nand_geometry.specs.declared.parts.Parts.{Parts}
 use Rattle.onfi_cycle.specs.declared.command.Command.{Command}
 use Rattle.onfi_cycle.specs.declared.command.Command.TheVariants.{ReadStatus as StatusCommand, ChangeWriteColumn, ProgramConfirm, ProgramPlane}
@@ -64,18 +65,10 @@ unread_exact None k m = at k.lost refl (ltb 0 k.outputs)
     at false e false = rw e (ap (λ (b : Bool). cond b None (option_plus k.outputs k.given)) (sym e) ∙ m)
 unread_exact (Some c) k m = at c.read refl
   where
-    or_true : (b : Bool) → (b || true) ≡ true
-    or_true true = refl
-    or_true false = refl
-
-    or_false : (b : Bool) → (b || false) ≡ b
-    or_false true = refl
-    or_false false = refl
-
     at : (b : Bool) → c.read ≡ b → ColumnMirror (cond b None (Some c)) (lost k)
     at true e =
-        let gone : (k.lost || ltb 0 k.outputs) ≡ true = ap (λ (b : Bool). k.lost || b) (sym m.read ∙ e) ∙ or_true k.lost in
+        let gone : (k.lost || ltb 0 k.outputs) ≡ true = ap (λ (b : Bool). k.lost || b) (sym m.read ∙ e) ∙ or-true k.lost in
         ap (λ (b : Bool). cond b None (option_plus k.outputs k.given)) gone
     at false e =
-        let same : lost k ≡ k = ap (λ (b : Bool). record k { lost = b }) (ap (λ (b : Bool). k.lost || b) (sym m.read ∙ e) ∙ or_false k.lost) in
+        let same : lost k ≡ k = ap (λ (b : Bool). record k { lost = b }) (ap (λ (b : Bool). k.lost || b) (sym m.read ∙ e) ∙ or-false k.lost) in
         subst (λ (x : ReadColumn). ColumnMirror (Some c) x) (sym same) m

@@ -3,6 +3,7 @@ use Rattle.std.proofs.lemmas.Bool.Decides.{nat_tests}
 use Rattle.std.proofs.lemmas.Nat.{div-mul-add, mod-mul-add}
 use Rattle.std.proofs.Math.Nat.{div-add-mod}
 use Rattle.std.proofs.Common.{◌≡◌, ℕ, zero, suc, ◌+◌, ◌-◌, ◌*◌, ◌/◌, ◌%◌, ◌≤◌, ◌<◌, ◌==◌, Bool, true, false, ◌&&◌, ◌||◌, not, List, [], ◌∷◌, refl, sym, ap, ◌∙◌, arith, eqb-true, eq-eqb}
+use Rattle.std.proofs.Math.Bool.{or-false}
 use Rattle.nand_geometry.specs.declared.parts.Parts.{Parts}
 use Rattle.nand_geometry.specs.Limits.{planes}
 use Rattle.onfi_cycle.specs.declared.command.Command.{Command}
@@ -23,14 +24,10 @@ use Rattle.micro_verify.proofs.Mirrors.{RowsMirror, RowMirror, AllMirror, set_of
 
 -- 1. sets of planes
 
-or_no : (b : Bool) → (b || false) ≡ b
-or_no true = refl
-or_no false = refl
-
 share_one : (p : ℕ) (s : Planes) → p ≤ 3 → share_a_plane (just_plane p) s ≡ has_plane p s
-share_one zero s low = ap (λ (b : Bool). b || false || false) (or_no s.zero) ∙ (ap (λ (b : Bool). b || false) (or_no s.zero) ∙ or_no s.zero)
-share_one (suc zero) s low = ap (λ (b : Bool). b || false) (or_no s.one) ∙ or_no s.one
-share_one (suc (suc zero)) s low = or_no s.two
+share_one zero s low = ap (λ (b : Bool). b || false || false) (or-false s.zero) ∙ (ap (λ (b : Bool). b || false) (or-false s.zero) ∙ or-false s.zero)
+share_one (suc zero) s low = ap (λ (b : Bool). b || false) (or-false s.one) ∙ or-false s.one
+share_one (suc (suc zero)) s low = or-false s.two
 share_one (suc (suc (suc zero))) s low = refl
 share_one (suc (suc (suc (suc n)))) s low = absurd (omega (arith, low))
 

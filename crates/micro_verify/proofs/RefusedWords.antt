@@ -1,15 +1,16 @@
 -- Each word of a straight text is exact, so that a refused one has its cause.
-use Rattle.std.proofs.Common.{◌≡◌, ℕ, zero, suc, ◌*◌, ◌/◌, ◌≤◌, ◌==◌, Bool, true, false, ◌||◌, not, cond, ltb, List, [], ◌∷◌, length, replicate, Option, Some, None, refl, sym, ap, ◌∙◌, subst, arith, take, eq-eqb}
+use Rattle.std.proofs.Common.{◌≡◌, ℕ, zero, suc, ◌*◌, ◌/◌, ◌≤◌, ◌==◌, Bool, true, false, ◌||◌, not, cond, ltb, List, [], ◌∷◌, length, replicate, Option, Some, None, refl, sym, ap, ◌∙◌, subst, arith, take}
 use Rattle.std.proofs.Math.Nat.{div-le_self, mul-le-mul_left, mul-le-mul_right}
 use Rattle.nand_geometry.specs.declared.parts.Parts.{Parts}
 use Rattle.nand_geometry.specs.Limits.{InLimits, indices, planes}
 use Rattle.onfi_cycle.specs.declared.command.Command.{Command}
 use Rattle.onfi_cycle.specs.declared.command.Command.TheVariants.{ReadCacheSequential, Unknown as UnknownCommand}
-use Rattle.onfi_cycle.specs.Command.{command, opcode}
+use Rattle.onfi_cycle.specs.Command.{command}
 use Rattle.micro_program.proofs.CacheReads.{its_byte}
 use Rattle.micro_program.specs.Lines.{is_command_31, continues_cache_read, leads_on, all_lead_on}
 use Rattle.micro_claims.specs.Against.{continues_unseen}
 use Rattle.std.specs.List.{slice_get}
+use Rattle.std.proofs.lemmas.Bool.{or_left, or_right, and_parts}
 use Rattle.onfi_cycle.specs.Channel.{Channel}
 use Rattle.micro_word.specs.declared.word.Word.{Word}
 use Rattle.micro_word.specs.declared.word.Word.TheVariants.{End, Command as CommandWord, Address, Get, Put, Seek, Column, Plane, Row, RowAdd, Wait, Yield, ReadStatus}
@@ -28,7 +29,6 @@ use Rattle.micro_claims.specs.State.{first_state}
 use Rattle.micro_claims.specs.Spans.{greatest_bound}
 use Rattle.micro_verify.specs.Lazy.{lone_channel, lone_job, new_run, run_words}
 use Rattle.micro_verify.specs.Cause.{no_end, AllInRange, RefusalsHaveCauses}
-use Rattle.nand_geometry.proofs.Booleans.{and_parts}
 use Rattle.micro_verify.proofs.Lone.{IsAlone}
 use Rattle.micro_verify.proofs.Causes.{IsFit, IsExact, AreExact, causes_among, first_lone, first_mirrors, end_exact}
 use Rattle.micro_verify.proofs.WordsExact.{wait_exact, stat_exact}
@@ -63,19 +63,11 @@ word_exact s text format words k (Get len) range seen h v r c few is m = get_exa
 word_exact s text format words k (Put len) range seen h v r c few is m = put_exact s text v r c len range.0 k is m
 word_exact s text format words k _ range seen h v r c few is m = cc
 
-or_second : (a b : Bool) → b ≡ true → (a || b) ≡ true
-or_second true b h = refl
-or_second false b h = h
-
-or_first : (a b : Bool) → a ≡ true → (a || b) ≡ true
-or_first true b h = refl
-or_first false b h = cc
-
 all_exact : (s : Channel) (text : Microprogram) (format : Format) (count : ℕ) → IsFit s text → (words : List Word) → AllInRange format count words → (continues_cache_read words ≡ true → continues_cache_read text.words ≡ true) → all_lead_on words ≡ true → AreExact s text words
 all_exact s text format count k [] range seen h = tt
 all_exact s text format count k (word ∷ words) range seen h =
     let both = and_parts (leads_on word) (all_lead_on words) h in
-    (word_exact s text format count k word range.0 (λ e. seen (or_first (is_command_31 word) (continues_cache_read words) e)) both.0, all_exact s text format count k words range.1 (λ e. seen (or_second (is_command_31 word) (continues_cache_read words) e)) both.1)
+    (word_exact s text format count k word range.0 (λ e. seen (or_left (is_command_31 word) (continues_cache_read words) e)) both.0, all_exact s text format count k words range.1 (λ e. seen (or_right (is_command_31 word) (continues_cache_read words) e)) both.1)
 
 length_replicate : (n x : ℕ) → length (replicate n x) ≡ n
 length_replicate zero x = refl

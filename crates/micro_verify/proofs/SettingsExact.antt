@@ -1,6 +1,7 @@
 -- Words that set a register are exact.
 use Rattle.std.proofs.Common.{◌≡◌, ℕ, ◌≤◌, ◌<◌, ◌==◌, Bool, true, false, ◌&&◌, ◌||◌, cond, ltb, [], ◌∷◌, Option, refl, sym, ap, ◌∙◌, subst, arith}
 use Rattle.std.proofs.lemmas.Bool.Decides.{nat_tests}
+use Rattle.std.proofs.lemmas.Bool.{or_right}
 use Rattle.nand_geometry.specs.declared.parts.Parts.{Parts}
 use Rattle.onfi_cycle.specs.declared.data_phase.DataPhase.TheVariants.{FirstColumn, SecondColumn}
 use Rattle.onfi_cycle.specs.declared.opening.Opening.{Opening}
@@ -41,12 +42,8 @@ amid_there Unknown a t is h = absurd is
 amid_there (After o n) a t is h =
     let b = begun o n a t is in
     ap (λ (x : Option Opening). opened (λ c n. ltb 0 n && ltb n (address_cycles c)) x || wants_second_column t.phase) b.opening ∙ (ap (λ (x : Bool). x || wants_second_column t.phase) h)
-amid_there (InColumn n) a t is h = or_last _ _ (ap wants_second_column is.program.phase ∙ second (n == 0) refl)
+amid_there (InColumn n) a t is h = or_right _ _ (ap wants_second_column is.program.phase ∙ second (n == 0) refl)
   where
-    or_last : (a b : Bool) → b ≡ true → (a || b) ≡ true
-    or_last true b h = refl
-    or_last false b h = h
-
     second : (b : Bool) → (n == 0) ≡ b → wants_second_column (cond b FirstColumn SecondColumn) ≡ true
     second true e = let both = h in absurd (let x : ⊥ = grind (arith, nat_tests) in x)
     second false e = refl

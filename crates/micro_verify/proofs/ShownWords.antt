@@ -1,5 +1,5 @@
 -- What is told of the counter of a word.
-use Rattle.std.proofs.Common.{◌≡◌, ℕ, ◌+◌, Bool, true, false, cond, leb, ltb, ◌||◌, ◌&&◌, not, List, Option, Some, None, is_none, refl, sym, ap, ◌∙◌, subst, reverse}
+use Rattle.std.proofs.Common.{◌≡◌, ℕ, ◌+◌, Bool, true, false, cond, leb, ltb, ◌||◌, ◌&&◌, not, List, Option, Some, None, is_none, refl, sym, ap, ◌∙◌, reverse}
 use Rattle.nand_geometry.specs.declared.parts.Parts.{Parts}
 use Rattle.nand_geometry.specs.Limits.{planes}
 use Rattle.onfi_cycle.specs.declared.item.Cycle.{Cycle}
@@ -11,13 +11,13 @@ use Rattle.onfi_cycle.specs.Channel.{Channel}
 use Rattle.micro_word.specs.declared.word.Word.{Word}
 use Rattle.micro_word.specs.declared.word.Word.TheVariants.{Address, Put}
 use Rattle.target_bus.specs.Bus.{Traced, channel_of}
-use Rattle.micro_program.specs.Program.{Job, index_now, plane_now, place_now}
+use Rattle.micro_program.specs.Program.{Job}
 use Rattle.micro_verify.specs.declared.registers.Registers.{Registers}
 use Rattle.micro_verify.specs.declared.playing.Outcome.{Outcome}
 use Rattle.micro_verify.specs.declared.playing.Outcome.TheVariants.{Done, Stopped, Missing}
 use Rattle.micro_verify.specs.Lazy.{Run, run_word, Counter, counter_at}
 use Rattle.micro_verify.specs.Cause.{begins_wrong, wants_identity, lacks_bytes, tail_now}
-use Rattle.micro_verify.specs.Calm.{calm_word, counter_after}
+use Rattle.micro_verify.specs.Calm.{counter_after}
 use Rattle.micro_verify.specs.Playing.{lacks_told, IsSet, IsAt, IsLoneJob, HasPerformed}
 use Rattle.micro_verify.proofs.PerformedWords.{came_of}
 

@@ -1,6 +1,8 @@
 -- Commands on a lone LUN: what the claim says against one is what the rules say, exactly.
 use Rattle.std.proofs.lemmas.Bool.Decides.{nat_tests}
 use Rattle.std.proofs.Common.{◌≡◌, ℕ, ◌+◌, ◌≤◌, ◌==◌, Bool, true, false, ◌&&◌, ◌||◌, cond, not, ltb, nat_le, List, Option, Some, None, refl, sym, ap, ◌∙◌, subst, arith}
+use Rattle.std.proofs.Math.Bool.{or-false}
+use Rattle.std.proofs.lemmas.Bool.{not-false}
 use Rattle.nand_geometry.specs.declared.parts.Parts.{Parts}
 use Rattle.onfi_cycle.specs.declared.command.Command.{Command}
 use Rattle.onfi_cycle.specs.declared.command.Command.TheVariants.{Read, ReadConfirm, ChangeReadColumn, ChangeReadColumnConfirm, BlockErase, BlockEraseConfirm, BlockErasePlane, ReadStatus, ReadStatusEnhanced, PageProgram, ChangeWriteColumn, ProgramConfirm, ProgramPlane, ReadId, ReadParameterPage, Reset, ReadCacheSequential, ReadCacheEnd, Unknown}
@@ -213,11 +215,6 @@ told_85 g c = at (wants_command c.facts ChangeWriteColumn) refl
     at false e = rw e refl
 
 -- 3. by the claim
-
-or_none : (b : Bool) → (b || false) ≡ b
-or_none true = refl
-or_none false = refl
-
 -- E0h
 told_e0 : (g : Parts) (c : Lone) → Told (not (wants_command c.facts ChangeReadColumnConfirm)) (judged g c (CommandCycle ChangeReadColumnConfirm))
 unfolding breaks_command_unknown breaks_sequence_open breaks_several_luns breaks_no_column_to_change breaks_command_misplaced breaks_address_misplaced breaks_row_outside breaks_lun_busy breaks_queue_clash breaks_input_misplaced breaks_no_sole_driver breaks_data_not_ready breaks_column_outside breaks_cache_read_misplaced
@@ -319,10 +316,6 @@ wants_change (After Read n) h = cc
 wants_change (After BlockErase n) h = cc
 wants_change (After _ n) h = cc
 
-declared_is : (b : Bool) → not b ≡ false → b ≡ true
-declared_is true h = refl
-declared_is false h = cc
-
 pub told_command : (g : Parts) (j : Job) (v : State) (done : List Done) (c : Lone) (d : Command) → ltb 1 g.luns ≡ false → g.pages ≤ greatest_bound → Mirrors g j v done c → is_unfit g d ≡ false → Told (command_out_of_place g v d) (judged g c (CommandCycle d))
 told_command g j v done c d one low m h = by d h
   where
@@ -350,14 +343,14 @@ told_command g j v done c d one low m h = by d h
     by ChangeReadColumn h = told_by _ _ _ (λ i. shut i || (not (shows_only_data (m.shows i)) || m.lun.busy i || not (has_page_or_parameters (m.lun.register i)))) (told_change g c)
     by ReadId h = told_by _ _ _ (λ i. shut i || (m.lun.busy i || queue_same g _ v.lun.queue c.view.queue m.lun.queue i || m.lun.caching i)) (told_identity g c one)
     by ReadParameterPage h = told_by _ _ _ (λ i. shut i || (m.lun.busy i || queue_same g _ v.lun.queue c.view.queue m.lun.queue i || m.lun.caching i)) (told_parameters g c one)
-    by ReadConfirm h = told_by _ _ _ (or_none _ ∙ wanted ReadConfirm) (told_30 g c)
-    by BlockEraseConfirm h = told_by _ _ _ (or_none _ ∙ wanted BlockEraseConfirm) (told_d0 g c)
-    by ProgramConfirm h = told_by _ _ _ (or_none _ ∙ wanted ProgramConfirm) (told_10 g c)
-    by ChangeWriteColumn h = told_by _ _ _ (or_none _ ∙ wanted ChangeWriteColumn) (told_85 g c)
-    by ReadStatusEnhanced h = told_by _ _ _ (fitting ReadStatusEnhanced h ∙ (λ i. shut i || false)) (told_enhanced g c (declared_is g.enhanced h))
+    by ReadConfirm h = told_by _ _ _ (or-false _ ∙ wanted ReadConfirm) (told_30 g c)
+    by BlockEraseConfirm h = told_by _ _ _ (or-false _ ∙ wanted BlockEraseConfirm) (told_d0 g c)
+    by ProgramConfirm h = told_by _ _ _ (or-false _ ∙ wanted ProgramConfirm) (told_10 g c)
+    by ChangeWriteColumn h = told_by _ _ _ (or-false _ ∙ wanted ChangeWriteColumn) (told_85 g c)
+    by ReadStatusEnhanced h = told_by _ _ _ (fitting ReadStatusEnhanced h ∙ (λ i. shut i || false)) (told_enhanced g c (not-false g.enhanced h))
     by ChangeReadColumnConfirm h = told_by _ _ _ (not_where _ _ drive ∙ wanted ChangeReadColumnConfirm) (told_e0 g c)
-    by BlockErasePlane h = told_by _ _ _ (fitting BlockErasePlane h ∙ (or_none _ ∙ wanted BlockErasePlane)) (told_d1 g c h)
-    by ProgramPlane h = told_by _ _ _ (fitting ProgramPlane h ∙ (or_none _ ∙ wanted ProgramPlane)) (told_11 g c h)
+    by BlockErasePlane h = told_by _ _ _ (fitting BlockErasePlane h ∙ (or-false _ ∙ wanted BlockErasePlane)) (told_d1 g c h)
+    by ProgramPlane h = told_by _ _ _ (fitting ProgramPlane h ∙ (or-false _ ∙ wanted ProgramPlane)) (told_11 g c h)
     by ReadCacheSequential h =
         told_by _ _ _
         (fitting ReadCacheSequential h ∙ (ap (λ (b : Bool). may_be_open v || b) (or_where (not (drives v.target.shows) || v.lun.busy || v.lun.last.other) _ _ (λ e. page_test (or_second _ _ e)))

@@ -6,7 +6,6 @@ use Rattle.micro_word.specs.Text.{Microprogram}
 use Rattle.micro_claims.specs.declared.refusal.Fault.{Fault}
 use Rattle.micro_claims.specs.declared.refusal.Reason.{Reason}
 use Rattle.micro_walk.specs.Verdicts.{is_of_shape, MayBe, AsksForRoom}
-use Rattle.micro_walk.specs.Faults.{fault_of}
 use Rattle.micro_verify.specs.declared.refusal.VerifyRefusal.{VerifyRefusal}
 use Rattle.micro_verify.specs.declared.refusal.VerifyRefusal.TheVariants.{Refusal, OutOfMemory}
 use Rattle.micro_verify.specs.Lazy.{lone_channel}

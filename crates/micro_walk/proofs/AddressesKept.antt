@@ -3,6 +3,7 @@ use Rattle.std.proofs.Common.{◌≡◌, ℕ, ◌+◌, ◌-◌, ◌/◌, ◌%◌
 use Rattle.std.specs.Prelude.{nat_le, nat_lt}
 use Rattle.std.proofs.lemmas.Bool.Decides.{nat_tests}
 use Rattle.std.proofs.lemmas.Nat.{mod_below}
+use Rattle.std.proofs.lemmas.Bool.{and_parts, and_from}
 use Rattle.nand_geometry.specs.declared.parts.Parts.{Parts}
 use Rattle.nand_geometry.specs.Limits.{InLimits}
 use Rattle.onfi_cycle.specs.declared.command.Command.{Command}
@@ -17,7 +18,6 @@ use Rattle.micro_claims.specs.declared.place.Place.TheVariants.{Closed, After, I
 use Rattle.micro_claims.specs.Against.{takes_identity_at}
 use Rattle.micro_claims.specs.Leaves.{with_target, data_shown, page_plus, address_leads_to, greatest_page_of, name_now, target_after_addresses, identity_read, address_leaves_at, address_leaves}
 use Rattle.micro_claims.specs.Order.{top, SpanAt, SpanIs, RegistersAt, HasColumn, NameIs, NamedIs, IsFineName, IsFineNamed, TargetAt, At, column_number, PlaceIs, Exactly}
-use Rattle.nand_geometry.proofs.Booleans.{and_parts, and_true}
 use Rattle.micro_walk.proofs.SpanLaws as numbers
 use Rattle.micro_walk.proofs.SpanLaws.{le_of}
 use Rattle.micro_claims.proofs.NamesNow.{same_block, page_in_block}
@@ -79,7 +79,7 @@ page_on p n s a some f = at (s.lo == s.hi) refl
         let also : (a.lo % p + n % p) % p ≡ a.lo % p + n % p = mod_small p (a.lo % p + n % p) (omega (arith, small, h, high, order)) in
         record { low = omega (arith, is, also, small, low); high = omega (arith, is, also, small, order, high); order = omega arith; inside = omega (arith, is, also, small, order, high, h) }
     moved h false e =
-        let x : (nat_le a.lo a.hi && nat_lt (a.hi + n % p) p) ≡ true = and_true (nat_le a.lo a.hi) (nat_lt (a.hi + n % p) p) (grind (arith, nat_tests, order)) (less (a.hi + n % p) p (omega (arith, h, high))) in
+        let x : (nat_le a.lo a.hi && nat_lt (a.hi + n % p) p) ≡ true = and_from (nat_le a.lo a.hi) (nat_lt (a.hi + n % p) p) (grind (arith, nat_tests, order)) (less (a.hi + n % p) p (omega (arith, h, high))) in
         subst (λ (c : Bool). RangeIs p (record { lo = s.lo + n % p; hi = s.hi + n % p }) (cond c (record { lo = a.lo + n % p; hi = a.hi + n % p }) (record { lo = 0; hi = p - 1 }))) (sym x)
         (record { low = omega (arith, low); high = omega (arith, high); order = omega (arith, order); inside = omega (arith, h, high) })
 

@@ -1,10 +1,11 @@
 -- A text without loops in which nothing is found against a word, in all ways that lead to it, is accepted line by line.
-use Rattle.std.proofs.Common.{◌≡◌, ℕ, zero, suc, ◌+◌, ◌-◌, ◌<◌, ◌≤◌, ◌==◌, Bool, true, false, not, ◌&&◌, ◌||◌, cond, List, [], ◌∷◌, Option, Some, None, refl, sym, ap, ◌∙◌, subst, arith, length, drop, get_or, ◌⊎◌, inl, inr}
+use Rattle.std.proofs.Common.{◌≡◌, ℕ, zero, suc, ◌+◌, ◌-◌, ◌<◌, ◌≤◌, ◌==◌, Bool, true, false, ◌&&◌, ◌||◌, List, [], ◌∷◌, Option, Some, None, refl, sym, ap, ◌∙◌, subst, arith, length, drop, get_or, ◌⊎◌, inl, inr}
 use Rattle.std.proofs.Math.Seq.{drop-cons}
 use Rattle.std.specs.Prelude.{slice_set, replicate, is_none, is_some}
 use Rattle.std.specs.List.{slice_get}
 use Rattle.std.proofs.lemmas.List.{length-set}
 use Rattle.std.proofs.lemmas.Bool.Decides.{nat_tests}
+use Rattle.std.proofs.lemmas.Bool.{and_from, or_parts as neither_loop}
 use Rattle.nand_geometry.specs.declared.parts.Parts.{Parts}
 use Rattle.nand_geometry.specs.Limits.{InLimits}
 use Rattle.micro_word.specs.declared.word.Word.{Word}
@@ -19,13 +20,12 @@ use Rattle.micro_claims.specs.declared.bounds.Bounds.{Bounds}
 use Rattle.micro_claims.specs.State.{first_state, bounds_of}
 use Rattle.micro_claims.specs.Reasons.{reason_against}
 use Rattle.micro_claims.specs.Accepts.{state_after}
-use Rattle.micro_claims.specs.Certificate.{claim, if_there, goes_on, accepts, is_left_out}
-use Rattle.micro_claims.specs.Order.{At, machine, state_step, is_state_within}
+use Rattle.micro_claims.specs.Certificate.{claim, if_there, goes_on, accepts}
+use Rattle.micro_claims.specs.Order.{At, machine, state_step}
 use Rattle.micro_claims.specs.Joins.{joined}
 use Rattle.micro_walk.specs.Shape.{is_end_there, ends}
 use Rattle.micro_walk.specs.Faults.{met, reached, led, led_from, known_first, reason_at, fault_or, followed, is_loop, has_loop}
 use Rattle.micro_program.specs.Nested.{loops_before, loops, StandsIn, IsNested}
-use Rattle.nand_geometry.proofs.Booleans.{and_true, or_parts as neither_loop}
 use Rattle.micro_walk.proofs.Joining.{joins_claim_less}
 use Rattle.micro_walk.proofs.Machines.{branch_reason, alike}
 use Rattle.micro_claims.proofs.AcceptedLines.{accepted_is_safe}
@@ -184,7 +184,7 @@ goes g l b count at known v s a lines (BranchOnStatus mask target) long on none 
     same a refl ∙ to (at + 1) s (omega arith) (more refl)
     (keeps_on g s (claim (reached known (at + 1) s) (at + 1)) (claim (reached (reached known (at + 1) s) target s) (at + 1)) here (λ x is. reached_keeps g l b (reached known (at + 1) s) target s (at + 1) x is)) a d in
     let second : accepts (machine g b) (Some target) a lines ≡ true = to target s on.0 on.1 there a d in
-    and_true _ _ ((laws g b l).polls v s a d asked) (and_true _ _ first second)
+    and_from _ _ ((laws g b l).polls v s a d asked) (and_from _ _ first second)
 goes g l b count at known v s a lines (Jump target) long on none d more same to =
     to target s on.0 on.1 (reached_there g l b known target s (let x = on.1 in omega (arith, x, long))) a d
 goes g l b count at known v s a lines (Loop turns) long on none d more same to = absurd on

@@ -3,13 +3,13 @@ use Rattle.std.proofs.Common.{◌≡◌, ℕ, zero, suc, ◌+◌, ◌<◌, ◌�
 use Rattle.std.specs.List.{slice_get}
 use Rattle.std.specs.Prelude.{is_some, nat_le}
 use Rattle.std.proofs.lemmas.Bool.Decides.{nat_tests}
+use Rattle.std.proofs.lemmas.Bool.{and_parts, and_from}
 use Rattle.micro_word.specs.declared.word.Word.{Word}
 use Rattle.micro_word.specs.declared.word.Word.TheVariants.{End, BranchOnStatus, Loop, Next, Jump}
 use Rattle.micro_program.specs.Lines.{Line, Unrolling, repeated, looped, word_before, unrolling, unrolled, from_place}
 use Rattle.micro_program.specs.Nested.{loops_before, loops_at, first_of, LeadsForward, StandsIn, IsNested}
 use Rattle.micro_claims.specs.Certificate.{Machine, Laws, Turned, entered, turned, if_there, goes_on, accepts, claim, reaches, turns_hold, loop_holds, word_holds, holds, all_hold, CertifiedIsAccepted}
 use Rattle.micro_program.proofs.Ways.{from_word, line_of, word_here, unrolled_here, loops_here, closes, leads, led_on}
-use Rattle.nand_geometry.proofs.Booleans.{and_parts, and_true}
 
 -- 1. small tests
 
@@ -148,8 +148,8 @@ module _ (M : Machine) (At : M.State → M.State → M.State → Type 0) (laws :
   word_goes at (BranchOnStatus mask target) v s a more later stands claimed is held on =
       let parts = and_parts _ _ held in
       let ways = and_parts _ _ parts.1 in
-      and_true _ _ (laws.polls v s a is parts.0)
-      (and_true _ _ (reached (at + 1) v s a more (later (at + 1) (omega arith)) ways.0 is on)
+      and_from _ _ (laws.polls v s a is parts.0)
+      (and_from _ _ (reached (at + 1) v s a more (later (at + 1) (omega arith)) ways.0 is on)
       (way at target v s a more later stands is ways.1 on))
   word_goes at (Jump target) v s a more later stands claimed is held on = way at target v s a more later stands is held on
   word_goes at (Loop turns) v s a more later stands claimed is held on = choose (loops_at words (at + 1)) refl held on

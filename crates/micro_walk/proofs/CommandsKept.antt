@@ -1,5 +1,6 @@
 -- Inputs, outputs, commands and pages: what they leave of a claim is claimed of what they leave of an actual claim.
 use Rattle.std.proofs.Common.{◌≡◌, ℕ, ◌≤◌, Bool, true, false, ◌&&◌, ◌||◌, cond, Option, Some, None, refl, sym, subst, arith, zero, suc}
+use Rattle.std.proofs.lemmas.Bool.{and_parts, and_from}
 use Rattle.nand_geometry.specs.declared.parts.Parts.{Parts}
 use Rattle.nand_geometry.specs.Limits.{InLimits}
 use Rattle.onfi_cycle.specs.declared.command.Command.{Command}
@@ -22,9 +23,7 @@ use Rattle.micro_claims.specs.State.{other_closer, any_number}
 use Rattle.micro_claims.specs.Against.{same_test}
 use Rattle.micro_claims.specs.Leaves.{with_target, data_shown, rows_at, work_started, same_drift, queued_more, cache_read, command_leaves, column_read, get_leaves, span_more, put_leaves, page_register}
 use Rattle.micro_claims.specs.Order.{SpanAt, May, DriftIs, HasColumn, NamedIs, ShowsIs, RegisteredIs, RowsAre, At, column_number, output_number, Exactly}
-use Rattle.nand_geometry.proofs.Booleans.{and_parts, and_true}
 use Rattle.micro_walk.proofs.SpanLaws as numbers
-use Rattle.micro_walk.proofs.SpanLaws.{le_of, saturated_is, top_plus}
 use Rattle.micro_walk.proofs.Shapes.{both_among}
 use Rattle.micro_walk.proofs.LeavesKept.{with_place, any_free, fine_of, one_place, data_is, resumed_is, read_is, OutputAt, first_output, given_is, rows_placed, cached_index_is, cached_page_is, lun_with_output, output_of}
 
@@ -122,7 +121,7 @@ queued_is g erase (SomeRows k ps d) (SomeRows j ms c) (Some n) (Some m) e f = at
     goes : (same_test erase k && same_drift n.drift d) ≡ true → (same_test erase j && same_drift m.drift c) ≡ true
     goes h =
         let p = and_parts (same_test erase k) (same_drift n.drift d) h in
-        and_true (same_test erase j) (same_drift m.drift c) (subst (λ (b : Bool). same_test erase b ≡ true) (sym e.0) p.0) (subst (λ (x : Drift). same_drift m.drift x ≡ true) (sym e.1.1) (drift_goes n.drift m.drift d f.drift p.1))
+        and_from (same_test erase j) (same_drift m.drift c) (subst (λ (b : Bool). same_test erase b ≡ true) (sym e.0) p.0) (subst (λ (x : Drift). same_drift m.drift x ≡ true) (sym e.1.1) (drift_goes n.drift m.drift d f.drift p.1))
 
     at : (b : Bool) → (same_test erase k && same_drift n.drift d) ≡ b → RowsAre (cond b (rows_at erase (either_plane n.planes ps) n.drift) AnyRows) (queued_more erase (SomeRows j ms c) (Some m))
     at true h = subst (λ (b : Bool). RowsAre (rows_at erase (either_plane n.planes ps) n.drift) (cond b (rows_at erase (either_plane m.planes ms) m.drift) AnyRows)) (sym (goes h)) (rows_placed erase (either_plane n.planes ps) (either_plane m.planes ms) n.drift m.drift (both_among m.planes ms n.planes ps f.planes e.1.0) f.drift)

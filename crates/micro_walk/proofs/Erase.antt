@@ -18,7 +18,7 @@ use Rattle.micro_claims.specs.declared.queued_rows.QueuedRows.TheVariants.{NoRow
 use Rattle.micro_claims.specs.State.{bounds_of, first_registers, first_state, not_cached, closed}
 use Rattle.micro_claims.specs.Reasons.{reason_against, breaks_cycle_forbidden, breaks_address_unaligned, breaks_handover_in_sequence, breaks_buffer_passed, breaks_row_or_plane_outside, breaks_column_too_large, breaks_no_status, breaks_ends_too_soon, breaks_over_budget, breaks_command_not_allowed}
 use Rattle.micro_claims.specs.Accepts.{state_after}
-use Rattle.micro_walk.specs.Shape.{is_end_there, ends, or_fault, shape_fault}
+use Rattle.micro_walk.specs.Shape.{is_end_there, ends, or_fault}
 use Rattle.micro_program.specs.Lines.{all_lead_on}
 use Rattle.micro_walk.specs.Faults.{walked, fault_within}
 use Rattle.micro_walk.specs.Erase.{erase_words, EraseIsSafe, erases, ErasesAreAccepted}

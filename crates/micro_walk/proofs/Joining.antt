@@ -1,7 +1,9 @@
 -- What two states both claim is claimed by either.
-use Rattle.std.proofs.Common.{◌≡◌, ℕ, ◌≤◌, ◌==◌, Bool, true, false, ◌&&◌, ◌||◌, not, cond, Option, Some, None, refl, sym, ap, ◌∙◌, subst, arith}
+use Rattle.std.proofs.Common.{◌≡◌, ℕ, ◌≤◌, ◌==◌, Bool, true, false, ◌&&◌, ◌||◌, not, cond, Option, Some, None, refl, ap, ◌∙◌, subst, arith}
 use Rattle.std.specs.Prelude.{nat_le, min, max}
 use Rattle.std.proofs.lemmas.Bool.Decides.{nat_tests}
+use Rattle.std.proofs.lemmas.Bool.{and_from}
+use Rattle.onfi_cycle.proofs.Booleans.{eqb_self}
 use Rattle.micro_claims.specs.declared.span.Span.{Span}
 use Rattle.micro_claims.specs.declared.growth.Growth.{Growth}
 use Rattle.micro_claims.specs.declared.planes.Planes.{Planes}
@@ -21,8 +23,7 @@ use Rattle.micro_claims.specs.declared.queued_rows.QueuedRows.{QueuedRows}
 use Rattle.micro_claims.specs.declared.queued_rows.QueuedRows.TheVariants.{NoRows, SomeRows, AnyRows}
 use Rattle.micro_claims.specs.Against.{same_test, is_open_place}
 use Rattle.micro_claims.specs.Order.{is_bound_within, is_growth_within, is_span_within, may_within, are_planes_within, same_place, is_place_within, same_drift_as, is_drift_within, are_registers_within, is_column_within, is_name_within, is_named_within, is_shows_within, is_target_within, is_register_within, is_output_within, are_rows_within, is_lun_within, is_state_within}
-use Rattle.micro_claims.specs.Joins.{greater_bound, joined_growth, joined_span, joined_pages, joined_registers, joined_place, both_know, joined_drift, joined_name, joined_shown, joined_target, joined_held, joined_output, joined_rows, joined_closer, joined_cached, joined_lun, joined, JoinsClaimLess}
-use Rattle.nand_geometry.proofs.Booleans.{and_parts, and_true}
+use Rattle.micro_claims.specs.Joins.{greater_bound, joined_growth, joined_span, joined_registers, joined_place, both_know, joined_drift, joined_name, joined_shown, joined_target, joined_held, joined_output, joined_rows, joined_lun, joined, JoinsClaimLess}
 use Rattle.micro_walk.proofs.Shapes.{same_is, drift_is}
 
 -- both of two claims are at least what is claimed
@@ -31,7 +32,7 @@ record Both (a b : Bool) : Type 0 where
   other : b ≡ true
 
 both_and : (a b c d : Bool) → Both a b → Both c d → Both (a && c) (b && d)
-both_and a b c d p q = record { one = and_true a c p.one q.one; other = and_true b d p.other q.other }
+both_and a b c d p q = record { one = and_from a c p.one q.one; other = and_from b d p.other q.other }
 
 -- 1. numbers
 
@@ -164,7 +165,7 @@ test_itself true false h = absurd cc
 test_itself false true h = absurd cc
 
 rows_itself : (erase : Bool) (planes : Planes) (d : Drift) → are_rows_within (SomeRows erase planes d) (SomeRows erase planes d) ≡ true
-rows_itself erase planes d = and_true _ _ (test erase) (and_true _ _ (same planes) (drift d))
+rows_itself erase planes d = and_from _ _ (test erase) (and_from _ _ (same planes) (drift d))
   where
     test : (a : Bool) → same_test a a ≡ true
     test true = refl
@@ -175,13 +176,10 @@ rows_itself erase planes d = and_true _ _ (test erase) (and_true _ _ (same plane
     may false = refl
 
     same : (p : Planes) → are_planes_within p p ≡ true
-    same p = and_true _ _ (may p.zero) (and_true _ _ (may p.one) (and_true _ _ (may p.two) (may p.three)))
-
-    equal : (n : ℕ) → (n == n) ≡ true
-    equal n = grind (arith, nat_tests)
+    same p = and_from _ _ (may p.zero) (and_from _ _ (may p.one) (and_from _ _ (may p.two) (may p.three)))
 
     drift : (e : Drift) → same_drift_as e e ≡ true
-    drift e = and_true _ _ (equal e.ahead) (equal e.behind)
+    drift e = and_from _ _ (eqb_self e.ahead) (eqb_self e.behind)
 
 queues_join : (a b : QueuedRows) → Both (are_rows_within a (joined_rows a b)) (are_rows_within b (joined_rows a b))
 queues_join NoRows NoRows = record { one = refl; other = refl }

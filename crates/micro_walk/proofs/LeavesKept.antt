@@ -24,7 +24,7 @@ use Rattle.micro_claims.specs.State.{closed, any_number}
 use Rattle.micro_claims.specs.Leaves.{with_registers, status_shown, data_shown, resumed_shows, unread, given_at, cost_plus, paid, polled, found_ready, handed_over, drift_moved, and_drift, rows_at, named_moved, rows_moved, index_moved, drift_set, cached_at, shows_after_read}
 use Rattle.micro_claims.specs.Order.{SpanAt, SpanIs, AllAmong, May, DriftIs, RegistersAt, HasColumn, NamedIs, IsFineNamed, ShowsIs, TargetAt, HasOutput, RowsAre, LunAt, At, column_number, output_number, Exactly}
 use Rattle.micro_walk.proofs.SpanLaws as numbers
-use Rattle.micro_walk.proofs.SpanLaws.{only_too, saturated_is, top_plus}
+use Rattle.micro_walk.proofs.SpanLaws.{only_too}
 use Rattle.micro_walk.proofs.Shapes.{among_self}
 
 -- 1. registers

@@ -1,8 +1,9 @@
 -- A text without a fault of its shape: its loops and branches are nested, it is shaped for whoever goes by places, and it ends.
-use Rattle.std.proofs.Common.{◌≡◌, ℕ, zero, suc, ◌+◌, ◌-◌, ◌<◌, ◌≤◌, ◌==◌, Bool, true, false, cond, not, List, [], ◌∷◌, Option, Some, None, refl, sym, ap, subst, arith, length}
+use Rattle.std.proofs.Common.{◌≡◌, ℕ, zero, suc, ◌+◌, ◌-◌, ◌<◌, ◌≤◌, ◌==◌, Bool, true, false, cond, List, [], ◌∷◌, Option, Some, None, refl, sym, ap, subst, arith, length}
 use Rattle.std.specs.List.{slice_get, AllByRecursion}
 use Rattle.std.specs.Prelude.{nat_lt}
 use Rattle.std.proofs.lemmas.Bool.Decides.{nat_tests}
+use Rattle.std.proofs.lemmas.Bool.{not-false}
 use Rattle.micro_word.specs.declared.format.Format.TheVariants.{Two}
 use Rattle.micro_word.specs.declared.word.Word.{Word}
 use Rattle.micro_word.specs.declared.word.Word.TheVariants.{BranchOnStatus, Loop, Next, Jump}
@@ -135,16 +136,12 @@ all_shallow words paired none (suc at) = choose (slice_get words at) refl (all_s
 
 -- ---- words
 
-not_false : (b : Bool) → not b ≡ false → b ≡ true
-not_false true h = refl
-not_false false h = absurd cc
-
 one_or_more : (n : ℕ) → (n == 0) ≡ false → 1 ≤ n
 one_or_more n h = grind (arith, nat_tests)
 
 stands_there : (words : List Word) (at : ℕ) (word : Word) → IsInRange Two (length words) word → is_unpaired words at word ≡ false → leads_astray words at word ≡ false → StandsIn words at word
-stands_there words at (BranchOnStatus mask target) range paired leads = forward words at target (not_false (leads_forward words at target) leads)
-stands_there words at (Jump target) range paired leads = forward words at target (not_false (leads_forward words at target) leads)
+stands_there words at (BranchOnStatus mask target) range paired leads = forward words at target (not-false (leads_forward words at target) leads)
+stands_there words at (Jump target) range paired leads = forward words at target (not-false (leads_forward words at target) leads)
 stands_there words at (Loop turns) range paired leads = record { some = range.0; most = range.1; ends = one_or_more (length (loops_at words (at + 1))) paired }
 stands_there words at word range paired leads = tt
 

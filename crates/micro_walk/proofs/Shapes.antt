@@ -1,5 +1,6 @@
 -- Planes, places, flags and drifts: who claims less.
 use Rattle.std.proofs.Common.{◌≡◌, ℕ, zero, suc, ◌==◌, Bool, true, false, ◌&&◌, ◌||◌, not, Option, Some, None, refl, sym, ap, ◌∙◌, eqb-true}
+use Rattle.std.proofs.lemmas.Bool.{or_left, or_right, and_parts, and_from}
 use Rattle.onfi_cycle.specs.declared.command.Command.{Command}
 use Rattle.onfi_cycle.specs.Command.{command, opcode}
 use Rattle.onfi_cycle.proofs.CommandBytes.{commands_have_bytes}
@@ -9,15 +10,6 @@ use Rattle.micro_claims.specs.declared.drift.Drift.{Drift}
 use Rattle.micro_claims.specs.declared.planes.Planes.{Planes}
 use Rattle.micro_claims.specs.Planes.{has_plane, either_plane}
 use Rattle.micro_claims.specs.Order.{are_planes_within, AllAmong, same_code, same_place, may_within, May, same_drift_as, is_drift_within, DriftIs}
-use Rattle.nand_geometry.proofs.Booleans.{and_parts, and_true}
-
-or_left : (b c : Bool) → b ≡ true → (b || c) ≡ true
-or_left true c h = refl
-or_left false c h = absurd cc
-
-or_right : (b c : Bool) → c ≡ true → (b || c) ≡ true
-or_right true c h = refl
-or_right false c h = h
 
 -- 2. planes
 
@@ -111,7 +103,7 @@ must_too true true a h f e = f refl
 must_too false true a h f e = absurd cc
 
 pub and_on : (a s b t : Bool) → May a s → May b t → May (a && b) (s && t)
-and_on true s b t f h e = and_true s t (f refl) (h e)
+and_on true s b t f h e = and_from s t (f refl) (h e)
 and_on false s b t f h e = absurd cc
 
 pub or_on : (a s b t : Bool) → May a s → May b t → May (a || b) (s || t)

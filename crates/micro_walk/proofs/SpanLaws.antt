@@ -3,12 +3,12 @@ use Rattle.std.proofs.Common.{◌≡◌, ℕ, suc, ◌+◌, ◌-◌, ◌*◌, �
 use Rattle.std.specs.Prelude.{nat_le, min}
 use Rattle.std.proofs.lemmas.Bool.Decides.{nat_tests}
 use Rattle.std.proofs.Math.Nat.{mul-le-mul_right}
+use Rattle.std.proofs.lemmas.Bool.{and_parts}
 use Rattle.micro_claims.specs.declared.span.Span.{Span}
 use Rattle.micro_claims.specs.declared.growth.Growth.{Growth}
 use Rattle.micro_claims.specs.Spans.{greatest_bound, kept, saturated, bound_plus, exactly, growth_plus, plus, plus_between, is_at_most, only, only_of, copied}
 use Rattle.micro_claims.specs.State.{any_number}
 use Rattle.micro_claims.specs.Order.{is_bound_within, is_growth_within, is_span_within, no_growth, bound_sum, bound_times, growth_sum, span_at_head, span_heads_by, span_at_heads, span_after_by, span_after_turns, top, Grew, SpanAt, SpanIs}
-use Rattle.nand_geometry.proofs.Booleans.{and_parts}
 
 -- 1. bounds as numbers
 

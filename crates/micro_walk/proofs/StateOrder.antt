@@ -1,5 +1,6 @@
 -- The laws of claims that go field by field: all but `steps`.
-use Rattle.std.proofs.Common.{◌≡◌, ℕ, ◌<◌, ◌≤◌, Bool, true, false, not, Option, Some, None, refl, sym, ◌∙◌, subst, arith}
+use Rattle.std.proofs.Common.{◌≡◌, ℕ, ◌<◌, ◌≤◌, Bool, true, false, Option, Some, None, refl, sym, ◌∙◌, subst, arith}
+use Rattle.std.proofs.lemmas.Bool.{not-true, and_parts}
 use Rattle.nand_geometry.specs.declared.parts.Parts.{Parts}
 use Rattle.nand_geometry.specs.Limits.{InLimits}
 use Rattle.micro_claims.specs.Planes.{just_plane}
@@ -21,7 +22,6 @@ use Rattle.micro_claims.specs.declared.bounds.Bounds.{Bounds}
 use Rattle.micro_claims.specs.Against.{same_test, is_open_place}
 use Rattle.micro_claims.specs.Order.{SpanAt, AllAmong, May, RegistersAt, HasColumn, NameIs, NamedIs, IsFineNamed, ShowsIs, TargetAt, RegisteredIs, HasOutput, RowsAre, LunAt, At, column_number, output_number, may_within, same_drift_as, is_span_within, span_at_head, span_at_heads, span_after_turns, are_registers_within, is_column_within, is_name_within, is_named_within, is_shows_within, is_target_within, is_register_within, is_output_within, are_rows_within, is_lun_within, is_state_within, column_by, output_by, state_by, state_at_head, state_at_heads, state_after_turns, machine, PlaceIs, Anywhere, NothingOpen, Exactly, are_planes_within, is_place_within}
 use Rattle.micro_claims.specs.Certificate.{Turned}
-use Rattle.nand_geometry.proofs.Booleans.{and_parts}
 use Rattle.micro_walk.proofs.SpanLaws as numbers
 use Rattle.micro_walk.proofs.SpanLaws.{le_of, Ran}
 use Rattle.micro_walk.proofs.Shapes.{planes_too, among_self, same_is, may_too, must_too, drift_is, drift_too}
@@ -99,11 +99,7 @@ still_closed _ _ (Exactly p) e = e
 
 place_eased : (s t a : Place) → is_place_within s t ≡ true → PlaceIs s a → PlaceIs t a
 place_eased s Unknown a h f = Anywhere a
-place_eased s Closed a h f = NothingOpen a (still_closed s a f (off (is_open_place s) h))
-  where
-    off : (b : Bool) → not b ≡ true → b ≡ false
-    off true h = absurd cc
-    off false h = refl
+place_eased s Closed a h f = NothingOpen a (still_closed s a f (not-true (is_open_place s) h))
 place_eased s (After c n) a h f = subst (λ (p : Place). PlaceIs p a) (same_is s (After c n) h) f
 place_eased s InData a h f = subst (λ (p : Place). PlaceIs p a) (same_is s InData h) f
 place_eased s (InColumn n) a h f = subst (λ (p : Place). PlaceIs p a) (same_is s (InColumn n) h) f

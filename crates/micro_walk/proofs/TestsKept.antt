@@ -2,6 +2,7 @@
 use Rattle.std.proofs.Common.{◌≡◌, ℕ, ◌≤◌, ◌==◌, Bool, true, false, ◌&&◌, ◌||◌, cond, not, Option, Some, None, refl, sym, ap, ◌∙◌, subst, arith}
 use Rattle.std.specs.Prelude.{nat_le, nat_lt, min}
 use Rattle.std.proofs.lemmas.Bool.Decides.{nat_tests}
+use Rattle.std.proofs.lemmas.Bool.{or_left, and_parts, and_from}
 use Rattle.nand_geometry.specs.declared.parts.Parts.{Parts}
 use Rattle.nand_geometry.specs.Limits.{InLimits, page_len}
 use Rattle.onfi_cycle.specs.declared.command.Command.{Command}
@@ -28,7 +29,6 @@ use Rattle.micro_claims.specs.declared.planes.Planes.{Planes}
 use Rattle.micro_claims.specs.Planes.{has_plane, share_a_plane, are_below}
 use Rattle.micro_claims.specs.Order.{top, SpanAt, SpanIs, AllAmong, May, PlaceIs, Anywhere, NothingOpen, Exactly, ShowsIs, RegisteredIs, HasOutput, RowsAre}
 use Rattle.micro_claims.proofs.PlaneSets.{below_count, below_all, shared, sharing}
-use Rattle.nand_geometry.proofs.Booleans.{and_parts, and_true}
 use Rattle.micro_walk.proofs.SpanLaws.{at_most_too, only_too}
 use Rattle.micro_walk.proofs.Shapes.{or_on, not_on, same_on}
 
@@ -110,15 +110,11 @@ inside_open (After o n) h = by o h
     short n m h = (and_parts (nat_lt 0 n) (nat_lt n m) h).1
 
     read : (n : ℕ) → (nat_lt 0 n && nat_lt n 5) ≡ true → (nat_lt 0 n && nat_le n 5) ≡ true
-    read n h = let x = and_parts (nat_lt 0 n) (nat_lt n 5) h in and_true (nat_lt 0 n) (nat_le n 5) x.0 (let y = x.1 in grind (arith, nat_tests, y))
-
-    left : (a b : Bool) → a ≡ true → (a || b) ≡ true
-    left true b e = refl
-    left false b e = absurd cc
+    read n h = let x = and_parts (nat_lt 0 n) (nat_lt n 5) h in and_from (nat_lt 0 n) (nat_le n 5) x.0 (let y = x.1 in grind (arith, nat_tests, y))
 
     by : (o : Command) → is_inside_address (After o n) ≡ true → is_open_place (After o n) ≡ true
     by Read h = read n h
-    by _ h = left _ _ (short n _ h)
+    by _ h = or_left _ _ (short n _ h)
 
 pub inside_too : (s a : Place) → PlaceIs s a → May (is_inside_address a) (is_inside_address s)
 inside_too _ _ (Anywhere p) h = refl

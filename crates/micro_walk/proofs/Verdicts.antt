@@ -7,10 +7,10 @@ use Rattle.micro_word.specs.declared.word.Word.{Word}
 use Rattle.micro_word.specs.Text.{Microprogram, FitsFormat}
 use Rattle.micro_claims.specs.declared.refusal.Fault.{Fault}
 use Rattle.std.specs.Prelude.{is_none}
+use Rattle.std.proofs.lemmas.Bool.{and_parts}
 use Rattle.micro_program.specs.Lines.{all_lead_on}
 use Rattle.micro_program.specs.Safe.{IsSafe}
 use Rattle.micro_program.specs.Places.{IsShaped}
-use Rattle.nand_geometry.proofs.Booleans.{and_parts}
 use Rattle.micro_walk.specs.Certified.{is_shown}
 use Rattle.micro_claims.specs.declared.state.State.{State}
 use Rattle.micro_claims.specs.declared.bounds.Bounds.{Bounds}

@@ -2,6 +2,7 @@
 use Rattle.std.proofs.Common.{◌≡◌, ℕ, zero, suc, ◌+◌, ◌<◌, ◌≤◌, ◌==◌, Bool, true, false, ◌||◌, cond, List, [], ◌∷◌, Option, Some, None, refl, sym, ap, ◌∙◌, arith, length, drop, get_or}
 use Rattle.std.specs.Prelude.{replicate}
 use Rattle.std.proofs.Math.Seq.{drop-cons}
+use Rattle.std.proofs.lemmas.Bool.{and_parts}
 use Rattle.nand_geometry.specs.declared.parts.Parts.{Parts}
 use Rattle.micro_word.specs.declared.word.Word.{Word}
 use Rattle.micro_word.specs.declared.word.Word.TheVariants.{End, BranchOnStatus, Loop, Next, Jump}
@@ -18,7 +19,6 @@ use Rattle.micro_claims.specs.Accepts.{state_after, goes_on, accepts}
 use Rattle.micro_claims.specs.Certificate.{claim}
 use Rattle.micro_walk.specs.Shape.{ends, first_where, is_unpaired, is_too_deep, leads_astray, or_fault, shape_fault}
 use Rattle.micro_walk.specs.Faults.{met, reached, led_from, known_first, reason_at, onward, fault_or, followed, walked, is_loop, has_loop, fault_within}
-use Rattle.nand_geometry.proofs.Booleans.{and_parts}
 use Rattle.micro_program.proofs.Leading.{leading_lines}
 use Rattle.micro_claims.proofs.AcceptedLines.{accepted_is_safe}
 use Rattle.micro_walk.proofs.Ahead.{claim_there, claim_elsewhere, led_from_length, known_length, passed, ends_behind, some_behind}

@@ -1,4 +1,3 @@
-pub mod Booleans
 pub mod ChecksumLemmas
 pub mod FieldLemmas
 pub mod LimitLemmas

@@ -22,13 +22,10 @@ use Rattle.onfi_cycle.specs.Effect.{cycle_effect, command_effect, address_effect
 use Rattle.onfi_cycle.specs.Lun.{view_after}
 use Rattle.onfi_cycle.specs.Sequence.{target_cycle, facts_after, opened, wants_command}
 use Rattle.onfi_cycle.specs.State.{TargetView, luns_after, effect_alone, has_driver, target_after, target}
-use Rattle.std.proofs.lemmas.Bool.{eq-eqb}
-use Rattle.nand_geometry.proofs.Booleans.{or_parts as neither}
+use Rattle.std.proofs.lemmas.Bool.{eq-eqb, or_parts as neither}
+use Rattle.onfi_cycle.proofs.Booleans.{eqb_self}
 
 -- 1. a cycle
-
-eqb_self : (n : ℕ) → (n == n) ≡ true
-eqb_self n = eq-eqb n n refl
 
 pub cycle_on_luns : (g : Parts) (t : TailFacts) (sole : Bool) (c : Cycle) (n : ℕ) (vs : List LunView) → luns_after_cycle g t sole (target_cycle c.kind c.byte) n vs ≡ luns_after g t sole (Cyc c) n vs
 cycle_on_luns g t sole c n [] = refl

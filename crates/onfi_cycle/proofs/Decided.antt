@@ -1,5 +1,6 @@
 -- Each fact of a LUN is what the newest item says that says something of it.
 use Rattle.std.proofs.Common.{◌≡◌, ℕ, ◌+◌, Bool, true, false, ◌&&◌, ◌||◌, cond, List, [], ◌∷◌, Option, Some, None, refl, sym, ap, ◌∙◌, arith, ltb, unwrap_or}
+use Rattle.std.proofs.Math.Bool.{or-false}
 use Rattle.nand_geometry.specs.declared.parts.Parts.{Parts}
 use Rattle.onfi_cycle.specs.declared.command.Command.{Command}
 use Rattle.onfi_cycle.specs.declared.lun.Lun.{Lun}
@@ -23,10 +24,6 @@ use Rattle.onfi_cycle.proofs.Meaning.{means, closer_of, is_ready, is_array_ready
 unwrap_before : {A : Type 0} (x y : Option A) (d : A) → unwrap_or (or_before x y) d ≡ unwrap_or x (unwrap_or y d)
 unwrap_before (Some a) y d = refl
 unwrap_before None y d = refl
-
-or_false : (b : Bool) → (b || false) ≡ b
-or_false true = refl
-or_false false = refl
 
 -- 1. the last closer
 
@@ -156,18 +153,18 @@ column_step : (past : List Item) (l : Lun) (g : Parts) (e : Effect) (k : ReadCol
 unfolding given_by
 column_step past l g (ReadStarted page column) k carries = λ i. record { given = Some (carries.1 i); outputs = 0; lost = false }
 column_step past l g (ReadColumnChanged column) k carries = λ i. record { given = Some (carries i); outputs = 0; lost = false }
-column_step past l g (EraseStarted true row) k carries = λ i. record { given = k.given; outputs = k.outputs; lost = sym (or_false k.lost) i }
-column_step past l g (EraseStarted false row) k carries = λ i. record { given = k.given; outputs = k.outputs; lost = sym (or_false k.lost) i }
-column_step past l g (ProgramStarted true page) k carries = λ i. record { given = k.given; outputs = k.outputs; lost = sym (or_false k.lost) i }
-column_step past l g (ProgramStarted false page) k carries = λ i. record { given = k.given; outputs = k.outputs; lost = sym (or_false k.lost) i }
+column_step past l g (EraseStarted true row) k carries = λ i. record { given = k.given; outputs = k.outputs; lost = sym (or-false k.lost) i }
+column_step past l g (EraseStarted false row) k carries = λ i. record { given = k.given; outputs = k.outputs; lost = sym (or-false k.lost) i }
+column_step past l g (ProgramStarted true page) k carries = λ i. record { given = k.given; outputs = k.outputs; lost = sym (or-false k.lost) i }
+column_step past l g (ProgramStarted false page) k carries = λ i. record { given = k.given; outputs = k.outputs; lost = sym (or-false k.lost) i }
 column_step past l g IdRead k carries = refl
 column_step past l g ParameterPageReadStarted k carries = refl
 column_step past l g CacheReadContinued k carries = refl
 column_step past l g CacheReadEnded k carries = refl
 column_step past l g StatusSelected k carries = refl
 column_step past l g StatusRowAwaited k carries = refl
-column_step past l g DataOutput k carries = λ i. record { given = k.given; outputs = k.outputs + 1; lost = sym (or_false k.lost) i }
-column_step past l g _ k carries = λ i. record { given = k.given; outputs = k.outputs; lost = sym (or_false k.lost) i }
+column_step past l g DataOutput k carries = λ i. record { given = k.given; outputs = k.outputs + 1; lost = sym (or-false k.lost) i }
+column_step past l g _ k carries = λ i. record { given = k.given; outputs = k.outputs; lost = sym (or-false k.lost) i }
 
 column_table : List Item → Lun → (changes : Bool) → Option Command → (outputs status : Bool) → ReadColumn → ReadColumn
 column_table past l changes c outputs status k =

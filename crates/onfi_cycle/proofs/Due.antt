@@ -1,8 +1,9 @@
 -- The readies that are still to come.
 use Rattle.std.proofs.Common.{◌≡◌, ℕ, zero, suc, ◌+◌, ◌≤◌, ◌<◌, ◌==◌, Bool, true, false, ◌&&◌, ◌||◌, cond, not, leb, List, [], ◌∷◌, Option, Some, None, refl, sym, ap, ◌∙◌, arith, subst, length}
 use Rattle.std.proofs.lemmas.Bool.Decides.{nat_tests}
-use Rattle.std.proofs.lemmas.Option.{slice_get_within, get_or_from_slice_get}
+use Rattle.std.proofs.lemmas.Option.{slice_get_within}
 use Rattle.std.specs.List.{slice_get, All}
+use Rattle.std.proofs.lemmas.Bool.{not-false, and_parts as both, or_parts as neither}
 use Rattle.nand_geometry.specs.declared.parts.Parts.{Parts}
 use Rattle.onfi_cycle.specs.declared.command.Command.{Command}
 use Rattle.onfi_cycle.specs.declared.command.Command.TheVariants.{Read, ChangeReadColumnConfirm, ReadStatus, ReadStatusEnhanced, ReadConfirm, BlockEraseConfirm, BlockErasePlane, ProgramConfirm, ProgramPlane, ReadId, ReadParameterPage, Reset, ReadCacheSequential, ReadCacheEnd}
@@ -19,22 +20,21 @@ use Rattle.onfi_cycle.specs.declared.tail_facts.TailFacts.{TailFacts}
 use Rattle.onfi_cycle.specs.declared.target_cycle.TargetCycle.{TargetCycle}
 use Rattle.onfi_cycle.specs.declared.target_cycle.TargetCycle.TheVariants.{CommandCycle, AddressCycle, InputCycle, OutputCycle}
 use Rattle.onfi_cycle.specs.LunView.{LunView}
-use Rattle.onfi_cycle.specs.Command.{is_opener, address_cycles, takes_address, reads_identity}
+use Rattle.onfi_cycle.specs.Command.{reads_identity}
 use Rattle.onfi_cycle.specs.Sequence.{target_of, target_cycle, begins_sequence, facts_of, facts_after, extended_facts, opened, one_address_more, wants_command, wants_address, wants_column, row, row_with}
 use Rattle.onfi_cycle.specs.Effect.{is_off, is_data, names_lun, confirm_effect, command_effect, address_effect, opening_address_effect, cycle_effect}
 use Rattle.onfi_cycle.specs.Lun.{busy_after, array_busy_after, closer_after, is_cache_read, view_after}
 use Rattle.onfi_cycle.specs.Applied.{one_after}
-use Rattle.onfi_cycle.specs.Rules.{lun_is, is_some_and, breaks_not_there}
+use Rattle.onfi_cycle.specs.Rules.{lun_is, breaks_not_there}
 use Rattle.onfi_cycle.specs.Channel.{is_cycle}
-use Rattle.onfi_cycle.specs.Permitted.{judge, judge_item}
-use Rattle.onfi_cycle.specs.State.{TargetView, BusView, judged, judged_on, tail_after, effect_alone, luns_after, has_driver, target_after, changed_at, bus_after}
+use Rattle.onfi_cycle.specs.Permitted.{judge}
+use Rattle.onfi_cycle.specs.State.{TargetView, BusView, judged, judged_on, luns_after, has_driver, target_after, changed_at, bus_after}
 use Rattle.onfi_cycle.specs.Bounds.{TailFits, TargetFits, BusFits}
 use Rattle.onfi_cycle.specs.Readies.{starts, cycle_starts, starts_work, is_parameter_page, awaits_parameters, one_if, due_at, due_of, target_due, due_there, targets_due, bus_due, ReadiesAreDue}
 use Rattle.onfi_cycle.proofs.Applied.{ready_on_luns, array_ready_on_luns}
 use Rattle.onfi_cycle.proofs.Others.{first_passed}
 use Rattle.onfi_cycle.proofs.EffectBounds.{identity_waits}
 use Rattle.onfi_cycle.proofs.Working.{target_fits_at}
-use Rattle.nand_geometry.proofs.Booleans.{and_parts as both, or_parts as neither}
 
 -- ---- effects that leave all readies as they are
 
@@ -222,17 +222,13 @@ one_due t e test [] k less h = cc
 one_due t e test (v ∷ vs) zero less h = let here = less v h in omega (arith, here)
 one_due t e test (v ∷ vs) (suc k) less h = let rest = one_due t e test vs k less h in omega (arith, rest)
 
-not_not : (b : Bool) → not b ≡ false → b ≡ true
-not_not true h = refl
-not_not false h = cc
-
 is_busy_there : (g : Parts) (targets : ℕ) (s : TargetView) (ce lun : ℕ) (fail : Bool) → judge g targets s.tail s.luns (Rdy ce lun fail) ≡ None → lun_is (λ v. v.busy) s.luns lun ≡ true
 unfolding breaks_not_there
-is_busy_there g targets s ce lun fail h = not_not _ (neither (leb targets ce) _ (first_passed (breaks_not_there targets s.luns (Rdy ce lun fail)) NotThere None h).0).1
+is_busy_there g targets s ce lun fail h = not-false _ (neither (leb targets ce) _ (first_passed (breaks_not_there targets s.luns (Rdy ce lun fail)) NotThere None h).0).1
 
 is_array_busy_there : (g : Parts) (targets : ℕ) (s : TargetView) (ce lun : ℕ) → judge g targets s.tail s.luns (Ard ce lun) ≡ None → lun_is (λ v. v.array_busy) s.luns lun ≡ true
 unfolding breaks_not_there
-is_array_busy_there g targets s ce lun h = not_not _ (neither (leb targets ce) _ (first_passed (breaks_not_there targets s.luns (Ard ce lun)) NotThere None h).0).1
+is_array_busy_there g targets s ce lun h = not-false _ (neither (leb targets ce) _ (first_passed (breaks_not_there targets s.luns (Ard ce lun)) NotThere None h).0).1
 
 -- ---- a channel
 

@@ -4,6 +4,8 @@ use Rattle.std.proofs.Math.Nat.{mod-lt, pow-le-pow_right}
 use Rattle.std.proofs.lemmas.Nat.{pow_pos}
 use Rattle.std.proofs.lemmas.Bool.Decides.{nat_tests}
 use Rattle.std.specs.List.{slice_get}
+use Rattle.std.proofs.lemmas.Bool.{not-false, not-true, or_left, or_right, and_parts as both, or_parts as neither}
+use Rattle.onfi_cycle.proofs.Booleans.{and_rest}
 use Rattle.nand_geometry.specs.declared.parts.Parts.{Parts}
 use Rattle.nand_geometry.specs.Limits.{InLimits, page_bits}
 use Rattle.onfi_cycle.specs.declared.command.Command.{Command}
@@ -33,7 +35,6 @@ use Rattle.onfi_cycle.specs.State.{effect_alone, has_driver}
 use Rattle.onfi_cycle.specs.Bounds.{TailFits, RowFits, RowStands, CanStart, EffectFits, is_read, is_block_erase, names_read, names_erase, names_program, names_row, names_identity}
 use Rattle.onfi_cycle.proofs.Others.{first_passed}
 use Rattle.onfi_cycle.proofs.Passed.{KeepsRules, keeps_rules}
-use Rattle.nand_geometry.proofs.Booleans.{and_parts as both, or_parts as neither}
 
 -- a LUN that is on is among those that drive
 on_drives : (vs : List LunView) (n : ℕ) (v : LunView) → slice_get vs n ≡ Some v → is_off v.latch ≡ false → are_none (driving vs) ≡ false
@@ -95,18 +96,6 @@ data_is_on Data h = refl
 driver_passes : (test : LunView → Bool) (luns : List LunView) (v : LunView) → IsDriver luns v → driver_is test luns ≡ test v
 driver_passes test luns v d = rw d.is refl
 
-not_and : (a b : Bool) → a ≡ true → (a && b) ≡ false → b ≡ false
-not_and true b e h = h
-not_and false b e h = cc
-
-not_false : (b : Bool) → not b ≡ false → b ≡ true
-not_false true h = refl
-not_false false h = cc
-
-not_true : (b : Bool) → not b ≡ true → b ≡ false
-not_true true h = cc
-not_true false h = refl
-
 -- an effect that comes or not
 choice : (g : Parts) (v : LunView) (b : Bool) (x y : Effect) → (b ≡ true → EffectFits g v x) → (b ≡ false → EffectFits g v y) → EffectFits g v (cond b x y)
 choice g v true x y f h = f refl
@@ -135,14 +124,6 @@ wants_plane_erase c n h = cc
 opened_too : (test other : Command → ℕ → Bool) → ((c : Command) (n : ℕ) → test c n ≡ true → other c n ≡ true) → (o : Option Opening) → opened test o ≡ true → opened other o ≡ true
 opened_too test other follows None h = cc
 opened_too test other follows (Some o) h = follows o.opener o.addresses h
-
-or_left : (a b : Bool) → a ≡ true → (a || b) ≡ true
-or_left true b h = refl
-or_left false b h = cc
-
-or_right : (a b : Bool) → b ≡ true → (a || b) ≡ true
-or_right true b h = refl
-or_right false b h = h
 
 read_named : (t : TailFacts) → names_read t ≡ true → names_row t ≡ true
 read_named t h = or_left (names_read t) _ h
@@ -179,18 +160,18 @@ confirm_fits g limits t n v tf rf rs c h = tt
 continued_fits : (g : Parts) → InLimits g → (t : TailFacts) (luns : List LunView) (v : LunView) → breaks_cache_read_misplaced g t luns (CommandCycle ReadCacheSequential) ≡ false → IsDriver luns v → (v.array_page.page + 1 < 2 ^ 32) × (v.busy ≡ false)
 unfolding breaks_cache_read_misplaced
 continued_fits g limits t luns v f15 d =
-    let passes : continues_cache g v ≡ true = sym (driver_passes (continues_cache g) luns v d) ∙ not_false _ f15 in
+    let passes : continues_cache g v ≡ true = sym (driver_passes (continues_cache g) luns v d) ∙ not-false _ f15 in
     let inside = (both (is_page_read v.closer) _ (both (not v.busy) _ passes).1).1 in
     let pages = limits.pages_most in
     let low : v.array_page.page + 1 < 2 ^ 32 = grind (arith, nat_tests) in
-    (low, not_true v.busy (both (not v.busy) _ passes).0)
+    (low, not-true v.busy (both (not v.busy) _ passes).0)
 
 -- one that ends
 ended_fits : (g : Parts) (t : TailFacts) (luns : List LunView) (v : LunView) → breaks_cache_read_misplaced g t luns (CommandCycle ReadCacheEnd) ≡ false → IsDriver luns v → v.busy ≡ false
 unfolding breaks_cache_read_misplaced
 ended_fits g t luns v f15 d =
-    let passes : ends_cache v ≡ true = sym (driver_passes ends_cache luns v d) ∙ not_false _ f15 in
-    not_true v.busy (both (not v.busy) _ passes).0
+    let passes : ends_cache v ≡ true = sym (driver_passes ends_cache luns v d) ∙ not-false _ f15 in
+    not-true v.busy (both (not v.busy) _ passes).0
 
 command_fits : (g : Parts) → InLimits g → (t : TailFacts) (luns : List LunView) (n : ℕ) (v : LunView) → TailFits g t → RowFits g t n v → RowStands g t n v → slice_get luns n ≡ Some v → (c : Command) → breaks_cache_read_misplaced g t luns (CommandCycle c) ≡ false → EffectFits g v (command_effect g t (cond (has_driver luns) v.latch Off) c n)
 command_fits g limits t luns n v tf rf rs found Read f15 = tt
@@ -263,8 +244,8 @@ unfolding breaks_data_not_ready breaks_column_outside
 output_fits g limits t luns v f13 f14 d shows =
     let has_byte : has_no_byte v ≡ false = sym (driver_passes has_no_byte luns v d) ∙ f13 in
     let is_inside : is_past_register g v ≡ false = sym (driver_passes (is_past_register g) luns v d) ∙ f14 in
-    let found = (neither (v.busy || is_empty v.register) _ (not_and (is_data v.latch) (v.busy || is_empty v.register || lacks (output_column v.column)) shows has_byte)).1 in
-    outputs_are_small v.column (register_len g v.register) (register_is_small g limits v.register) found (not_and (is_data v.latch) _ shows is_inside)
+    let found = (neither (v.busy || is_empty v.register) _ (and_rest (is_data v.latch) (v.busy || is_empty v.register || lacks (output_column v.column)) shows has_byte)).1 in
+    outputs_are_small v.column (register_len g v.register) (register_is_small g limits v.register) found (and_rest (is_data v.latch) _ shows is_inside)
 
 cycle_fits : (g : Parts) → InLimits g → (t : TailFacts) (luns : List LunView) (n : ℕ) (v : LunView) → TailFits g t → RowFits g t n v → RowStands g t n v → slice_get luns n ≡ Some v → (cycle : TargetCycle) → KeepsRules g t luns cycle → EffectFits g v (cycle_effect g t (cond (has_driver luns) v.latch Off) cycle n)
 cycle_fits g limits t luns n v tf rf rs found (CommandCycle c) keeps = command_fits g limits t luns n v tf rf rs found c keeps.f15

@@ -1,6 +1,8 @@
 -- What one item more changes, and what it keeps.
 use Rattle.std.proofs.Common.{◌≡◌, ◌≢◌, ℕ, zero, suc, ◌+◌, ◌<◌, ◌==◌, Bool, true, false, ◌&&◌, ◌||◌, cond, List, [], ◌∷◌, length, Some, None, refl, sym, ap, ◌∙◌, arith, ltb, eqb-true, eq-eqb, ltb-true}
 use Rattle.std.specs.List.{slice_get}
+use Rattle.std.proofs.lemmas.Bool.{and_parts, and_from}
+use Rattle.onfi_cycle.proofs.Booleans.{eqb_self}
 use Rattle.nand_geometry.specs.declared.parts.Parts.{Parts}
 use Rattle.onfi_cycle.specs.declared.lun.Lun.{Lun}
 use Rattle.onfi_cycle.specs.declared.item.Item.{Item}
@@ -22,7 +24,6 @@ use Rattle.onfi_cycle.proofs.Steps.{facts_of_cycle}
 use Rattle.onfi_cycle.proofs.Drivers.{driver_of_target}
 use Rattle.onfi_cycle.proofs.Latches.{latch_by_effect}
 use Rattle.onfi_cycle.proofs.Bytes.{output_shows, output_closes}
-use Rattle.nand_geometry.proofs.Booleans.{and_parts, and_true}
 
 -- 1. the facts go on
 
@@ -70,9 +71,6 @@ pub view_with : (g : Parts) (past : List Item) (i : Item) (l : Lun) (e : Effect)
 view_with g past i l e on given same =
     ap (λ (x : Effect). record (view_after x (lun_view g past l)) { latch = latch_after (effect_given g past (latch g past l) i l) (latch g past l) }) on ∙
     ap (λ (x : Latch). record (view_after e (lun_view g past l)) { latch = x }) (ap (λ (x : Effect). latch_after x (latch g past l)) given ∙ same)
-
-eqb_self : (n : ℕ) → (n == n) ≡ true
-eqb_self n = eq-eqb n n refl
 
 own_ready : (g : Parts) (past : List Item) (l : Lun) (fail : Bool) → let v = lun_view g past l in lun_view g (Rdy l.ce l.lun fail ∷ past) l ≡ record v { busy = false; array_busy = v.array_busy || (v.busy && is_cache_read v.closer) }
 unfolding effect_on
@@ -129,7 +127,7 @@ outputs_show = record { has_byte = output_shows; closes = output_closes }
 
 -- a LUN of the same target with another number
 other_number : (l m : Lun) → same_lun l m ≡ false → m.ce ≡ l.ce → m.lun ≢ l.lun
-other_number l m h e f = absurd (clash (and_true (l.ce == m.ce) (l.lun == m.lun) (eq-eqb l.ce m.ce (sym e)) (eq-eqb l.lun m.lun (sym f))) h)
+other_number l m h e f = absurd (clash (and_from (l.ce == m.ce) (l.lun == m.lun) (eq-eqb l.ce m.ce (sym e)) (eq-eqb l.lun m.lun (sym f))) h)
   where
     clash : same_lun l m ≡ true → same_lun l m ≡ false → ⊥
     clash a b = cc

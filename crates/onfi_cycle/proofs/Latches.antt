@@ -1,6 +1,7 @@
 -- The latch of a LUN on legal traces.
 use Rattle.std.proofs.Common.{◌≡◌, ℕ, zero, suc, ◌+◌, ◌<◌, ◌≤◌, ◌==◌, Bool, true, false, ◌&&◌, cond, not, List, [], ◌∷◌, Option, Some, None, refl, sym, ap, ◌∙◌, subst, arith, unwrap_or, eqb-true, eq-eqb}
 use Rattle.std.proofs.lemmas.Bool.Decides.{nat_tests}
+use Rattle.std.proofs.lemmas.Bool.{not-false, and_parts as both_true}
 use Rattle.nand_geometry.specs.declared.parts.Parts.{Parts}
 use Rattle.onfi_cycle.specs.declared.command.Command.{Command}
 use Rattle.onfi_cycle.specs.declared.command.Command.TheVariants.{Read, ReadConfirm, ChangeReadColumnConfirm, BlockEraseConfirm, BlockErasePlane, ReadStatus, ReadStatusEnhanced, ProgramConfirm, ProgramPlane, ReadId, ReadParameterPage, Reset, ReadCacheSequential, ReadCacheEnd}
@@ -23,7 +24,6 @@ use Rattle.onfi_cycle.specs.Rules.{driving, are_none, only, driver, is_some_and,
 use Rattle.onfi_cycle.specs.Permitted.{broken, is_permitted, is_legal}
 use Rattle.onfi_cycle.specs.Decides.{or_before, last_decided, tail_of, drives_alone, identity_closer, closing_address, closed_latch, read_latch, selected_latch, third_of_status, selecting_latch, latch_cycle, latch_decided}
 use Rattle.onfi_cycle.proofs.Others.{permitted_none}
-use Rattle.nand_geometry.proofs.Booleans.{and_parts as both_true}
 use Rattle.onfi_cycle.proofs.Meaning.{driver_on, alone_off}
 use Rattle.onfi_cycle.proofs.Passed.{permitted_keeps}
 
@@ -104,10 +104,6 @@ off_or_driver g past l (Some v) test e h low =
     let one = one_by_views g past l.ce g.luns 0 v e in
     sole_off (λ m. latch g past (record { ce = l.ce; lun = m })) g.luns 0 one.m l.lun one.is (omega arith) (omega arith) ∙ ap (λ ds. not (is_only ds l.lun)) (sym one.is)
 
-not_false : (b : Bool) → not b ≡ false → b ≡ true
-not_false true h = refl
-not_false false h = cc
-
 abbrev pub is_cache_cycle : TargetCycle → Bool
 is_cache_cycle (CommandCycle ReadCacheSequential) = true
 is_cache_cycle (CommandCycle ReadCacheEnd) = true
@@ -119,8 +115,8 @@ unfolding breaks_cache_read_misplaced
 cache_finds_driver g n past c l h here low is = at (target_cycle c.kind c.byte) is (subst (λ ce. breaks_cache_read_misplaced g (tail_of past (record { ce = ce; lun = l.lun })) (luns_of g past ce) (target_cycle c.kind c.byte) ≡ false) here (permitted_keeps g n past c h).f15)
   where
     at : (x : TargetCycle) → is_cache_cycle x ≡ true → breaks_cache_read_misplaced g (tail_of past l) (luns_of g past l.ce) x ≡ false → is_off (latch g past l) ≡ not (drives_alone g past l)
-    at (CommandCycle ReadCacheSequential) is f15 = off_or_driver g past l (driver (luns_of g past l.ce)) (continues_cache g) refl (not_false (driver_is (continues_cache g) (luns_of g past l.ce)) f15) low
-    at (CommandCycle ReadCacheEnd) is f15 = off_or_driver g past l (driver (luns_of g past l.ce)) ends_cache refl (not_false (driver_is ends_cache (luns_of g past l.ce)) f15) low
+    at (CommandCycle ReadCacheSequential) is f15 = off_or_driver g past l (driver (luns_of g past l.ce)) (continues_cache g) refl (not-false (driver_is (continues_cache g) (luns_of g past l.ce)) f15) low
+    at (CommandCycle ReadCacheEnd) is f15 = off_or_driver g past l (driver (luns_of g past l.ce)) ends_cache refl (not-false (driver_is ends_cache (luns_of g past l.ce)) f15) low
     at _ is f15 = cc
 
 -- what a cycle leaves of the latch

@@ -22,3 +22,4 @@ pub mod Working
 pub mod Due
 pub mod Applied
 pub mod Outputs
+pub mod Booleans

@@ -1,6 +1,7 @@
 -- What an effect that keeps what fits leaves of a LUN.
 use Rattle.std.proofs.Common.{◌≡◌, ℕ, zero, suc, ◌+◌, ◌%◌, ◌/◌, ◌^◌, ◌<◌, ◌≤◌, ◌==◌, Bool, true, false, ◌||◌, cond, not, List, [], ◌∷◌, refl, arith, length}
 use Rattle.std.proofs.lemmas.Bool.Decides.{nat_tests}
+use Rattle.std.proofs.lemmas.Bool.{or_parts as either}
 use Rattle.nand_geometry.specs.declared.parts.Parts.{Parts}
 use Rattle.nand_geometry.specs.Limits.{InLimits, planes}
 use Rattle.onfi_cycle.specs.declared.page_address.PageAddress.{PageAddress}
@@ -12,7 +13,6 @@ use Rattle.onfi_cycle.specs.LunView.{LunView}
 use Rattle.onfi_cycle.specs.Lun.{view_after}
 use Rattle.onfi_cycle.specs.Rules.{planes_clash, queued_clashes, some_queued_clashes}
 use Rattle.onfi_cycle.specs.Bounds.{plane_of, is_in_use, room_in, rooms, LunFits, EffectFits}
-use Rattle.nand_geometry.proofs.Booleans.{or_parts as either}
 
 first_of : (a b c : Bool) → (a || b || c) ≡ false → a ≡ false
 first_of true b c h = cc

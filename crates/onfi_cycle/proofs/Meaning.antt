@@ -1,5 +1,6 @@
 -- What each effect means, in the words of the trace.
 use Rattle.std.proofs.Common.{◌≡◌, ℕ, zero, suc, ◌+◌, ◌==◌, Bool, true, false, ◌&&◌, cond, not, List, [], ◌∷◌, Option, Some, None, refl, sym, ap, ◌∙◌, subst, eqb-true}
+use Rattle.std.proofs.lemmas.Bool.{not-false, not-true}
 use Rattle.nand_geometry.specs.declared.parts.Parts.{Parts}
 use Rattle.onfi_cycle.specs.declared.command.Command.{Command}
 use Rattle.onfi_cycle.specs.declared.command.Command.TheVariants.{Read, ReadConfirm, ChangeReadColumnConfirm, BlockEraseConfirm, BlockErasePlane, ReadStatus, ReadStatusEnhanced, ProgramConfirm, ProgramPlane, ReadId, ReadParameterPage, Reset, ReadCacheSequential, ReadCacheEnd}
@@ -116,15 +117,7 @@ either_means g past l cycle false x y hx hy = hy refl
 -- a cache read, which works on the one driver
 cache_means : (g : Parts) (past : List Item) (l : Lun) (c : Command) (e : Effect) → is_off (latch_alone g past l) ≡ not (drives_alone g past l) → (drives_alone g past l ≡ false → MeansCycle g past l (CommandCycle c) Unaffected) → (drives_alone g past l ≡ true → MeansCycle g past l (CommandCycle c) e) → MeansCycle g past l (CommandCycle c) (cond (is_off (latch_alone g past l)) Unaffected e)
 cache_means g past l c e off none one =
-    either_means g past l (CommandCycle c) (is_off (latch_alone g past l)) Unaffected e (λ h. none (not_true (drives_alone g past l) (sym off ∙ h))) (λ h. one (not_false (drives_alone g past l) (sym off ∙ h)))
-  where
-    not_true : (b : Bool) → not b ≡ true → b ≡ false
-    not_true true h = cc
-    not_true false h = refl
-
-    not_false : (b : Bool) → not b ≡ false → b ≡ true
-    not_false true h = refl
-    not_false false h = cc
+    either_means g past l (CommandCycle c) (is_off (latch_alone g past l)) Unaffected e (λ h. none (not-true (drives_alone g past l) (sym off ∙ h))) (λ h. one (not-false (drives_alone g past l) (sym off ∙ h)))
 
 -- a command that neither closes a row nor is another effect
 nothing_means : (g : Parts) (past : List Item) (l : Lun) (cycle : TargetCycle) → closing_cycle g past l cycle ≡ None → is_column_confirm cycle ≡ false → is_output cycle ≡ false → is_status_command cycle ≡ false → MeansCycle g past l cycle Unaffected

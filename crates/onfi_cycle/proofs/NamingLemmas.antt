@@ -2,6 +2,7 @@
 use Rattle.std.proofs.Common.{◌≡◌, ℕ, suc, ◌+◌, ◌*◌, ◌%◌, ◌<◌, ◌≤◌, ◌==◌, ◌⊎◌, Bool, true, false, ◌&&◌, cond, List, [], ◌∷◌, ◌++◌, reverse, length, Option, Some, None, refl, sym, ap, ◌∙◌, subst, inl, inr, arith, ltb, append_assoc}
 use Rattle.std.proofs.lemmas.Bool.Decides.{nat_tests}
 use Rattle.std.proofs.lemmas.List.{reverse-reverse}
+use Rattle.std.proofs.lemmas.Bool.{or_cases, and_parts}
 use Rattle.nand_geometry.specs.Row.{row_of}
 use Rattle.onfi_cycle.specs.declared.command.Command.{Command}
 use Rattle.onfi_cycle.specs.declared.command.Command.TheVariants.{Read, ChangeReadColumn, BlockErase, ReadStatusEnhanced, PageProgram, ChangeWriteColumn, ReadId, ReadParameterPage}
@@ -15,8 +16,7 @@ use Rattle.onfi_cycle.specs.Command.{is_opener, address_cycles, takes_address, i
 use Rattle.onfi_cycle.specs.Sequence.{opening, opened, one_address_more, next_address_place, data_phase, phase_after_command, phase_after_address, phase_after_input, phase_after_last_address, facts_of, row, row_with, column, column_with, wants_address, wants_column}
 use Rattle.onfi_cycle.specs.Table.{IsSequence, IsBeginning}
 use Rattle.onfi_cycle.specs.Naming.{since_command, row_cycles, column_cycles, AreWhole, TailsName}
-use Rattle.onfi_cycle.proofs.TableLemmas.{IsOpening, opening_shape, addresses, beginning_wants, reverse_more, either_true}
-use Rattle.nand_geometry.proofs.Booleans.{and_parts}
+use Rattle.onfi_cycle.proofs.TableLemmas.{IsOpening, opening_shape, addresses, beginning_wants, reverse_more}
 
 -- a beginning stays one without its last cycle
 beginning_before : (c : TargetCycle) (t : List TargetCycle) → IsBeginning (reverse (c ∷ t)) → IsBeginning (reverse t)
@@ -184,7 +184,7 @@ after_address P opens b t waits begins = at (beginning_wants t (AddressCycle b) 
     at : ((t ≡ []) × (false ≡ true)) ⊎ (wants_address (facts_of t) b ≡ true) → P (AddressCycle b ∷ t)
     at (inl p) = let h : false ≡ true = p.1 in cc
     at (inr w) =
-        elim (either_true (opened (λ c n. is_opener c && ltb n (address_cycles c) && takes_address c b) (opening t)) (wants_column (data_phase t)) w) [
+        elim (or_cases (opened (λ c n. is_opener c && ltb n (address_cycles c) && takes_address c b) (opening t)) (wants_column (data_phase t)) w) [
           | inl e ↦ (let o = opening_of_address b t (opening t) refl e in
               let s = o.1.0 in
               subst P (sym (tail_of_opening (AddressCycle b ∷ t) o.0.opener s.bytes s.is)) (opens o.0.opener s.bytes (subst (λ n. n ≤ address_cycles o.0.opener) (sym s.count) o.1.1)))

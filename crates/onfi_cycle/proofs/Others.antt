@@ -1,6 +1,8 @@
 -- The items of another LUN, or of another target, are quiet.
 use Rattle.std.proofs.Common.{is_none, ◌≡◌, ◌≢◌, ℕ, ◌<◌, ◌==◌, Bool, true, false, ◌&&◌, cond, not, List, [], ◌∷◌, Option, Some, None, refl, ap, arith, ltb}
 use Rattle.std.proofs.lemmas.Bool.Decides.{nat_tests}
+use Rattle.std.proofs.lemmas.Bool.{not-true, and_parts as both_true}
+use Rattle.onfi_cycle.proofs.Booleans.{clash}
 use Rattle.nand_geometry.specs.declared.parts.Parts.{Parts}
 use Rattle.onfi_cycle.specs.declared.lun.Lun.{Lun}
 use Rattle.onfi_cycle.specs.declared.item.Item.{Item}
@@ -25,7 +27,6 @@ use Rattle.onfi_cycle.specs.Rules.{breaks_not_there, breaks_command_unknown, bre
 use Rattle.onfi_cycle.specs.Permitted.{broken, judge_cycle, is_permitted, is_legal}
 use Rattle.onfi_cycle.specs.OtherLun.{keeps_to, is_of, closes_row, needs_driver, OthersKeep, TargetsKeep}
 use Rattle.onfi_cycle.proofs.Quiet.{is_quiet, keeps_quiet}
-use Rattle.nand_geometry.proofs.Booleans.{and_parts as both_true}
 
 -- two numbers that a third equals are one
 not_both : (x l m : ℕ) → l ≢ m → (x == m) ≡ true → (x == l) ≡ false
@@ -100,17 +101,14 @@ other_with_more : (o : Option Opening) → is_other_opening o ≡ true → is_ot
 other_with_more None h = refl
 other_with_more (Some o) h = h
 
-true_and_false : (b : Bool) → b ≡ true → b ≡ false → ⊥
-true_and_false b x y = cc
-
 -- on a target with several LUNs no tail begins with 90 or EC
 other_with_cycle : (g : Parts) (cycle : TargetCycle) (t : List TargetCycle) → ltb 1 g.luns ≡ true → breaks_several_luns g cycle ≡ false → is_other_opening (opening t) ≡ true → is_other_opening (opening (with_cycle cycle t)) ≡ true
 unfolding breaks_several_luns
 other_with_cycle g (CommandCycle c) t several f4 h = at c t f4
   where
     at : (c : Command) (t : List TargetCycle) → (wants_one_lun c && ltb 1 g.luns) ≡ false → is_other_opening (opening (with_cycle (CommandCycle c) t)) ≡ true
-    at ReadId t f4 = absurd (true_and_false _ several f4)
-    at ReadParameterPage t f4 = absurd (true_and_false _ several f4)
+    at ReadId t f4 = absurd (clash _ several f4)
+    at ReadParameterPage t f4 = absurd (clash _ several f4)
     at c [] f4 = refl
     at c (d ∷ t) f4 = refl
 other_with_cycle g (AddressCycle byte) [] several f4 h = refl
@@ -179,12 +177,8 @@ quiet_cycle g past ce l m (AddressCycle byte) ne several f4 other keep = at (ope
     at : (o : Option Opening) → is_other_opening o ≡ true → cond (opened (λ c n. true && at_last_row c n) o) (names_lun g (row_with (facts_of (tail past ce)) byte) m) true ≡ true → is_quiet (opening_address_effect g (facts_of (tail past ce)) byte o l) ≡ true
     at None other keep = refl
     at (Some o) other keep =
-        quiet_address g (facts_of (tail past ce)) byte o.opener o.addresses l m ne (not_true (reads_identity o.opener) other)
+        quiet_address g (facts_of (tail past ce)) byte o.opener o.addresses l m ne (not-true (reads_identity o.opener) other)
         (λ e f. chosen_true (at_last_row o.opener o.addresses) _ _ keep (rw (e, f) refl))
-      where
-        not_true : (b : Bool) → not b ≡ true → b ≡ false
-        not_true true h = cc
-        not_true false h = refl
 quiet_cycle g past ce l m (InputCycle byte) ne several f4 other keep = refl
 quiet_cycle g past ce l m OutputCycle ne several f4 other keep =
     rw (shows_nothing g past (record { ce = ce; lun = l }) (record { ce = ce; lun = m }) refl ne keep) refl

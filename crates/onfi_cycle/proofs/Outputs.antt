@@ -2,8 +2,8 @@
 use Rattle.std.proofs.Common.{◌≡◌, ℕ, zero, suc, ◌+◌, ◌<◌, ◌≤◌, Bool, true, false, ◌&&◌, ◌||◌, cond, not, leb, ltb, List, [], ◌∷◌, Option, Some, None, refl, sym, ap, ◌∙◌, subst, arith, length, map, get_or, set, ◌^◌}
 use Rattle.std.proofs.lemmas.Bool.Decides.{nat_tests}
 use Rattle.std.specs.List.{slice_get}
+use Rattle.std.proofs.lemmas.Bool.{not-false, or_parts as neither}
 use Rattle.nand_geometry.specs.declared.parts.Parts.{Parts}
-use Rattle.nand_geometry.proofs.Booleans.{or_parts as neither}
 use Rattle.onfi_cycle.specs.declared.effect.Effect.TheVariants.{Unaffected, DataOutput}
 use Rattle.onfi_cycle.specs.declared.forbidden.Forbidden.{Forbidden}
 use Rattle.onfi_cycle.specs.declared.forbidden.Forbidden.TheVariants.{NotThere, NoSoleDriver, DataNotReady, ColumnOutside}
@@ -16,10 +16,10 @@ use Rattle.onfi_cycle.specs.declared.tail_facts.TailFacts.{TailFacts}
 use Rattle.onfi_cycle.specs.declared.data_phase.DataPhase.TheVariants.{Outside}
 use Rattle.onfi_cycle.specs.declared.target_cycle.TargetCycle.TheVariants.{OutputCycle}
 use Rattle.onfi_cycle.specs.LunView.{LunView}
-use Rattle.onfi_cycle.specs.Sequence.{facts_after, is_open, target_of}
+use Rattle.onfi_cycle.specs.Sequence.{facts_after, is_open}
 use Rattle.onfi_cycle.specs.Effect.{is_off, is_data}
 use Rattle.onfi_cycle.specs.Lun.{view_after, output_column, option_plus}
-use Rattle.onfi_cycle.specs.Rules.{driving, are_none, only, driver, is_some_and, driver_is, register_len, is_past, lacks, is_empty, has_no_byte, is_past_register, breaks_not_there, breaks_command_unknown, breaks_sequence_open, breaks_several_luns, breaks_no_column_to_change, breaks_command_misplaced, breaks_address_misplaced, breaks_row_outside, breaks_lun_busy, breaks_queue_clash, breaks_input_misplaced, breaks_no_sole_driver, breaks_data_not_ready, breaks_column_outside, breaks_cache_read_misplaced}
+use Rattle.onfi_cycle.specs.Rules.{driving, only, driver, is_some_and, driver_is, register_len, is_past, lacks, is_empty, has_no_byte, is_past_register, breaks_not_there, breaks_command_unknown, breaks_sequence_open, breaks_several_luns, breaks_no_column_to_change, breaks_command_misplaced, breaks_address_misplaced, breaks_row_outside, breaks_lun_busy, breaks_queue_clash, breaks_input_misplaced, breaks_no_sole_driver, breaks_data_not_ready, breaks_column_outside, breaks_cache_read_misplaced}
 use Rattle.onfi_cycle.specs.Permitted.{judge, broken}
 use Rattle.onfi_cycle.specs.Channel.{cycle}
 use Rattle.onfi_cycle.specs.Applied.{luns_after_cycle}
@@ -104,10 +104,6 @@ pub record GivesMore (g : Parts) (n ce : ℕ) (s : TargetView) : Type 0 where
   pub byte : has_no_byte one ≡ false
   pub inside : is_past_register g one ≡ false
 
-not_not : (b : Bool) → not b ≡ false → b ≡ true
-not_not true h = refl
-not_not false h = cc
-
 pub gives_more : (g : Parts) (n ce byte : ℕ) (s : TargetView) → judge g n s.tail s.luns (cycle ce Dout byte) ≡ None → GivesMore g n ce s
 gives_more g n ce byte s h =
     let first = first_passed (leb n ce) NotThere _ (sym (judged_by g n s.tail s.luns ce byte) ∙ h) in
@@ -115,7 +111,7 @@ gives_more g n ce byte s h =
     let third = first_passed (driver_is has_no_byte s.luns) DataNotReady _ second.1 in
     let fourth = first_passed (driver_is (is_past_register g) s.luns) ColumnOutside _ third.1 in
     let halves = neither (is_open s.tail) _ second.0 in
-    at (driver s.luns) refl first.0 halves.0 (not_not _ halves.1) third.0 fourth.0
+    at (driver s.luns) refl first.0 halves.0 (not-false _ halves.1) third.0 fourth.0
   where
     at : (o : Option LunView) → driver s.luns ≡ o → leb n ce ≡ false → is_open s.tail ≡ false → is_some_and (λ v. true) o ≡ true → is_some_and has_no_byte o ≡ false → is_some_and (is_past_register g) o ≡ false → GivesMore g n ce s
     at None e there closed some byte inside = cc

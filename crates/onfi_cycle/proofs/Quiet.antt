@@ -1,5 +1,6 @@
 -- Effects that leave all of a LUN but its latch and column.
 use Rattle.std.proofs.Common.{◌≡◌, ℕ, Bool, true, false, ◌||◌, List, Option, refl, ap, inl, inr, ltb}
+use Rattle.std.proofs.Math.Bool.{or-false, or-true}
 use Rattle.nand_geometry.specs.declared.parts.Parts.{Parts}
 use Rattle.onfi_cycle.specs.declared.lun.Lun.{Lun}
 use Rattle.onfi_cycle.specs.declared.item.Item.{Item}
@@ -37,16 +38,8 @@ pub record LeftBy (a : Effect) : Type 0 where
   pub column : (k : ReadColumn) → IsSameOrLost k (read_column_after a k)
 
 lost_or_same : (k : ReadColumn) (b : Bool) → ltb 0 k.outputs ≡ b → IsSameOrLost k (record k { lost = k.lost || b })
-lost_or_same k true e = inr (ap (λ (l : Bool). record k { lost = l }) (or_true k.lost), e)
-  where
-    or_true : (x : Bool) → (x || true) ≡ true
-    or_true true = refl
-    or_true false = refl
-lost_or_same k false e = inl (ap (λ (l : Bool). record k { lost = l }) (or_false k.lost))
-  where
-    or_false : (x : Bool) → (x || false) ≡ x
-    or_false true = refl
-    or_false false = refl
+lost_or_same k true e = inr (ap (λ (l : Bool). record k { lost = l }) (or-true k.lost), e)
+lost_or_same k false e = inl (ap (λ (l : Bool). record k { lost = l }) (or-false k.lost))
 
 pub left_by_quiet : (a : Effect) → is_quiet a ≡ true → LeftBy a
 left_by_quiet Unaffected h = record { busy = λ b. refl; closer = λ c. refl; array_busy = λ b c d. refl; array_page = λ p. refl; register = λ p r. refl; queue = λ q. refl; queued_work = λ b q. refl; pending_work = λ b q p. refl; failed = λ p b. refl; content = λ g q p old. refl; column = λ k. inl refl }

@@ -2,6 +2,7 @@
 use Rattle.std.proofs.Common.{◌≡◌, ℕ, suc, ◌+◌, ◌==◌, Bool, true, false, ◌&&◌, ◌||◌, cond, List, [], Option, Some, None, refl, sym, ap, ◌∙◌, arith, eqb-true}
 use Rattle.std.proofs.lemmas.Bool.Decides.{nat_tests}
 use Rattle.std.specs.List.{slice_get}
+use Rattle.std.proofs.Math.Bool.{and-false}
 use Rattle.nand_geometry.specs.declared.parts.Parts.{Parts}
 use Rattle.nand_geometry.specs.Row.{row_of, parts_of}
 use Rattle.onfi_cycle.specs.declared.command.Command.{Command}
@@ -32,7 +33,6 @@ use Rattle.onfi_cycle.specs.State.{tail_after, effect_alone, has_driver}
 use Rattle.onfi_cycle.specs.Bounds.{TailFits, RowFits, is_block_erase, names_erase, names_program}
 use Rattle.onfi_cycle.proofs.Others.{first_passed}
 use Rattle.onfi_cycle.proofs.Passed.{KeepsRules, keeps_rules}
-use Rattle.nand_geometry.proofs.Booleans.{and_parts as both}
 
 -- a tail that names no row
 unnamed : (g : Parts) (t : TailFacts) (n : ℕ) (v : LunView) → names_erase t ≡ false → names_program t ≡ false → RowFits g t n v
@@ -45,10 +45,6 @@ same_queue g t n v w e f =
       erase = λ named h. ap (some_queued_clashes g true (page_address g (row t))) e ∙ f.erase named h;
       program = λ named h. ap (some_queued_clashes g false (page_address g (row t))) e ∙ f.program named h;
     }
-
-never : (b : Bool) → (b && false) ≡ false
-never true = refl
-never false = refl
 
 -- effects that leave the queue
 either_keeps : (b : Bool) (x y : Effect) (q : List Queued) → queue_after x q ≡ q → queue_after y q ≡ q → queue_after (cond b x y) q ≡ q
@@ -84,7 +80,7 @@ goes_on_inside c p h = cc
 
 begun_row : (g : Parts) (n : ℕ) (v : LunView) (cycle : TargetCycle) → begins_sequence cycle ≡ true → RowFits g (extended_facts cycle (facts_of [])) n v
 begun_row g n v (CommandCycle c) h =
-    unnamed g (extended_facts (CommandCycle c) (facts_of [])) n v (never (is_block_erase c)) (rw (begun_outside c) refl)
+    unnamed g (extended_facts (CommandCycle c) (facts_of [])) n v (and-false (is_block_erase c)) (rw (begun_outside c) refl)
 begun_row g n v (AddressCycle byte) h = cc
 begun_row g n v (InputCycle byte) h = cc
 begun_row g n v OutputCycle h = cc

@@ -3,8 +3,11 @@ use Rattle.std.specs.List.{list_any}
 use Rattle.std.proofs.Common.{◌≡◌, ℕ, suc, ◌+◌, ◌==◌, ◌≤◌, Bool, true, false, ◌&&◌, ◌||◌, cond, not, List, [], ◌∷◌, Option, Some, None, refl, sym, ap, ◌∙◌, arith, length, ltb, subst, zero}
 use Rattle.std.proofs.lemmas.Bool.Decides.{nat_tests}
 use Rattle.std.specs.List.{slice_get}
+use Rattle.std.proofs.lemmas.Bool.{not-false, not-true, or_right, and_parts as both}
+use Rattle.std.proofs.Math.Bool.{and-false, or-false}
+use Rattle.onfi_cycle.proofs.Booleans.{and_rest}
 use Rattle.nand_geometry.specs.declared.parts.Parts.{Parts}
-use Rattle.nand_geometry.specs.Row.{row_of, parts_of, is_inside}
+use Rattle.nand_geometry.specs.Row.{parts_of, is_inside}
 use Rattle.onfi_cycle.specs.declared.command.Command.{Command}
 use Rattle.onfi_cycle.specs.declared.command.Command.TheVariants.{Read, BlockErase, PageProgram, ChangeWriteColumn, ReadId, ReadParameterPage}
 use Rattle.onfi_cycle.specs.declared.data_phase.DataPhase.{DataPhase}
@@ -22,17 +25,16 @@ use Rattle.onfi_cycle.specs.declared.target_cycle.TargetCycle.{TargetCycle}
 use Rattle.onfi_cycle.specs.declared.target_cycle.TargetCycle.TheVariants.{CommandCycle, AddressCycle, InputCycle, OutputCycle}
 use Rattle.onfi_cycle.specs.LunView.{LunView}
 use Rattle.onfi_cycle.specs.Command.{is_page_program, at_last_row, addresses_the_array, reads_identity}
-use Rattle.onfi_cycle.specs.Sequence.{target_cycle, begins_sequence, facts_of, facts_after, extended_facts, opened, one_address_more, row_after_address, takes_inputs, wants_column, wants_command, phase_after_command, phase_after_address, phase_after_input, row, row_with}
+use Rattle.onfi_cycle.specs.Sequence.{target_cycle, begins_sequence, facts_of, facts_after, extended_facts, opened, one_address_more, row_after_address, wants_command, phase_after_command, phase_after_address, row, row_with}
 use Rattle.onfi_cycle.specs.Effect.{names_lun, page_address, cycle_effect, address_effect, opening_address_effect}
 use Rattle.onfi_cycle.specs.Lun.{busy_after, view_after}
-use Rattle.onfi_cycle.specs.Rules.{named_lun_is, ends_row, breaks_not_there, breaks_several_luns, breaks_row_outside, breaks_lun_busy}
+use Rattle.onfi_cycle.specs.Rules.{ends_row, breaks_not_there, breaks_several_luns, breaks_row_outside, breaks_lun_busy}
 use Rattle.onfi_cycle.specs.Permitted.{judge, judge_cycle}
 use Rattle.onfi_cycle.specs.State.{tail_after, effect_alone, has_driver}
 use Rattle.onfi_cycle.specs.Bounds.{TailFits, RowStands, is_read, is_block_erase, names_read, names_erase, names_program, names_row, names_identity, is_row}
 use Rattle.onfi_cycle.proofs.Others.{first_passed}
 use Rattle.onfi_cycle.proofs.Passed.{KeepsRules, keeps_rules}
 use Rattle.onfi_cycle.proofs.RowBounds.{ChangesColumn, goes_on_inside, begun_outside, judged_row, next_is, later_address, last_address, input_inside}
-use Rattle.nand_geometry.proofs.Booleans.{and_parts as both}
 
 -- a tail that names no row and waits for no address of an identity
 unnamed : (g : Parts) (t : TailFacts) (n : ℕ) (v : LunView) → names_row t ≡ false → names_identity t ≡ false → RowStands g t n v
@@ -43,27 +45,11 @@ stays_ready : (g : Parts) (t : TailFacts) (n : ℕ) (v w : LunView) → (v.busy 
 stays_ready g t n v w keeps f =
     record { inside = f.inside; ready = λ named h. keeps (f.ready named h); identity = λ h. keeps (f.identity h); alone = f.alone }
 
-not_and : (a b : Bool) → a ≡ true → (a && b) ≡ false → b ≡ false
-not_and true b e h = h
-not_and false b e h = cc
-
-not_false : (b : Bool) → not b ≡ false → b ≡ true
-not_false true h = refl
-not_false false h = cc
-
-not_true : (b : Bool) → not b ≡ true → b ≡ false
-not_true true h = cc
-not_true false h = refl
-
 -- ---- where there is one LUN alone
 
 some_of_one : (test : LunView → Bool) (luns : List LunView) (n : ℕ) (v : LunView) → length luns ≤ 1 → slice_get luns n ≡ Some v → list_any test luns ≡ true → test v ≡ true
 some_of_one test [] n v one found h = cc
-some_of_one test (x ∷ []) zero v one found h = let same : x ≡ v = cc in ap test (sym same) ∙ (sym (or_false (test x)) ∙ h)
-  where
-    or_false : (b : Bool) → (b || false) ≡ b
-    or_false true = refl
-    or_false false = refl
+some_of_one test (x ∷ []) zero v one found h = let same : x ≡ v = cc in ap test (sym same) ∙ (sym (or-false (test x)) ∙ h)
 some_of_one test (x ∷ []) (suc n) v one found h = cc
 some_of_one test (x ∷ (y ∷ luns)) n v one found h = absurd (omega arith)
 
@@ -87,7 +73,7 @@ identity_stands g t luns n v c keeps count found h = of c h keeps.f4 keeps.f9
     few e = grind (arith, nat_tests, count)
 
     when : ltb 1 g.luns ≡ false → not (list_any (λ v. not v.busy) luns) ≡ false → Identity v n
-    when one f9 = record { ready = not_true v.busy (some_of_one (λ v. not v.busy) luns n v (few one) found (not_false _ f9)); alone = number_of_one luns n v (few one) found }
+    when one f9 = record { ready = not-true v.busy (some_of_one (λ v. not v.busy) luns n v (few one) found (not-false _ f9)); alone = number_of_one luns n v (few one) found }
 
     of : (c : Command) → reads_identity c ≡ true → breaks_several_luns g (CommandCycle c) ≡ false → breaks_lun_busy g t luns (CommandCycle c) ≡ false → Identity v n
     of ReadId h f4 f9 = when f4 f9
@@ -107,12 +93,8 @@ identity_keeps g t la n ReadParameterPage busy h = either (wants_command t ReadP
     either false = refl
 identity_keeps g t la n _ busy h = cc
 
-and_false : (b : Bool) → (b && false) ≡ false
-and_false true = refl
-and_false false = refl
-
 no_row_yet : (c : Command) → names_row (extended_facts (CommandCycle c) (facts_of [])) ≡ false
-no_row_yet c = rw (and_false (is_read c), and_false (is_block_erase c), begun_outside c) refl
+no_row_yet c = rw (and-false (is_read c), and-false (is_block_erase c), begun_outside c) refl
 
 begun_stands : (g : Parts) (t : TailFacts) (la : Latch) (luns : List LunView) (n : ℕ) (v : LunView) (cycle : TargetCycle) → KeepsRules g t luns cycle → length luns ≡ g.luns → slice_get luns n ≡ Some v → begins_sequence cycle ≡ true → RowStands g (extended_facts cycle (facts_of [])) n (view_after (cycle_effect g t la cycle n) v)
 begun_stands g t la luns n v (CommandCycle c) keeps count found h =
@@ -127,10 +109,6 @@ begun_stands g t la luns n v (InputCycle byte) keeps count found h = cc
 begun_stands g t la luns n v OutputCycle keeps count found h = cc
 
 -- ---- a command that goes on
-
-or_right : (a b : Bool) → b ≡ true → (a || b) ≡ true
-or_right true b h = refl
-or_right false b h = h
 
 program_named : (t : TailFacts) → names_program t ≡ true → names_row t ≡ true
 program_named t h = or_right (names_read t) _ (or_right (names_erase t) _ h)
@@ -227,12 +205,12 @@ address_stands g t la luns n v byte keeps found tf f = at t.opening refl
     row_is_inside : (o : Opening) → t.opening ≡ Some o → (addresses_the_array o.opener && at_last_row o.opener o.addresses) ≡ true → is_row g (page_address g (row_with t byte)) ≡ true
     row_is_inside o is h =
         lies_inside g (row_with t byte)
-        (not_false _ (not_and (ends_row (λ c. true) t) _ (ap (opened (λ c n. true && at_last_row c n)) is ∙ (both (addresses_the_array o.opener) _ h).1) keeps.f8))
+        (not-false _ (and_rest (ends_row (λ c. true) t) _ (ap (opened (λ c n. true && at_last_row c n)) is ∙ (both (addresses_the_array o.opener) _ h).1) keeps.f8))
 
     lun_is_ready : (o : Opening) → t.opening ≡ Some o → (addresses_the_array o.opener && at_last_row o.opener o.addresses) ≡ true → names_lun g (row_with t byte) n ≡ true → v.busy ≡ false
     lun_is_ready o is h named =
         judged_row g (row_with t byte) (λ v. v.busy) luns n v
-        (not_and (ends_row addresses_the_array t) _ (ap (opened (λ c n. addresses_the_array c && at_last_row c n)) is ∙ h) keeps.f9)
+        (and_rest (ends_row addresses_the_array t) _ (ap (opened (λ c n. addresses_the_array c && at_last_row c n)) is ∙ h) keeps.f9)
         named found
 
     first : (o : Opening) → t.opening ≡ Some o → RowStands g (next (Some o)) n (after (Some o))

@@ -2,6 +2,8 @@
 use Rattle.std.proofs.Common.{◌≡◌, ℕ, ◌+◌, ◌≤◌, ◌==◌, ◌⊎◌, Bool, true, false, ◌&&◌, ◌||◌, cond, List, [], ◌∷◌, ◌++◌, reverse, length, Option, Some, None, refl, sym, ap, ◌∙◌, subst, inl, inr, arith, ltb, eqb-true, append_assoc, append-nil}
 use Rattle.std.proofs.lemmas.Bool.Decides.{nat_tests}
 use Rattle.std.proofs.lemmas.List.{reverse-append, reverse-reverse}
+use Rattle.std.proofs.lemmas.Bool.{or_cases, or_right, and_parts, and_from}
+use Rattle.onfi_cycle.proofs.Booleans.{clash}
 use Rattle.onfi_cycle.specs.declared.command.Command.{Command}
 use Rattle.onfi_cycle.specs.declared.command.Command.TheVariants.{Read, ReadConfirm, ChangeReadColumn, ChangeReadColumnConfirm, BlockErase, BlockEraseConfirm, BlockErasePlane, ReadStatusEnhanced, PageProgram, ChangeWriteColumn, ProgramConfirm, ProgramPlane, ReadId, ReadParameterPage}
 use Rattle.onfi_cycle.specs.declared.opening.Opening.{Opening}
@@ -16,7 +18,6 @@ use Rattle.onfi_cycle.specs.Table.{IsProgramData, IsProgramCloser, IsSequence, I
 use Rattle.onfi_cycle.specs.Table.IsProgramData.{nothing, input, column}
 use Rattle.onfi_cycle.specs.Table.IsProgramCloser.{whole, plane}
 use Rattle.onfi_cycle.specs.Table.IsSequence.{read, change_read_column, erase, erase_plane, read_status, read_status_enhanced, program, read_id, read_parameter_page, reset, read_cache_sequential, read_cache_end}
-use Rattle.nand_geometry.proofs.Booleans.{and_parts, and_true}
 
 -- 1. A sequence, read in the order of time, is wanted cycle by cycle.
 
@@ -41,24 +42,20 @@ scans (c ∷ cs) = begins_sequence c && wanted_along (facts_of (c ∷ [])) cs
 
 -- the data of a program, up to its closer
 data_scans : (f : TailFacts) (bytes : List TargetCycle) (closer : Command) → IsProgramData bytes → IsProgramCloser closer → f.phase ≡ Inputs → wanted_along f (bytes ++ (CommandCycle closer ∷ [])) ≡ true
-data_scans f _ _ nothing whole h = and_true (takes_inputs f.phase) true (ap takes_inputs h) refl
-data_scans f _ _ nothing plane h = and_true (takes_inputs f.phase) true (ap takes_inputs h) refl
+data_scans f _ _ nothing whole h = and_from (takes_inputs f.phase) true (ap takes_inputs h) refl
+data_scans f _ _ nothing plane h = and_from (takes_inputs f.phase) true (ap takes_inputs h) refl
 data_scans f _ closer (input byte more rest) k h =
-    and_true (takes_inputs f.phase) _ (ap takes_inputs h) (data_scans (extended_facts (InputCycle byte) f) more closer rest k (ap phase_after_input h))
+    and_from (takes_inputs f.phase) _ (ap takes_inputs h) (data_scans (extended_facts (InputCycle byte) f) more closer rest k (ap phase_after_input h))
 data_scans f _ closer (column c1 c2 more rest) k h =
     let f1 = extended_facts (CommandCycle ChangeWriteColumn) f in
     let f2 = extended_facts (AddressCycle c1) f1 in
     let e1 : f1.phase ≡ FirstColumn = ap (phase_after_command ChangeWriteColumn) h in
     let e2 : f2.phase ≡ SecondColumn = ap (phase_after_address f1.opening) e1 in
-    and_true (takes_inputs f.phase) _ (ap takes_inputs h)
-    (and_true (wants_address f1 c1) _ (or_right (opens_for f1 c1) (wants_column f1.phase) (ap wants_column e1))
-    (and_true (wants_address f2 c2) _ (or_right (opens_for f2 c2) (wants_column f2.phase) (ap wants_column e2))
+    and_from (takes_inputs f.phase) _ (ap takes_inputs h)
+    (and_from (wants_address f1 c1) _ (or_right (opens_for f1 c1) (wants_column f1.phase) (ap wants_column e1))
+    (and_from (wants_address f2 c2) _ (or_right (opens_for f2 c2) (wants_column f2.phase) (ap wants_column e2))
     (data_scans (extended_facts (AddressCycle c2) f2) more closer rest k (ap (phase_after_address f2.opening) e2))))
   where
-    or_right : (a b : Bool) → b ≡ true → (a || b) ≡ true
-    or_right true b h = refl
-    or_right false b h = h
-
     opens_for : TailFacts → ℕ → Bool
     opens_for t byte = opened (λ c n. is_opener c && ltb n (address_cycles c) && takes_address c byte) t.opening
 
@@ -443,13 +440,9 @@ data_column t b FirstColumn p h =
 data_column t b SecondColumn p h = in_program_begins [] (AddressCycle b ∷ t) [] (address_phase t b SecondColumn p) nothing
 data_column t b _ p h = cc
 
-pub either_true : (a b : Bool) → (a || b) ≡ true → (a ≡ true) ⊎ (b ≡ true)
-either_true true b h = inl refl
-either_true false b h = inr h
-
 wanted_address : (t : List TargetCycle) (b : ℕ) → wants_address (facts_of t) b ≡ true → IsBeginning (reverse (AddressCycle b ∷ t))
 wanted_address t b h =
-    elim (either_true (opened (λ c n. is_opener c && ltb n (address_cycles c) && takes_address c b) (opening t)) (wants_column (data_phase t)) h) [
+    elim (or_cases (opened (λ c n. is_opener c && ltb n (address_cycles c) && takes_address c b) (opening t)) (wants_column (data_phase t)) h) [
       | inl e ↦ opened_address t b (opening t) (opening_shape t) e
       | inr e ↦ data_column t b (data_phase t) (phase_shape t) e
     ]
@@ -518,8 +511,8 @@ inputs_are_proper t _ p h = cc
 
 pub open_is_proper : (t : List TargetCycle) → is_open (facts_of t) ≡ true → IsProperBeginning (reverse t)
 open_is_proper t h =
-    elim (either_true (opened is_proper_beginning (opening t) || takes_inputs (data_phase t)) (wants_column (data_phase t)) h) [
-      | inl e ↦ elim (either_true (opened is_proper_beginning (opening t)) (takes_inputs (data_phase t)) e) [
+    elim (or_cases (opened is_proper_beginning (opening t) || takes_inputs (data_phase t)) (wants_column (data_phase t)) h) [
+      | inl e ↦ elim (or_cases (opened is_proper_beginning (opening t)) (takes_inputs (data_phase t)) e) [
         | inl a ↦ opened_is_proper t (opening t) (opening_shape t) a
         | inr a ↦ inputs_are_proper t (data_phase t) (phase_shape t) a
       ]
@@ -599,7 +592,7 @@ opened_by_address t b (Some o) shape ne h = begun_is_proper o.opener o.addresses
 
 address_opens : (t : List TargetCycle) (b : ℕ) → (t ≡ CommandCycle Read ∷ [] → ⊥) → wants_address (facts_of t) b ≡ true → is_open (facts_of t) ≡ true
 address_opens t b ne h =
-    elim (either_true (opened (λ c n. is_opener c && ltb n (address_cycles c) && takes_address c b) (opening t)) (wants_column (data_phase t)) h) [
+    elim (or_cases (opened (λ c n. is_opener c && ltb n (address_cycles c) && takes_address c b) (opening t)) (wants_column (data_phase t)) h) [
       | inl e ↦ left_true (opened is_proper_beginning (opening t)) (takes_inputs (data_phase t)) (wants_column (data_phase t)) (opened_by_address t b (opening t) (opening_shape t) ne e)
       | inr e ↦ right_true (opened is_proper_beginning (opening t)) (takes_inputs (data_phase t)) (wants_column (data_phase t)) e
     ]
@@ -618,9 +611,6 @@ proper_is_open t some ne (next, b) =
       | inr w ↦ wanted_opens t next ne w
     ]
 
-not_both : (b : Bool) → b ≡ true → b ≡ false → ⊥
-not_both b h k = cc
-
 cons_is_some : (c : TargetCycle) (t : List TargetCycle) → (c ∷ t) ≡ [] → ⊥
 cons_is_some c t h = cc
 
@@ -629,7 +619,7 @@ tails_follow =
     record {
       goes_on = λ t c h. (
         λ w. wanted_begins t c w,
-        λ b. elim (beginning_wants t c b) [ inl p ↦ absurd (not_both (begins_sequence c) p.1 h) | inr w ↦ w ],
+        λ b. elim (beginning_wants t c b) [ inl p ↦ absurd (clash (begins_sequence c) p.1 h) | inr w ↦ w ],
       );
       no_opener_inside = λ d t c h. (
         λ w. wanted_begins (d ∷ t) c w,

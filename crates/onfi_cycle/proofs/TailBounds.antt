@@ -1,6 +1,7 @@
 -- What stays small of a tail while only permitted items come.
 use Rattle.std.proofs.Common.{◌≡◌, ℕ, ◌+◌, ◌^◌, ◌<◌, ◌≤◌, ◌==◌, Bool, true, false, ◌&&◌, ◌||◌, cond, not, ltb, List, [], Option, Some, None, refl, arith, IfSome}
 use Rattle.std.proofs.lemmas.Bool.Decides.{nat_tests}
+use Rattle.std.proofs.lemmas.Bool.{not-false}
 use Rattle.nand_geometry.specs.declared.parts.Parts.{Parts}
 use Rattle.onfi_cycle.specs.declared.command.Command.{Command}
 use Rattle.onfi_cycle.specs.declared.command.Command.TheVariants.{Read, ChangeReadColumn, BlockErase, ReadStatusEnhanced, PageProgram, ChangeWriteColumn, ReadId, ReadParameterPage}
@@ -22,7 +23,6 @@ use Rattle.onfi_cycle.specs.declared.forbidden.Forbidden.TheVariants.{NotThere}
 use Rattle.onfi_cycle.proofs.Others.{first_passed}
 use Rattle.onfi_cycle.proofs.Passed.{keeps_rules}
 use Rattle.onfi_cycle.specs.Bounds.{TailFits}
-use Rattle.nand_geometry.proofs.Booleans.{and_parts as both}
 
 -- no opener takes more than five addresses
 most_addresses : (c : Command) → address_cycles c ≤ 5
@@ -34,10 +34,6 @@ most_addresses PageProgram = omega arith
 most_addresses ReadId = omega arith
 most_addresses ReadParameterPage = omega arith
 most_addresses c = omega arith
-
-not_true : (b : Bool) → not b ≡ false → b ≡ true
-not_true true h = refl
-not_true false h = cc
 
 -- a Change Write Column waits in the data of a program alone
 command_in_column : (c : Command) (p : DataPhase) → wants_column (phase_after_command c p) ≡ true → p ≡ Inputs
@@ -66,7 +62,7 @@ input_in_column Inputs = refl
 -- an opener with its next address
 next_address : (o : Option Opening) (p : DataPhase) (byte : ℕ) → (wants_column p ≡ true → o ≡ None) → not (opened (λ c n. is_opener c && ltb n (address_cycles c) && takes_address c byte) o || wants_column p) ≡ false → IfSome (one_address_more o) (λ o. o.addresses ≤ 5)
 next_address None p byte alone h = tt
-next_address (Some o) p byte alone h = at (wants_column p) refl (not_true _ h)
+next_address (Some o) p byte alone h = at (wants_column p) refl (not-false _ h)
   where
     at : (w : Bool) → wants_column p ≡ w → ((is_opener o.opener && ltb o.addresses (address_cycles o.opener) && takes_address o.opener byte) || w) ≡ true → o.addresses + 1 ≤ 5
     at true e h = let none = alone e in cc

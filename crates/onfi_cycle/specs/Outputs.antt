@@ -15,7 +15,7 @@ use Rattle.onfi_cycle.specs.Permitted.{broken}
 use Rattle.onfi_cycle.specs.Channel.{cycle}
 use Rattle.onfi_cycle.specs.State.{TargetView, BusView, judged, bus_after, changed_at}
 
--- a past with outputs of these bytes behind it, the first byte first
+-- a past with outputs of these bytes after it, the first byte first
 abbrev pub with_outputs : ℕ → List ℕ → List Item → List Item
 with_outputs ce [] past = past
 with_outputs ce (byte ∷ bytes) past = with_outputs ce bytes (cycle ce Dout byte ∷ past)

@@ -11,8 +11,7 @@ use Rattle.onfi_cycle.specs.LunView.{LunView}
 use Rattle.onfi_cycle.specs.Sequence.{target_of, target_cycle, opened}
 use Rattle.onfi_cycle.specs.Lun.{is_cache_read}
 use Rattle.onfi_cycle.specs.Channel.{is_cycle}
-use Rattle.onfi_cycle.specs.Permitted.{is_permitted}
-use Rattle.onfi_cycle.specs.State.{TargetView, BusView, judged, target_after, bus_after}
+use Rattle.onfi_cycle.specs.State.{TargetView, BusView, judged, bus_after}
 use Rattle.onfi_cycle.specs.Bounds.{BusFits}
 
 -- the commands that start work, or whose address does

@@ -1,5 +1,5 @@
 -- What is refused is what a failure says.
-use Rattle.std.proofs.Common.{◌≡◌, ◌⊎◌, inl, inr, ℕ, List, Option, Some, None, sym, subst}
+use Rattle.std.proofs.Common.{◌≡◌, ◌⊎◌, inl, inr, ℕ, List, Option, Some, None, subst}
 use Rattle.seq_files.specs.Store.{Store}
 use Rattle.seq_commands.specs.declared.refusal.Refusal.{Refusal}
 use Rattle.seq_commands.specs.declared.failure.Failure.{Failure}

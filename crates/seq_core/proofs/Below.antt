@@ -15,7 +15,7 @@ use Rattle.micro_program.specs.Moves.{BufferKeepsLength, CostsCountMoves}
 use Rattle.micro_program.proofs.Costs.{buffer_len, cost_is}
 pub use Rattle.micro_program.proofs.Tracking.{StepParts, step_parts, AnsweredParts, answered_parts}
 pub use Rattle.micro_program.proofs.Strides.{model_step}
-pub use Rattle.micro_program.proofs.Basics.{eqb_self, there_lun}
+pub use Rattle.micro_program.proofs.Basics.{there_lun}
 
 pub facts : FactsGoOn
 facts = facts_go_on

@@ -2,6 +2,7 @@
 use Rattle.std.proofs.Common.{◌≡◌, ◌≢◌, ℕ, zero, suc, ◌+◌, ◌<◌, ◌≤◌, ◌⊎◌, inl, inr, Bool, true, false, ◌&&◌, cond, leb, ltb, List, [], ◌∷◌, ◌++◌, Option, Some, None, refl, sym, ap, ◌∙◌, subst, arith, length, replicate, get_or, get_or-set_other}
 use Rattle.std.proofs.lemmas.Bool.Decides.{nat_tests}
 use Rattle.std.specs.List.{slice_set}
+use Rattle.std.proofs.lemmas.Bool.{or_parts as neither}
 use Rattle.nand_geometry.specs.declared.parts.Parts.{Parts}
 use Rattle.nand_geometry.specs.Row.{row_bytes_of}
 use Rattle.onfi_cycle.specs.declared.item.Kind.{Kind}
@@ -19,7 +20,6 @@ use Rattle.seq_core.specs.Buffer.{fills, is_filled, KeepsOthers}
 use Rattle.seq_core.specs.Made.{cycles_of, takes, bytes_told}
 use Rattle.seq_core.proofs.Below.{keeps_length, answered_parts}
 use Rattle.seq_core.proofs.Plays.{took}
-use Rattle.nand_geometry.proofs.Booleans.{or_parts as neither}
 
 -- 1. bytes elsewhere
 

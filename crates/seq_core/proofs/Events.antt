@@ -1,5 +1,6 @@
 -- A step keeps the world lawful, and so does a ready.
 use Rattle.std.proofs.Common.{◌≡◌, ◌≢◌, ℕ, ◌==◌, Bool, true, false, ◌||◌, cond, not, List, [], ◌∷◌, Option, Some, None, is_none, refl, sym, ap, ◌∙◌, subst, eqb-true, eq-eqb, length-set}
+use Rattle.std.proofs.lemmas.Bool.{not-false}
 use Rattle.onfi_cycle.specs.declared.lun.Lun.{Lun}
 use Rattle.onfi_cycle.specs.declared.item.Item.{Item}
 use Rattle.onfi_cycle.specs.declared.target_cycle.TargetCycle.{TargetCycle}
@@ -37,18 +38,14 @@ at_kept s l m before later (Some x) passes differs there h =
     let there_here : is_there s x.job.lun ≡ true = subst (λ (k : Lun). is_there s k ≡ true) (sym h.lun) there in
     record { lun = h.lun; made = h.made; safe = h.safe; within = h.within; text = h.text; seat = seat_kept s l before later x x.code passes differs_here there_here h.seat }
 
-unheld : (b : Bool) → not b ≡ false → b ≡ true
-unheld true h = refl
-unheld false h = cc
-
 -- who may step has the bus or finds it free
 free_of_others : (holder : Option Lun) (l m : Lun) → is_held holder l ≡ false → same_lun l m ≡ false → has_bus holder m ≡ false
 free_of_others None l m h differs = refl
-free_of_others (Some k) l m h differs = subst (λ (x : Lun). same_lun x m ≡ false) (sym (same_lun_is k l (unheld (same_lun k l) h))) differs
+free_of_others (Some k) l m h differs = subst (λ (x : Lun). same_lun x m ≡ false) (sym (same_lun_is k l (not-false (same_lun k l) h))) differs
 
 free_elsewhere : (holder : Option Lun) (l : Lun) (ce : ℕ) → is_held holder l ≡ false → (l.ce == ce) ≡ false → has_bus_on holder ce ≡ false
 free_elsewhere None l ce h differs = refl
-free_elsewhere (Some k) l ce h differs = subst (λ (x : Lun). (x.ce == ce) ≡ false) (sym (same_lun_is k l (unheld (same_lun k l) h))) differs
+free_elsewhere (Some k) l ce h differs = subst (λ (x : Lun). (x.ce == ce) ≡ false) (sym (same_lun_is k l (not-false (same_lun k l) h))) differs
 
 or_right : (a b : Bool) → b ≡ false → (a || not b) ≡ true
 or_right true b h = refl
@@ -59,7 +56,7 @@ or_left a b h = rw h refl
 
 pub may_step_now : (s : Channel) (w : World) (l : Lun) (holder : Option Lun) → is_held holder l ≡ false → ((ce : ℕ) → has_bus_on holder ce ≡ false → is_open_on w.past ce ≡ false) → (has_bus holder l || not (is_open_on w.past l.ce)) ≡ true
 may_step_now s w l None h closed = or_right false (is_open_on w.past l.ce) (closed l.ce refl)
-may_step_now s w l (Some k) h closed = or_left (same_lun k l) (is_open_on w.past l.ce) (unheld (same_lun k l) h)
+may_step_now s w l (Some k) h closed = or_left (same_lun k l) (is_open_on w.past l.ce) (not-false (same_lun k l) h)
 
 -- the holder after a stride of this LUN
 new_bus : (b : Bool) (l : Lun) → has_bus (cond b (Some l) None) l ≡ b

@@ -1,5 +1,6 @@
 -- A load and an unload keep the world lawful.
 use Rattle.std.proofs.Common.{◌≡◌, ℕ, ◌==◌, Bool, true, false, ◌&&◌, cond, not, Option, Some, None, is_some, refl, sym, ◌∙◌, subst, arith, eqb-true, length-set}
+use Rattle.std.proofs.lemmas.Bool.{and_parts}
 use Rattle.nand_geometry.specs.declared.parts.Parts.{Parts}
 use Rattle.onfi_cycle.specs.declared.lun.Lun.{Lun}
 use Rattle.onfi_cycle.specs.Channel.{Channel, IsChannel, IsIdle, is_there, same_lun}
@@ -11,7 +12,6 @@ use Rattle.seq_core.specs.World.{Slot, World, slot_of, with_slot, fresh_slot}
 use Rattle.seq_core.specs.Event.{IsVerified}
 use Rattle.seq_core.specs.After.{same_bool, same_parts, load_fault, after_load, after_unload, after_slot_unload}
 use Rattle.seq_core.specs.Lawful.{HasSeat, LawfulSlot, LawfulAt, has_bus, LawfulWorld}
-use Rattle.nand_geometry.proofs.Booleans.{and_parts}
 use Rattle.seq_core.proofs.Slots.{same_lun_is, slot_same, slot_other, there_of_slot}
 
 -- a slot is changed while the trace stands

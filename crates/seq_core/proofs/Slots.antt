@@ -2,12 +2,12 @@
 use Rattle.std.proofs.Common.{◌≡◌, ◌≢◌, ℕ, zero, suc, ◌+◌, ◌*◌, ◌/◌, ◌<◌, ◌≤◌, ◌==◌, Bool, true, false, cond, List, Option, Some, None, refl, sym, ap, ◌∙◌, subst, arith, ltb, ltb-true, eq-eqb, eqb-true, length, get_or, replicate, get_or-set_same, get_or-set_other}
 use Rattle.std.proofs.lemmas.Nat.{div-mul-add}
 use Rattle.std.proofs.Math.Nat.{mul-le-mul_right}
+use Rattle.std.proofs.lemmas.Bool.{and_parts, and_from}
 use Rattle.onfi_cycle.specs.declared.lun.Lun.{Lun}
 use Rattle.onfi_cycle.specs.declared.item.Item.{Item}
 use Rattle.onfi_cycle.specs.Channel.{Channel, is_there, same_lun}
 use Rattle.seq_core.specs.World.{Slot, World, number, slot_of, with_slot}
 use Rattle.seq_core.proofs.Below.{eqb_self, there_lun}
-use Rattle.nand_geometry.proofs.Booleans.{and_parts, and_true}
 
 pub same_lun_is : (l m : Lun) → same_lun l m ≡ true → l ≡ m
 same_lun_is l m h =
@@ -17,7 +17,7 @@ same_lun_is l m h =
     ap (λ (n : ℕ). let x : Lun = record { ce = n; lun = l.lun } in x) e ∙ ap (λ (n : ℕ). let x : Lun = record { ce = m.ce; lun = n } in x) f
 
 pub same_lun_self : (l : Lun) → same_lun l l ≡ true
-same_lun_self l = and_true (l.ce == l.ce) (l.lun == l.lun) (eqb_self l.ce) (eqb_self l.lun)
+same_lun_self l = and_from (l.ce == l.ce) (l.lun == l.lun) (eqb_self l.ce) (eqb_self l.lun)
 
 pub there_ce : (s : Channel) (l : Lun) → is_there s l ≡ true → l.ce < s.targets
 there_ce s l h = ltb-true l.ce s.targets (and_parts (ltb l.ce s.targets) (ltb l.lun s.geometry.luns) h).0
@@ -38,7 +38,7 @@ number_differs : (s : Channel) (l m : Lun) → is_there s l ≡ true → is_ther
 number_differs s l m hl hm ne e =
     let first = first_same m.ce l.ce s.geometry.luns m.lun l.lun (there_lun s m hm) (there_lun s l hl) e in
     let second = second_same m.ce l.ce s.geometry.luns m.lun l.lun first e in
-    clash (and_true (l.ce == m.ce) (l.lun == m.lun) (eq-eqb l.ce m.ce (sym first)) (eq-eqb l.lun m.lun (sym second))) ne
+    clash (and_from (l.ce == m.ce) (l.lun == m.lun) (eq-eqb l.ce m.ce (sym first)) (eq-eqb l.lun m.lun (sym second))) ne
   where
     clash : same_lun l m ≡ true → same_lun l m ≡ false → ⊥
     clash a b = cc

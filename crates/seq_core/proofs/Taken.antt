@@ -5,8 +5,7 @@ use Rattle.onfi_cycle.specs.declared.forbidden.Forbidden.{Forbidden as Rule}
 use Rattle.onfi_cycle.specs.declared.item.Item.{Item}
 use Rattle.onfi_cycle.specs.declared.item.Kind.TheVariants.{Dout}
 use Rattle.onfi_cycle.specs.declared.lun.Lun.{Lun}
-use Rattle.onfi_cycle.specs.Channel.{Channel, IsChannel, cycle, bus_byte}
-use Rattle.onfi_cycle.specs.Permitted.{broken}
+use Rattle.onfi_cycle.specs.Channel.{Channel, IsChannel, cycle}
 use Rattle.onfi_cycle.specs.Outputs.{with_outputs, broken_outputs, first_rule}
 use Rattle.micro_program.specs.Moves.{Move, Take, and_then}
 use Rattle.micro_program.specs.Program.{written}

@@ -1,45 +1,43 @@
 -- New dies, one for each LUN, are a channel's.
 use Rattle.std.proofs.Common.{◌≡◌, ℕ, zero, suc, ◌*◌, ◌==◌, ◌≤◌, Bool, true, false, cond, ◌||◌, not, List, [], ◌∷◌, ◌++◌, length, set, Option, Some, None, refl, sym, ap, ◌∙◌, subst, arith, eq-eqb}
 use Rattle.std.specs.Bool.{beq}
+use Rattle.std.proofs.lemmas.Bool.{and_parts, and_from}
+use Rattle.onfi_cycle.proofs.Booleans.{eqb_self}
 use Rattle.nand_geometry.specs.declared.parts.Parts.{Parts}
 use Rattle.die_model.specs.Die.{Die, new_die}
 use Rattle.die_model.specs.Loading.{IsLoaded}
 use Rattle.target_bus.specs.declared.refusal.BusFault.{BusFault}
 use Rattle.target_bus.specs.declared.refusal.BusFault.TheVariants.{DiesMissing, DieUnfit}
 use Rattle.target_bus.specs.Bus.{are_targets, same_parts, is_new_of, are_new, bus_fault}
-use Rattle.nand_geometry.proofs.Booleans.{and_parts, and_true}
-
-self : (n : ℕ) → (n == n) ≡ true
-self n = eq-eqb n n refl
 
 bself : (b : Bool) → beq b b ≡ true
 bself true = refl
 bself false = refl
 
 new_self : (g : Parts) → same_parts g g ≡ true
-new_self g = rw (self g.page_bytes, self g.spare_bytes, self g.pages, self g.blocks, self g.luns, self g.plane_bits, bself g.enhanced, bself g.multi_plane, bself g.cache) refl
+new_self g = rw (eqb_self g.page_bytes, eqb_self g.spare_bytes, eqb_self g.pages, eqb_self g.blocks, eqb_self g.luns, eqb_self g.plane_bits, bself g.enhanced, bself g.multi_plane, bself g.cache) refl
 
 pub erased_is_new : (g : Parts) → is_new_of g (new_die g) ≡ true
-erased_is_new g = and_true _ _ (new_self g) refl
+erased_is_new g = and_from _ _ (new_self g) refl
 
 -- an image changes the pages alone
 pub loaded_is_new : (g : Parts) (bytes : List ℕ) (d : Die) → IsLoaded bytes (new_die g) d → is_new_of g d ≡ true
 loaded_is_new g bytes d loaded = subst (λ (x : Die). is_new_of g x ≡ true) (sym loaded.rest) (erased_is_new g)
 
 pub are_new_push : (g : Parts) (dies : List Die) (d : Die) → are_new g dies ≡ true → is_new_of g d ≡ true → are_new g (dies ++ d ∷ []) ≡ true
-are_new_push g [] d old new = and_true (is_new_of g d) true new refl
+are_new_push g [] d old new = and_from (is_new_of g d) true new refl
 are_new_push g (x ∷ dies) d old new =
     let k = and_parts (is_new_of g x) (are_new g dies) old in
-    and_true (is_new_of g x) (are_new g (dies ++ d ∷ [])) k.0 (are_new_push g dies d k.1 new)
+    and_from (is_new_of g x) (are_new g (dies ++ d ∷ [])) k.0 (are_new_push g dies d k.1 new)
 
 pub are_new_set : (g : Parts) (dies : List Die) (k : ℕ) (d : Die) → are_new g dies ≡ true → is_new_of g d ≡ true → are_new g (set dies k d) ≡ true
 are_new_set g [] k d old new = refl
 are_new_set g (x ∷ dies) zero d old new =
     let k = and_parts (is_new_of g x) (are_new g dies) old in
-    and_true (is_new_of g d) (are_new g dies) new k.1
+    and_from (is_new_of g d) (are_new g dies) new k.1
 are_new_set g (x ∷ dies) (suc n) d old new =
     let k = and_parts (is_new_of g x) (are_new g dies) old in
-    and_true (is_new_of g x) (are_new g (set dies n d)) k.0 (are_new_set g dies n d k.1 new)
+    and_from (is_new_of g x) (are_new g (set dies n d)) k.0 (are_new_set g dies n d k.1 new)
 
 first : (a b c d : Bool) → a ≡ true → (a || b || c || d) ≡ true
 first true b c d h = refl

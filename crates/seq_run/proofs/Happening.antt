@@ -1,5 +1,5 @@
 -- What happened on the channel of a run.
-use Rattle.std.proofs.Common.{◌≡◌, List, map, subst, sym}
+use Rattle.std.proofs.Common.{◌≡◌, List, map, subst}
 use Rattle.target_bus.specs.Bus.{Traced}
 use Rattle.channel_work.specs.declared.gathered.Gathered.{Gathered}
 use Rattle.channel_work.specs.Channel.{HistoryView, Ended}

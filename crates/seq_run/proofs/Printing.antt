@@ -4,6 +4,7 @@ use Rattle.std.specs.List.{All}
 use Rattle.std.proofs.lemmas.Bool.Decides.{nat_tests}
 use Rattle.std.proofs.lemmas.List.{reverse-append}
 use Rattle.std.proofs.lemmas.List.Elements.{All-push, All-from_recursion}
+use Rattle.std.proofs.lemmas.Bool.{and_parts, or_parts as neither}
 use Rattle.nand_geometry.specs.declared.parts.Parts.{Parts}
 use Rattle.onfi_cycle.specs.declared.item.Item.{Item}
 use Rattle.onfi_cycle.specs.declared.item.Item.TheVariants.{Cyc, Rdy, Ard}
@@ -15,7 +16,6 @@ use Rattle.onfi_cycle.specs.Sequence.{target_of, tail, facts_of}
 use Rattle.onfi_cycle.specs.Lun.{luns_of, views_from}
 use Rattle.onfi_cycle.specs.Permitted.{judge_item, is_permitted, is_legal}
 use Rattle.trace_text.specs.Line.{IsPrintable}
-use Rattle.nand_geometry.proofs.Booleans.{and_parts, or_parts as neither}
 
 not_first : (b : Bool) (o : Option Forbidden) → is_none (cond b (Some NotThere) o) ≡ true → b ≡ false
 not_first true o e = absurd cc

@@ -1,6 +1,7 @@
 -- What a cycle can't do, by its kind.
-use Rattle.std.proofs.Common.{◌≡◌, ◌≢◌, ℕ, ◌+◌, ◌<◌, ◌≤◌, ◌==◌, Bool, true, false, ◌||◌, cond, leb, List, Option, Some, None, Result, Ok, Err, OnErr, IfSome, length, refl, sym, ap, subst, ◌∙◌, arith}
+use Rattle.std.proofs.Common.{◌≡◌, ◌≢◌, ℕ, ◌+◌, ◌<◌, ◌≤◌, ◌==◌, Bool, true, false, ◌||◌, cond, List, Option, Some, None, Result, Ok, Err, OnErr, IfSome, length, refl, sym, ap, ◌∙◌, arith}
 use Rattle.std.proofs.lemmas.Bool.Decides.{nat_tests}
+use Rattle.std.proofs.lemmas.Bool.{or_from, or_left}
 use Rattle.nand_geometry.specs.declared.parts.Parts.{Parts}
 use Rattle.onfi_cycle.specs.declared.item.Cycle.{Cycle}
 use Rattle.onfi_cycle.specs.declared.item.Item.{Item}
@@ -18,7 +19,7 @@ use Rattle.onfi_cycle.specs.Filling.{filling, cycle_filling}
 use Rattle.onfi_cycle.specs.Lun.{effect_on, latch_alone}
 use Rattle.onfi_cycle.specs.Permitted.{broken}
 use Rattle.onfi_cycle.specs.State.{BusView, Follows}
-use Rattle.onfi_cycle.specs.Working.{fills, begins, works_on}
+use Rattle.onfi_cycle.specs.Working.{fills, begins}
 use Rattle.onfi_cycle.specs.declared.filling.Filling.{Filling}
 use Rattle.die_model.specs.Die.{Die}
 use Rattle.target_bus.specs.declared.working.Worked.{Worked}
@@ -61,18 +62,9 @@ leaves_more g past c n none f = λ m low. at m (m == n) refl low
 abbrev pub filled : ℕ → Filling → Worked
 filled lun x = record { lun = lun; filling = x; effect = Unaffected }
 
-neither_is : (a b : Bool) → a ≡ false → b ≡ false → (a || b) ≡ false
-neither_is false false h k = refl
-neither_is false true h k = cc
-neither_is true b h k = cc
-
-first_is : (a b : Bool) → a ≡ true → (a || b) ≡ true
-first_is true b h = refl
-first_is false b h = cc
-
 pub none_filled : (state : BusView) (opened : List Entries) (dies : List Die) (past : List Item) (c : Cycle) (luns n : ℕ) → IsStanding state opened dies past → broken state.geometry (length state.targets) past (Cyc c) ≡ None → is_input c.kind ≡ true → luns ≡ state.geometry.luns → luns ≤ n → ((g : Parts) (targets : ℕ) (past : List Item) → Follows g targets state past → c.ce < targets → LeavesBelow g past (Cyc c) c.ce n) → FindsWork state.geometry past (Cyc c) c.ce 0 None
 none_filled state opened dies past c luns n f h input same all rest = λ m least low.
-    neither_is _ _ (none m (omega (arith, low, same, all))) (ap begins (sym (unaffected state.geometry past c (lun_at c.ce m) input)))
+    or_from _ _ (none m (omega (arith, low, same, all))) (ap begins (sym (unaffected state.geometry past c (lun_at c.ce m) input)))
   where
     none : LeavesBelow state.geometry past (Cyc c) c.ce n
     none = rest state.geometry (length state.targets) past f.follows (cycle_there state.geometry (length state.targets) past c h)
@@ -83,7 +75,7 @@ one_filled state opened dies past c luns n x f h input same low one fillings =
       lun = omega (arith, low, same);
       filling_is = is;
       effect_is = unaffected state.geometry past c (lun_at c.ce n) input;
-      works = first_is _ _ (ap fills (sym is) ∙ one);
+      works = or_left _ _ (ap fills (sym is) ∙ one);
     }
   where
     is : x ≡ filling state.geometry (facts_of (tail past c.ce)) (Cyc c) (lun_at c.ce n)

@@ -1,5 +1,5 @@
 -- The readies that are to come, as they are counted.
-use Rattle.std.proofs.Common.{◌≡◌, ℕ, zero, suc, ◌+◌, ◌-◌, ◌≤◌, Bool, true, false, List, [], ◌∷◌, Option, Some, None, refl, sym, ap, ◌∙◌, subst, arith}
+use Rattle.std.proofs.Common.{◌≡◌, ℕ, zero, suc, ◌+◌, ◌-◌, ◌≤◌, Bool, true, false, List, [], ◌∷◌, Option, Some, None, sym, ◌∙◌, subst, arith}
 use Rattle.std.specs.List.{slice_get}
 use Rattle.onfi_cycle.specs.declared.item.Item.{Item}
 use Rattle.onfi_cycle.specs.declared.item.Item.TheVariants.{Cyc, Rdy, Ard}
@@ -7,7 +7,7 @@ use Rattle.onfi_cycle.specs.Sequence.{target_of}
 use Rattle.onfi_cycle.specs.Channel.{is_cycle}
 use Rattle.onfi_cycle.specs.State.{TargetView, BusView, judged, bus_after}
 use Rattle.onfi_cycle.specs.Bounds.{BusFits}
-use Rattle.onfi_cycle.specs.Readies.{starts_work, due_there, target_due, targets_due, bus_due, ReadiesAreDue}
+use Rattle.onfi_cycle.specs.Readies.{starts_work, due_there, targets_due, bus_due, ReadiesAreDue}
 
 pub there_at_most : (targets : List TargetView) (k : ℕ) → due_there (slice_get targets k) ≤ targets_due targets
 there_at_most [] k = omega arith

@@ -1,9 +1,10 @@
 -- A bus of new dies.
-use Rattle.std.proofs.Common.{◌≡◌, ℕ, zero, suc, ◌+◌, ◌*◌, ◌/◌, ◌<◌, ◌≤◌, ◌==◌, Bool, true, false, ◌&&◌, ◌||◌, ◌++◌, not, List, [], ◌∷◌, Option, Some, None, refl, sym, ap, subst, ◌∙◌, arith, length, set, eqb-true, get_or, map, append_assoc, drop, take, ◌-◌}
+use Rattle.std.proofs.Common.{◌≡◌, ℕ, zero, suc, ◌+◌, ◌*◌, ◌/◌, ◌<◌, ◌≤◌, ◌==◌, Bool, true, false, ◌&&◌, ◌||◌, ◌++◌, List, [], ◌∷◌, Option, Some, None, refl, sym, ap, subst, ◌∙◌, arith, length, set, eqb-true, get_or, map, append_assoc, drop, take, ◌-◌}
 use Rattle.std.proofs.lemmas.Nat.{div-mul-add}
 use Rattle.std.proofs.lemmas.List.{length-replicate}
 use Rattle.std.specs.List.{slice_get}
 use Rattle.std.specs.Bool.{beq}
+use Rattle.std.proofs.lemmas.Bool.{and_parts as both}
 use Rattle.nand_geometry.specs.declared.parts.Parts.{Parts}
 use Rattle.nand_geometry.specs.Limits.{InLimits, page_len, planes}
 use Rattle.onfi_cycle.specs.declared.lun.Lun.{Lun}
@@ -20,7 +21,6 @@ use Rattle.die_model.specs.Standing.{IsDieOf}
 use Rattle.die_model.proofs.Showing.{dies_show}
 use Rattle.target_bus.specs.Bus.{Entries, channel_on, opened_page, numbered, number_of, IsStanding, are_targets, same_sizes, same_parts, is_new_of, are_new, IsWhole, WholeDies, forgotten}
 use Rattle.target_bus.proofs.Numbers.{number_back}
-use Rattle.nand_geometry.proofs.Booleans.{and_parts as both}
 
 beq_is : (a b : Bool) → beq a b ≡ true → a ≡ b
 beq_is true true h = refl

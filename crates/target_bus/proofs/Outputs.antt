@@ -1,5 +1,5 @@
 -- A run of outputs: what it leaves of the readies and of the dies, and what the driver shows in it.
-use Rattle.std.proofs.Common.{◌≡◌, ◌≢◌, ℕ, zero, suc, ◌+◌, ◌-◌, ◌*◌, ◌<◌, ◌≤◌, ◌==◌, Bool, true, false, cond, not, eq-eqb, List, [], ◌∷◌, ◌++◌, Option, Some, None, refl, sym, ap, subst, ◌∙◌, arith, length, map, take, drop, replicate, reverse, append_assoc, append-nil}
+use Rattle.std.proofs.Common.{◌≡◌, ◌≢◌, ℕ, zero, suc, ◌+◌, ◌-◌, ◌*◌, ◌<◌, ◌≤◌, ◌==◌, Bool, true, false, cond, eq-eqb, List, [], ◌∷◌, ◌++◌, Option, Some, None, refl, sym, ap, subst, ◌∙◌, arith, length, map, reverse, append_assoc, append-nil}
 use Rattle.std.specs.List.{slice_get}
 use Rattle.nand_geometry.specs.declared.parts.Parts.{Parts}
 use Rattle.nand_geometry.specs.Page.{parameter_bytes}
@@ -14,14 +14,12 @@ use Rattle.onfi_cycle.specs.declared.latch.Latch.TheVariants.{Off, Status, Data}
 use Rattle.onfi_cycle.specs.declared.lun.Lun.{Lun}
 use Rattle.onfi_cycle.specs.declared.lun_state.LunState.{LunState}
 use Rattle.onfi_cycle.specs.declared.read_column.ReadColumn.{ReadColumn}
-use Rattle.onfi_cycle.specs.Sequence.{tail, facts_of}
 use Rattle.onfi_cycle.specs.Effect.{is_off, is_data}
-use Rattle.onfi_cycle.specs.Lun.{effect_on, latch, latch_after, drivers, drivers_from, is_only, lun_view, luns_of, register, read_column, read_column_after, output_column, option_plus}
-use Rattle.onfi_cycle.specs.Content.{status, shown, shown_by, byte_at, content, register_bytes}
+use Rattle.onfi_cycle.specs.Lun.{effect_on, latch, latch_after, drivers, drivers_from, is_only, lun_view, register, read_column, read_column_after, output_column, option_plus}
+use Rattle.onfi_cycle.specs.Content.{shown, shown_by, byte_at, content, register_bytes}
 use Rattle.onfi_cycle.specs.Permitted.{broken}
 use Rattle.onfi_cycle.specs.Channel.{Channel, cycle, bus_byte, byte_of_driver}
-use Rattle.onfi_cycle.specs.State.{BusView, Follows, judged, bus_after, target_view, changed_at, target_after}
-use Rattle.onfi_cycle.specs.Look.{look_at, look_after}
+use Rattle.onfi_cycle.specs.State.{BusView, Follows, judged, bus_after, target_view, target_after}
 use Rattle.onfi_cycle.specs.Bounds.{BusFits}
 use Rattle.onfi_cycle.specs.Readies.{bus_due, ReadiesAreDue}
 use Rattle.onfi_cycle.specs.Rules.{register_len}
@@ -37,7 +35,7 @@ use Rattle.die_model.specs.Standing.{IsDieOf}
 use Rattle.die_model.proofs.Showing.{dies_show}
 use Rattle.target_bus.specs.Bus.{Entries, channel_on, numbered, number_of, first_of, IsStanding, IsRunning, AreShown, AreTaken, AreOf, HasBytes, shown_later}
 use Rattle.target_bus.proofs.Numbers.{numbered_number, slice_get_none}
-use Rattle.target_bus.proofs.Shown.{look_there, is_channel, output_there, driver_found, die_of_driver}
+use Rattle.target_bus.proofs.Shown.{output_there, driver_found, die_of_driver}
 use Rattle.target_bus.proofs.Standing.{stands_on, stands_output, reversed, same_channel, traced}
 
 -- 1. what is kept goes on

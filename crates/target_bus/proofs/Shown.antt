@@ -1,7 +1,8 @@
 -- What the one driver of a target shows.
-use Rattle.std.proofs.Common.{◌≡◌, ◌≢◌, ℕ, zero, suc, ◌+◌, ◌*◌, ◌<◌, Bool, true, false, ◌&&◌, ◌||◌, cond, not, ltb, leb, eq-eqb, List, [], ◌∷◌, Option, Some, None, refl, sym, ap, subst, ◌∙◌, arith, length}
+use Rattle.std.proofs.Common.{◌≡◌, ◌≢◌, ℕ, zero, suc, ◌+◌, ◌*◌, ◌<◌, Bool, true, false, ◌&&◌, ◌||◌, cond, ltb, leb, eq-eqb, List, [], ◌∷◌, Option, Some, None, refl, sym, ap, subst, ◌∙◌, arith, length}
 use Rattle.std.proofs.lemmas.Bool.Decides.{nat_tests}
 use Rattle.std.specs.List.{slice_get}
+use Rattle.std.proofs.lemmas.Bool.{not-false, or_parts as neither}
 use Rattle.nand_geometry.specs.declared.parts.Parts.{Parts}
 use Rattle.nand_geometry.specs.Page.{parameter_bytes}
 use Rattle.nand_geometry.proofs.PageLemmas.{parameters_have_their_length}
@@ -15,8 +16,8 @@ use Rattle.onfi_cycle.specs.declared.lun_state.LunState.{LunState}
 use Rattle.onfi_cycle.specs.LunView.{LunView}
 use Rattle.onfi_cycle.specs.Sequence.{tail, facts_of, is_open}
 use Rattle.onfi_cycle.specs.Effect.{is_off}
-use Rattle.onfi_cycle.specs.Lun.{latch, drivers, drivers_from, is_only, luns_of, lun_view, register, read_column, output_column}
-use Rattle.onfi_cycle.specs.Content.{status, shown, shown_by, byte_at, register_bytes, content}
+use Rattle.onfi_cycle.specs.Lun.{latch, drivers, drivers_from, is_only, luns_of, lun_view, read_column, output_column}
+use Rattle.onfi_cycle.specs.Content.{status, shown, shown_by, byte_at}
 use Rattle.onfi_cycle.specs.Rules.{breaks_not_there, breaks_no_sole_driver, driver, is_some_and}
 use Rattle.onfi_cycle.specs.Permitted.{broken}
 use Rattle.onfi_cycle.specs.Channel.{Channel, IsChannel, cycle, bus_byte, byte_of_driver}
@@ -31,7 +32,6 @@ use Rattle.die_model.specs.Standing.{IsDieOf}
 use Rattle.die_model.proofs.Showing.{dies_show}
 use Rattle.target_bus.specs.Bus.{Entries, channel_on, numbered, number_of, first_of, IsStanding}
 use Rattle.target_bus.proofs.Numbers.{numbered_number, number_below, slice_get_none}
-use Rattle.nand_geometry.proofs.Booleans.{or_parts as neither}
 
 -- the byte of an output isn't judged
 pub any_byte : (g : Parts) (n : ℕ) (past : List Item) (ce a b : ℕ) → broken g n past (cycle ce Dout a) ≡ broken g n past (cycle ce Dout b)
@@ -46,15 +46,11 @@ any_byte_judged state ce a b = at (slice_get state.targets ce)
     at None = refl
     at (Some t) = refl
 
-not_not : (b : Bool) → not b ≡ false → b ≡ true
-not_not true h = refl
-not_not false h = cc
-
 pub one_driver : (g : Parts) (n : ℕ) (past : List Item) (ce byte : ℕ) → broken g n past (cycle ce Dout byte) ≡ None → IsOne (drivers g past ce)
 unfolding breaks_no_sole_driver
 one_driver g n past ce byte h =
     let f12 : breaks_no_sole_driver (facts_of (tail past ce)) (luns_of g past ce) OutputCycle ≡ false = (permitted_keeps g n past (record { ce = ce; kind = Dout; byte = byte }) h).f12 in
-    at (driver (luns_of g past ce)) refl (not_not _ (neither (is_open (facts_of (tail past ce))) _ f12).1)
+    at (driver (luns_of g past ce)) refl (not-false _ (neither (is_open (facts_of (tail past ce))) _ f12).1)
   where
     at : (o : Option LunView) → driver (luns_of g past ce) ≡ o → is_some_and (λ v. true) o ≡ true → IsOne (drivers g past ce)
     at None e k = cc

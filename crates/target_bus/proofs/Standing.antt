@@ -1,12 +1,14 @@
 -- The dies go on with the past.
-use Rattle.std.proofs.Common.{◌≡◌, ◌≢◌, ℕ, zero, suc, ◌+◌, ◌*◌, ◌<◌, ◌≤◌, ◌==◌, Bool, true, false, ◌&&◌, ◌||◌, ◌++◌, cond, not, ltb, leb, eq-eqb, eqb-true, reverse, List, [], ◌∷◌, Option, Some, None, Result, Ok, Err, IfOk, OnErr, IsOk, refl, sym, ap, subst, ◌∙◌, arith, length, set, ◌^◌}
+use Rattle.std.proofs.Common.{◌≡◌, ◌≢◌, ℕ, ◌+◌, ◌*◌, ◌<◌, ◌≤◌, ◌==◌, Bool, true, false, ◌&&◌, ◌||◌, ◌++◌, cond, not, ltb, leb, eq-eqb, eqb-true, reverse, List, [], ◌∷◌, Option, Some, None, Result, Ok, Err, IfOk, OnErr, IsOk, refl, sym, ap, subst, ◌∙◌, arith, length, set, ◌^◌}
 use Rattle.std.proofs.lemmas.Bool.Decides.{nat_tests}
 use Rattle.std.proofs.lemmas.Option.{slice_get_within, slice_get_past}
 use Rattle.std.specs.List.{slice_get}
-use Rattle.std.proofs.lemmas.List.{reverse-append, length-set}
+use Rattle.std.proofs.lemmas.List.{reverse-append}
 use Rattle.std.specs.Option.{is_some}
 use Rattle.std.specs.Result.{is_err}
 use Rattle.std.proofs.Math.Nat.{mul-le-mul_right}
+use Rattle.std.proofs.lemmas.Bool.{false_from_ne_true, not-false, or_parts as neither}
+use Rattle.onfi_cycle.proofs.Booleans.{clash}
 use Rattle.nand_geometry.specs.declared.parts.Parts.{Parts}
 use Rattle.nand_geometry.specs.Limits.{InLimits, page_len}
 use Rattle.onfi_cycle.specs.declared.command.Command.{Command}
@@ -34,7 +36,7 @@ use Rattle.onfi_cycle.specs.Filling.{filling, cycle_filling}
 use Rattle.onfi_cycle.specs.Lun.{effect_on, latch_alone, luns_of, lun_view}
 use Rattle.onfi_cycle.specs.Rules.{breaks_not_there, breaks_column_outside, lun_is, is_some_and, some_queued_clashes}
 use Rattle.onfi_cycle.specs.declared.item.Kind.TheVariants.{Dout}
-use Rattle.onfi_cycle.specs.Channel.{Channel, is_cycle, cycle}
+use Rattle.onfi_cycle.specs.Channel.{Channel, cycle}
 use Rattle.onfi_cycle.specs.Permitted.{broken}
 use Rattle.onfi_cycle.specs.State.{BusView, Follows}
 use Rattle.onfi_cycle.specs.Bounds.{LunFits, EffectFits, is_row}
@@ -42,7 +44,7 @@ use Rattle.onfi_cycle.specs.Working.{fills, begins, works_on, IsLun, FactsFit}
 use Rattle.onfi_cycle.specs.Readies.{starts, cycle_starts, starts_work, bus_due}
 use Rattle.onfi_cycle.proofs.Others.{first_passed}
 use Rattle.onfi_cycle.proofs.Passed.{permitted_keeps}
-use Rattle.onfi_cycle.proofs.Keeping.{views_length, view_at}
+use Rattle.onfi_cycle.proofs.Keeping.{views_length}
 use Rattle.onfi_cycle.proofs.Following.{count_of}
 use Rattle.die_model.specs.declared.Work.{Work}
 use Rattle.die_model.specs.declared.Work.TheVariants as w
@@ -51,12 +53,7 @@ use Rattle.die_model.specs.Standing.{IsDieOf, WorkedBy, CanBeginSome, is_no_read
 use Rattle.die_model.proofs.Standing.{IsInput, is_input, dies_go_on}
 use Rattle.target_bus.specs.Bus.{Entries, channel_on, opened_page, numbered, number_of, lun_at, StandFor, IsWorkedAt, FindsWork, IsStanding, Permits, IsNext, IsRunning, Traced, spent}
 use Rattle.target_bus.specs.declared.working.Worked.{Worked}
-use Rattle.target_bus.proofs.Numbers.{target_there, lun_there, numbered_number, number_apart, number_below, set_here, set_other, slice_get_none}
-use Rattle.nand_geometry.proofs.Booleans.{and_parts as both, or_parts as neither}
-
-not_not : (b : Bool) → not b ≡ false → b ≡ true
-not_not true h = refl
-not_not false h = cc
+use Rattle.target_bus.proofs.Numbers.{target_there, lun_there, numbered_number, number_apart, number_below, set_here, set_other}
 
 -- 1. what leaves a die as it is
 
@@ -155,10 +152,6 @@ row_there g v d at s h = ap (λ (k : Parts). is_row k at) s.geometry ∙ h
 
 apart : (g : Parts) (v : LunView) (d : Die) (erase : Bool) (at : PageAddress) → SameDie g v d → some_queued_clashes g erase at v.queue ≡ false → not (some_queued_clashes d.geometry erase at d.queued) ≡ true
 apart g v d erase at s h = ap not (ap (λ (k : Parts). some_queued_clashes k erase at d.queued) s.geometry ∙ (ap (some_queued_clashes g erase at) s.queue ∙ h))
-
-or_ready : (a b : Bool) → b ≡ true → (a || b) ≡ true
-or_ready true b h = refl
-or_ready false b h = h
 
 can_begin : (g : Parts) (v : LunView) (d : Die) (x : Effect) → SameDie g v d → LunFits g v → EffectFits g v x → CanBeginSome (work_begun x) d
 can_begin g v d (e.ReadStarted at column) s f h = record { row = row_there g v d at s h.2.inside; together = refl; ready = is_ready g v d s h.2.ready; room = small_queue g v d s f; next = small_page g v d s f }
@@ -280,18 +273,10 @@ stand_changed state opened dies past i m old new f h facts still here worked = �
 resting : (s : Channel) (past : List Item) (c : Cycle) (l : Lun) (d : Die) → works_on s.geometry past (Cyc c) l ≡ false → IsWorked s past (Cyc c) l d d
 resting s past c l d h = rests_worked s.geometry (filling s.geometry (facts_of (tail past l.ce)) (Cyc c) l) (effect_on s.geometry past (Cyc c) l) d h (no_ready s.geometry past c l)
 
-idle_when : (b : Bool) → (b ≡ true → ⊥) → b ≡ false
-idle_when true h = absurd (h refl)
-idle_when false h = refl
-
-clash : (b : Bool) → b ≡ true → b ≡ false → ⊥
-clash true h k = cc
-clash false h k = cc
-
 -- nothing was found: no LUN of the channel is worked on
 pub none_works : (state : BusView) (opened : List Entries) (dies : List Die) (past : List Item) (c : Cycle) → IsStanding state opened dies past → broken state.geometry (length state.targets) past (Cyc c) ≡ None → FactsFit state.geometry (length state.targets) past → FindsWork state.geometry past (Cyc c) c.ce 0 None → StandFor (channel_on state.geometry (length state.targets) opened) (Cyc c ∷ past) dies
 none_works state opened dies past c f h facts none =
-    stand_idle state opened dies past (Cyc c) f h facts (λ k d low. resting (channel_on state.geometry (length state.targets) opened) past c (numbered state.geometry k) d (idle_when _ (λ works. never (numbered state.geometry k) (number_there state opened dies past k f low) works)))
+    stand_idle state opened dies past (Cyc c) f h facts (λ k d low. resting (channel_on state.geometry (length state.targets) opened) past c (numbered state.geometry k) d (false_from_ne_true _ (λ works. never (numbered state.geometry k) (number_there state opened dies past k f low) works)))
   where
     never : (l : Lun) → IsLun state.geometry (length state.targets) l → works_on state.geometry past (Cyc c) l ≡ true → ⊥
     never l there works =
@@ -302,7 +287,7 @@ none_works state opened dies past c f h facts none =
 pub one_works : (state : BusView) (opened : List Entries) (dies : List Die) (past : List Item) (c : Cycle) (x : Worked) (k : ℕ) (old new : Die) → IsStanding state opened dies past → broken state.geometry (length state.targets) past (Cyc c) ≡ None → FactsFit state.geometry (length state.targets) past → c.ce < length state.targets → FindsWork state.geometry past (Cyc c) c.ce 0 (Some x) → k ≡ number_of state.geometry (lun_at c.ce x.lun) → slice_get dies k ≡ Some old → WorkedBy old.geometry x.filling x.effect old new → StandFor (channel_on state.geometry (length state.targets) opened) (Cyc c ∷ past) (set dies k new)
 one_works state opened dies past c x k old new f h facts target found place here worked =
     stand_changed state opened dies past (Cyc c) k old new f h facts
-    (λ m d low other. resting s past c (numbered g m) d (idle_when _ (λ works. other (number_apart g m k (facts.one (Cyc c) (numbered g m) (numbered g k) (number_there state opened dies past m f low) there h works (ap (works_on g past (Cyc c)) is ∙ found.works))))))
+    (λ m d low other. resting s past c (numbered g m) d (false_from_ne_true _ (λ works. other (number_apart g m k (facts.one (Cyc c) (numbered g m) (numbered g k) (number_there state opened dies past m f low) there h works (ap (works_on g past (Cyc c)) is ∙ found.works))))))
     here
     (subst (λ (l : Lun). IsWorked s past (Cyc c) l old new) (sym is)
     (subst (λ (y : Filling). WorkedBy g y (effect_on g past (Cyc c) l) old new) found.filling_is
@@ -410,7 +395,7 @@ ready_there g n past l fail h =
     let f1 : breaks_not_there n (luns_of g past l.ce) (Rdy l.ce l.lun fail) ≡ false = (first_passed (breaks_not_there n (luns_of g past l.ce) (Rdy l.ce l.lun fail)) NotThere None h).0 in
     let parts = neither (leb n l.ce) _ f1 in
     let below : leb n l.ce ≡ false = parts.0 in
-    record { target = grind (arith, nat_tests); lun = lun_there_by g past l (λ v. v.busy) (not_not _ parts.1) }
+    record { target = grind (arith, nat_tests); lun = lun_there_by g past l (λ v. v.busy) (not-false _ parts.1) }
 
 pub array_ready_there : (g : Parts) (n : ℕ) (past : List Item) (l : Lun) → broken g n past (Ard l.ce l.lun) ≡ None → IsLun g n l
 unfolding breaks_not_there
@@ -418,7 +403,7 @@ array_ready_there g n past l h =
     let f1 : breaks_not_there n (luns_of g past l.ce) (Ard l.ce l.lun) ≡ false = (first_passed (breaks_not_there n (luns_of g past l.ce) (Ard l.ce l.lun)) NotThere None h).0 in
     let parts = neither (leb n l.ce) _ f1 in
     let below : leb n l.ce ≡ false = parts.0 in
-    record { target = grind (arith, nat_tests); lun = lun_there_by g past l (λ v. v.array_busy) (not_not _ parts.1) }
+    record { target = grind (arith, nat_tests); lun = lun_there_by g past l (λ v. v.array_busy) (not-false _ parts.1) }
 
 pub stands_ready : (state : BusView) (opened : List Entries) (dies : List Die) (past : List Item) (l : Lun) (fail : Bool) (k : ℕ) (old new : Die) → IsStanding state opened dies past → broken state.geometry (length state.targets) past (Rdy l.ce l.lun fail) ≡ None → FactsFit state.geometry (length state.targets) past → k ≡ number_of state.geometry l → slice_get dies k ≡ Some old → IsAfter (e.BecameReady fail) old new → StandFor (channel_on state.geometry (length state.targets) opened) (Rdy l.ce l.lun fail ∷ past) (set dies k new)
 stands_ready state opened dies past l fail k old new f h facts place here b =

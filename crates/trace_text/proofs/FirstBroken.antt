@@ -1,13 +1,13 @@
 -- A trace with an item that isn't permitted isn't legal.
-use Rattle.std.proofs.Common.{◌≡◌, ℕ, ◌+◌, ◌<◌, Bool, true, false, ◌&&◌, List, [], ◌∷◌, ◌++◌, Option, Some, None, refl, sym, ap, ◌∙◌, arith, length, reverse, take, drop, get_or, is_none}
+use Rattle.std.proofs.Common.{◌≡◌, ℕ, ◌+◌, ◌<◌, Bool, true, false, ◌&&◌, List, [], ◌∷◌, ◌++◌, Option, Some, None, sym, ap, ◌∙◌, arith, length, reverse, take, drop, get_or, is_none}
 use Rattle.std.proofs.lemmas.Grind.{common_steps}
 use Rattle.std.proofs.lemmas.List.{reverse-append, take-append-drop}
 use Rattle.std.proofs.lemmas.Option.{slice_get_within, get_or_from_slice_get, slice_get-get_or}
+use Rattle.std.proofs.lemmas.Bool.{false_from_ne_true, and_parts as both_true}
 use Rattle.nand_geometry.specs.declared.parts.Parts.{Parts}
 use Rattle.onfi_cycle.specs.declared.forbidden.Forbidden.{Forbidden}
 use Rattle.onfi_cycle.specs.declared.item.Item.{Item}
 use Rattle.onfi_cycle.specs.Permitted.{broken, is_permitted, is_legal, IsFirstBroken}
-use Rattle.nand_geometry.proofs.Booleans.{and_parts as both_true}
 
 -- one item more of a list in the order of time
 pub next_past : (items : List Item) (k : ℕ) (d : Item) → k < length items → get_or items k d ∷ reverse (take k items) ≡ reverse (take (k + 1) items)
@@ -22,12 +22,8 @@ not_permitted : (o : Option Forbidden) (rule : Forbidden) → o ≡ Some rule �
 not_permitted None rule e h = cc
 not_permitted (Some f) rule e h = cc
 
-not_true : (b : Bool) → (b ≡ true → ⊥) → b ≡ false
-not_true true h = absurd (h refl)
-not_true false h = refl
-
 pub broken_isn't_legal : (g : Parts) (n : ℕ) (items : List Item) (k : ℕ) (rule : Forbidden) → IsFirstBroken g n items k rule → is_legal g n (reverse items) ≡ false
-broken_isn't_legal g n items k rule f = not_true (is_legal g n (reverse items)) (λ legal.
+broken_isn't_legal g n items k rule f = false_from_ne_true (is_legal g n (reverse items)) (λ legal.
     let inside = slice_get_within items k f.item f.there in
     let here : get_or items k f.item ≡ f.item = get_or_from_slice_get items k f.item f.item f.there in
     let split : reverse items ≡ reverse (drop (k + 1) items) ++ reverse (take (k + 1) items) = ap reverse (sym (take-append-drop (k + 1) items)) ∙ reverse-append (take (k + 1) items) (drop (k + 1) items) in

@@ -8,13 +8,13 @@ use Rattle.std.proofs.lemmas.Bool.Decides.{nat_tests}
 use Rattle.std.proofs.lemmas.Fmt.{decimal_digit}
 use Rattle.std.proofs.lemmas.List.{take_more, take_all, flat_map_more}
 use Rattle.std.proofs.lemmas.List.Elements.{All-same, All-push, All-from_recursion, recursion_from_All}
+use Rattle.std.proofs.lemmas.Bool.{and_parts as both_true}
 use Rattle.onfi_cycle.specs.declared.item.Kind.{Kind}
 use Rattle.onfi_cycle.specs.declared.item.Kind.TheVariants.{Cmd, Adr, Din, Dout}
 use Rattle.onfi_cycle.specs.declared.item.Item.{Item}
 use Rattle.onfi_cycle.specs.declared.item.Item.TheVariants.{Cyc, Rdy, Ard}
 use Rattle.trace_text.specs.Line.{hex_digit, kind_letter, fail_digit, line, text, IsPrintable, is_printable_item, HasByte}
 use Rattle.trace_text.specs.Reading.{reading}
-use Rattle.nand_geometry.proofs.Booleans.{and_parts as both_true}
 use Rattle.trace_text.proofs.Texts.{read_back}
 
 pub printed_array : (ce lun : ℕ) → ce ≤ 3 → lun ≤ 3 → decimal ce ++ 32 ∷ 89 ∷ 32 ∷ (decimal lun ++ 10 ∷ []) ≡ line (Ard ce lun)

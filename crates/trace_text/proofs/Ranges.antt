@@ -1,6 +1,6 @@
 -- Number fields: a field that is read is spelled by its digits, and the digits are read again.
 use Rattle.std.proofs.Common.{◌≡◌, ℕ, ◌+◌, ◌-◌, ◌*◌, ◌/◌, ◌%◌, ◌<◌, ◌≤◌, Bool, true, false, cond, ◌&&◌, eqb, ltb, leb, List, [], ◌∷◌, length, get_or, Option, Some, None, refl, ap, ◌∙◌, arith}
-use Rattle.std.proofs.lemmas.Bool.{eqb-true, leb-true, le-leb, ltb-true, ltb-false, lt-ltb, le-ltb, ne_eqb}
+use Rattle.std.proofs.lemmas.Bool.{eqb-true, leb-true, le-leb, ltb-true, ltb-false, lt-ltb, le-ltb, ne_eqb, and_parts as both_true}
 use Rattle.std.proofs.lemmas.Option.{cond_some, same_Some}
 use Rattle.std.proofs.lemmas.Bool.Decides.{nat_tests}
 use Rattle.onfi_cycle.specs.declared.item.Kind.TheVariants.{Cmd, Adr, Din, Dout}
@@ -8,7 +8,6 @@ use Rattle.trace_text.specs.declared.line.Letter.{Letter}
 use Rattle.trace_text.specs.declared.line.Letter.TheVariants.{CycleOf, Ready, ArrayReady}
 use Rattle.trace_text.specs.Line.{digit, hex_digit, kind_letter, fail_digit}
 use Rattle.trace_text.specs.Reading.{and_then, place_of_digit, place_of, hex_value, byte_of, fail_of_digit, fail_of, letter_of_code, letter_of}
-use Rattle.nand_geometry.proofs.Booleans.{and_parts as both_true}
 
 -- ---- lists of one and of two
 

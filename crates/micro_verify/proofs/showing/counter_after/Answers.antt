@@ -1,4 +1,4 @@
-use Rattle.std.proofs.Common.{◌≡◌, refl, sym, subst, ◌∙◌}
+use Rattle.std.proofs.Common.{◌≡◌, refl, subst, ◌∙◌}
 use Rattle.micro_verify.specs.declared.playing.Outcome.{Outcome}
 use Rattle.micro_verify.specs.declared.playing.Outcome.TheVariants.{Stopped}
 use Rattle.micro_verify.specs.Playing.{HasPerformed}

@@ -1,8 +1,6 @@
 use Rattle.std.proofs.Common.{◌≡◌, ℕ, ◌+◌, ◌-◌, ◌∙◌, ap, arith}
 use Rattle.std.specs.List.{slice_get}
 use Rattle.onfi_cycle.specs.Readies.{due_there}
-use Rattle.onfi_cycle.specs.State.{bus_after}
-use Rattle.onfi_cycle.specs.Sequence.{target_of}
 use Rattle.target_bus.proofs.Due.{Counts, counts, there_at_most}
 use Rattle.target_bus.proofs.going_on.go_on_counted.Goals as goal
 

@@ -1,5 +1,5 @@
 use Rattle.target_bus.proofs.Opened.{forgets_more, forgets_all}
-use Rattle.std.proofs.Common.{length, ◌+◌, arith}
+use Rattle.std.proofs.Common.{◌+◌, arith}
 use Rattle.target_bus.proofs.opening.forget_array_pages.Goals as goal
 
 pub loop-place-preserved : goal.loop-place-preserved

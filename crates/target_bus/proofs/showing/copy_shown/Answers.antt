@@ -1,4 +1,4 @@
-use Rattle.std.proofs.Common.{◌≡◌, ◌<◌, ℕ, None, Some, IfSome, refl, sym, ap, subst, ◌∙◌, length}
+use Rattle.std.proofs.Common.{◌≡◌, ◌<◌, None, Some, IfSome, refl, sym, ap, subst, ◌∙◌, length}
 use Rattle.std.specs.Option.{option_copied}
 use Rattle.nand_geometry.specs.declared.parts.Parts.{Parts}
 use Rattle.die_model.specs.Die.{Die}

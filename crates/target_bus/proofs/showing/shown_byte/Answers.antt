@@ -1,8 +1,7 @@
-use Rattle.std.proofs.Common.{◌≡◌, ◌<◌, ℕ, None, Some, IfSome, sym, ap, subst, ◌∙◌, length}
+use Rattle.std.proofs.Common.{◌≡◌, ◌<◌, None, Some, IfSome, sym, ap, subst, ◌∙◌, length}
 use Rattle.std.specs.Option.{option_copied}
 use Rattle.nand_geometry.specs.declared.parts.Parts.{Parts}
 use Rattle.die_model.specs.Die.{Die}
-use Rattle.onfi_cycle.specs.Content.{shown}
 use Rattle.target_bus.specs.Bus.{channel_on}
 use Rattle.target_bus.proofs.Shown.{driver_found, shown_at, Gives}
 use Rattle.target_bus.proofs.showing.shown_byte.Goals as goal

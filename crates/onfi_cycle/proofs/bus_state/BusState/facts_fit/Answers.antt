@@ -1,4 +1,4 @@
-use Rattle.std.proofs.Common.{sym, subst}
+use Rattle.std.proofs.Common.{subst}
 use Rattle.onfi_cycle.specs.Bounds.{BusFits}
 use Rattle.onfi_cycle.proofs.Working.{facts_fit}
 use Rattle.onfi_cycle.proofs.bus_state.BusState.facts_fit.Goals as goal

@@ -1,4 +1,4 @@
-use Rattle.std.proofs.Common.{◌≡◌, None, length, refl, sym, ap, ◌∙◌}
+use Rattle.std.proofs.Common.{◌≡◌, None, sym, ap, ◌∙◌}
 use Rattle.onfi_cycle.specs.State.{BusView, bus}
 use Rattle.onfi_cycle.specs.Outputs.{judged_outputs}
 use Rattle.onfi_cycle.proofs.Outputs.{outputs_judged}

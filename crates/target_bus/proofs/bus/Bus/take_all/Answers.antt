@@ -1,8 +1,7 @@
-use Rattle.std.proofs.Common.{◌≡◌, ◌∷◌, [], ◌++◌, List, ℕ, ◌≤◌, true, false, None, Some, length, map, reverse, sym, ap, subst, ◌∙◌, refl, arith}
+use Rattle.std.proofs.Common.{◌≡◌, ◌∷◌, [], ◌++◌, List, ℕ, ◌≤◌, None, Some, length, map, reverse, sym, ap, subst, ◌∙◌, arith}
 use Rattle.onfi_cycle.specs.declared.item.Item.{Item}
 use Rattle.onfi_cycle.specs.declared.item.Kind.TheVariants.{Dout}
 use Rattle.onfi_cycle.specs.Channel.{cycle}
-use Rattle.onfi_cycle.specs.Outputs.{judged_outputs}
 use Rattle.die_model.specs.Die.{Die}
 use Rattle.target_bus.specs.Bus.{Traced, AreTaken, IsStanding}
 use Rattle.target_bus.proofs.Standing.{ok_gives, few_lent, traced}
