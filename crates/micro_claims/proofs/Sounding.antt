@@ -96,7 +96,6 @@ within_budget g j v done word f clear = at (ltb 0 (cost g word)) refl clear.no_o
   where
     at : (b : Bool) → ltb 0 (cost g word) ≡ b → (b && not (is_at_most (bound_plus v.registers.cost.hi (cost g word)) j.text.budget)) ≡ false → cost_now g done + cost g word ≤ j.text.budget
     at true e h = surely (cost_now g done) v.registers.cost.hi (cost g word) j.text.budget f.cost (not-false _ h)
-
     at false e h = let least = f.within in let none : cost g word ≡ 0 = grind (arith, nat_tests) in omega (arith, least, none)
 
 -- the registers after a word that leaves the index
