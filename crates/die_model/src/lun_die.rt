@@ -25,9 +25,6 @@ use onfi_cycle::{Effect, Filling, PageAddress, Register, Status};
 use std::alloc::{AllocError, Allocator, Global};
 use std::marker::Model;
 
-#[cfg(test)]
-mod tests;
-
 /// One LUN: its pages, its registers, and what its array does.
 #[derive(Drop)]
 pub struct LunDie<A: Allocator = Global> {

@@ -2,8 +2,6 @@
 #![tactic(auto)]
 
 mod assembling;
-#[cfg(test)]
-mod assembling_tests;
 mod fields;
 mod heading;
 mod labels;
@@ -16,8 +14,6 @@ mod operands;
 mod refusal;
 mod statement;
 mod survey;
-#[cfg(test)]
-mod tests;
 mod writing;
 
 pub use assembling::assemble;

@@ -37,3 +37,12 @@ pub mod CountersFrom
 pub mod Refused
 pub mod CalmRuns
 pub mod ShownRuns
+pub mod PlainBasics
+pub mod PlainFollowing
+pub mod PlainFailures
+pub mod PlainOperations
+pub mod PlainShapes
+pub mod PlainInsides
+pub mod PlainTexts
+pub mod PlainLists
+pub mod PlainFitting

@@ -5,3 +5,4 @@ pub mod Calm
 pub mod Counters
 pub mod Playing
 pub mod Refusals
+pub mod Plain

@@ -21,6 +21,3 @@ pub use refusal::{WordFault, WordRefusal};
 pub use text::{Text, WordsRefused};
 pub use word::Word;
 pub use writing::{formats_differ_in_one_byte, write};
-
-#[cfg(test)]
-mod tests;

@@ -11,15 +11,12 @@ mod field;
 mod geometry;
 pub mod laws;
 mod page_fault;
-#[cfg(test)]
-mod page_tests;
 mod parts;
 mod reading;
 mod row_parts;
-#[cfg(test)]
-mod tests;
 mod writing;
 
+pub use checksum::checksum;
 pub use geometry::Geometry;
 pub use page_fault::PageFault;
 pub use parts::{MAX_LUNS, Parts, SMALL_CHIP};

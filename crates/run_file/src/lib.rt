@@ -9,8 +9,6 @@ mod order;
 mod parsing;
 mod refusal;
 mod statement;
-#[cfg(test)]
-mod tests;
 
 pub use parsing::{RunText, parse_run};
 pub use refusal::{RunFault, RunRefusal};

@@ -9,8 +9,6 @@ use Rattle.micro_program.proofs.Strides.{fine_step, answered_goes_well}
 use Rattle.micro_program.proofs.Passing.{own_cycles_pass_others}
 use Rattle.micro_program.specs.Actions.{WalkGivesActs}
 use Rattle.micro_program.proofs.Acts.{walk_gives_acts}
-use Rattle.micro_walk.specs.Erase.{EraseIsSafe}
-use Rattle.micro_walk.proofs.Erase.{erase_is_safe}
 use Rattle.micro_program.specs.Moves.{BufferKeepsLength, CostsCountMoves}
 use Rattle.micro_program.proofs.Costs.{buffer_len, cost_is}
 pub use Rattle.micro_program.proofs.Tracking.{StepParts, step_parts, AnsweredParts, answered_parts}
@@ -37,9 +35,6 @@ own_cycles_pass = own_cycles_pass_others
 
 pub walk_gives : WalkGivesActs
 walk_gives = walk_gives_acts
-
-pub erase_safe : EraseIsSafe
-erase_safe = erase_is_safe
 
 pub keeps_length : BufferKeepsLength
 keeps_length = buffer_len

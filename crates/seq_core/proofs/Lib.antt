@@ -1,4 +1,3 @@
-pub mod Runs
 pub mod Below
 pub mod Plays
 pub mod Buffers
@@ -11,9 +10,7 @@ pub mod Loads
 pub mod Refusals
 pub mod Main
 pub mod Beginnings
-pub mod Premises
 pub mod Standing
-pub mod Looping
 pub mod Progress
 pub mod Calls
 pub mod Replies

@@ -19,8 +19,6 @@ mod sequencer;
 mod slot;
 mod slot_state;
 mod stepped;
-#[cfg(test)]
-mod tests;
 mod unload_fault;
 
 pub use event_list::{Event, Ran, Reply, Shortage, do_event, run_events};

@@ -10,8 +10,6 @@ mod going_on;
 mod opening;
 mod refusal;
 mod showing;
-#[cfg(test)]
-mod tests;
 mod working;
 
 pub use bus::Bus;

@@ -19,13 +19,8 @@ mod printing;
 mod progress;
 mod refusal;
 
-pub use checking::{CheckRefusal, check, check_watched};
+pub use checking::{CheckRefusal, check, check_watched, first_broken};
 pub use parsing::parse;
 pub use printing::{is_printable, print};
 pub use progress::{CheckProgress, NoProgress};
 pub use refusal::{TraceFault, TraceRefusal};
-
-#[cfg(test)]
-mod check_tests;
-#[cfg(test)]
-mod tests;

@@ -1,9 +1,0 @@
-pub mod Basics
-pub mod Following
-pub mod Failures
-pub mod Operations
-pub mod Shapes
-pub mod Insides
-pub mod Texts
-pub mod Lists
-pub mod Fitting

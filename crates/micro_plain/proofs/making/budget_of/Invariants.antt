@@ -1,6 +1,0 @@
-use Rattle.std.proofs.Common.{◌≡◌, ◌+◌, drop}
-use Rattle.micro_plain.specs.Plain.{budget_of}
-use Rattle.micro_plain.proofs.making.budget_of.Given as goal
-
-abbrev pub invariant-loop-op : goal.invariant-loop-op
-invariant-loop-op l = l.cost + budget_of (drop l.op-index l.ops) ≡ budget_of l.ops

@@ -1,6 +1,0 @@
-use Rattle.std.proofs.Common.{◌≡◌, ◌+◌, drop}
-use Rattle.micro_plain.specs.Plain.{operations_len}
-use Rattle.micro_plain.proofs.making.words_len.Given as goal
-
-abbrev pub invariant-loop-op : goal.invariant-loop-op
-invariant-loop-op l = l.len + operations_len (drop l.op-index l.ops) ≡ operations_len l.ops

@@ -1,5 +1,0 @@
-use Rattle.std.proofs.Common.{length}
-use Rattle.onfi_lookback.proofs.content.+filled.Given as goal
-
-abbrev pub decreases-filled : goal.decreases-filled
-decreases-filled l = length l.past.now

@@ -1,5 +1,0 @@
-use Rattle.std.proofs.Common.{length}
-use Rattle.onfi_lookback.proofs.content.+left_by_all.Given as goal
-
-abbrev pub decreases-left_by_all : goal.decreases-left_by_all
-decreases-left_by_all l = length l.works.now

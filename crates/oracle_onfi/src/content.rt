@@ -1,0 +1,434 @@
+//! What the pages of a LUN contain, and what a LUN shows, by looking back over a past, the newest item first.
+ghost use Rattle.std.specs.Prelude.{map, [], ◌≡◌, ◌^◌, ◌<◌, ◌∷◌, IfOk, bit_and, length, replicate, IsTrue};
+ghost use Rattle.std.specs.List.{zip};
+ghost use Rattle.nand_geometry.specs.Limits.{page_len};
+ghost use Rattle.onfi_cycle.specs.Sequence.{AreSmall, filled, tail};
+ghost use Rattle.onfi_cycle.specs.Lun.{output_column, read_column, register};
+ghost use Rattle.onfi_cycle.specs.Content.{and_bytes, byte_at, content, has_failed, left_by, left_by_all, pending_work, pending_work_after, queued_work, queued_work_after, register_bytes, same_page, shown, status};
+ghost use Rattle.onfi_cycle.specs.Content.ArrayWork.{ErasesBlock, ProgramsPage};
+ghost use Rattle.oracle_onfi.specs.Driven.{driven_byte};
+ghost use Rattle.oracle_onfi.specs.Filled.{filled_after};
+ghost use Rattle.oracle_onfi.specs.Opening.{opening_of, same_lun};
+
+use crate::past::{
+    drivers, effect_on, is_array_busy, is_busy, latch, read_column, register, tail_facts,
+};
+use crate::{ArrayWork, WorkKind, WrittenPage};
+use nand_geometry::Geometry;
+use onfi_cycle::{Effect, Item, Latch, Lun, PageAddress, Register, Status, TailFacts, TargetCycle};
+use std::alloc::{AllocError, Global};
+
+/// A page of FF.
+fn erased_page(alloc: Global, geometry: &Geometry) -> Result<Vec<u8>, AllocError>
+    ensures { IfOk result (λ v. v.items ≡ replicate (page_len geometry.now) 0xff) }
+{
+    vec![in alloc; 0xff; geometry.page_len() as usize]
+}
+
+/// The bytes of a program with one cycle more after this tail.
+fn filled_after(
+    alloc: Global,
+    geometry: &Geometry,
+    cycle: TargetCycle,
+    tail: TailFacts,
+    before: Vec<u8>,
+) -> Result<Vec<u8>, AllocError>
+    requires { (tail.column < 2 ^ 16) × (tail.inputs < 2 ^ 63) }
+    ensures { IfOk result (λ v. v.items ≡ filled_after (page_len geometry.now) cycle tail before.items) }
+{
+    match cycle {
+        TargetCycle::CommandCycle(command) if command.is_opener() => erased_page(alloc, geometry),
+        TargetCycle::InputCycle(byte) if !tail.is_empty => {
+            let mut bytes = before;
+            let column = tail.input_column();
+            if column < bytes.len() as u64 {
+                bytes[column as usize] = byte;
+            }
+            Ok(bytes)
+        }
+        _ => Ok(before),
+    }
+}
+
+/// The bytes of the program that the tail of a target holds: those of its inputs, and FF elsewhere.
+pub fn filled(
+    alloc: Global,
+    geometry: &Geometry,
+    past: &[Item],
+    ce: u8,
+) -> Result<Vec<u8>, AllocError>
+    ensures { IfOk result (λ v. v.items ≡ filled (page_len geometry.now) (tail past.now ce)) }
+{
+    match past {
+        [] => erased_page(alloc, geometry),
+        [first, rest @ ..] => {
+            let before = filled(alloc, geometry, rest, ce)?;
+            match first {
+                Item::Cyc(c) => {
+                    if c.ce == ce {
+                        let t = tail_facts(rest, ce);
+                        filled_after(alloc, geometry, TargetCycle::of(c.kind, c.byte), t, before)
+                    } else {
+                        Ok(before)
+                    }
+                }
+                Item::Rdy { .. } => Ok(before),
+                Item::Ard { .. } => Ok(before),
+            }
+        }
+    }
+}
+
+/// The erase of a row's block.
+fn erase_of(alloc: Global, at: PageAddress) -> ArrayWork
+    ensures { result ≡ ErasesBlock at }
+{
+    ArrayWork {
+        kind: WorkKind::Erase,
+        at,
+        bytes: Vec::new(alloc),
+    }
+}
+
+/// The program of a page.
+fn program_of(at: PageAddress, bytes: Vec<u8>) -> ArrayWork
+    ensures { result ≡ ProgramsPage at bytes.items }
+{
+    ArrayWork {
+        kind: WorkKind::Program,
+        at,
+        bytes,
+    }
+}
+
+/// The queued works after an effect; the bytes are those of the program that it closes.
+fn queued_work_after(
+    alloc: Global,
+    effect: Effect,
+    bytes: Vec<u8>,
+    mut works: Vec<ArrayWork>,
+) -> Result<Vec<ArrayWork>, AllocError>
+    ensures { IfOk result (λ v. v.items ≡ queued_work_after effect bytes.items works.items) }
+{
+    match effect {
+        Effect::EraseStarted { queued: true, row } => {
+            works.insert(0, erase_of(alloc, row))?;
+            Ok(works)
+        }
+        Effect::ProgramStarted { queued: true, page } => {
+            works.insert(0, program_of(page, bytes))?;
+            Ok(works)
+        }
+        Effect::EraseStarted { .. } | Effect::ProgramStarted { .. } | Effect::ResetStarted => {
+            Ok(Vec::new(alloc))
+        }
+        _ => Ok(works),
+    }
+}
+
+/// The works in the queue of the LUN, with their bytes, the newest first.
+pub fn queued_work(
+    alloc: Global,
+    geometry: &Geometry,
+    past: &[Item],
+    lun: Lun,
+) -> Result<Vec<ArrayWork>, AllocError>
+    ensures { IfOk result (λ v. v.items ≡ queued_work geometry.now past.now lun) }
+{
+    match past {
+        [] => Ok(Vec::new(alloc)),
+        [item, rest @ ..] => {
+            let before = queued_work(alloc, geometry, rest, lun)?;
+            let effect = effect_on(alloc, geometry, rest, *item, lun)?;
+            let bytes = filled(alloc, geometry, rest, lun.ce)?;
+            queued_work_after(alloc, effect, bytes, before)
+        }
+    }
+}
+
+/// The pending works after an effect; the bytes are those of the program that it closes, the works those that
+/// are queued before it.
+fn pending_work_after(
+    alloc: Global,
+    effect: Effect,
+    bytes: Vec<u8>,
+    mut works: Vec<ArrayWork>,
+    pending: Vec<ArrayWork>,
+) -> Result<Vec<ArrayWork>, AllocError>
+    ensures { IfOk result (λ v. v.items ≡ pending_work_after effect bytes.items works.items pending.items) }
+{
+    match effect {
+        Effect::EraseStarted { queued: false, row } => {
+            works.insert(0, erase_of(alloc, row))?;
+            Ok(works)
+        }
+        Effect::ProgramStarted {
+            queued: false,
+            page,
+        } => {
+            works.insert(0, program_of(page, bytes))?;
+            Ok(works)
+        }
+        Effect::EraseStarted { .. }
+        | Effect::ProgramStarted { .. }
+        | Effect::ReadStarted { .. }
+        | Effect::ParameterPageReadStarted
+        | Effect::CacheReadContinued
+        | Effect::CacheReadEnded
+        | Effect::ResetStarted
+        | Effect::BecameReady { .. } => Ok(Vec::new(alloc)),
+        _ => Ok(pending),
+    }
+}
+
+/// The works that take effect at the next ready of the LUN, if that is without failure, the newest first.
+pub fn pending_work(
+    alloc: Global,
+    geometry: &Geometry,
+    past: &[Item],
+    lun: Lun,
+) -> Result<Vec<ArrayWork>, AllocError>
+    ensures { IfOk result (λ v. v.items ≡ pending_work geometry.now past.now lun) }
+{
+    match past {
+        [] => Ok(Vec::new(alloc)),
+        [item, rest @ ..] => {
+            let before = pending_work(alloc, geometry, rest, lun)?;
+            let effect = effect_on(alloc, geometry, rest, *item, lun)?;
+            let bytes = filled(alloc, geometry, rest, lun.ce)?;
+            let works = queued_work(alloc, geometry, rest, lun)?;
+            pending_work_after(alloc, effect, bytes, works, before)
+        }
+    }
+}
+
+fn same_page(page: PageAddress, other: PageAddress) -> bool
+    ensures { result ≡ same_page page other }
+{
+    page == other
+}
+
+fn same_lun(lun: Lun, other: Lun) -> bool
+    ensures { result ≡ same_lun lun other }
+{
+    lun == other
+}
+
+/// Each old byte AND the new one in its place, as far as both reach.
+fn and_bytes(alloc: Global, old: &[u8], new: &[u8]) -> Result<Vec<u8>, AllocError>
+    ensures { IfOk result (λ v. v.items ≡ map (λ p. bit_and p.0 p.1) (zip old.now new.now)) }
+{
+    old.iter().zip(new).map(|(x, y)| *x & *y).collect(alloc)
+}
+
+/// What a work leaves of a page.
+#[tactic(auto, using(crate::proofs::AndBytes::and_bytes_by_pairs))]
+fn left_by(
+    alloc: Global,
+    geometry: &Geometry,
+    work: &ArrayWork,
+    page: PageAddress,
+    old: Vec<u8>,
+) -> Result<Vec<u8>, AllocError>
+    ensures { IfOk result (λ v. v.items ≡ left_by (page_len geometry.now) work.now page old.items) }
+{
+    match work.kind {
+        WorkKind::Erase if page.block == work.at.block => erased_page(alloc, geometry),
+        WorkKind::Program if same_page(page, work.at) => and_bytes(alloc, &old, &work.bytes),
+        _ => Ok(old),
+    }
+}
+
+/// What works leave of a page, the last of them first.
+fn left_by_all(
+    alloc: Global,
+    geometry: &Geometry,
+    works: &[ArrayWork],
+    page: PageAddress,
+    old: Vec<u8>,
+) -> Result<Vec<u8>, AllocError>
+    ensures { IfOk result (λ v. v.items ≡ left_by_all (page_len geometry.now) works.now page old.items) }
+{
+    match works {
+        [] => Ok(old),
+        [last, rest @ ..] => {
+            let before = left_by_all(alloc, geometry, rest, page, old)?;
+            left_by(alloc, geometry, last, page, before)
+        }
+    }
+}
+
+/// The bytes of a page at the opening.
+fn opening_of(
+    alloc: Global,
+    geometry: &Geometry,
+    opening: &[WrittenPage],
+    lun: Lun,
+    page: PageAddress,
+) -> Result<Vec<u8>, AllocError>
+    ensures { IfOk result (λ v. v.items ≡ opening_of (page_len geometry.now) opening.now lun page) }
+{
+    match opening {
+        [] => erased_page(alloc, geometry),
+        [entry, rest @ ..] => {
+            if same_lun(entry.lun, lun) && same_page(entry.at, page) {
+                entry.bytes.to_vec(alloc)
+            } else {
+                opening_of(alloc, geometry, rest, lun, page)
+            }
+        }
+    }
+}
+
+/// The bytes of a page of the LUN: those of its opening content, AND-ed with each program that took effect, and
+/// FF after an erase that did.
+pub fn content(
+    alloc: Global,
+    geometry: &Geometry,
+    opening: &[WrittenPage],
+    past: &[Item],
+    lun: Lun,
+    page: PageAddress,
+) -> Result<Vec<u8>, AllocError>
+    ensures { IfOk result (λ v. v.items ≡ content geometry.now (opening_of (page_len geometry.now) opening.now) past.now lun page) }
+{
+    match past {
+        [] => opening_of(alloc, geometry, opening, lun, page),
+        [item, rest @ ..] => {
+            let before = content(alloc, geometry, opening, rest, lun, page)?;
+            match effect_on(alloc, geometry, rest, *item, lun)? {
+                Effect::BecameReady { failed: false } => {
+                    let pending = pending_work(alloc, geometry, rest, lun)?;
+                    left_by_all(alloc, geometry, &pending, page, before)
+                }
+                _ => Ok(before),
+            }
+        }
+    }
+}
+
+/// The last work of the LUN was closed by Program Confirm or Block Erase Confirm, and its ready said failure.
+pub fn has_failed(
+    alloc: Global,
+    geometry: &Geometry,
+    past: &[Item],
+    lun: Lun,
+) -> Result<bool, AllocError>
+    ensures { IfOk result (λ a. a ≡ has_failed geometry.now past.now lun) }
+{
+    match past {
+        [] => Ok(false),
+        [item, rest @ ..] => match effect_on(alloc, geometry, rest, *item, lun)? {
+            Effect::BecameReady { failed } => {
+                let pending = pending_work(alloc, geometry, rest, lun)?;
+                Ok(failed && !pending.is_empty())
+            }
+            _ => has_failed(alloc, geometry, rest, lun),
+        },
+    }
+}
+
+/// The status byte of the LUN.
+pub fn status(
+    alloc: Global,
+    geometry: &Geometry,
+    past: &[Item],
+    lun: Lun,
+) -> Result<Status, AllocError>
+    ensures { IfOk result (λ s. s.0 ≡ status geometry.now past.now lun) }
+{
+    if is_busy(alloc, geometry, past, lun)? {
+        Ok(Status::BUSY)
+    } else if is_array_busy(alloc, geometry, past, lun)? {
+        Ok(Status::ARRAY_BUSY)
+    } else if has_failed(alloc, geometry, past, lun)? {
+        Ok(Status::FAILED)
+    } else {
+        Ok(Status::READY)
+    }
+}
+
+/// The bytes of the LUN's register; `parameters` are those of the parameter page, three copies.
+pub fn register_bytes(
+    alloc: Global,
+    geometry: &Geometry,
+    parameters: &[u8],
+    opening: &[WrittenPage],
+    past: &[Item],
+    lun: Lun,
+) -> Result<Vec<u8>, AllocError>
+    ensures { IfOk result (λ v. v.items ≡ register_bytes parameters.now
+        (content geometry.now (opening_of (page_len geometry.now) opening.now) past.now lun) (register geometry.now past.now lun)) }
+{
+    match register(alloc, geometry, past, lun)? {
+        Register::Empty => Ok(Vec::new(alloc)),
+        Register::Page(p) => content(alloc, geometry, opening, past, lun, p),
+        Register::ParameterPage => parameters.to_vec(alloc),
+        Register::Identifier => b"ONFI".to_vec(alloc),
+    }
+}
+
+/// The byte of the LUN's register at its read column, None where there is no column, or it is past the register.
+fn data_byte(
+    alloc: Global,
+    geometry: &Geometry,
+    parameters: &[u8],
+    opening: &[WrittenPage],
+    past: &[Item],
+    lun: Lun,
+) -> Result<Option<u8>, AllocError>
+    ensures { IfOk result (λ b. b ≡ byte_at (register_bytes parameters.now
+        (content geometry.now (opening_of (page_len geometry.now) opening.now) past.now lun) (register geometry.now past.now lun))
+        (output_column (read_column geometry.now past.now lun))) }
+{
+    match read_column(alloc, geometry, past, lun)?.output_column() {
+        None => Ok(None),
+        Some(column) => {
+            let bytes = register_bytes(alloc, geometry, parameters, opening, past, lun)?;
+            Ok(bytes.get(column as usize).copied())
+        }
+    }
+}
+
+/// The byte that the LUN gives next, None where it gives none.
+pub fn shown(
+    alloc: Global,
+    geometry: &Geometry,
+    parameters: &[u8],
+    opening: &[WrittenPage],
+    past: &[Item],
+    lun: Lun,
+) -> Result<Option<u8>, AllocError>
+    ensures { IfOk result (λ b. b ≡ shown geometry.now parameters.now (opening_of (page_len geometry.now) opening.now) past.now lun) }
+{
+    match latch(alloc, geometry, past, lun)? {
+        Latch::Off => Ok(None),
+        Latch::Status => Ok(Some(status(alloc, geometry, past, lun)?.0)),
+        Latch::Data => data_byte(alloc, geometry, parameters, opening, past, lun),
+    }
+}
+
+/// The byte that the one driver of a target gives next, None where there is none, or more than one.
+pub fn driven_byte(
+    alloc: Global,
+    geometry: &Geometry,
+    parameters: &[u8],
+    opening: &[WrittenPage],
+    past: &[Item],
+    ce: u8,
+) -> Result<Option<u8>, AllocError>
+    ensures { IfOk result (λ b. b ≡ driven_byte geometry.now parameters.now (opening_of (page_len geometry.now) opening.now) past.now ce) }
+{
+    let numbers = drivers(alloc, geometry, past, ce)?;
+    match numbers.as_slice() {
+        [lun] => shown(
+            alloc,
+            geometry,
+            parameters,
+            opening,
+            past,
+            Lun { ce, lun: *lun },
+        ),
+        _ => Ok(None),
+    }
+}

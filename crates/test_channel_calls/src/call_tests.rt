@@ -1,0 +1,317 @@
+//! One worker's calls on a channel, call by call, and what each answers. A call to which memory is refused is made again.
+ghost use Rattle.std.specs.Prelude.{◌≡◌};
+
+use crate::tests::TWO_ERASES;
+use test_channel_scenes::{
+    ON_ONE, ON_ZERO, ONE, TWO_LUNS, ZERO, gather, make_erasing, read_trace, tell_done,
+};
+use channel_work::{ChannelState, Finished, Gathered, Readied, Started, Turn, Turns, WorkerPass};
+use lun_lease::{Lease, Loaded};
+use onfi_cycle::Lun;
+use std::marker::Brand;
+use std::process::Abort;
+use std::sync::Wait;
+use std::sync::ledger::Blank;
+use std::test::*;
+
+// A call of a worker, on the lease that it holds where the call takes one.
+#[derive(Clone, Copy)]
+enum Call {
+    Start,
+    Turn,
+    Ready { lun: Lun, fail: bool },
+    Park,
+    Unpark,
+    Finish,
+}
+
+// What a call answers.
+#[derive(Clone, Copy, PartialEq, Eq)]
+enum Answer {
+    // A lease of the LUN of this number is held now.
+    Holds(u32),
+    // No job was started.
+    NoJob { took: bool },
+    // No lease is parked, or none is held.
+    NoLease,
+    Turned(Turn),
+    Became(Readied),
+    Parked,
+    NoRoom,
+    // The job is unloaded, and its seat is back.
+    Done,
+    NotEnded,
+    OutOfMemory,
+}
+
+type Held = Option<Lease<Loaded>>;
+
+// Holds a lease, and tells its LUN.
+fn hold(held: &mut Held, lease: Lease<Loaded>) -> Answer {
+    let lun = lease.lun();
+    *held = Some(lease);
+    Answer::Holds(lun)
+}
+
+fn start<L: Turns, R: Wait>(rt: &R, state: &mut ChannelState<L>, held: &mut Held) -> Answer {
+    match state.start(rt) {
+        Started::Loaded(lease) => hold(held, lease),
+        Started::Nothing { took } => Answer::NoJob { took },
+        Started::OutOfMemory => Answer::OutOfMemory,
+    }
+}
+
+fn turn<L: Turns>(
+    state: &mut ChannelState<L>,
+    pass: &mut WorkerPass<L>,
+    held: &mut Held,
+) -> Answer {
+    let Some(mut lease) = held.take() else {
+        return Answer::NoLease;
+    };
+    let turn = state.turn(pass, &mut lease);
+    *held = Some(lease);
+    match turn {
+        Turn::OutOfMemory => Answer::OutOfMemory,
+        other => Answer::Turned(other),
+    }
+}
+
+fn ready<L: Turns>(state: &mut ChannelState<L>, lun: Lun, fail: bool) -> Answer {
+    match state.ready(lun, fail) {
+        Readied::OutOfMemory => Answer::OutOfMemory,
+        other => Answer::Became(other),
+    }
+}
+
+fn park<L: Turns>(state: &mut ChannelState<L>, held: &mut Held) -> Answer {
+    let Some(lease) = held.take() else {
+        return Answer::NoLease;
+    };
+    match state.park(lease) {
+        Ok(()) => Answer::Parked,
+        Err(back) => {
+            *held = Some(back);
+            Answer::NoRoom
+        }
+    }
+}
+
+fn unpark<L: Turns>(state: &mut ChannelState<L>, held: &mut Held) -> Answer {
+    match state.unpark() {
+        Some(lease) => hold(held, lease),
+        None => Answer::NoLease,
+    }
+}
+
+fn finish<L: Turns>(state: &mut ChannelState<L>, held: &mut Held) -> Answer {
+    let Some(lease) = held.take() else {
+        return Answer::NoLease;
+    };
+    match state.finish(lease) {
+        Finished::NotEnded(back) => {
+            *held = Some(back);
+            Answer::NotEnded
+        }
+        Finished::OutOfMemory(back) => {
+            *held = Some(back);
+            Answer::OutOfMemory
+        }
+        Finished::Done(lease) => match state.seat_back(lease.release()) {
+            None => Answer::Done,
+            Some(_) => Answer::NoRoom,
+        },
+    }
+}
+
+fn make_call<L: Turns, R: Wait>(
+    rt: &R,
+    state: &mut ChannelState<L>,
+    pass: &mut WorkerPass<L>,
+    held: &mut Held,
+    call: Call,
+) -> Answer {
+    match call {
+        Call::Start => start(rt, state, held),
+        Call::Turn => turn(state, pass, held),
+        Call::Ready { lun, fail } => ready(state, lun, fail),
+        Call::Park => park(state, held),
+        Call::Unpark => unpark(state, held),
+        Call::Finish => finish(state, held),
+    }
+}
+
+// A call and what it must answer.
+type Line = (Call, Answer);
+
+// Makes the calls of a script, and tells how many there were that answered out of memory, and then what they must; or the place of the
+// first that didn't.
+fn play<L: Turns, R: Wait>(
+    rt: &R,
+    state: &mut ChannelState<L>,
+    pass: &mut WorkerPass<L>,
+    script: &[Line],
+) -> Result<u64, usize> {
+    let mut held = None;
+    let mut refused: u64 = 0;
+    for k in 0..script.len() {
+        let (call, answer) = script[k];
+        let mut told = make_call(rt, state, pass, &mut held, call);
+        if told == Answer::OutOfMemory {
+            refused = refused.saturating_add(1);
+            told = make_call(rt, state, pass, &mut held, call);
+        }
+        if told != answer {
+            return Err(k);
+        }
+    }
+    Ok(refused)
+}
+
+// Plays a script on a channel of one target, for which erases of LUN 0 and LUN 1 are stored. The parts of the channel, and how many
+// calls answered out of memory.
+fn act<L: Turns, R: Wait + AllocGlobal>(
+    rt: &R,
+    blank: Blank,
+    script: &[Line],
+) -> Result<(Gathered, u64), Fail>
+    requires name { blank.name ≡ L.name }
+    requires parts { (blank.parts ≡ L.parts) × (L.all ≡ L.parts) × (L.parts ≡ 9) }
+{
+    let mut passes = Vec::new(rt.alloc());
+    passes.reserve(1)?;
+    let mut state = make_erasing::<L, R>(rt, blank, TWO_LUNS, 1, &[ON_ZERO, ON_ONE])?;
+    let mut pass = state.worker().ok_or("a pass")?;
+    match play(rt, &mut state, &mut pass, script) {
+        Err(k) => Err(Fail::new(format_args!("call {k} answers something else"))),
+        Ok(refused) => {
+            passes.push(pass)?;
+            Ok((gather(state, passes)?, refused))
+        }
+    }
+}
+
+const READY_ZERO: Call = Call::Ready {
+    lun: ZERO,
+    fail: false,
+};
+
+const READY_ONE: Call = Call::Ready {
+    lun: ONE,
+    fail: false,
+};
+
+const FAIL_ONE: Call = Call::Ready {
+    lun: ONE,
+    fail: true,
+};
+
+const FIRST_POLL: Answer = Answer::Turned(Turn::NotReady { polls: 1, works: 0 });
+
+const SECOND_POLL: Answer = Answer::Turned(Turn::NotReady { polls: 2, works: 0 });
+
+const THIRD_POLL: Answer = Answer::Turned(Turn::NotReady { polls: 3, works: 0 });
+
+const FOURTH_POLL: Answer = Answer::Turned(Turn::NotReady { polls: 4, works: 0 });
+
+const ENDED: Answer = Answer::Turned(Turn::Ended);
+
+const YES: Answer = Answer::Became(Readied::Yes);
+
+const NOT_BUSY: Answer = Answer::Became(Readied::NotBusy);
+
+const NONE_LEFT: Answer = Answer::NoJob { took: false };
+
+// What a worker does whose gate gives every turn and lets a LUN be ready after one poll.
+const WORKED: [Line; 18] = [
+    (Call::Start, Answer::Holds(0)),
+    (Call::Turn, FIRST_POLL),
+    (READY_ZERO, YES),
+    (Call::Park, Answer::Parked),
+    (Call::Start, Answer::Holds(1)),
+    (Call::Turn, FIRST_POLL),
+    (READY_ONE, YES),
+    (Call::Park, Answer::Parked),
+    (Call::Start, NONE_LEFT),
+    (Call::Unpark, Answer::Holds(0)),
+    (Call::Turn, ENDED),
+    (Call::Finish, Answer::Done),
+    (Call::Start, NONE_LEFT),
+    (Call::Unpark, Answer::Holds(1)),
+    (Call::Turn, ENDED),
+    (Call::Finish, Answer::Done),
+    (Call::Start, NONE_LEFT),
+    (Call::Unpark, Answer::NoLease),
+];
+
+// Calls that come too early or too often; LUN 0 is polled four times, so that its ready is the ninth event and asks for memory; LUN 1
+// fails, overtakes it and still ends with 0.
+const UNTIMELY: [Line; 22] = [
+    (Call::Turn, Answer::NoLease),
+    (Call::Start, Answer::Holds(0)),
+    (Call::Finish, Answer::NotEnded),
+    (READY_ZERO, NOT_BUSY),
+    (Call::Turn, FIRST_POLL),
+    (Call::Turn, SECOND_POLL),
+    (Call::Finish, Answer::NotEnded),
+    (Call::Turn, THIRD_POLL),
+    (Call::Turn, FOURTH_POLL),
+    (READY_ZERO, YES),
+    (READY_ZERO, NOT_BUSY),
+    (Call::Park, Answer::Parked),
+    (Call::Start, Answer::Holds(1)),
+    (Call::Turn, FIRST_POLL),
+    (FAIL_ONE, YES),
+    (Call::Turn, ENDED),
+    (Call::Finish, Answer::Done),
+    (Call::Unpark, Answer::Holds(0)),
+    (Call::Turn, ENDED),
+    (Call::Turn, ENDED),
+    (Call::Finish, Answer::Done),
+    (Call::Unpark, Answer::NoLease),
+];
+
+// What the untimely calls put onto the bus.
+const UNTIMELY_TRACE: &str = "0 C 60\n0 A 00\n0 A 00\n0 A 00\n0 C d0\n\
+    0 C 78\n0 A 00\n0 A 00\n0 A 00\n0 O 80\n\
+    0 C 78\n0 A 00\n0 A 00\n0 A 00\n0 O 80\n\
+    0 C 78\n0 A 00\n0 A 00\n0 A 00\n0 O 80\n\
+    0 C 78\n0 A 00\n0 A 00\n0 A 00\n0 O 80\n0 R 0 0\n\
+    0 C 60\n0 A 20\n0 A 00\n0 A 00\n0 C d0\n\
+    0 C 78\n0 A 20\n0 A 00\n0 A 00\n0 O 80\n0 R 1 1\n\
+    0 C 78\n0 A 20\n0 A 00\n0 A 00\n0 O e1\n\
+    0 C 78\n0 A 00\n0 A 00\n0 A 00\n0 O e0\n";
+
+// All is done and given back, with so many turns, or one more for each call that answered out of memory.
+fn is_whole(gathered: &Gathered, turns: u64, refused: u64) -> bool {
+    gathered.done.len() == 2
+        && gathered.backlog.is_empty()
+        && gathered.seats.len() == 16
+        && gathered.parked.len() == 0
+        && turns <= gathered.turns
+        && gathered.turns <= turns.saturating_add(refused)
+}
+
+#[test]
+fn two_jobs_call_by_call(rt: HostRuntime) -> Result<(), Fail> {
+    let trace = read_trace(rt.alloc(), TWO_ERASES)?;
+    let (gathered, refused) = act::<Brand, _>(&rt, Blank::new(9), &WORKED)?;
+    assert!(rt; gathered.core.trace() == trace.as_slice());
+    let done = gathered.done.as_slice();
+    assert_eq!(rt; tell_done(done, 0), Some((0, 0, ZERO, 0)));
+    assert_eq!(rt; tell_done(done, 1), Some((0, 1, ONE, 0)));
+    assert!(rt; is_whole(&gathered, 4, refused));
+    Ok(())
+}
+
+#[test]
+fn untimely_calls(rt: HostRuntime) -> Result<(), Fail> {
+    let trace = read_trace(rt.alloc(), UNTIMELY_TRACE)?;
+    let (gathered, refused) = act::<Brand, _>(&rt, Blank::new(9), &UNTIMELY)?;
+    assert!(rt; gathered.core.trace() == trace.as_slice());
+    let done = gathered.done.as_slice();
+    assert_eq!(rt; tell_done(done, 0), Some((0, 1, ONE, 0)));
+    assert_eq!(rt; tell_done(done, 1), Some((0, 0, ZERO, 0)));
+    assert!(rt; is_whole(&gathered, 8, refused));
+    Ok(())
+}

@@ -1,0 +1,109 @@
+//! Workers to whom memory may be refused. `tools/fail_allocs.py` runs these tests with each request for memory refused in turn; without it
+//! none is.
+ghost use Rattle.std.specs.Prelude.{◌≡◌};
+
+use crate::tests::Open;
+use test_channel_scenes::{
+    Erase, ON_ONE, ON_ZERO, TWO_LUNS, ZERO, ended, gather, make_erasing, make_two_passes,
+    tell_done, work_by_two,
+};
+use channel_work::{
+    Cause, Channel, ChannelState, Gate, Gathered, Turns, WorkEnd, WorkerPass, work,
+};
+use nand_geometry::Geometry;
+use std::marker::Brand;
+use std::process::Abort;
+use std::sync::Wait;
+use std::sync::ledger::Blank;
+use std::test::*;
+use std::thread::Threads;
+use trace_text::check;
+
+// The erase of the next block of LUN 0.
+const NEXT_ON_ZERO: Erase = Erase { base: 4, ..ON_ZERO };
+
+// The pass of a worker that has ended, however that came, with its lease parked.
+fn take_pass<L: Turns>(end: WorkEnd<L>) -> Result<WorkerPass<L>, Fail> {
+    let WorkEnd { pass, lease, .. } = end;
+    match lease {
+        None => Ok(pass),
+        Some(_) => Err(Fail::from("a lease couldn't be parked")),
+    }
+}
+
+// A worker runs a channel to its end, and once more if it ended for want of memory.
+fn work_again<L: Turns, G: Gate, R: Wait>(
+    rt: &R,
+    channel: &Channel<L>,
+    gate: &G,
+    pass: WorkerPass<L>,
+) -> Result<WorkerPass<L>, Fail> {
+    let end = work(rt, channel, gate, pass);
+    match end.cause {
+        Cause::Quiet => ended(end),
+        Cause::OutOfMemory => ended(work(rt, channel, gate, take_pass(end)?)),
+    }
+}
+
+// Two erases on one LUN, by one worker.
+fn erase_alone<L: Turns, R: Wait + AllocGlobal>(rt: &R, blank: Blank) -> Result<Gathered, Fail>
+    requires name { blank.name ≡ L.name }
+    requires parts { (blank.parts ≡ L.parts) × (L.all ≡ L.parts) × (L.parts ≡ 9) }
+{
+    let mut passes = Vec::new(rt.alloc());
+    passes.reserve(1)?;
+    let mut state = make_erasing::<L, R>(rt, blank, TWO_LUNS, 1, &[ON_ZERO, NEXT_ON_ZERO])?;
+    let pass = state.worker().ok_or("a pass")?;
+    let channel = Channel::new(state);
+    passes.push(work_again(rt, &channel, &Open, pass)?)?;
+    gather(channel.into_state(), passes)
+}
+
+// All jobs are done and all is given back, after a legal trace.
+fn is_whole(gathered: &Gathered, geometry: &Geometry) -> bool {
+    gathered.done.len() == 2
+        && gathered.backlog.is_empty()
+        && gathered.seats.len() == 16
+        && gathered.parked.len() == 0
+        && gathered.turns >= 4
+        && check(geometry, 1, gathered.core.trace()).is_ok()
+}
+
+#[test]
+fn each_refusal_loses_nothing(rt: HostRuntime) -> Result<(), Fail> {
+    let geometry = Geometry::of(TWO_LUNS)?;
+    let gathered = erase_alone::<Brand, _>(&rt, Blank::new(9))?;
+    assert!(rt; is_whole(&gathered, &geometry));
+    let done = gathered.done.as_slice();
+    assert_eq!(rt; tell_done(done, 0), Some((0, 0, ZERO, 0)));
+    assert_eq!(rt; tell_done(done, 1), Some((0, 1, ZERO, 0)));
+    Ok(())
+}
+
+// Two erases on two LUNs, by two workers, of whom the first works again after both have ended.
+fn erase_by_two<L: Turns + Sync, R: Threads + Wait + Sync + AllocGlobal>(
+    rt: &R,
+    blank: Blank,
+) -> Result<Gathered, Fail>
+    requires name { blank.name ≡ L.name }
+    requires parts { (blank.parts ≡ L.parts) × (L.all ≡ L.parts) × (L.parts ≡ 9) }
+{
+    let mut ended_passes = Vec::new(rt.alloc());
+    ended_passes.reserve(2)?;
+    let mut state = make_erasing::<L, R>(rt, blank, TWO_LUNS, 1, &[ON_ZERO, ON_ONE])?;
+    let passes = make_two_passes(&mut state)?;
+    let channel = Channel::new(state);
+    let (first, second) = work_by_two(rt, &channel, &Open, passes);
+    let first = take_pass(first)?;
+    ended_passes.push(work_again(rt, &channel, &Open, first)?)?;
+    ended_passes.push(take_pass(second)?)?;
+    gather(channel.into_state(), ended_passes)
+}
+
+#[test]
+fn another_goes_on_after_a_refusal(rt: HostRuntime) -> Result<(), Fail> {
+    let geometry = Geometry::of(TWO_LUNS)?;
+    let gathered = erase_by_two::<Brand, _>(&rt, Blank::new(9))?;
+    assert!(rt; is_whole(&gathered, &geometry));
+    Ok(())
+}

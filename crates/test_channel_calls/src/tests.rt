@@ -1,0 +1,218 @@
+//! One worker on a channel, leases, and passes.
+ghost use Rattle.std.specs.Prelude.{◌≡◌};
+
+use test_channel_scenes::{
+    Erase, FOUR_LUNS, ON_ONE, ON_ZERO, ONE, ONE_LUN, TWO_LUNS, ZERO, gather, make_erasing,
+    make_two_passes, read_trace, run_alone, start, tell_done,
+};
+use channel_work::{ChannelState, Gate, GatherRefused, Gathered, Turns, WorkerPass};
+use onfi_cycle::Lun;
+use std::alloc::Global;
+use std::marker::Brand;
+use std::process::Abort;
+use std::sync::Wait;
+use std::sync::ledger::Blank;
+use std::test::*;
+
+/// A gate that gives every turn, and lets each LUN be ready after a busy poll.
+pub(crate) struct Open;
+
+impl Gate for Open {
+    fn may_turn(&self, _worker: u32) -> bool {
+        true
+    }
+
+    fn ready(&self, _lun: Lun, polls: u64, _works: u64) -> Option<bool> {
+        if polls < 1 { None } else { Some(false) }
+    }
+
+    fn array_ready(&self, _lun: Lun, _works: u64) -> bool {
+        true
+    }
+
+    fn closed(&self) -> bool {
+        true
+    }
+}
+
+// An erase of LUN 0 that is verified for another geometry.
+const ELSEWHERE: Erase = Erase {
+    parts: ONE_LUN,
+    ..ON_ZERO
+};
+
+/// What two erases on two LUNs of a target put onto the bus, by one worker.
+pub(crate) const TWO_ERASES: &str = "0 C 60\n0 A 00\n0 A 00\n0 A 00\n0 C d0\n\
+    0 C 78\n0 A 00\n0 A 00\n0 A 00\n0 O 80\n0 R 0 0\n\
+    0 C 60\n0 A 20\n0 A 00\n0 A 00\n0 C d0\n\
+    0 C 78\n0 A 20\n0 A 00\n0 A 00\n0 O 80\n0 R 1 0\n\
+    0 C 78\n0 A 00\n0 A 00\n0 A 00\n0 O e0\n\
+    0 C 78\n0 A 20\n0 A 00\n0 A 00\n0 O e0\n";
+
+// What the erase of LUN 1 puts onto the bus alone.
+const ERASE_OF_ONE: &str = "0 C 60\n0 A 20\n0 A 00\n0 A 00\n0 C d0\n\
+    0 C 78\n0 A 20\n0 A 00\n0 A 00\n0 O 80\n0 R 1 0\n\
+    0 C 78\n0 A 20\n0 A 00\n0 A 00\n0 O e0\n";
+
+// These erases, by one worker on a target of two LUNs.
+fn erase_alone<L: Turns, R: Wait + AllocGlobal>(
+    rt: &R,
+    blank: Blank,
+    erases: &[Erase],
+) -> Result<Gathered, Fail>
+    requires name { blank.name ≡ L.name }
+    requires parts { (blank.parts ≡ L.parts) × (L.all ≡ L.parts) × (L.parts ≡ 9) }
+{
+    let state = make_erasing::<L, R>(rt, blank, TWO_LUNS, 1, erases)?;
+    run_alone(rt, state, &Open)
+}
+
+#[test]
+fn two_jobs_of_one_worker(rt: HostRuntime) -> Result<(), Fail> {
+    let gathered = erase_alone::<Brand, _>(&rt, Blank::new(9), &[ON_ZERO, ON_ONE])?;
+    assert!(rt; read_trace(rt.alloc(), TWO_ERASES)?.as_slice() == gathered.core.trace());
+    let done = gathered.done.as_slice();
+    assert_eq!(rt; tell_done(done, 0), Some((0, 0, ZERO, 0)));
+    assert_eq!(rt; tell_done(done, 1), Some((0, 1, ONE, 0)));
+    assert_eq!(rt;
+        (done.len(), gathered.backlog.len(), gathered.turns),
+        (2, 0, 4)
+    );
+    Ok(())
+}
+
+#[test]
+fn a_job_of_another_geometry_stays(rt: HostRuntime) -> Result<(), Fail> {
+    let gathered = erase_alone::<Brand, _>(&rt, Blank::new(9), &[ELSEWHERE, ON_ONE])?;
+    assert!(rt; read_trace(rt.alloc(), ERASE_OF_ONE)?.as_slice() == gathered.core.trace());
+    let done = gathered.done.as_slice();
+    assert_eq!(rt; tell_done(done, 0), Some((0, 1, ONE, 0)));
+    assert_eq!(rt; (done.len(), gathered.backlog.len()), (1, 1));
+    Ok(())
+}
+
+// Erases of nine LUNs of four targets.
+const FIRST: Erase = Erase {
+    parts: FOUR_LUNS,
+    ..ON_ZERO
+};
+
+const NINE: [Erase; 9] = [
+    Erase {
+        lun: Lun { ce: 0, lun: 0 },
+        ..FIRST
+    },
+    Erase {
+        lun: Lun { ce: 0, lun: 1 },
+        ..FIRST
+    },
+    Erase {
+        lun: Lun { ce: 0, lun: 2 },
+        ..FIRST
+    },
+    Erase {
+        lun: Lun { ce: 0, lun: 3 },
+        ..FIRST
+    },
+    Erase {
+        lun: Lun { ce: 1, lun: 0 },
+        ..FIRST
+    },
+    Erase {
+        lun: Lun { ce: 1, lun: 1 },
+        ..FIRST
+    },
+    Erase {
+        lun: Lun { ce: 2, lun: 2 },
+        ..FIRST
+    },
+    Erase {
+        lun: Lun { ce: 3, lun: 2 },
+        ..FIRST
+    },
+    Erase {
+        lun: Lun { ce: 3, lun: 3 },
+        ..FIRST
+    },
+];
+
+// Starts so many jobs, and parks their leases, for which there must be room.
+fn start_and_park<L: Turns, R: Wait>(
+    rt: &R,
+    state: &mut ChannelState<L>,
+    count: u32,
+) -> Result<(), Fail> {
+    for _ in 0..count {
+        let lease = start(rt, state)?;
+        if state.park(lease).is_err() {
+            return Err(Fail::from("there was room"));
+        }
+    }
+    Ok(())
+}
+
+// Starts a job, and tries to park its lease, for which there must be no room. Its LUN, and that of the first lease taken out.
+fn start_and_keep<L: Turns, R: Wait>(
+    rt: &R,
+    state: &mut ChannelState<L>,
+) -> Result<(u32, u32), Fail> {
+    let lease = start(rt, state)?;
+    match state.park(lease) {
+        Ok(()) => Err(Fail::from("there was no room")),
+        Err(kept) => {
+            let first = state.unpark().ok_or("eight leases are parked")?;
+            Ok((kept.lun(), first.lun()))
+        }
+    }
+}
+
+// Nine jobs are started, and eight of their leases parked.
+fn park_nine<L: Turns, R: Wait + AllocGlobal>(rt: &R, blank: Blank) -> Result<(u32, u32), Fail>
+    requires name { blank.name ≡ L.name }
+    requires parts { (blank.parts ≡ L.parts) × (L.all ≡ L.parts) × (L.parts ≡ 9) }
+{
+    let mut state = make_erasing::<L, R>(rt, blank, FOUR_LUNS, 4, &NINE)?;
+    start_and_park(rt, &mut state, 8)?;
+    start_and_keep(rt, &mut state)
+}
+
+#[test]
+fn nine_leases(rt: HostRuntime) -> Result<(), Fail> {
+    assert_eq!(rt; park_nine::<Brand, _>(&rt, Blank::new(9))?, (15, 0));
+    Ok(())
+}
+
+// A channel isn't gathered with one of two passes, and then it is with both. The turns that it tells.
+fn gather_late<L: Turns>(
+    alloc: Global,
+    state: ChannelState<L>,
+    first: WorkerPass<L>,
+    second: WorkerPass<L>,
+) -> Result<u64, Fail>
+    requires { L.all ≡ L.parts }
+{
+    match state.gather(vec![in alloc; first]?) {
+        Ok(_) => Err(Fail::from("a pass is missing")),
+        Err(refused) => {
+            let GatherRefused { state, mut passes } = refused;
+            passes.push(second)?;
+            Ok(gather(state, passes)?.turns)
+        }
+    }
+}
+
+// A channel with two passes.
+fn gather_two<L: Turns, R: Wait + AllocGlobal>(rt: &R, blank: Blank) -> Result<u64, Fail>
+    requires name { blank.name ≡ L.name }
+    requires parts { (blank.parts ≡ L.parts) × (L.all ≡ L.parts) × (L.parts ≡ 9) }
+{
+    let mut state = make_erasing::<L, R>(rt, blank, TWO_LUNS, 1, &[])?;
+    let (first, second) = make_two_passes(&mut state)?;
+    gather_late(rt.alloc(), state, first, second)
+}
+
+#[test]
+fn a_channel_waits_for_each_pass(rt: HostRuntime) -> Result<(), Fail> {
+    assert_eq!(rt; gather_two::<Brand, _>(&rt, Blank::new(9))?, 0);
+    Ok(())
+}

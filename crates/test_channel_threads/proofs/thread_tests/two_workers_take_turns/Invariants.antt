@@ -1,0 +1,7 @@
+use Rattle.test_channel_threads.proofs.thread_tests.two_workers_take_turns.Given as goal
+
+abbrev pub ghosts-erase_by_two-L-Ledger : goal.ghosts-erase_by_two-L-Ledger
+ghosts-erase_by_two-L-Ledger g a = record { name = a.blank.name; parts = a.blank.parts }
+
+abbrev pub ghosts-erase_by_two-L-Turns : goal.ghosts-erase_by_two-L-Turns
+ghosts-erase_by_two-L-Turns g a = record { all = a.blank.parts }

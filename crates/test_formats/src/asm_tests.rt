@@ -1,0 +1,469 @@
+use linked_list_allocator::LocalHeap;
+use micro_asm::{AsmFault, AsmMessage, AsmRefusal, assemble, disassemble};
+use micro_word::{Text, Word, write};
+use std::alloc::Global;
+use std::process::Abort;
+use std::test::Fail;
+
+// The erase of a block that ends with another code where it failed.
+const ERASE: &str =
+    "rows 1\nbuffer 0\nbudget 5\ncmd 60\naddr 2 3\ncmd d0\nwait\nbrs 01 L6\nend 0\nL6:\nend 1\n";
+
+// Its word file.
+const ERASE_FILE: [u8; 44] = [
+    0x4e, 0x4d, 0x50, 0x32, 0x07, 0x00, 0x01, 0x00, 0x00, 0x00, 0x00, 0x00, 0x05, 0x00, 0x00, 0x00,
+    0x01, 0x60, 0x00, 0x00, 0x02, 0x02, 0x03, 0x00, 0x01, 0xd0, 0x00, 0x00, 0x0a, 0x00, 0x00, 0x00,
+    0x0d, 0x01, 0x06, 0x00, 0x00, 0x00, 0x00, 0x00, 0x00, 0x01, 0x00, 0x00,
+];
+
+// Texts that are refused, each with its fault and the line of that fault.
+type Table<'a> = &'a [(&'static str, AsmFault, usize)];
+
+// The erase with one of its lines changed or left out, and nothing at all.
+const ERASES: Table<'static> = &[
+    (
+        "rows 1\nbuffer 0\nbudget 5\ncmd 6g\naddr 2 3\ncmd d0\nwait\nbrs 01 L6\nend 0\nL6:\nend 1\n",
+        AsmFault::BadOperand,
+        4,
+    ),
+    (
+        "rows 1\nbuffer 0\nbudget 5\ncmd 60\naddr 3 3\ncmd d0\nwait\nbrs 01 L6\nend 0\nL6:\nend 1\n",
+        AsmFault::OperandOutOfRange,
+        5,
+    ),
+    (
+        "rows 1\nbuffer 0\nbudget 5\ncmd 60\naddr 2 3\ncmd d0\nwait\nbrs 01 L7\nend 0\nL6:\nend 1\n",
+        AsmFault::NoSuchLabel,
+        8,
+    ),
+    (
+        "rows 1\nbuffer 0\nbudget 5\ncmd 60\naddr 2 3\ncmd d0\nwait\nbrs 01 L6\nL6:\nL6:\nend 1\n",
+        AsmFault::LabelTwice,
+        10,
+    ),
+    (
+        "rows 1\nbuffer 0\nbudget 5\ncmd 60\naddr 2 3\ncmd d0\nwait\nbrs 01 L6\nend 0\nL6:\n",
+        AsmFault::LabelAfterLastWord,
+        10,
+    ),
+    (
+        "rows 1\nbuffer 0\ncmd 60\naddr 2 3\ncmd d0\nwait\nbrs 01 L6\nend 0\nL6:\nend 1\n",
+        AsmFault::HeaderOutOfOrder,
+        3,
+    ),
+    ("", AsmFault::HeaderOutOfOrder, 1),
+];
+
+// Faults of single lines.
+const LINES: Table<'static> = &[
+    (
+        "rows 1\nbuffer 0\nbudget 0\nrows 1\nend 0\n",
+        AsmFault::UnknownWord,
+        4,
+    ),
+    (
+        "rows 1\nbuffer 0\nbudget 0\nwait\r\n",
+        AsmFault::UnknownWord,
+        4,
+    ),
+    (
+        "rows 1\nbuffer 0\nbudget 0\nWAIT\n",
+        AsmFault::UnknownWord,
+        4,
+    ),
+    (
+        "rows 1\nbuffer 0\nbudget 0\nx: wait\n",
+        AsmFault::UnknownWord,
+        4,
+    ),
+    (
+        "rows 1\nbuffer 0\nbudget 0\n9x:\nend 0\n",
+        AsmFault::UnknownWord,
+        4,
+    ),
+    (
+        "rows 1\nbuffer 0\nbudget 0\njmp 9x\n",
+        AsmFault::UnknownWord,
+        4,
+    ),
+    (
+        "rows 1\nbuffer 0\nbudget 0\nbrs 0 9x\n",
+        AsmFault::UnknownWord,
+        4,
+    ),
+    ("rows 1\nbuffer 0\nbudget 0\né\n", AsmFault::UnknownWord, 4),
+    (
+        "rows 1\nbuffer 0\nbudget 0\nend 0\r\n",
+        AsmFault::BadOperand,
+        4,
+    ),
+    ("rows 1\nbuffer 0\nbudget 0\nend\n", AsmFault::BadOperand, 4),
+    (
+        "rows 1\nbuffer 0\nbudget 0\nwait 1\n",
+        AsmFault::BadOperand,
+        4,
+    ),
+    (
+        "rows 1\nbuffer 0\nbudget 0\nend +1\n",
+        AsmFault::BadOperand,
+        4,
+    ),
+    (
+        "rows 1\nbuffer 0\nbudget 0\ncmd 6\n",
+        AsmFault::BadOperand,
+        4,
+    ),
+    ("rows 1\nbuffer 0\nbudget 0\njmp\n", AsmFault::BadOperand, 4),
+    (
+        "rows 1\nbuffer 0\nbudget 0\nx: brs 01 x y\n",
+        AsmFault::UnknownWord,
+        4,
+    ),
+    (
+        "rows 1\nbuffer 0\nbudget 0\nend 0\nbrs 01 x y\n",
+        AsmFault::BadOperand,
+        5,
+    ),
+    (
+        "rows 1\nbuffer 0\nbudget 0\nbrs 00 x\n",
+        AsmFault::OperandOutOfRange,
+        4,
+    ),
+    (
+        "rows 1\nbuffer 0\nbudget 0\nend 256\n",
+        AsmFault::OperandOutOfRange,
+        4,
+    ),
+    (
+        "rows 1\nbuffer 16777216\nbudget 0\n",
+        AsmFault::OperandOutOfRange,
+        2,
+    ),
+    (
+        "rows 0\nbuffer 0\nbudget 0\n",
+        AsmFault::OperandOutOfRange,
+        1,
+    ),
+    (
+        "rows 1\nbuffer 0\nbudget 9999999999\n",
+        AsmFault::OperandOutOfRange,
+        3,
+    ),
+    (
+        "rows 1\nbuffer 0\nbudget 00000000001\n",
+        AsmFault::BadOperand,
+        3,
+    ),
+    (
+        "rows 1\nbuffer 0\nbudget 0\nget 0\n",
+        AsmFault::OperandOutOfRange,
+        4,
+    ),
+    (
+        "rows 1\nbuffer 0\nbudget 0\nloop 4097\n",
+        AsmFault::OperandOutOfRange,
+        4,
+    ),
+];
+
+// Faults that go by the place of a line.
+const PLACES: Table<'static> = &[
+    ("wait\n", AsmFault::HeaderOutOfOrder, 1),
+    ("x:\n", AsmFault::HeaderOutOfOrder, 1),
+    ("rows 1\nbudget 0\n", AsmFault::HeaderOutOfOrder, 2),
+    ("rows 1\nrows 0\n", AsmFault::OperandOutOfRange, 2),
+    ("rows 1\nfoo\n", AsmFault::UnknownWord, 2),
+    ("rows 1\nbuffer 0\n", AsmFault::HeaderOutOfOrder, 3),
+    (
+        "; no more\n\nrows 1\nbuffer 0",
+        AsmFault::HeaderOutOfOrder,
+        5,
+    ),
+    (
+        "rows 1\nbuffer 0\nbudget 0\nx:\nfoo\n",
+        AsmFault::LabelAfterLastWord,
+        4,
+    ),
+    (
+        "rows 1\nbuffer 0\nbudget 0\nx:\ncmd 6g\n",
+        AsmFault::BadOperand,
+        5,
+    ),
+    (
+        "rows 1\nbuffer 0\nbudget 0\njmp y\nx:\n",
+        AsmFault::LabelAfterLastWord,
+        5,
+    ),
+    (
+        "rows 1\nbuffer 0\nbudget 0\njmp y\njmp z\nend 0\n",
+        AsmFault::NoSuchLabel,
+        4,
+    ),
+    (
+        "rows 1\nbuffer 0\nbudget 0\nx:\nend 0\nx:\n",
+        AsmFault::LabelTwice,
+        6,
+    ),
+    (
+        "rows 1\nbuffer 0\nbudget 0\nx:\ny:\n",
+        AsmFault::LabelAfterLastWord,
+        4,
+    ),
+];
+
+// Labels of 32 characters, and of 33.
+const LONG_LABEL: &str =
+    "rows 1\nbuffer 0\nbudget 0\nabcdefghijklmnopqrstuvwxyz_01234:\njmp abcdefghijklmnopqrstuvwxyz_01234\n";
+
+const LABELS: Table<'static> = &[
+    (
+        "rows 1\nbuffer 0\nbudget 0\nabcdefghijklmnopqrstuvwxyz_012345:\nend 0\n",
+        AsmFault::UnknownWord,
+        4,
+    ),
+    (
+        "rows 1\nbuffer 0\nbudget 0\njmp abcdefghijklmnopqrstuvwxyz_012345\n",
+        AsmFault::UnknownWord,
+        4,
+    ),
+];
+
+// One text with all that may stand between the fields, and the same as it is written again.
+const LOOSE: &str =
+    "; héé\n\t rows\t0001 ; rows\n\nbuffer  16777215\nbudget 4294967295;budget\nagain: ; a label\n other_1:\ncmd eC\nbrs fF again\nget 16777215\njmp other_1;\nseek 0000100000\nnext";
+
+const PLAIN: &str =
+    "rows 1\nbuffer 16777215\nbudget 4294967295\nL0:\ncmd ec\nbrs ff L0\nget 16777215\njmp L0\nseek 100000\nnext\n";
+
+// The examples, as they lie in `examples`, and how they are written.
+const EXAMPLES: &[(&str, &str)] = &[
+    (
+        "; Erases the block of the job's row. Ends with code 1 where the die tells of failure, else with code 0.\nrows 1\nbuffer 0\nbudget 5\n        cmd 60          ; block erase, first command\n        addr 2 3        ; R1 R2 R3\n        cmd d0          ; block erase, second command\n        wait\n        brs 01 failed   ; status bit 0: FAIL\n        end 0\nfailed:\n        end 1\n",
+        "rows 1\nbuffer 0\nbudget 5\ncmd 60\naddr 2 3\ncmd d0\nwait\nbrs 01 L6\nend 0\nL6:\nend 1\n",
+    ),
+    (
+        "; Reads 528 bytes of the job's page into the buffer: a page of 512 bytes and its spare area of 16.\nrows 1\nbuffer 528\nbudget 536\n        cmd 00          ; read, first command\n        addr 0 5        ; C1 C2 R1 R2 R3, from column 0 on\n        cmd 30          ; read, second command\n        wait\n        cmd 00          ; back from the status to the data\n        get 528\n        end 0\n",
+        "rows 1\nbuffer 528\nbudget 536\ncmd 00\naddr 0 5\ncmd 30\nwait\ncmd 00\nget 528\nend 0\n",
+    ),
+    (
+        "; Programs the first four bytes of the buffer into the job's page, from column 0 on.\n; Ends with code 1 where the die tells of failure, else with code 0.\nrows 1\nbuffer 4\nbudget 11\n        cmd 80          ; page program, first command\n        addr 0 5        ; C1 C2 R1 R2 R3\n        put 4\n        cmd 10          ; page program, second command\n        wait\n        brs 01 failed   ; status bit 0: FAIL\n        end 0\nfailed:\n        end 1\n",
+        "rows 1\nbuffer 4\nbudget 11\ncmd 80\naddr 0 5\nput 4\ncmd 10\nwait\nbrs 01 L7\nend 0\nL7:\nend 1\n",
+    ),
+];
+
+// Each of these texts is refused as its row says.
+fn all_refused(rt: &impl Abort, alloc: Global, table: Table<'_>) {
+    for (text, code, line) in table {
+        let wanted = Some(AsmRefusal::Fault {
+            fault: *code,
+            line: *line,
+        });
+        assert_eq!(rt; assemble(alloc, text).err(), wanted, "{text}");
+    }
+}
+
+// The text as it is written once it has been read.
+fn written_again(alloc: Global, text: &str) -> Result<String, Fail> {
+    let read = assemble(alloc, text)?;
+    Ok(disassemble(alloc, &read)?)
+}
+
+#[test]
+fn an_erase_is_assembled(rt: HostRuntime) -> Result<(), Fail> {
+    let text = assemble(rt.alloc(), ERASE)?;
+    let file = write(rt.alloc(), &text)?;
+    assert_eq!(rt; file.as_slice(), ERASE_FILE.as_slice());
+    assert_eq!(rt; disassemble(rt.alloc(), &text)?.as_str(), ERASE);
+    Ok(())
+}
+
+#[test]
+fn blanks_comments_and_long_labels(rt: HostRuntime) -> Result<(), Fail> {
+    assert_eq!(rt; written_again(rt.alloc(), LOOSE)?.as_str(), PLAIN);
+    let long = written_again(rt.alloc(), LONG_LABEL)?;
+    assert_eq!(rt; long.as_str(), "rows 1\nbuffer 0\nbudget 0\nL0:\njmp L0\n");
+    Ok(())
+}
+
+#[test]
+fn the_lowest_line_with_its_lowest_fault(rt: HostRuntime) {
+    all_refused(&rt, rt.alloc(), ERASES);
+    all_refused(&rt, rt.alloc(), LINES);
+    all_refused(&rt, rt.alloc(), PLACES);
+    all_refused(&rt, rt.alloc(), LABELS);
+}
+
+// A text of so many words.
+fn waits(alloc: Global, count: usize) -> Result<String, Fail> {
+    let mut text = String::from_str(alloc, "rows 1\nbuffer 0\nbudget 0\n")?;
+    for _ in 0..count {
+        text.push_str("wait\n")?;
+    }
+    Ok(text)
+}
+
+#[test]
+fn as_many_words_as_may_stand(rt: HostRuntime) -> Result<(), Fail> {
+    let most = assemble(rt.alloc(), waits(rt.alloc(), 1024)?.as_str())?;
+    assert_eq!(rt; most.words().len(), 1024);
+    let more = assemble(rt.alloc(), waits(rt.alloc(), 1025)?.as_str()).err();
+    let wanted = AsmRefusal::Fault {
+        fault: AsmFault::TooManyWords,
+        line: 1028,
+    };
+    assert_eq!(rt; more, Some(wanted));
+    Ok(())
+}
+
+// The next of a fixed run of numbers.
+fn next(state: u64) -> u64 {
+    state
+        .wrapping_mul(6_364_136_223_846_793_005)
+        .wrapping_add(1_442_695_040_888_963_407)
+}
+
+// A word of a number, in a text of so many words.
+fn word_of(number: u64, words: u16) -> Word {
+    let small = (number >> 40) % 4;
+    let byte = ((number >> 32) % 255 + 1) as u8;
+    let row = ((number >> 24) % 4095 + 1) as u16;
+    let target = ((number >> 16) % u64::from(words.max(1))) as u16;
+    match (number >> 50) % 17 {
+        0 => Word::End { code: byte },
+        1 => Word::Command { byte },
+        2 => Word::Address {
+            from: small as u8,
+            count: (small % 2 + 1) as u8,
+        },
+        3 => Word::Get {
+            len: u32::from(row) * 4097,
+        },
+        4 => Word::Put {
+            len: u32::from(row),
+        },
+        5 => Word::Seek {
+            place: u32::from(row) * 4097,
+        },
+        6 => Word::Column { column: row },
+        7 => Word::RowAdd { rows: row },
+        8 => Word::Row { row },
+        9 => Word::Plane { plane: small as u8 },
+        10 => Word::Wait,
+        11 => Word::Yield,
+        12 => Word::ReadStatus,
+        13 => Word::BranchOnStatus { mask: byte, target },
+        14 => Word::Loop { turns: row },
+        15 => Word::Next,
+        _ => Word::Jump { target },
+    }
+}
+
+// A text of up to 40 words.
+fn generated(alloc: Global, seed: u64) -> Result<Text, Fail> {
+    let count = ((seed >> 33) % 40 + 1) as u16;
+    let mut words = Vec::new(alloc);
+    let mut state = seed;
+    for _ in 0..count {
+        state = next(state);
+        words.push(word_of(state, count))?;
+    }
+    let rows = ((seed >> 20) % 4096 + 1) as u16;
+    let text = Text::of(
+        rows,
+        ((seed >> 8) % 16_777_216) as u32,
+        (seed >> 32) as u32,
+        words,
+    );
+    Ok(text.ok().ok_or("the words are no text")?)
+}
+
+// Whether a text is the same once it is written and read, and is written alike again.
+fn is_kept(alloc: Global, text: &Text) -> Result<bool, Fail> {
+    let lines = disassemble(alloc, text)?;
+    let again = assemble(alloc, lines.as_str())?;
+    let header = again.rows() == text.rows()
+        && again.buffer() == text.buffer()
+        && again.budget() == text.budget();
+    let lines_again = disassemble(alloc, &again)?;
+    Ok(header && again.words() == text.words() && lines_again.as_str() == lines.as_str())
+}
+
+#[test]
+fn what_is_written_is_read_again(rt: HostRuntime) -> Result<(), Fail> {
+    let mut seed = 20;
+    for _ in 0..10_000 {
+        seed = next(seed);
+        let text = generated(rt.alloc(), seed)?;
+        assert!(rt; is_kept(rt.alloc(), &text)?, "{seed}");
+    }
+    Ok(())
+}
+
+// Whether the erase is assembled on a heap that has so many bytes left, None where they don't suffice.
+fn assembled_with(alloc: Global, size: usize) -> Result<Option<bool>, Fail> {
+    let heap = LocalHeap::new(alloc, 8192)?;
+    let taken: Result<Vec<u8, &LocalHeap>, _> = Vec::with_capacity(
+        &heap,
+        8000_usize.saturating_sub(size),
+    );
+    let read = assemble(&heap, ERASE);
+    drop(taken);
+    match read {
+        Ok(text) => Ok(Some(text.words().len() == 7)),
+        Err(AsmRefusal::OutOfMemory) => Ok(None),
+        Err(_) => Ok(Some(false)),
+    }
+}
+
+#[test]
+fn memory_refused_to_the_assembler(rt: HostRuntime) -> Result<(), Fail> {
+    let mut refused = false;
+    let mut sufficed = false;
+    for size in 0..120usize {
+        match assembled_with(rt.alloc(), 32 * size)? {
+            None => refused = true,
+            Some(is_right) => {
+                assert!(rt; is_right);
+                sufficed = true;
+            }
+        }
+    }
+    assert!(rt; refused && sufficed);
+    Ok(())
+}
+
+#[test]
+fn the_examples_are_assembled(rt: HostRuntime) -> Result<(), Fail> {
+    for (text, lines) in EXAMPLES {
+        assert_eq!(rt; written_again(rt.alloc(), text)?.as_str(), *lines);
+    }
+    Ok(())
+}
+
+// What is said of faults.
+const MESSAGES: &[(&str, &str)] = &[
+    (
+        "rows 1\nbuffer 0\nbudget 5\ncmd 60\naddr 3 3\n",
+        "line 5: `addr 3 3`: addr takes FROM and COUNT, COUNT from 1, together 5 at most (A3)",
+    ),
+    (
+        "rows 1\nbuffer 0\nbudget 5\ncmd 6g",
+        "line 4: `cmd 6g`: cmd takes two hexadecimal digits (A2)",
+    ),
+    (
+        "",
+        "line 1: ``: the first three lines are rows N, buffer N and budget N, in this order (A8)",
+    ),
+];
+
+#[test]
+fn faults_are_told_with_their_line(rt: HostRuntime) -> Result<(), Fail> {
+    for (text, message) in MESSAGES {
+        let refusal = assemble(rt.alloc(), text)
+            .err()
+            .ok_or("the text is assembled")?;
+        let told = format!(in rt.alloc(); "{}", AsmMessage::new(refusal, text))?;
+        assert_eq!(rt; told.as_str(), *message);
+    }
+    Ok(())
+}

@@ -1,0 +1,10 @@
+//! The running bus and the sequencer beside a look back: after each item of made traces, and after each event of a list, the running state
+//! is what a look back at the whole trace tells. Only tests stand here, so that nothing that is built on them needs the look-back.
+#![tactic(auto)]
+
+#[cfg(test)]
+mod bus_tests;
+#[cfg(test)]
+mod core_tests;
+#[cfg(test)]
+mod made;

@@ -1,0 +1,3 @@
+pub mod Runs
+pub mod Ways
+pub mod Premises

@@ -1,0 +1,24 @@
+//! Programs on a channel: each that the verifier accepts, by hand or of a generator, run by the sequencer on one LUN and among
+//! others, with the buffers and images that come of it, and its trace checked. Only tests stand here, and worked examples of the definitions.
+#![tactic(auto)]
+
+pub mod laws;
+
+#[cfg(test)]
+mod assembly_tests;
+#[cfg(test)]
+mod cause_tests;
+#[cfg(test)]
+mod channel;
+#[cfg(test)]
+mod core_tests;
+#[cfg(test)]
+mod counter_tests;
+#[cfg(test)]
+mod plain_tests;
+#[cfg(test)]
+mod programs;
+#[cfg(test)]
+mod random_tests;
+#[cfg(test)]
+mod tests;
