@@ -21,7 +21,7 @@ use crate::refusal::ImageRefusal;
 use crate::work::Work;
 use arrayvec::ArrayVec;
 use nand_geometry::Geometry;
-use onfi_cycle::{Effect, Filling, PageAddress, Register, Status};
+use onfi_cycle::{Effect, Filling, PageAddress, Queued, Register, Status};
 use std::alloc::{AllocError, Allocator, Global};
 use std::marker::Model;
 
@@ -268,6 +268,17 @@ impl<A: Allocator + Copy> LunDie<A> {
         self.activity.begin(work);
         fetch(&mut self.output, &self.pages, self.activity.register);
         Ok(())
+    }
+
+    /// The rows that are queued for the next program or erase.
+    pub fn queued(&self) -> &[Queued]
+        ensures { result.now ≡ self.now.queued }
+    {
+        if self.activity.closed {
+            &[]
+        } else {
+            self.activity.queue.as_slice()
+        }
     }
 
     /// Its image: `NDI1`; data bytes and spare bytes of a page, pages of a block, blocks of a LUN, and the count of

@@ -6,7 +6,7 @@
 //! bytes of a row name. [`SMALL_CHIP`] is the chip of the examples. The definitions stand in `specs/`: `Limits`, `Row`, `Reading` and `Page`.
 #![tactic(auto)]
 
-mod checksum;
+pub mod checksum;
 mod field;
 mod geometry;
 pub mod laws;
@@ -16,7 +16,6 @@ mod reading;
 mod row_parts;
 mod writing;
 
-pub use checksum::checksum;
 pub use geometry::Geometry;
 pub use page_fault::PageFault;
 pub use parts::{MAX_LUNS, Parts, SMALL_CHIP};

@@ -7,19 +7,7 @@
 
 pub mod content;
 pub mod past;
-#[cfg(test)]
-mod state_agrees;
 pub mod trace;
-#[cfg(test)]
-mod worked;
-#[cfg(test)]
-mod worked_audit;
-#[cfg(test)]
-mod worked_content;
-#[cfg(test)]
-mod worked_facts;
-#[cfg(test)]
-mod worked_traces;
 
 ghost use Rattle.std.specs.Prelude.{List};
 

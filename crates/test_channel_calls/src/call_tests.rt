@@ -2,9 +2,6 @@
 ghost use Rattle.std.specs.Prelude.{◌≡◌};
 
 use crate::tests::TWO_ERASES;
-use test_channel_scenes::{
-    ON_ONE, ON_ZERO, ONE, TWO_LUNS, ZERO, gather, make_erasing, read_trace, tell_done,
-};
 use channel_work::{ChannelState, Finished, Gathered, Readied, Started, Turn, Turns, WorkerPass};
 use lun_lease::{Lease, Loaded};
 use onfi_cycle::Lun;
@@ -13,6 +10,9 @@ use std::process::Abort;
 use std::sync::Wait;
 use std::sync::ledger::Blank;
 use std::test::*;
+use test_channel_scenes::{
+    ON_ONE, ON_ZERO, ONE, TWO_LUNS, ZERO, gather, make_erasing, read_trace, tell_done,
+};
 
 // A call of a worker, on the lease that it holds where the call takes one.
 #[derive(Clone, Copy)]

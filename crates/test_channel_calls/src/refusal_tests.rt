@@ -3,10 +3,6 @@
 ghost use Rattle.std.specs.Prelude.{◌≡◌};
 
 use crate::tests::Open;
-use test_channel_scenes::{
-    Erase, ON_ONE, ON_ZERO, TWO_LUNS, ZERO, ended, gather, make_erasing, make_two_passes,
-    tell_done, work_by_two,
-};
 use channel_work::{
     Cause, Channel, ChannelState, Gate, Gathered, Turns, WorkEnd, WorkerPass, work,
 };
@@ -17,6 +13,10 @@ use std::sync::Wait;
 use std::sync::ledger::Blank;
 use std::test::*;
 use std::thread::Threads;
+use test_channel_scenes::{
+    Erase, ON_ONE, ON_ZERO, TWO_LUNS, ZERO, ended, gather, make_erasing, make_two_passes,
+    tell_done, work_by_two,
+};
 use trace_text::check;
 
 // The erase of the next block of LUN 0.

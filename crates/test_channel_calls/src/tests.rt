@@ -1,10 +1,6 @@
 //! One worker on a channel, leases, and passes.
 ghost use Rattle.std.specs.Prelude.{◌≡◌};
 
-use test_channel_scenes::{
-    Erase, FOUR_LUNS, ON_ONE, ON_ZERO, ONE, ONE_LUN, TWO_LUNS, ZERO, gather, make_erasing,
-    make_two_passes, read_trace, run_alone, start, tell_done,
-};
 use channel_work::{ChannelState, Gate, GatherRefused, Gathered, Turns, WorkerPass};
 use onfi_cycle::Lun;
 use std::alloc::Global;
@@ -13,6 +9,10 @@ use std::process::Abort;
 use std::sync::Wait;
 use std::sync::ledger::Blank;
 use std::test::*;
+use test_channel_scenes::{
+    Erase, FOUR_LUNS, ON_ONE, ON_ZERO, ONE, ONE_LUN, TWO_LUNS, ZERO, gather, make_erasing,
+    make_two_passes, read_trace, run_alone, start, tell_done,
+};
 
 /// A gate that gives every turn, and lets each LUN be ready after a busy poll.
 pub(crate) struct Open;

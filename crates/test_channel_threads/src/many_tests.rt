@@ -3,10 +3,6 @@ ghost use Rattle.std.specs.Prelude.{◌≡◌};
 ghost use Rattle.job_queue.specs.Passes.{owns};
 
 use crate::thread_tests::Chance;
-use test_channel_scenes::{
-    Erase, FOUR_LUNS, TwoHosts, end_two, gather, make_erase, make_state, make_two_passes,
-    make_wide_queue, submit, work_by_two,
-};
 use channel_work::{Channel, Gathered, NamedJob, Turns, WorkEnd, WorkerPass};
 use job_queue::{HostPass, JobQueue};
 use nand_geometry::Geometry;
@@ -20,6 +16,10 @@ use std::sync::ledger::Blank;
 use std::test::*;
 use std::thread;
 use std::thread::Threads;
+use test_channel_scenes::{
+    Erase, FOUR_LUNS, TwoHosts, end_two, gather, make_erase, make_state, make_two_passes,
+    make_wide_queue, submit, work_by_two,
+};
 use trace_text::check;
 
 // Stores so many erases, the LUNs in turn; false without memory.

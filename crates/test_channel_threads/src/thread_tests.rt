@@ -1,10 +1,6 @@
 //! Workers in threads of their own.
 ghost use Rattle.std.specs.Prelude.{◌≡◌};
 
-use test_channel_scenes::{
-    Erase, ON_ONE, ON_ZERO, ONE_LUN, TWO_LUNS, end_two, ended, gather, make_erasing, make_queue,
-    make_state, make_two_passes, submit_erases, work_by_two,
-};
 use channel_work::{Channel, ChannelState, Gate, Gathered, NamedJob, Turns, work};
 use onfi_cycle::{Cycle, Item, Kind, Lun};
 use std::alloc::Global;
@@ -16,6 +12,10 @@ use std::sync::ledger::Blank;
 use std::test::*;
 use std::thread;
 use std::thread::Threads;
+use test_channel_scenes::{
+    Erase, ON_ONE, ON_ZERO, ONE_LUN, TWO_LUNS, end_two, ended, gather, make_erasing, make_queue,
+    make_state, make_two_passes, submit_erases, work_by_two,
+};
 
 const BLOCK_0: Erase = Erase {
     parts: ONE_LUN,

@@ -5,8 +5,8 @@ ghost use Rattle.onfi_cycle.specs.Rules.{planes_clash};
 use die_model::{ImageFault, ImageRefusal, LunDie, Work};
 use linked_list_allocator::LocalHeap;
 use nand_geometry::{Geometry, Parts, SMALL_CHIP};
-use onfi_cycle::{Effect, Filling, PageAddress, Queued, Register, Status};
-use std::alloc::{AllocError, Allocator, Global};
+use onfi_cycle::{PageAddress, Queued, Status};
+use std::alloc::{Allocator, Global};
 use std::process::Abort;
 use std::test::Fail;
 
@@ -42,17 +42,6 @@ fn new_die<A: Allocator + Copy>(alloc: A, parts: Parts) -> Result<LunDie<A>, Fai
 }
 
 // ---- what `begin` requires, looked at
-
-// The rows that are queued.
-fn queue<A: Allocator>(die: &LunDie<A>) -> &[Queued]
-    ensures { result.now ≡ die.now.queued }
-{
-    if die.activity.closed {
-        &[]
-    } else {
-        die.activity.queue.as_slice()
-    }
-}
 
 fn row_of(work: Work) -> Option<PageAddress>
     ensures { result ≡ row_of_work work }
@@ -104,8 +93,8 @@ fn goes_with(geometry: &Geometry, work: Work, queue: &[Queued]) -> bool
 fn has_begun<A: Allocator + Copy>(die: &mut LunDie<A>, work: Work) -> Result<bool, Fail> {
     die.forget_array_page();
     let geometry = die.geometry();
-    let together = goes_with(&geometry, work, queue(die));
-    let room = queue(die).len() < 16;
+    let together = goes_with(&geometry, work, die.queued());
+    let room = die.queued().len() < 16;
     let ready = work == Work::Reset || !die.is_busy();
     if !(is_row(&geometry, row_of(work)) && together && ready && room) {
         return Err("the work can begin".into());

@@ -3,7 +3,8 @@
 ghost use Rattle.std.specs.Prelude.{◌<◌, ◌≤◌, ◌+◌, length};
 
 use crate::geometry_tests::{LARGEST, ONE_LUN, TWO_LUNS};
-use nand_geometry::{Geometry, PageFault, Parts, checksum};
+use nand_geometry::checksum::checksum;
+use nand_geometry::{Geometry, PageFault, Parts};
 use std::test::Fail;
 
 /// The checksum, bit by bit.

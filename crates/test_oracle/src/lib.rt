@@ -1,4 +1,4 @@
-//! The running bus and the sequencer beside a look back: after each item of made traces, and after each event of a list, the running state
+//! The definitions of a trace on worked examples, and the running bus and the sequencer beside a look back: after each item of made traces, and after each event of a list, the running state
 //! is what a look back at the whole trace tells. Only tests stand here, so that nothing that is built on them needs the look-back.
 #![tactic(auto)]
 
@@ -8,3 +8,15 @@ mod bus_tests;
 mod core_tests;
 #[cfg(test)]
 mod made;
+#[cfg(test)]
+mod state_agrees;
+#[cfg(test)]
+mod worked;
+#[cfg(test)]
+mod worked_audit;
+#[cfg(test)]
+mod worked_content;
+#[cfg(test)]
+mod worked_facts;
+#[cfg(test)]
+mod worked_traces;

@@ -2,8 +2,6 @@
 //! others, with the buffers and images that come of it, and its trace checked. Only tests stand here, and worked examples of the definitions.
 #![tactic(auto)]
 
-pub mod laws;
-
 #[cfg(test)]
 mod assembly_tests;
 #[cfg(test)]
@@ -14,6 +12,7 @@ mod channel;
 mod core_tests;
 #[cfg(test)]
 mod counter_tests;
+pub mod laws;
 #[cfg(test)]
 mod plain_tests;
 #[cfg(test)]

@@ -34,9 +34,10 @@ fn tell_each<P: CheckProgress>(progress: &mut P, every: usize, items: usize)
     }
 }
 
-// The place of the first item that isn't permitted after those before it, with the first rule that it breaks. It is told each time after so
-// many items how far this has come.
-pub(crate) fn first_broken<P: CheckProgress>(
+/// The place of the first item that isn't permitted after those before it, counted from 0, with the first rule that it breaks; None where
+/// the trace is legal on a channel of so many targets of this geometry. `progress` is told each time after so many items how far this
+/// has come.
+pub fn first_broken<P: CheckProgress>(
     geometry: &Geometry,
     targets: u8,
     items: &[Item],

@@ -1,9 +1,9 @@
 //! Worked contents: what pages hold after works, and the byte that a LUN gives next.
-use crate::WrittenPage;
-use crate::content::{content, driven_byte, shown, status};
 use crate::worked::{CACHED, ONE_LUN, TWO_LUNS, past_of};
 use nand_geometry::{Geometry, Parts};
 use onfi_cycle::{Lun, PageAddress};
+use oracle_onfi::WrittenPage;
+use oracle_onfi::content::{content, driven_byte, shown, status};
 use std::alloc::{AllocError, Global};
 use std::process::Abort;
 use std::test::Fail;

@@ -1,9 +1,9 @@
 //! The running state beside the look-back twin, item by item, on made traces of the commands that the bus takes.
-use crate::past::{is_caching, lun_facts};
-use crate::trace::broken;
 use crate::worked::{ONE_LUN, TWO_LUNS, trace};
 use nand_geometry::Geometry;
 use onfi_cycle::{BusState, Item, Lun, WorkQueue};
+use oracle_onfi::past::{is_caching, lun_facts};
+use oracle_onfi::trace::broken;
 use std::alloc::Global;
 use std::process::Abort;
 use std::test::Fail;

@@ -1,9 +1,9 @@
 //! What the worked traces share: two geometries, a short way to write traces, and a walk that judges them.
 ghost use Rattle.std.specs.Prelude.{◌<◌, IfOk};
 
-use crate::past::{luns_of, tail_facts};
 use nand_geometry::{Geometry, Parts, SMALL_CHIP};
 use onfi_cycle::{Cycle, Forbidden, Item, Kind, TargetCycle, judge, judge_known_cycle};
+use oracle_onfi::past::{luns_of, tail_facts};
 use std::alloc::{AllocError, Global};
 use std::process::Abort;
 use std::test::Fail;

@@ -2,9 +2,9 @@
 use crate::worked::{
     CACHED, ONE_LUN, TWO_CACHED, TWO_LUNS, TWO_PLANES, UNEVEN, first_broken, trace,
 };
-use crate::{broken, check};
 use nand_geometry::{Geometry, Parts};
 use onfi_cycle::{Cycle, Forbidden, Item, Kind};
+use oracle_onfi::{broken, check};
 use std::alloc::Global;
 use std::process::Abort;
 use std::test::Fail;

@@ -1,13 +1,13 @@
 //! Worked facts: what each look back at a past tells.
-use crate::WorkKind;
-use crate::content::{filled, has_failed, pending_work, queued_work, register_bytes};
-use crate::past::{drivers, effect_on, is_caching, latch_alone, lun_facts, tail_facts};
 use crate::worked::{CACHED, ONE_LUN, TWO_LUNS, past_of};
 use nand_geometry::{Geometry, Parts};
 use onfi_cycle::{
     Command, Cycle, Effect, Item, Kind, Latch, Lun, Opening, PageAddress, ReadColumn, Register,
     RowBytes,
 };
+use oracle_onfi::WorkKind;
+use oracle_onfi::content::{filled, has_failed, pending_work, queued_work, register_bytes};
+use oracle_onfi::past::{drivers, effect_on, is_caching, latch_alone, lun_facts, tail_facts};
 use std::test::Fail;
 
 const LUN_0: Lun = Lun { ce: 0, lun: 0 };

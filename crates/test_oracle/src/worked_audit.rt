@@ -1,10 +1,10 @@
 //! Worked rows that were derived by hand, each before it was run.
-use crate::WrittenPage;
-use crate::content::{content, driven_byte, shown, status};
-use crate::past::is_busy;
 use crate::worked::{CACHED, ONE_LUN, TWO_CACHED, TWO_LUNS, first_broken, past_of, trace};
 use nand_geometry::{Geometry, Parts};
 use onfi_cycle::{Cycle, Forbidden, Item, Kind, Lun, PageAddress};
+use oracle_onfi::WrittenPage;
+use oracle_onfi::content::{content, driven_byte, shown, status};
+use oracle_onfi::past::is_busy;
 use std::alloc::{AllocError, Global};
 use std::test::Fail;
 
