@@ -3,9 +3,9 @@ use Rattle.std.proofs.Common.{◌≡◌, ℕ, List, Option, Some, None, refl, sy
 use Rattle.std.specs.Prelude.{IfSome}
 use Rattle.seq_commands.specs.declared.exit.Exit.{Exit}
 use Rattle.seq_commands.specs.declared.exit.Exit.TheVariants.{Done, Refused, FileFault, Usage, OutOfMemory}
-use Rattle.seq_commands.specs.declared.refusal.Refusal.{Refusal}
+use Rattle.seq_inputs.specs.declared.refusal.Refusal.{Refusal}
 use Rattle.seq_commands.specs.Exits.{status}
-use Rattle.seq_commands.specs.Refusals.{line_of}
+use Rattle.seq_inputs.specs.Refusals.{line_of}
 
 -- one refusal or another
 some_refusal : (o : Option (List ℕ)) (May : List ℕ → Refusal → Type 0) (Said : List ℕ → Type 0) (r : Refusal) → IfSome o (λ bytes. May bytes r × Said (line_of r)) → IfSome o (λ bytes. (s : Refusal) × May bytes s × Said (line_of s))

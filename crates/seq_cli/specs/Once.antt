@@ -22,15 +22,15 @@ use Rattle.seq_core.specs.Job.{job_of, job_fault}
 use Rattle.target_bus.specs.Bus.{channel_on}
 use Rattle.seq_core.specs.Alone.{alone_on}
 use Rattle.trace_text.specs.Line.{text}
-use Rattle.seq_commands.specs.declared.refusal.Refusal.{Refusal}
-use Rattle.seq_commands.specs.declared.refusal.Refusal.TheVariants.{Text}
+use Rattle.seq_inputs.specs.declared.refusal.Refusal.{Refusal}
+use Rattle.seq_inputs.specs.declared.refusal.Refusal.TheVariants.{Text}
 use Rattle.seq_cli.specs.declared.not_run.NotRun.{NotRun}
 use Rattle.seq_cli.specs.declared.not_run.NotRun.TheVariants.{Refused, OutOfMemory as NoMemory}
-use Rattle.seq_commands.specs.Refusals.{line_of}
+use Rattle.seq_inputs.specs.Refusals.{line_of}
 use Rattle.micro_word.specs.Codes.{word_fault_code}
 use Rattle.micro_claims.specs.Codes.{reason_code}
 use Rattle.seq_core.specs.Codes.{job_fault_code}
-use Rattle.seq_commands.specs.Lines.{refusal_line, end_line}
+use Rattle.seq_inputs.specs.Lines.{refusal_line, end_line}
 
 -- one LUN of 8 blocks of 4 pages of 512 + 16 bytes
 abbrev pub one_lun : Parts

@@ -11,7 +11,7 @@ use Rattle.seq_core.specs.Lawful.{LawfulWorld}
 use Rattle.seq_core.specs.Shows.{CoreView, IsAt, channel_in}
 use Rattle.seq_core.specs.Alone.{alone_on}
 use Rattle.trace_text.specs.Line.{text}
-use Rattle.seq_commands.specs.Lines.{end_line}
+use Rattle.seq_inputs.specs.Lines.{end_line}
 use Rattle.seq_cli.specs.Once.{one_lun, the_lun, the_channel}
 
 -- a turn was taken: from whatever lawful world was kept, a lawful world is kept from which the program goes on, or in which it has ended

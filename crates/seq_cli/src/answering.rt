@@ -1,8 +1,8 @@
 //! What the program does with its words, what it says on standard error, and its status.
 ghost use Rattle.std.specs.Prelude.{◌≡◌, List, ℕ, IfSome};
 ghost use Rattle.std.specs.Io.KnownBytes.{Appends};
-ghost use Rattle.seq_commands.specs.declared.refusal.Refusal.{Refusal};
-ghost use Rattle.seq_commands.specs.Refusals.{line_of};
+ghost use Rattle.seq_inputs.specs.declared.refusal.Refusal.{Refusal};
+ghost use Rattle.seq_inputs.specs.Refusals.{line_of};
 ghost use Rattle.seq_commands.specs.Exits.{status};
 ghost use Rattle.seq_commands.specs.Commands.{IsDone, MayRefuse, MayLeave};
 ghost use Rattle.seq_cli.specs.Once.{MayBeRefused, IsRun};

@@ -16,7 +16,8 @@ pub use answering::{answer, answer_watched, run_command, run_file};
 pub use once::once_on;
 pub use progress::TerminalProgress;
 pub use real_files::RealFiles;
-pub use seq_commands::{Exit, Refusal};
+pub use seq_commands::Exit;
+pub use seq_inputs::Refusal;
 
 #[cfg(test)]
 mod answer_tests;

@@ -1,6 +1,6 @@
 //! Why a file isn't run.
 
-use seq_commands::Refusal;
+use seq_inputs::Refusal;
 use std::alloc::AllocError;
 
 /// Why a file isn't run.

@@ -1,10 +1,10 @@
 -- What is refused is what a failure says.
 use Rattle.std.proofs.Common.{◌≡◌, ◌⊎◌, inl, inr, ℕ, List, Option, Some, None, subst}
 use Rattle.seq_files.specs.Store.{Store}
-use Rattle.seq_commands.specs.declared.refusal.Refusal.{Refusal}
-use Rattle.seq_commands.specs.declared.failure.Failure.{Failure}
-use Rattle.seq_commands.specs.declared.failure.Failure.TheVariants.{Refused, FileFault, OutOfMemory}
-use Rattle.seq_commands.specs.Failures.{refusal_in, Says, SaysElse}
+use Rattle.seq_inputs.specs.declared.refusal.Refusal.{Refusal}
+use Rattle.seq_inputs.specs.declared.failure.Failure.{Failure}
+use Rattle.seq_inputs.specs.declared.failure.Failure.TheVariants.{Refused, FileFault, OutOfMemory}
+use Rattle.seq_inputs.specs.Failures.{refusal_in, Says, SaysElse}
 use Rattle.seq_commands.specs.Commands.{VerifyRefuses, VerifyLeaves}
 
 some_same : (r s : Refusal) → Some r ≡ Some s → r ≡ s

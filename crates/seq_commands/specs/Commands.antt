@@ -4,13 +4,10 @@ use Rattle.std.specs.List.{All}
 use Rattle.std.specs.Option.{option_map}
 use Rattle.seq_files.specs.Store.{Store, Holds, with_file}
 use Rattle.nand_geometry.specs.declared.parts.Parts.{Parts}
-use Rattle.nand_geometry.specs.Reading.{read_of}
 use Rattle.onfi_cycle.specs.declared.item.Item.{Item}
 use Rattle.onfi_cycle.specs.declared.item.Item.TheVariants.{Cyc}
 use Rattle.onfi_cycle.specs.Permitted.{is_legal, IsFirstBroken}
-use Rattle.micro_word.specs.declared.refusal.WordRefusal.TheVariants.{Fault as WordFaultAt}
-use Rattle.micro_word.specs.Text.{Microprogram, IsFileOf, file2}
-use Rattle.micro_word.specs.Reading.{reading as file_reading}
+use Rattle.micro_word.specs.Text.{Microprogram, file2}
 use Rattle.micro_asm.specs.declared.refusal.AsmRefusal.TheVariants.{Fault as AsmFaultAt}
 use Rattle.micro_asm.specs.Assembly.{assembly}
 use Rattle.micro_asm.specs.Reading.{Spells, reading as source_reading}
@@ -24,75 +21,19 @@ use Rattle.micro_verify.specs.Calm.{counter_of}
 use Rattle.trace_text.specs.Line.{text, IsPrintable}
 use Rattle.trace_text.specs.Trace.{IsTextOf}
 use Rattle.trace_text.specs.Reading.{reading as trace_reading}
+use Rattle.seq_inputs.specs.Inputs.{HasPage, PageIsRefused, HasFile, FileIsRefused}
 use Rattle.seq_commands.specs.declared.command.Targets.{Targets}
 use Rattle.seq_commands.specs.declared.command.Targets.TheVariants.{One, Two, Three, Four}
 use Rattle.seq_commands.specs.declared.command.Command.{Command}
 use Rattle.seq_commands.specs.declared.command.Command.TheVariants.{Assemble, Disassemble, Upgrade, Verify, Check}
-use Rattle.seq_commands.specs.declared.refusal.Refusal.{Refusal}
-use Rattle.seq_commands.specs.declared.refusal.Refusal.TheVariants.{Page, Source, File, Text, Trace, Item as ItemAt}
+use Rattle.seq_inputs.specs.declared.refusal.Refusal.{Refusal}
+use Rattle.seq_inputs.specs.declared.refusal.Refusal.TheVariants.{Source, Text, Trace, Item as ItemAt}
 
 abbrev pub count_of : Targets → ℕ
 count_of One = 1
 count_of Two = 2
 count_of Three = 3
 count_of Four = 4
-
--- ---- parameter pages
-
--- the page at this path declares the geometry
-pub record HasPage (files : Option Store) (path : List ℕ) (g : Parts) : Type 0 where
-  pub page : List ℕ
-  pub is_page : Holds files path page
-  pub declares : read_of page ≡ Ok g
-
--- the first fault of a parameter page
-abbrev pub RefusesPage : List ℕ → Refusal → Type 0
-RefusesPage page (Page fault) = read_of page ≡ Err fault
-RefusesPage page _ = ⊥
-
-pub record PageIsRefused (files : Option Store) (path : List ℕ) (refusal : Refusal) : Type 0 where
-  pub page : List ℕ
-  pub is_page : Holds files path page
-  pub refuses : RefusesPage page refusal
-
--- ---- word files
-
--- the word file at this path is the microprogram's
-pub record HasFile (files : Option Store) (path : List ℕ) (x : Microprogram) : Type 0 where
-  pub bytes : List ℕ
-  pub is_bytes : Holds files path bytes
-  pub is_file : IsFileOf bytes x
-
--- the first fault of a word file
-abbrev pub RefusesFile : List ℕ → Refusal → Type 0
-RefusesFile bytes (File fault word) = file_reading bytes ≡ Err (WordFaultAt fault word)
-RefusesFile bytes _ = ⊥
-
-pub record FileIsRefused (files : Option Store) (path : List ℕ) (refusal : Refusal) : Type 0 where
-  pub bytes : List ℕ
-  pub is_bytes : Holds files path bytes
-  pub refuses : RefusesFile bytes refusal
-
--- the word file at this path is that of a microprogram which is safe for the geometry, and against which there is nothing
-pub record HasText (files : Option Store) (g : Parts) (path : List ℕ) (x : Microprogram) : Type 0 where
-  pub has_file : HasFile files path x
-  pub safe : IsSafe x g
-  pub faultless : fault_of g x ≡ None
-
--- a reason against a microprogram, for this geometry
-abbrev pub RefusesReason : Parts → Microprogram → Refusal → Type 0
-RefusesReason g x (Text reason word) = MayBe g x (record { word = word; reason = reason })
-RefusesReason g x _ = ⊥
-
--- the same of the microprogram of the word file at this path
-pub record ReasonIsAgainst (files : Option Store) (g : Parts) (path : List ℕ) (refusal : Refusal) : Type 0 where
-  pub x : Microprogram
-  pub has_file : HasFile files path x
-  pub refuses : RefusesReason g x refusal
-
--- the word file at this path has this fault, or there is this reason against its microprogram
-abbrev pub FileOrTextIsRefused : Option Store → Parts → List ℕ → Refusal → Type 0
-FileOrTextIsRefused files g path refusal = FileIsRefused files path refusal ⊎ ReasonIsAgainst files g path refusal
 
 -- ---- asm
 

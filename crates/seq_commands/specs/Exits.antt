@@ -2,7 +2,7 @@
 use Rattle.std.specs.Prelude.{ℕ, List, Option, Some, None, codes}
 use Rattle.seq_files.specs.declared.error.FileError.{FileError}
 use Rattle.seq_files.specs.declared.error.FileError.TheVariants.{Fault, OutOfMemory}
-use Rattle.seq_commands.specs.declared.command.Medium.TheVariants.{Stream}
+use Rattle.seq_inputs.specs.declared.medium.Medium.TheVariants.{Stream}
 use Rattle.seq_commands.specs.declared.exit.Exit.{Exit}
 use Rattle.seq_commands.specs.declared.exit.Exit.TheVariants.{Done, Refused, FileFault, Usage, OutOfMemory as NoMemory}
 

@@ -1,5 +1,2 @@
 pub mod Commands
 pub mod Exits
-pub mod Failures
-pub mod Lines
-pub mod Refusals

@@ -1,21 +1,17 @@
 //! The command that assembles a text.
 ghost use Rattle.std.specs.Prelude.{◌≡◌, ◌⊎◌, codes, IfOk, IfErr, OnOk, OnErr};
 ghost use Rattle.std.specs.Io.KnownBytes.{Appends};
-ghost use Rattle.seq_commands.specs.declared.refusal.Refusal.{Refusal};
+ghost use Rattle.seq_inputs.specs.declared.refusal.Refusal.{Refusal};
 ghost use Rattle.seq_commands.specs.Commands.{SpellsFile, RefusesSource, SourceIsRefused, IsAssembled};
-ghost use Rattle.seq_commands.specs.Failures.{Says};
-ghost use Rattle.seq_commands.specs.Refusals.{line_of};
+ghost use Rattle.seq_inputs.specs.Failures.{Says};
+ghost use Rattle.seq_inputs.specs.Refusals.{line_of};
 
-use crate::command::Medium;
 use crate::ending::{fail, finish};
 use crate::exit::Exit;
-use crate::explaining::words_of_source;
-use crate::failure::Failure;
-use crate::given::{file_of, put_file, str_of};
-use crate::refusal::Refusal;
 use micro_asm::{AsmRefusal, assemble};
 use micro_word::write;
 use seq_files::Files;
+use seq_inputs::{Failure, Medium, Refusal, file_of, put_file, str_of, words_of_source};
 use std::alloc::Allocator;
 use std::io::Write;
 

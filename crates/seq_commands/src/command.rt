@@ -2,6 +2,8 @@
 ghost use Rattle.std.specs.Prelude.{◌≡◌, ◌≤◌};
 ghost use Rattle.seq_commands.specs.Commands.{count_of};
 
+use seq_inputs::Medium;
+
 /// How many targets a channel has.
 #[derive(Clone, Copy, Debug, PartialEq, Eq)]
 pub enum Targets {
@@ -56,19 +58,6 @@ pub enum Command<'a> {
         targets: Targets,
         input: &'a str,
     },
-}
-
-/// What a command reads or writes.
-#[derive(Clone, Copy, Debug, PartialEq, Eq)]
-pub enum Medium {
-    /// Standard input or output.
-    Stream,
-    /// The parameter page.
-    Page,
-    /// The file that is read.
-    Input,
-    /// The file that is written.
-    Output,
 }
 
 impl<'a> Command<'a> {

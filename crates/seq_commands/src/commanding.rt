@@ -1,9 +1,9 @@
 //! Doing a command.
 ghost use Rattle.std.specs.Prelude.{◌≡◌, ℕ, List};
 ghost use Rattle.std.specs.Io.KnownBytes.{Appends};
-ghost use Rattle.seq_commands.specs.declared.refusal.Refusal.{Refusal};
+ghost use Rattle.seq_inputs.specs.declared.refusal.Refusal.{Refusal};
 ghost use Rattle.seq_commands.specs.Commands.{IsDone, MayRefuse, MayLeave};
-ghost use Rattle.seq_commands.specs.Refusals.{line_of};
+ghost use Rattle.seq_inputs.specs.Refusals.{line_of};
 
 use crate::assembling::assemble_file;
 use crate::checking::check_trace;

@@ -2,17 +2,17 @@
 ghost use Rattle.std.specs.Prelude.{◌≡◌, ℕ, List, IfOk, IfErr};
 ghost use Rattle.std.specs.Io.KnownBytes.{Appends};
 ghost use Rattle.std.specs.String.{string_bytes};
-ghost use Rattle.seq_commands.specs.declared.refusal.Refusal.{Refusal};
-ghost use Rattle.seq_commands.specs.Commands.{IsDisassembled, FileIsRefused};
-ghost use Rattle.seq_commands.specs.Failures.{Says};
-ghost use Rattle.seq_commands.specs.Refusals.{line_of};
+ghost use Rattle.seq_inputs.specs.declared.refusal.Refusal.{Refusal};
+ghost use Rattle.seq_inputs.specs.Inputs.{FileIsRefused};
+ghost use Rattle.seq_commands.specs.Commands.{IsDisassembled};
+ghost use Rattle.seq_inputs.specs.Failures.{Says};
+ghost use Rattle.seq_inputs.specs.Refusals.{line_of};
 
 use crate::ending::{fail, finish};
 use crate::exit::Exit;
-use crate::failure::Failure;
-use crate::given::text_at;
 use micro_asm::disassemble;
 use seq_files::Files;
+use seq_inputs::{Failure, text_at};
 use std::alloc::Allocator;
 use std::io::Write;
 

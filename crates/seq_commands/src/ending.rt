@@ -1,14 +1,13 @@
 //! How a command ends: what it prints.
 ghost use Rattle.std.specs.Prelude.{◌≡◌, Some, OnOk};
 ghost use Rattle.std.specs.Io.KnownBytes.{Appends};
-ghost use Rattle.seq_commands.specs.declared.refusal.Refusal.{Refusal};
-ghost use Rattle.seq_commands.specs.Failures.{refusal_in};
-ghost use Rattle.seq_commands.specs.Refusals.{line_of};
+ghost use Rattle.seq_inputs.specs.declared.refusal.Refusal.{Refusal};
+ghost use Rattle.seq_inputs.specs.Failures.{refusal_in};
+ghost use Rattle.seq_inputs.specs.Refusals.{line_of};
 
 use crate::exit::Exit;
-use crate::failure::Failure;
-use crate::refusal::Refusal;
 use seq_files::{FileError, write_text};
+use seq_inputs::{Failure, Refusal};
 use std::alloc::Allocator;
 use std::io::Write;
 

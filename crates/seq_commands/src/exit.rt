@@ -3,9 +3,8 @@ ghost use Rattle.std.specs.Prelude.{◌≡◌};
 ghost use Rattle.std.specs.Option.{option_map};
 ghost use Rattle.seq_commands.specs.Exits.{status, message, exit_of};
 
-use crate::command::Medium;
-use crate::refusal::Refusal;
 use seq_files::FileError;
+use seq_inputs::{Medium, Refusal};
 
 /// How a run of the program ends.
 #[derive(Clone, Copy, Debug, PartialEq, Eq)]

@@ -1,17 +1,17 @@
 //! The command that writes a word file anew, in format 2.
 ghost use Rattle.std.specs.Prelude.{◌≡◌, ◌⊎◌, codes, IfErr, OnOk, OnErr};
 ghost use Rattle.std.specs.Io.KnownBytes.{Appends};
-ghost use Rattle.seq_commands.specs.declared.refusal.Refusal.{Refusal};
-ghost use Rattle.seq_commands.specs.Commands.{IsUpgraded, FileIsRefused};
-ghost use Rattle.seq_commands.specs.Failures.{Says};
-ghost use Rattle.seq_commands.specs.Refusals.{line_of};
+ghost use Rattle.seq_inputs.specs.declared.refusal.Refusal.{Refusal};
+ghost use Rattle.seq_inputs.specs.Inputs.{FileIsRefused};
+ghost use Rattle.seq_commands.specs.Commands.{IsUpgraded};
+ghost use Rattle.seq_inputs.specs.Failures.{Says};
+ghost use Rattle.seq_inputs.specs.Refusals.{line_of};
 
 use crate::ending::{fail, finish};
 use crate::exit::Exit;
-use crate::failure::Failure;
-use crate::given::{put_file, text_at};
 use micro_word::write;
 use seq_files::Files;
+use seq_inputs::{Failure, put_file, text_at};
 use std::alloc::Allocator;
 use std::io::Write;
 

@@ -11,8 +11,8 @@ use Rattle.micro_program.specs.Verified.{VerifiedText}
 use Rattle.seq_core.specs.Job.{job_fault}
 use Rattle.seq_core.specs.declared.job_fault.JobFault.{JobFault}
 use Rattle.seq_run.specs.declared.refusal.PlanFault.TheVariants.{File}
-use Rattle.seq_commands.specs.declared.refusal.Refusal.TheVariants.{Job}
-use Rattle.seq_commands.specs.Commands.{HasText}
+use Rattle.seq_inputs.specs.declared.refusal.Refusal.TheVariants.{Job}
+use Rattle.seq_inputs.specs.Inputs.{HasText}
 use Rattle.seq_run.specs.Judged.{HasInput, JobPasses, JobLineIsRefused, fault_of_job}
 
 same_fault : (g : Parts) (targets : ℕ) (l : Lun) (base : ℕ) (v : VerifiedText) (n : ℕ) (o : Option JobFault) → v.geometry ≡ g → n ≡ v.text.buffer → job_fault g targets l base v n ≡ o → fault_of_job g targets l base v.text v.text.buffer ≡ o

@@ -1,9 +1,9 @@
 -- What a file that a line names is refused for, the line is.
 use Rattle.std.proofs.Common.{sym, subst}
-use Rattle.seq_commands.specs.declared.refusal.Refusal.{Refusal}
-use Rattle.seq_commands.specs.declared.failure.Failure.{Failure as NamedFailure}
-use Rattle.seq_commands.specs.declared.failure.Failure.TheVariants as named
-use Rattle.seq_commands.specs.Failures.{Says as NamedSays}
+use Rattle.seq_inputs.specs.declared.refusal.Refusal.{Refusal}
+use Rattle.seq_inputs.specs.declared.failure.Failure.{Failure as NamedFailure}
+use Rattle.seq_inputs.specs.declared.failure.Failure.TheVariants as named
+use Rattle.seq_inputs.specs.Failures.{Says as NamedSays}
 use Rattle.seq_run.specs.declared.refusal.PlanFault.{PlanFault}
 use Rattle.seq_run.specs.declared.failure.Failure.{Failure}
 use Rattle.seq_run.specs.declared.failure.Failure.TheVariants as failure

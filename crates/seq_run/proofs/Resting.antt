@@ -16,7 +16,7 @@ use Rattle.seq_run.specs.declared.not_run.NotRun.TheVariants as not_run
 use Rattle.seq_run.specs.Failures.{Says, Refuses, IsAt}
 use Rattle.seq_run.specs.Planned.{image_in, images_in}
 use Rattle.seq_run.specs.Judged.{Numbered, Passes, IsRefused, IsRefusedAt, RestIsRefused, RestPasses, page_of, targets_of, AfterPageIsRefused, PageStatementIsRefused, PlanPasses, PlanIsRefused}
-use Rattle.seq_commands.specs.Commands.{HasPage}
+use Rattle.seq_inputs.specs.Inputs.{HasPage}
 use Rattle.seq_run.proofs.Lists.{front_more}
 use Rattle.run_file.specs.Told.{Told}
 

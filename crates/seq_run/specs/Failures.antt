@@ -1,8 +1,8 @@
 -- Why a statement doesn't pass, and why a run isn't done.
 use Rattle.std.specs.Prelude.{◌≡◌, ℕ, ⊤, None}
-use Rattle.seq_commands.specs.declared.refusal.Refusal.{Refusal}
-use Rattle.seq_commands.specs.declared.failure.Failure.{Failure as NamedFailure}
-use Rattle.seq_commands.specs.declared.failure.Failure.TheVariants as named
+use Rattle.seq_inputs.specs.declared.refusal.Refusal.{Refusal}
+use Rattle.seq_inputs.specs.declared.failure.Failure.{Failure as NamedFailure}
+use Rattle.seq_inputs.specs.declared.failure.Failure.TheVariants as named
 use Rattle.run_file.specs.declared.refusal.RunFault.{RunFault}
 use Rattle.seq_run.specs.declared.refusal.PlanFault.{PlanFault}
 use Rattle.seq_run.specs.declared.refusal.PlanRefusal.{PlanRefusal}

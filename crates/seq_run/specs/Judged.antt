@@ -7,8 +7,8 @@ use Rattle.die_model.specs.Loading.{image_fault}
 use Rattle.micro_word.specs.Text.{Microprogram}
 use Rattle.seq_core.specs.Job.{job_fault}
 use Rattle.seq_core.specs.declared.job_fault.JobFault.{JobFault}
-use Rattle.seq_commands.specs.declared.refusal.Refusal.TheVariants.{Job as JobRefusal}
-use Rattle.seq_commands.specs.Commands.{HasPage, PageIsRefused, HasText, FileOrTextIsRefused}
+use Rattle.seq_inputs.specs.declared.refusal.Refusal.TheVariants.{Job as JobRefusal}
+use Rattle.seq_inputs.specs.Inputs.{HasPage, PageIsRefused, HasText, FileOrTextIsRefused}
 use Rattle.run_file.specs.declared.refusal.RunFault.TheVariants.{OutOfOrder, NoSuchLun, InputTooLong}
 use Rattle.run_file.specs.declared.refusal.RunRefusal.{RunRefusal}
 use Rattle.run_file.specs.Line.{Statement}

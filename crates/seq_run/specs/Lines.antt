@@ -3,8 +3,8 @@ use Rattle.std.specs.Prelude.{ℕ, ◌+◌, List, [], ◌∷◌, ◌++◌, codes
 use Rattle.std.specs.Fmt.{decimal}
 use Rattle.die_model.specs.Loading.{code as image_fault_code}
 use Rattle.run_file.specs.Line.{code as line_fault_code}
-use Rattle.seq_commands.specs.Lines.{refusal_line}
-use Rattle.seq_commands.specs.Refusals.{code_of as file_code}
+use Rattle.seq_inputs.specs.Lines.{refusal_line}
+use Rattle.seq_inputs.specs.Refusals.{code_of as file_code}
 use Rattle.seq_run.specs.declared.refusal.PlanFault.{PlanFault}
 use Rattle.seq_run.specs.declared.refusal.PlanFault.TheVariants.{Line, Image, File}
 use Rattle.seq_run.specs.declared.refusal.PlanRefusal.{PlanRefusal}

@@ -1,7 +1,7 @@
 //! A refusal in words, for whoever wrote the run file.
 
 use crate::refusal::{PlanFault, PlanRefusal};
-use seq_commands::{BaseGiver, Meaning};
+use seq_inputs::{BaseGiver, Meaning};
 use std::alloc::Global;
 use std::fmt;
 use std::io::Write;

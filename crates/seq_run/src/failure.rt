@@ -5,8 +5,8 @@ ghost use Rattle.seq_run.specs.Failures.{line_failure, SaysNothing, IsNamed, IsA
 use crate::not_run::NotRun;
 use crate::refusal::{PlanFault, PlanRefusal};
 use run_file::RunFault;
-use seq_commands::Failure as NamedFailure;
 use seq_files::FileError;
+use seq_inputs::Failure as NamedFailure;
 use std::alloc::{AllocError, AllocFailed};
 
 /// Why a statement doesn't pass.

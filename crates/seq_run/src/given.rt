@@ -3,7 +3,7 @@ ghost use Rattle.std.specs.Prelude.{◌≡◌, true, IfOk, IfErr, OnOk, vec_len}
 ghost use Rattle.std.specs.Option.{option_copied};
 ghost use Rattle.target_bus.specs.Bus.{is_new_of};
 ghost use Rattle.seq_files.specs.Store.{Holds};
-ghost use Rattle.seq_commands.specs.Commands.{HasPage, PageIsRefused, HasText, FileOrTextIsRefused};
+ghost use Rattle.seq_inputs.specs.Inputs.{HasPage, PageIsRefused, HasText, FileOrTextIsRefused};
 ghost use Rattle.seq_run.specs.Failures.{Says, SaysNothing, OfFile};
 ghost use Rattle.seq_run.specs.Judged.{ImageIsRefused, HasImage, HasInput, InputIsRefused};
 
@@ -14,8 +14,8 @@ use die_model::{ImageRefusal, LunDie};
 use micro_program::Verified;
 use nand_geometry::Geometry;
 use run_file::RunFault;
-use seq_commands::{geometry_at, verified_at};
 use seq_files::Files;
+use seq_inputs::{geometry_at, verified_at};
 use std::alloc::Global;
 
 // The bytes of a file.

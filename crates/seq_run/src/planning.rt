@@ -17,9 +17,9 @@ use crate::refusal::{PlanFault, PlanRefusal};
 use nand_geometry::Geometry;
 use onfi_cycle::Lun;
 use run_file::{Numbered, RunFault, RunRefusal, RunText, Statement};
-use seq_commands::Refusal;
 use seq_core::Job;
 use seq_files::Files;
+use seq_inputs::Refusal;
 use std::alloc::Global;
 
 // The LUN of a channel that has these numbers.

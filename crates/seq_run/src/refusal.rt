@@ -5,7 +5,7 @@ ghost use Rattle.seq_run.specs.Lines.{code_of, line_of};
 
 use die_model::ImageFault;
 use run_file::RunFault;
-use seq_commands::Refusal;
+use seq_inputs::Refusal;
 use std::alloc::{AllocError, Allocator};
 
 /// What is wrong with a line of a run file, or with a file that it names.

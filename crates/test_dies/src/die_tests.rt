@@ -6,7 +6,7 @@ use die_model::{ImageFault, ImageRefusal, LunDie, Work};
 use linked_list_allocator::LocalHeap;
 use nand_geometry::{Geometry, Parts, SMALL_CHIP};
 use onfi_cycle::{PageAddress, Queued, Status};
-use std::alloc::{Allocator, Global};
+use std::alloc::{AllocError, Allocator, Global};
 use std::process::Abort;
 use std::test::Fail;
 

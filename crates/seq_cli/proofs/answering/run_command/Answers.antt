@@ -1,6 +1,6 @@
 use Rattle.std.specs.Io.KnownBytes.{Appends}
 use Rattle.seq_commands.specs.Commands.{MayRefuse}
-use Rattle.seq_commands.specs.Refusals.{line_of}
+use Rattle.seq_inputs.specs.Refusals.{line_of}
 use Rattle.seq_cli.proofs.Statuses.{command_refused}
 use Rattle.seq_cli.proofs.answering.run_command.Goals as goal
 

@@ -1,4 +1,4 @@
-use Rattle.seq_commands.specs.Commands.{FileIsRefused}
+use Rattle.seq_inputs.specs.Inputs.{FileIsRefused}
 use Rattle.seq_commands.proofs.Said.{said}
 use Rattle.seq_commands.proofs.upgrading.upgrade_file.Goals as goal
 

@@ -167,7 +167,7 @@ impl fmt::Display for Explained<'_> {
 }
 
 /// A refusal in words, unless there is no memory for them.
-pub(crate) fn words_of<A: Allocator>(
+pub fn words_of<A: Allocator>(
     alloc: A,
     path: &str,
     refusal: Refusal,
@@ -182,7 +182,7 @@ pub(crate) fn words_of<A: Allocator>(
 }
 
 /// A line of a text, counted from 1; empty if there is none.
-pub(crate) fn line_at(text: &str, line: usize) -> &str {
+pub fn line_at(text: &str, line: usize) -> &str {
     let mut left = line;
     for piece in text.split('\n') {
         if left <= 1 {
@@ -209,7 +209,7 @@ fn word_line(assembly: &str, word: usize) -> Option<&str> {
 }
 
 /// A refusal of a word in words, with the word as assembly.
-pub(crate) fn words_of_word<A: Allocator + Clone>(
+pub fn words_of_word<A: Allocator + Clone>(
     alloc: A,
     path: &str,
     refusal: Refusal,
@@ -221,7 +221,7 @@ pub(crate) fn words_of_word<A: Allocator + Clone>(
 }
 
 /// A refusal of an assembly text in words.
-pub(crate) fn words_of_source<A: Allocator>(
+pub fn words_of_source<A: Allocator>(
     alloc: A,
     path: &str,
     fault: AsmFault,

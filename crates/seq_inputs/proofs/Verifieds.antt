@@ -6,11 +6,11 @@ use Rattle.micro_word.specs.Text.{Microprogram}
 use Rattle.micro_program.specs.Safe.{IsSafe}
 use Rattle.micro_program.specs.Verified.{VerifiedText}
 use Rattle.micro_walk.specs.Faults.{fault_of}
-use Rattle.seq_commands.specs.declared.refusal.Refusal.{Refusal}
-use Rattle.seq_commands.specs.declared.failure.Failure.{Failure}
-use Rattle.seq_commands.specs.declared.failure.Failure.TheVariants.{Refused, FileFault, OutOfMemory}
-use Rattle.seq_commands.specs.Failures.{Says}
-use Rattle.seq_commands.specs.Commands.{HasFile, HasText, FileIsRefused, RefusesReason, FileOrTextIsRefused}
+use Rattle.seq_inputs.specs.declared.refusal.Refusal.{Refusal}
+use Rattle.seq_inputs.specs.declared.failure.Failure.{Failure}
+use Rattle.seq_inputs.specs.declared.failure.Failure.TheVariants.{Refused, FileFault, OutOfMemory}
+use Rattle.seq_inputs.specs.Failures.{Says}
+use Rattle.seq_inputs.specs.Inputs.{HasFile, HasText, FileIsRefused, RefusesReason, FileOrTextIsRefused}
 
 pub has_text : (files : Option Store) (g : Parts) (path : List ℕ) (x : Microprogram) (v : VerifiedText) → HasFile files path x → (v.text ≡ x) × (v.geometry ≡ g) → IsSafe x g → fault_of g x ≡ None → HasText files g path v.text × (v.geometry ≡ g)
 has_text files g path x v has_file same safe faultless = (

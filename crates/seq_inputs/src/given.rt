@@ -5,22 +5,23 @@ ghost use Rattle.micro_word.specs.Text.{IsFileOf};
 ghost use Rattle.micro_program.specs.Safe.{IsSafe};
 ghost use Rattle.micro_walk.specs.Faults.{fault_of};
 ghost use Rattle.seq_files.specs.Store.{Holds, with_file};
-ghost use Rattle.seq_commands.specs.Commands.{HasPage, PageIsRefused, RefusesPage, HasFile, FileIsRefused, RefusesFile, HasText, RefusesReason, FileOrTextIsRefused};
-ghost use Rattle.seq_commands.specs.Failures.{Says, RefusesNothing};
+ghost use Rattle.seq_inputs.specs.Inputs.{HasPage, PageIsRefused, RefusesPage, HasFile, FileIsRefused, RefusesFile, HasText, RefusesReason, FileOrTextIsRefused};
+ghost use Rattle.seq_inputs.specs.Failures.{Says, RefusesNothing};
 
-use crate::command::Medium;
 use crate::explaining::{words_of, words_of_word};
 use crate::failure::Failure;
+use crate::medium::Medium;
 use crate::refusal::Refusal;
+use micro_claims::Fault;
 use micro_program::Verified;
-use micro_verify::{TextRefused, VerifyRefusal, verify};
+use micro_walk::{Finding, examine};
 use micro_word::{Text, WordRefusal, read};
 use nand_geometry::Geometry;
 use seq_files::Files;
 use std::alloc::Allocator;
 
 /// The bytes of a file.
-pub(crate) fn file_of<A: Allocator, F: Files>(
+pub fn file_of<A: Allocator, F: Files>(
     alloc: A,
     files: &mut F,
     medium: Medium,
@@ -37,7 +38,7 @@ pub(crate) fn file_of<A: Allocator, F: Files>(
 }
 
 /// Makes a file of these bytes.
-pub(crate) fn put_file<A: Allocator, F: Files>(
+pub fn put_file<A: Allocator, F: Files>(
     files: &mut F,
     path: &str,
     bytes: &[u8],
@@ -53,7 +54,7 @@ pub(crate) fn put_file<A: Allocator, F: Files>(
 }
 
 /// The text of a file; what isn't UTF-8 is a fault of the file.
-pub(crate) fn str_of<A: Allocator>(bytes: &[u8]) -> Result<&str, Failure<A>>
+pub fn str_of<A: Allocator>(bytes: &[u8]) -> Result<&str, Failure<A>>
     ensures ok { IfOk result (λ text. text.now ≡ bytes.now) }
     ensures err { IfErr result (λ e. RefusesNothing e) }
 {
@@ -113,7 +114,7 @@ fn text_in<A: Allocator + Clone>(alloc: A, path: &str, bytes: &[u8]) -> Result<T
 }
 
 /// The text of the word file at a path.
-pub(crate) fn text_at<A: Allocator + Clone, F: Files>(
+pub fn text_at<A: Allocator + Clone, F: Files>(
     alloc: A,
     files: &mut F,
     path: &str,
@@ -138,23 +139,16 @@ fn verify_text<A: Allocator + Clone>(
     ensures faultless { OnOk result (fault_of geometry text ≡ None) }
     ensures err { IfErr result (Says (RefusesReason geometry text)) }
 {
-    let TextRefused { refusal, text } = match verify(text, geometry) {
-        Ok(verified) => {
-            // The call hands out that the text is safe.
-            let _ = verified.text();
-            return Ok(verified);
-        }
-        Err(refused) => refused,
-    };
-    match refusal {
-        VerifyRefusal::Refusal { word, reason, .. } => {
+    match examine(&text, &geometry) {
+        Ok(walked) => Ok(Verified::of(text, geometry, walked)),
+        Err(Finding::Against(Fault { word, reason })) => {
             let refusal = Refusal::Text { reason, word };
             Err(Failure::Refused {
                 refusal,
                 words: words_of_word(alloc, path, refusal, &text),
             })
         }
-        VerifyRefusal::OutOfMemory => Err(Failure::OutOfMemory),
+        Err(Finding::OutOfMemory) => Err(Failure::OutOfMemory),
     }
 }
 

@@ -1,7 +1,7 @@
 //! What is wrong with a file.
 ghost use Rattle.std.specs.Prelude.{IfOk, ◌≡◌};
 ghost use Rattle.std.specs.String.{string_bytes};
-ghost use Rattle.seq_commands.specs.Refusals.{line_of, code_of, number_of};
+ghost use Rattle.seq_inputs.specs.Refusals.{line_of, code_of, number_of};
 
 use crate::lines::refusal_line;
 use micro_asm::AsmFault;

@@ -2,9 +2,10 @@ use crate::tests::{
     ASSEMBLE, CHECK, DISASSEMBLE, ERASE, ERASE_FILE, ONE_LUN, TRACE, UPGRADE, VERIFY, do_command,
     files_of,
 };
-use crate::{Command, Exit, Medium, carry_out, carry_out_watched};
 use linked_list_allocator::LocalHeap;
+use seq_commands::{Command, Exit, carry_out, carry_out_watched};
 use seq_files::{FileError, FullWriter, MapFiles};
+use seq_inputs::Medium;
 use std::alloc::Global;
 use std::io;
 use std::process::Abort;

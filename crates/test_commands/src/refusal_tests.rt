@@ -4,11 +4,12 @@ use crate::tests::{
     ASSEMBLE, CHECK, DISASSEMBLE, ERASE_FILE, ONE_LUN, TWO_LUNS, UPGRADE, VERIFY, do_command,
     expect, files_of,
 };
-use crate::{Command, Exit, Explained, Refusal};
 use micro_claims::Reason;
 use nand_geometry::{Geometry, Parts};
+use seq_commands::{Command, Exit};
 use seq_core::JobFault;
 use seq_files::MapFiles;
+use seq_inputs::{Explained, Refusal};
 use std::process::Abort;
 use std::test::Fail;
 

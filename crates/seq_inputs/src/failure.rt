@@ -1,8 +1,8 @@
 //! Why a command isn't done.
 ghost use Rattle.std.specs.Prelude.{◌≡◌};
-ghost use Rattle.seq_commands.specs.Failures.{failure_at};
+ghost use Rattle.seq_inputs.specs.Failures.{failure_at};
 
-use crate::command::Medium;
+use crate::medium::Medium;
 use crate::refusal::Refusal;
 use seq_files::FileError;
 use std::alloc::{AllocError, Allocator, Global};
@@ -35,7 +35,7 @@ impl<A: Allocator> Failure<A> {
 
 impl<A: Allocator> From<AllocError> for Failure<A> {
     ghost use Rattle.std.specs.Prelude.{◌≡◌};
-    ghost use Rattle.seq_commands.specs.declared.failure.Failure.TheVariants.{OutOfMemory};
+    ghost use Rattle.seq_inputs.specs.declared.failure.Failure.TheVariants.{OutOfMemory};
 
     ghost from_gives = { λ _ failure. failure ≡ OutOfMemory };
 

@@ -1,12 +1,12 @@
 //! The lines that the program writes.
 ghost use Rattle.std.specs.Prelude.{◌≡◌, ◌++◌, OnOk, IfOk};
 ghost use Rattle.std.specs.String.{string_bytes};
-ghost use Rattle.seq_commands.specs.Lines.{refusal_line, end_line};
+ghost use Rattle.seq_inputs.specs.Lines.{refusal_line, end_line};
 
 use std::alloc::{AllocError, Allocator};
 
 /// The line of a refusal.
-pub(crate) fn refusal_line<A: Allocator>(
+pub fn refusal_line<A: Allocator>(
     alloc: A,
     code: &str,
     number: usize,

@@ -1,7 +1,7 @@
 -- What is wrong with a file, and the line that says it.
 use Rattle.std.specs.Prelude.{ℕ, List}
-use Rattle.seq_commands.specs.declared.refusal.Refusal.{Refusal}
-use Rattle.seq_commands.specs.declared.refusal.Refusal.TheVariants.{Page, Source, File, Text, Job, Trace, Item}
+use Rattle.seq_inputs.specs.declared.refusal.Refusal.{Refusal}
+use Rattle.seq_inputs.specs.declared.refusal.Refusal.TheVariants.{Page, Source, File, Text, Job, Trace, Item}
 use Rattle.nand_geometry.specs.Codes.{page_fault_code}
 use Rattle.micro_asm.specs.Codes.{asm_fault_code}
 use Rattle.micro_word.specs.Codes.{word_fault_code}
@@ -9,7 +9,7 @@ use Rattle.micro_claims.specs.Codes.{reason_code}
 use Rattle.seq_core.specs.Codes.{job_fault_code}
 use Rattle.trace_text.specs.Codes.{trace_fault_code}
 use Rattle.onfi_cycle.specs.Codes.{forbidden_code}
-use Rattle.seq_commands.specs.Lines.{refusal_line}
+use Rattle.seq_inputs.specs.Lines.{refusal_line}
 
 -- its code
 abbrev pub code_of : Refusal → List ℕ

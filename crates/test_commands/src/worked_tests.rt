@@ -1,6 +1,6 @@
 use crate::tests::{ASSEMBLE, ONE_LUN, TWO_LUNS, do_command, files_of};
-use crate::{Command, Exit};
 use nand_geometry::Parts;
+use seq_commands::{Command, Exit};
 use std::process::Abort;
 use std::test::Fail;
 

@@ -1,7 +1,8 @@
-use crate::{Command, Exit, Medium, Refusal, Targets, carry_out_watched};
 use micro_claims::Reason;
 use nand_geometry::{Geometry, Parts, SMALL_CHIP};
+use seq_commands::{Command, Exit, Targets, carry_out_watched};
 use seq_files::MapFiles;
+use seq_inputs::{Medium, Refusal};
 use std::alloc::{AllocError, Global};
 use std::process::Abort;
 use std::test::Fail;

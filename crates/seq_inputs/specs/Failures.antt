@@ -2,10 +2,10 @@
 use Rattle.std.specs.Prelude.{◌≡◌, ⊤, Option, Some, None}
 use Rattle.seq_files.specs.declared.error.FileError.{FileError}
 use Rattle.seq_files.specs.declared.error.FileError.TheVariants.{Fault, OutOfMemory}
-use Rattle.seq_commands.specs.declared.command.Medium.{Medium}
-use Rattle.seq_commands.specs.declared.refusal.Refusal.{Refusal}
-use Rattle.seq_commands.specs.declared.failure.Failure.{Failure}
-use Rattle.seq_commands.specs.declared.failure.Failure.TheVariants.{Refused, FileFault, OutOfMemory as NoMemory}
+use Rattle.seq_inputs.specs.declared.medium.Medium.{Medium}
+use Rattle.seq_inputs.specs.declared.refusal.Refusal.{Refusal}
+use Rattle.seq_inputs.specs.declared.failure.Failure.{Failure}
+use Rattle.seq_inputs.specs.declared.failure.Failure.TheVariants.{Refused, FileFault, OutOfMemory as NoMemory}
 
 -- what an error comes to
 abbrev pub failure_at : {A : Type 0} → Medium → FileError → Failure A

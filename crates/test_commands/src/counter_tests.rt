@@ -1,10 +1,11 @@
 // The runs that `verify` leaves of its refusals.
 use crate::tests::{ASSEMBLE, ONE_LUN, TWO_LUNS, do_command, files_of};
-use crate::{Command, Exit, Medium, Refusal, Targets};
 use micro_claims::Reason;
 use nand_geometry::Parts;
 use onfi_cycle::Forbidden;
+use seq_commands::{Command, Exit, Targets};
 use seq_files::{FileError, MapFiles};
+use seq_inputs::{Medium, Refusal};
 use std::process::Abort;
 use std::test::Fail;
 

@@ -1,0 +1,4 @@
+pub mod Failures
+pub mod Inputs
+pub mod Lines
+pub mod Refusals

@@ -1,0 +1,13 @@
+//! The commands that work on files, with files in memory: what each does, prints and refuses. Only tests stand here.
+#![tactic(auto)]
+
+#[cfg(test)]
+mod counter_tests;
+#[cfg(test)]
+mod fault_tests;
+#[cfg(test)]
+mod refusal_tests;
+#[cfg(test)]
+mod tests;
+#[cfg(test)]
+mod worked_tests;
