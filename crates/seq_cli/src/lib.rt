@@ -13,15 +13,9 @@ mod progress;
 mod real_files;
 
 pub use answering::{answer, answer_watched, run_command, run_file};
+pub use command_line::{Asked, parse};
 pub use once::once_on;
 pub use progress::TerminalProgress;
 pub use real_files::RealFiles;
 pub use seq_commands::Exit;
 pub use seq_inputs::Refusal;
-
-#[cfg(test)]
-mod answer_tests;
-#[cfg(test)]
-mod progress_tests;
-#[cfg(test)]
-mod tests;

@@ -7,7 +7,8 @@ use Rattle.onfi_cycle.specs.declared.lun.Lun.{Lun}
 use Rattle.onfi_cycle.specs.declared.item.Item.{Item}
 use Rattle.onfi_cycle.specs.Channel.{Channel, is_there, same_lun}
 use Rattle.seq_core.specs.World.{Slot, World, number, slot_of, with_slot}
-use Rattle.seq_core.proofs.Below.{eqb_self, there_lun}
+use Rattle.seq_core.proofs.Below.{there_lun}
+use Rattle.onfi_cycle.proofs.Booleans.{eqb_self}
 
 pub same_lun_is : (l m : Lun) → same_lun l m ≡ true → l ≡ m
 same_lun_is l m h =

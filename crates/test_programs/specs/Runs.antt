@@ -20,6 +20,10 @@ use Rattle.seq_core.specs.After.{Ran, run}
 use Rattle.seq_core.specs.Buffer.{is_filled}
 use Rattle.seq_core.specs.Made.{Running, running_on}
 
+-- one LUN; two LUNs with Read Status Enhanced; one LUN with read cache
+abbrev pub one_lun : Parts
+one_lun = record { page_bytes = 512; spare_bytes = 16; pages = 4; blocks = 8; luns = 1; plane_bits = 0; enhanced = false; multi_plane = false; cache = false }
+
 abbrev pub two_luns : Parts
 two_luns = record { page_bytes = 512; spare_bytes = 16; pages = 4; blocks = 8; luns = 2; plane_bits = 1; enhanced = true; multi_plane = true; cache = false }
 

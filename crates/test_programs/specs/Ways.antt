@@ -1,6 +1,5 @@
 -- Worked ways through texts with loops and branches, computed by the definitions.
-use Rattle.std.specs.Prelude.{◌≡◌, ℕ, zero, suc, List, [], ◌∷◌}
-use Rattle.std.specs.List.{get_or}
+use Rattle.std.specs.Prelude.{◌≡◌, ℕ, zero, suc, List, [], ◌∷◌, get_or}
 use Rattle.micro_word.specs.declared.word.Word.{Word}
 use Rattle.micro_word.specs.declared.word.Word.TheVariants.{End, ReadStatus, BranchOnStatus, Loop, Next, Jump}
 use Rattle.micro_program.specs.Lines.{Line, unrolled}

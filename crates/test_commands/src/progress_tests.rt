@@ -1,7 +1,7 @@
 // What is said of how far a command has come, on a made terminal and where there is none.
-use crate::tests::ERASE;
-use crate::{TerminalProgress, answer_watched};
+use crate::once_tests::ERASE;
 use nand_geometry::{Geometry, Parts, SMALL_CHIP};
+use seq_cli::{TerminalProgress, answer_watched};
 use seq_files::MapFiles;
 use seq_run::{NoClock, Phase, RunProgress};
 use std::alloc::Global;

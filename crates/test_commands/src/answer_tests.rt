@@ -1,10 +1,10 @@
 ghost use Rattle.std.specs.Prelude.{◌<◌};
 
-use crate::tests::{ERASE, RUN};
-use crate::{Refusal, answer, run_file};
+use crate::once_tests::{ERASE, RUN};
 use linked_list_allocator::LocalHeap;
 use micro_claims::Reason;
 use micro_word::WordFault;
+use seq_cli::{Refusal, answer, run_file};
 use seq_core::JobFault;
 use seq_files::{MapFiles, SlowReader, SlowWriter};
 use std::alloc::{AllocError, Global};

@@ -1,8 +1,7 @@
-use crate::command_line::{Asked, parse};
-use crate::once::once_on;
 use clap::error::ErrorKind as UsageKind;
 use linked_list_allocator::LocalHeap;
 use micro_claims::Reason;
+use seq_cli::{Asked, once_on, parse};
 use seq_commands::{Command, Exit, Targets};
 use seq_core::JobFault;
 use seq_files::{SlowReader, SlowWriter};
