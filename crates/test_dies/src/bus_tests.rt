@@ -10,10 +10,10 @@ use std::test::Fail;
 use target_bus::{Bus, BusFault, BusRefusal, DiesRefused};
 
 // One LUN of 8 blocks of 4 pages of 512 + 16 bytes, in one plane.
-const ONE_LUN: Parts = SMALL_CHIP;
+pub(crate) const ONE_LUN: Parts = SMALL_CHIP;
 
 // One such LUN with the cache read.
-const CACHED: Parts = Parts {
+pub(crate) const CACHED: Parts = Parts {
     cache: true,
     ..ONE_LUN
 };
@@ -52,7 +52,11 @@ fn dies<A: Allocator + Copy>(alloc: A, parts: Parts, count: u8) -> Result<Vec<Lu
     Ok(dies)
 }
 
-fn channel<A: Allocator + Copy>(alloc: A, parts: Parts, count: u8) -> Result<Bus<A>, Fail> {
+pub(crate) fn channel<A: Allocator + Copy>(
+    alloc: A,
+    parts: Parts,
+    count: u8,
+) -> Result<Bus<A>, Fail> {
     let dies = dies(alloc, parts, count)?;
     match Bus::new(alloc, geometry(parts)?, dies) {
         Ok(bus) => Ok(bus),
@@ -64,7 +68,7 @@ fn channel<A: Allocator + Copy>(alloc: A, parts: Parts, count: u8) -> Result<Bus
 
 // An item that is tried, and the rule that it breaks.
 #[derive(Clone, Copy)]
-struct Step {
+pub(crate) struct Step {
     item: Item,
     rule: Option<Forbidden>,
 }
@@ -172,7 +176,7 @@ fn push_times(steps: &mut Vec<Step>, step: Step, times: u32) -> Result<(), Alloc
 }
 
 // The steps of a text. Behind `@1` they are of target 1.
-fn steps_of(alloc: Global, text: &str) -> Result<Vec<Step>, Fail> {
+pub(crate) fn steps_of(alloc: Global, text: &str) -> Result<Vec<Step>, Fail> {
     let mut steps = Vec::new(alloc);
     let mut ce = 0u8;
     for word in text.split_whitespace() {
@@ -235,7 +239,7 @@ fn seen_of<A: Allocator + Copy>(bus: &Bus<A>) -> Seen {
 }
 
 // A step comes as it must. One that is refused changes nothing.
-fn comes<A: Allocator + Copy>(bus: &mut Bus<A>, step: Step) -> bool {
+pub(crate) fn comes<A: Allocator + Copy>(bus: &mut Bus<A>, step: Step) -> bool {
     let before = seen_of(bus);
     match (answer(bus, step.item), step.rule) {
         (Told::Came(item), None) => item == step.item,
@@ -846,7 +850,7 @@ fn what_a_bus_tells(rt: HostRuntime) -> Result<(), Fail> {
 
 // ---- out of memory
 
-const HEAP: usize = 16_384;
+pub(crate) const HEAP: usize = 16_384;
 
 // The greatest block that a heap has left, to 16 bytes.
 fn largest(heap: &LocalHeap) -> usize {
@@ -861,7 +865,10 @@ fn largest(heap: &LocalHeap) -> usize {
 }
 
 // Takes all of a heap but so many bytes.
-fn take_but<'a>(heap: &'a LocalHeap, left: usize) -> Result<Vec<u8, &'a LocalHeap>, Fail> {
+pub(crate) fn take_but<'a>(
+    heap: &'a LocalHeap,
+    left: usize,
+) -> Result<Vec<u8, &'a LocalHeap>, Fail> {
     Ok(Vec::with_capacity(heap, largest(heap).saturating_sub(left))?)
 }
 

@@ -5,3 +5,5 @@
 mod bus_tests;
 #[cfg(test)]
 mod die_tests;
+#[cfg(test)]
+mod run_tests;
