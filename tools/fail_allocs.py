@@ -2,7 +2,7 @@
 
     python3 tools/fail_allocs.py
 
-at the root, once `rt test` in crates/channel_tests or the gate has built the program of its tests. Memory comes from `malloc` and
+at the root, once `rt test` in crates/test_channel_calls or the gate has built the program of its tests. Memory comes from `malloc` and
 `realloc` of the C library. A small library, built here by the kit's clang and loaded before that one, counts the calls of both and
 answers one of them with null. So one program serves for each number, and a run takes milliseconds; `rt try --fail-alloc` would build
 the program anew for each.
@@ -16,7 +16,7 @@ import subprocess
 import sys
 import tempfile
 
-PROGRAM = "crates/channel_tests/out/channel_tests_tests"
+PROGRAM = "crates/test_channel_calls/out/test_channel_calls_tests"
 TESTS = [
     "call_tests::two_jobs_call_by_call",
     "call_tests::untimely_calls",
@@ -126,7 +126,7 @@ def try_all(refuser, test):
 
 def main():
     if not os.path.isfile(PROGRAM):
-        sys.exit(f"{PROGRAM} isn't there: run rt test in crates/channel_tests, or the gate")
+        sys.exit(f"{PROGRAM} isn't there: run rt test in crates/test_channel_calls, or the gate")
     with tempfile.TemporaryDirectory() as folder:
         refuser = build_refuser(folder)
         went_well = [try_all(refuser, test) for test in TESTS]

@@ -1,18 +1,81 @@
-"""Passes on what the gate prints, and lists before its last line the minute at which each step ended. Where a file is named, the last
-line goes there.
+"""Passes on what the gate prints, and lists before its last line the minute at which each step ended and the processor time of each crate.
+Where a file is named, the last line goes there.
 
-A step is a crate's proof or tests proved, its edits begun, or a program or tests run. docs/GATE.md says what the minutes are for.
+    rt ci | python3 tools/gate_minutes.py [FILE]
+
+A step is a crate's proof or tests proved, its edits begun, or a program or tests run. Processor time is read each second off the provers that
+run on this machine, so nothing else that proves should run beside the gate. docs/GATE.md says what the minutes are for.
 """
+import collections
+import glob
+import os
 import re
 import sys
+import threading
 import time
 
 STEP = re.compile(r"^rt: (\S+?):? (proved|NOT PROVED|its tests (are )?(proved|NOT PROVED|passed|FAILED)|trying its must-fail edits.*|ran\b.*)$")
 LAST = re.compile(r"^\d+ passed, \d+ failed$")
+KINDS = ("proof", "tests", "edits")
+
+
+def kind_of(words, folder):
+    """What a prover works on: a crate's own proof, its tests, or one of its must-fail edits."""
+    if "rt-edit" in folder:
+        return "edits"
+    return "tests" if b"--test" in words else "proof"
+
+
+def read_prover(folder):
+    """The crate of a running prover, what it works on, and its seconds of processor time so far; None where this is no prover."""
+    try:
+        with open(f"{folder}/cmdline", "rb") as file:
+            words = file.read().split(b"\0")
+        if not words[0].endswith(b"/rattle") or b"--crate-name" not in words:
+            return None
+        with open(f"{folder}/stat", encoding="utf-8", errors="replace") as file:
+            ticks = file.read().rsplit(")", 1)[1].split()
+        where = os.readlink(f"{folder}/cwd")
+    except (OSError, IndexError):
+        return None
+    crate = words[words.index(b"--crate-name") + 1].decode()
+    # Its own time and that of its children that have ended.
+    return crate, kind_of(words, where), sum(map(int, ticks[11:15])) / os.sysconf("SC_CLK_TCK")
+
+
+class Provers:
+    """The processor time of the provers of a run."""
+
+    def __init__(self):
+        self.seconds = {}
+        self.is_over = False
+
+    def watch(self):
+        while not self.is_over:
+            for folder in glob.glob("/proc/[0-9]*"):
+                prover = read_prover(folder)
+                if prover:
+                    crate, kind, seconds = prover
+                    self.seconds[crate, kind, folder] = seconds
+            time.sleep(1)
+
+    def table(self):
+        """A line for each crate, the dearest first, and one for all."""
+        crates = collections.defaultdict(lambda: dict.fromkeys(KINDS, 0.0))
+        for (crate, kind, _), seconds in self.seconds.items():
+            crates[crate][kind] += seconds / 60
+        rows = sorted(crates.items(), key=lambda row: -sum(row[1].values()))
+        every = {kind: sum(row[kind] for _, row in rows) for kind in KINDS}
+        for name, row in [*rows, ("all", every)]:
+            each = ", ".join(f"{row[kind]:5.1f} {kind}" for kind in KINDS)
+            yield f"processor minutes {sum(row.values()):6.1f}  {name}: {each}\n"
 
 
 def main():
     begun, steps, last = time.monotonic(), [], None
+    provers = Provers()
+    watch = threading.Thread(target=provers.watch, daemon=True)
+    watch.start()
     for line in sys.stdin:
         if LAST.match(line):
             last = line
@@ -21,7 +84,9 @@ def main():
             steps.append(f"minute {(time.monotonic() - begun) / 60:5.1f}  {line[4:]}")
         sys.stdout.write(line)
         sys.stdout.flush()
-    sys.stdout.write("".join(steps))
+    provers.is_over = True
+    watch.join()
+    sys.stdout.write("".join([*steps, *provers.table()]))
     if last and len(sys.argv) > 1:
         with open(sys.argv[1], "w", encoding="utf-8") as file:
             file.write(last)

@@ -6,4 +6,4 @@ mod bus_tests;
 #[cfg(test)]
 mod die_tests;
 #[cfg(test)]
-mod run_tests;
+mod output_tests;
