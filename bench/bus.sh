@@ -9,9 +9,9 @@ bench=$(cd "$(dirname "$0")" && pwd)
 cd "$bench/plain"
 cargo build --release --quiet
 plain=$bench/plain/target/release/plain
-cd "$bench/../crates/bus_bench"
+cd "$bench/../crates/bench"
 rt run > /dev/null 2>&1
-proved=./out/bus_bench
+proved=./out/bench
 said=$(mktemp)
 trap 'rm -f "$said"' EXIT
 
@@ -27,14 +27,14 @@ instructions() {
 
 for turn in 1 2 3; do
     : > "$said"
-    ours=$(millis "$proved" "$pages")
+    ours=$(millis "$proved" bus "$pages")
     theirs=$(millis "$plain" bus "$pages")
     cat "$said"
     echo "run $turn: $ours ms proved, $theirs ms plain, $((ours * 100 / theirs)) to 100"
 done
 if command -v valgrind > /dev/null; then
     items=87290 # of ten pages more, which end no block
-    ours=$((($(instructions "$proved" 20) - $(instructions "$proved" 10)) / items))
+    ours=$((($(instructions "$proved" bus 20) - $(instructions "$proved" bus 10)) / items))
     theirs=$((($(instructions "$plain" bus 20) - $(instructions "$plain" bus 10)) / items))
     echo "$ours instructions an item proved, $theirs plain, $((ours * 100 / theirs)) to 100"
 fi

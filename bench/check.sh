@@ -5,23 +5,27 @@ set -eu
 bench=$(cd "$(dirname "$0")" && pwd)
 cd "$bench/plain"
 cargo build --release --quiet
-cd "$bench/../crates/trace_bench"
+cd "$bench/../crates/bench"
 rt run > /dev/null 2>&1
 
 instructions() {
-    valgrind --tool=callgrind --callgrind-out-file=/dev/null "$1" "$2" 2>&1 | sed -n 's/.*Collected : //p'
+    valgrind --tool=callgrind --callgrind-out-file=/dev/null "$@" 2>&1 | sed -n 's/.*Collected : //p'
 }
 
 for items in 1000000 2000000 5000000 10000000; do
     echo "$items items, proved:"
-    ./out/trace_bench "$items"
+    ./out/bench trace "$items"
     echo "$items items, plain:"
     "$bench/plain/target/release/plain" "$items"
 done
+# The instructions an item of a program, given with the words that stand before the number of items.
+tell_instructions() {
+    few=$(instructions "$@" 100000)
+    many=$(instructions "$@" 200000)
+    echo "$(basename "$1"): $(((many - few) / 100000)) instructions an item"
+}
+
 if command -v valgrind > /dev/null; then
-    for program in ./out/trace_bench "$bench/plain/target/release/plain"; do
-        few=$(instructions "$program" 100000)
-        many=$(instructions "$program" 200000)
-        echo "$(basename "$program"): $(((many - few) / 100000)) instructions an item"
-    done
+    tell_instructions ./out/bench trace
+    tell_instructions "$bench/plain/target/release/plain"
 fi

@@ -1,5 +1,5 @@
-//! How fast a trace is checked, and how fast a bus is, in plain Rust: `plain [ITEMS]` makes the trace that `trace_bench` makes,
-//! and checks it; `plain bus [PAGES]` does on its bus what `bus_bench` does on ours.
+//! How fast a trace is checked, and how fast a bus is, in plain Rust: `plain [ITEMS]` makes the trace that `bench trace` makes,
+//! and checks it; `plain bus [PAGES]` does on its bus what `bench bus` does on ours.
 
 mod bus;
 mod channel;

@@ -1,8 +1,7 @@
 //! How long the verifier takes.
 //!
-//! `verify_bench` verifies texts of 1,024 words: straight, full of branches, and with loops that are nested four deep. What came of each
-//! goes to standard output; how many words were walked and how long it took, to standard error.
-#![tactic(auto)]
+//! It verifies texts of 1,024 words: straight, full of branches, and with loops that are nested four deep. What came of each goes to standard
+//! output; how many words were walked and how long it took, to standard error.
 
 use micro_verify::verify;
 use micro_word::{Text, Word};
@@ -119,10 +118,11 @@ fn tell(rt: &HostRuntime, name: &str, words: Vec<Word>) -> anyhow::Result<()> {
     Ok(())
 }
 
-fn main(rt: HostRuntime) -> anyhow::Result<()> {
-    tell(&rt, "straight", straight(rt.alloc())?)?;
-    tell(&rt, "branches", branches(rt.alloc())?)?;
-    tell(&rt, "loops", loops(rt.alloc())?)?;
-    tell(&rt, "ways", ways(rt.alloc())?)?;
+/// Measures the verifier over four texts.
+pub fn measure_verify(rt: &HostRuntime) -> anyhow::Result<()> {
+    tell(rt, "straight", straight(rt.alloc())?)?;
+    tell(rt, "branches", branches(rt.alloc())?)?;
+    tell(rt, "loops", loops(rt.alloc())?)?;
+    tell(rt, "ways", ways(rt.alloc())?)?;
     Ok(())
 }

@@ -1,13 +1,11 @@
 //! How fast a trace is checked.
 //!
-//! `trace_bench [ITEMS]` makes a trace of erases with their status polls, so many items long (1000 where no number is
-//! given), and checks it. What the check says goes to standard output; how long it took, to standard error.
-#![tactic(auto)]
+//! It makes a trace of erases with their status polls, so many items long, and checks it. What the check says goes to standard output; how
+//! long it took, to standard error.
 
 use nand_geometry::{Geometry, Parts, SMALL_CHIP};
 use onfi_cycle::{Cycle, Item, Kind};
 use std::alloc::{AllocError, Global};
-use std::env;
 use std::time::Instant;
 use trace_text::check;
 
@@ -46,16 +44,13 @@ fn made_trace(alloc: Global, count: usize) -> Result<Vec<Item>, AllocError> {
     Ok(items)
 }
 
-fn main(rt: HostRuntime) -> anyhow::Result<()> {
-    let count = match env::args(&rt)?.nth(1) {
-        None => 1000,
-        Some(number) => number.parse::<usize>()?,
-    };
+/// Measures the check of a trace of so many items.
+pub fn measure_check(rt: &HostRuntime, count: usize) -> anyhow::Result<()> {
     let geometry = Geometry::of(ONE_LUN)?;
     let items = made_trace(rt.alloc(), count)?;
-    let start = Instant::now(&rt)?;
+    let start = Instant::now(rt)?;
     let verdict = check(&geometry, 1, &items);
-    let millis = start.elapsed(&rt)?.as_millis();
+    let millis = start.elapsed(rt)?.as_millis();
     match verdict {
         Ok(()) => println!(rt; "{count} items, each permitted")?,
         Err(refusal) => println!(rt; "{refusal}")?,

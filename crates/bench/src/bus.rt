@@ -1,9 +1,7 @@
 //! How fast a bus is.
 //!
-//! `bus_bench [PAGES]` programs so many pages of a modelled die (10 where no number is given), reads them again whole, byte by
-//! byte, and erases their blocks, with status polls. It compares each byte with the one that was programmed. What came of it goes
-//! to standard output; how long it took, to standard error.
-#![tactic(auto)]
+//! It programs so many pages of a modelled die, reads them again whole, byte by byte, and erases their blocks, with status polls. It
+//! compares each byte with the one that was programmed. What came of it goes to standard output; how long it took, to standard error.
 
 ghost use Rattle.std.specs.Prelude.{◌≡◌, false};
 ghost use Rattle.target_bus.specs.Bus.{is_output};
@@ -12,7 +10,6 @@ use die_model::LunDie;
 use nand_geometry::{Geometry, Parts};
 use onfi_cycle::{Cycle, Kind, Lun};
 use std::alloc::Global;
-use std::env;
 use std::time::Instant;
 use target_bus::{Bus, BusRefusal};
 
@@ -146,33 +143,25 @@ fn one_die(alloc: Global) -> anyhow::Result<Bus> {
     }
 }
 
-fn main(rt: HostRuntime) -> anyhow::Result<()> {
-    let pages = match env::args(&rt)?.nth(1) {
-        None => 10,
-        Some(number) => number.parse::<u32>()?,
-    };
+/// Measures a bus over so many pages.
+pub fn measure_bus(rt: &HostRuntime, pages: u32) -> anyhow::Result<()> {
     let mut bus = one_die(rt.alloc())?;
-    let start = Instant::now(&rt)?;
+    let start = Instant::now(rt)?;
     let programmed = programs(&mut bus, pages)?;
-    let (end, first) = (Instant::now(&rt)?, bus.trace().len());
+    let (end, first) = (Instant::now(rt)?, bus.trace().len());
     let read = reads(&mut bus, pages)?;
-    let (last, second) = (Instant::now(&rt)?, bus.trace().len());
+    let (last, second) = (Instant::now(rt)?, bus.trace().len());
     let erased = erases(&mut bus, pages)?;
-    let micros = last.elapsed(&rt)?.as_micros();
+    let micros = last.elapsed(rt)?.as_micros();
     let all = bus.trace().len();
+    tell(rt, "programs", first, end.duration_since(start).as_micros())?;
     tell(
-        &rt,
-        "programs",
-        first,
-        end.duration_since(start).as_micros(),
-    )?;
-    tell(
-        &rt,
+        rt,
         "reads",
         second.saturating_sub(first),
         last.duration_since(end).as_micros(),
     )?;
-    tell(&rt, "erases", all.saturating_sub(second), micros)?;
+    tell(rt, "erases", all.saturating_sub(second), micros)?;
     if programmed && read && erased {
         println!(rt; "{all} items, each byte as it was programmed")?;
     } else {

@@ -1,0 +1,72 @@
+//! How fast a bus is, how fast a trace is checked, and how long the verifier takes.
+//!
+//! `bench bus [PAGES]`, `bench trace [ITEMS]` and `bench verify` measure one of them, `bench` alone each of them with the numbers that stand
+//! where none is given: 10 pages, and 1000 items.
+#![tactic(auto)]
+
+mod bus;
+mod trace;
+mod verify;
+
+use crate::bus::measure_bus;
+use crate::trace::measure_check;
+use crate::verify::measure_verify;
+use anyhow::bail;
+use std::env;
+
+const PAGES: u32 = 10;
+
+const ITEMS: usize = 1000;
+
+// What is measured.
+#[derive(Clone, Copy)]
+enum Measure {
+    Bus { pages: u32 },
+    Check { items: usize },
+    Verify,
+}
+
+impl Measure {
+    fn run(self, rt: &HostRuntime) -> anyhow::Result<()> {
+        match self {
+            Measure::Bus { pages } => measure_bus(rt, pages),
+            Measure::Check { items } => measure_check(rt, items),
+            Measure::Verify => measure_verify(rt),
+        }
+    }
+}
+
+// What the words of the command line ask for, after the name of the program; None for all.
+fn read_measure(words: &[String]) -> anyhow::Result<Option<Measure>> {
+    let number = words.get(2);
+    let measure = match words.get(1).map(String::as_str) {
+        None => return Ok(None),
+        Some("bus") => Measure::Bus {
+            pages: match number {
+                None => PAGES,
+                Some(pages) => pages.parse::<u32>()?,
+            },
+        },
+        Some("trace") => Measure::Check {
+            items: match number {
+                None => ITEMS,
+                Some(items) => items.parse::<usize>()?,
+            },
+        },
+        Some("verify") => Measure::Verify,
+        Some(other) => bail!("{other}: there are `bus [PAGES]`, `trace [ITEMS]` and `verify`"),
+    };
+    Ok(Some(measure))
+}
+
+fn main(rt: HostRuntime) -> anyhow::Result<()> {
+    let words = env::args(&rt)?.collect::<Vec<String>>(rt.alloc())?;
+    match read_measure(words.as_slice())? {
+        Some(measure) => measure.run(&rt),
+        None => {
+            measure_bus(&rt, PAGES)?;
+            measure_check(&rt, ITEMS)?;
+            measure_verify(&rt)
+        }
+    }
+}
