@@ -5,7 +5,7 @@ use Rattle.onfi_cycle.specs.declared.forbidden.Forbidden.{Forbidden as Rule}
 use Rattle.onfi_cycle.specs.declared.item.Item.{Item}
 use Rattle.onfi_cycle.specs.declared.item.Kind.TheVariants.{Dout}
 use Rattle.onfi_cycle.specs.declared.lun.Lun.{Lun}
-use Rattle.onfi_cycle.specs.Channel.{Channel, IsChannel, cycle}
+use Rattle.onfi_cycle.specs.Channel.{Channel, cycle}
 use Rattle.onfi_cycle.specs.Outputs.{with_outputs, broken_outputs, first_rule}
 use Rattle.micro_program.specs.Moves.{Move, Take, and_then}
 use Rattle.micro_program.specs.Program.{written}
@@ -14,7 +14,6 @@ use Rattle.micro_program.specs.Safe.{MovesAreOwn}
 use Rattle.target_bus.specs.declared.refusal.BusRefusal.{BusRefusal}
 use Rattle.target_bus.specs.declared.refusal.BusRefusal.TheVariants.{OutOfMemory}
 use Rattle.target_bus.specs.Bus.{Traced, channel_of, Refuses, AreShown, AreTaken}
-use Rattle.target_bus.proofs.Shown.{permitted_shows}
 use Rattle.seq_core.specs.Calls.{Plays}
 use Rattle.seq_core.specs.Playing.{HasPlayed}
 use Rattle.seq_core.proofs.Played.{never_refused}
@@ -26,20 +25,21 @@ pub record IsPermittedRun (s : Channel) (ce len : ℕ) (past : List Item) : Type
   pub count : length bytes ≡ len
   pub permitted : broken_outputs s.geometry s.targets ce bytes past ≡ None
 
-pub own_run : (s : Channel) → IsChannel s → (l : Lun) (len : ℕ) (past : List Item) → MovesAreOwn s l (replicate len Take) past → IsPermittedRun s l.ce len past
-own_run s is l zero past own = record { bytes = []; count = refl; permitted = refl }
-own_run s is l (suc len) past own =
-    let shows = permitted_shows s is past l.ce 0 (own 0).0.permitted in
-    let rest = own_run s is l len (cycle l.ce Dout shows.0 ∷ past) ((own shows.0).1 shows.1) in
+-- whatever the bytes are, so 0 serves
+pub own_run : (s : Channel) (l : Lun) (len : ℕ) (past : List Item) → MovesAreOwn s l (replicate len Take) past → IsPermittedRun s l.ce len past
+own_run s l zero past own = record { bytes = []; count = refl; permitted = refl }
+own_run s l (suc len) past own =
+    let later = cycle l.ce Dout 0 ∷ past in
+    let rest = own_run s l len later (own 0).1 in
     record {
-      bytes = shows.0 ∷ rest.bytes;
+      bytes = 0 ∷ rest.bytes;
       count = ap suc rest.count;
-      permitted = ap (λ (o : Option Rule). first_rule o (broken_outputs s.geometry s.targets l.ce rest.bytes (cycle l.ce Dout shows.0 ∷ past))) (own shows.0).0.permitted ∙ rest.permitted;
+      permitted = ap (λ (o : Option Rule). first_rule o (broken_outputs s.geometry s.targets l.ce rest.bytes later)) (own 0).0.permitted ∙ rest.permitted;
     }
 
-pub run_never_refused : (s : Channel) → IsChannel s → (l : Lun) (len : ℕ) (past : List Item) (e : BusRefusal) → MovesAreOwn s l (replicate len Take) past → ((bytes : List ℕ) → length bytes ≡ len → Refuses e (broken_outputs s.geometry s.targets l.ce bytes past)) → e ≢ OutOfMemory → ⊥
-run_never_refused s is l len past e own refused some =
-    let run = own_run s is l len past own in
+pub run_never_refused : (s : Channel) (l : Lun) (len : ℕ) (past : List Item) (e : BusRefusal) → MovesAreOwn s l (replicate len Take) past → ((bytes : List ℕ) → length bytes ≡ len → Refuses e (broken_outputs s.geometry s.targets l.ce bytes past)) → e ≢ OutOfMemory → ⊥
+run_never_refused s l len past e own refused some =
+    let run = own_run s l len past own in
     never_refused e _ (refused run.bytes run.count) run.permitted some
 
 -- 2. it is played

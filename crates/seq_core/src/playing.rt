@@ -97,8 +97,6 @@ fn take_all<A: Allocator + Copy>(
     ensures { (bytes : List ℕ) × HasPlayed bus.old bus.new lun.ce (replicate len Take) bytes len
         × (buffer.new ≡ written bytes place buffer.old) }
 {
-    // Its contract says that the bus is one of a channel.
-    let _trace = bus.trace();
     let (_, rest) = buffer.split_at_mut(place);
     let (part, _) = rest.split_at_mut(len);
     match bus.take_all(lun.ce, part) {

@@ -5,7 +5,7 @@ use Rattle.seq_core.proofs.playing.take_all.Goals as goal
 
 pub unreachable-requires : goal.unreachable-requires
 unreachable-requires g c =
-    run_never_refused (channel_of c.args.bus.now) c.trace-trace.ensures.channel c.args.lun c.args.len c.args.bus.now.past c.in-Err.field-0 c.requires.own
+    run_never_refused (channel_of c.args.bus.now) c.args.lun c.args.len c.args.bus.now.past c.in-Err.field-0 c.requires.own
     (λ bytes size. c.in-Err.ensures.err.0 bytes (size ∙ sym c.split_at_mut-part.ensures.front_len))
     (c.in-Err.ensures.memory (omega (arith, c.split_at_mut-part.ensures.front_len, c.requires.room)))
 
