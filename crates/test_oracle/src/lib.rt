@@ -1,5 +1,6 @@
-//! The definitions of a trace on worked examples, and the running bus and the sequencer beside a look back: after each item of made traces, and after each event of a list, the running state
-//! is what a look back at the whole trace tells. Only tests stand here, so that nothing that is built on them needs the look-back.
+//! The definitions of a trace on worked examples, and beside a look back the running bus, the sequencer and runs of outputs: after each
+//! item of made traces, and after each event of a list, the running state is what a look back at the whole trace tells. Only tests stand
+//! here, so that nothing that is built on them needs the look-back.
 #![tactic(auto)]
 
 #[cfg(test)]
@@ -8,6 +9,8 @@ mod bus_tests;
 mod core_tests;
 #[cfg(test)]
 mod made;
+#[cfg(test)]
+mod output_tests;
 #[cfg(test)]
 mod state_agrees;
 #[cfg(test)]

@@ -71,7 +71,7 @@ fn made(alloc: Global, seed: &mut u32) -> Result<Vec<Item>, Fail> {
 }
 
 // The state of each LUN is what the look-back tells of it.
-fn luns_agree(
+pub(crate) fn luns_agree(
     rt: &impl Abort,
     alloc: Global,
     geometry: &Geometry,
