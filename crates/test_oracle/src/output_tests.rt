@@ -57,10 +57,10 @@ fn look_back(
 fn state_after(geometry: Geometry, items: &[Item]) -> Result<BusState, Fail> {
     let mut state = BusState::new(geometry, TARGETS);
     for item in items {
-        if state.judge(*item).is_some() {
-            return Err(Fail::from("an item isn't permitted"));
+        match state.judge(*item) {
+            Some(_) => return Err(Fail::from("an item isn't permitted")),
+            None => state.apply(*item),
         }
-        state.apply(*item);
     }
     Ok(state)
 }
@@ -80,10 +80,10 @@ fn run_agrees(
     let rule = look_back(alloc, &geometry, &mut items, ce, count)?;
     let told = state.judge_outputs(ce, count);
     assert_eq!(rt; told, rule, "{count} on {ce} after {}", past.1);
-    if told.is_some() {
-        return Ok(false);
+    match told {
+        Some(_) => return Ok(false),
+        None => state.apply_outputs(ce, count),
     }
-    state.apply_outputs(ce, count);
     items.reverse();
     luns_agree(rt, alloc, &geometry, &items, &state)?;
     Ok(true)
