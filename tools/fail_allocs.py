@@ -20,6 +20,7 @@ PROGRAM = "crates/test_channel_calls/out/test_channel_calls_tests"
 TESTS = [
     "call_tests::two_jobs_call_by_call",
     "call_tests::untimely_calls",
+    "call_tests::refusals_come_before_memory",
     "refusal_tests::each_refusal_loses_nothing",
     "refusal_tests::another_goes_on_after_a_refusal",
 ]

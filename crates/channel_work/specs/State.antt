@@ -12,7 +12,7 @@ use Rattle.channel_work.specs.Turned.{IsTurn, TellsBusAfterTurn}
 use Rattle.channel_work.specs.Coming.{IsComing}
 use Rattle.channel_work.specs.Counts.{count_of}
 use Rattle.channel_work.specs.declared.tally.LunCount.{LunCount}
-use Rattle.channel_work.specs.Finished.{HasFinished, HasNotEnded}
+use Rattle.channel_work.specs.Finished.{HasFinished, HasNotEnded, CouldNotFinish}
 use Rattle.seq_core.specs.Event.{Ready, ArrayReady}
 use Rattle.seq_core.specs.Reply.{ToReady, ToArrayReady}
 use Rattle.channel_work.specs.declared.stored.Stored.TheVariants.{Ready as BecameReady, ArrayReady as ArrayBecameReady}
@@ -51,7 +51,7 @@ pub record TookTurn (v : StateView) (pass : ℕ) (n : ℕ) (answer : Turn) (u : 
 abbrev pub IsFinished : StateView → Leased → Finished → StateView → Type 0
 IsFinished v lease (Done back) u = HasFinished v.history (numbered v.history.core.geometry lease.lun) u.history × (back ≡ lease)
 IsFinished v lease (NotEnded back) u = HasNotEnded v.history (numbered v.history.core.geometry lease.lun) u.history × (back ≡ lease)
-IsFinished v lease (NoMemory back) u = (u.history ≡ v.history) × (back ≡ lease)
+IsFinished v lease (NoMemory back) u = CouldNotFinish v.history (numbered v.history.core.geometry lease.lun) u.history × (back ≡ lease)
 
 abbrev pub came_of : Readied → Option Bool
 came_of Yes = Some true

@@ -187,7 +187,8 @@ impl<L: Turns> ChannelState<L> {
         None
     }
 
-    /// A LUN becomes ready, with failure or without.
+    /// A LUN becomes ready, with failure or without. `NotBusy`, with all as it was: it isn't there or isn't busy. `OutOfMemory`, with
+    /// all as it was: it would become ready, and there is no memory to store that.
     pub fn ready(&mut self, lun: Lun, fail: bool) -> Readied
         ensures ready { IsReadied self.old.history lun fail result self.new.history }
         ensures same { self.new ≡ record self.old { history = self.new.history } }
@@ -195,7 +196,8 @@ impl<L: Turns> ChannelState<L> {
         Readied::of(self.history.ready(lun, fail))
     }
 
-    /// The array of a LUN becomes ready after a cache read.
+    /// The array of a LUN becomes ready after a cache read. `NotBusy`, with all as it was: the LUN isn't there or its array isn't busy.
+    /// `OutOfMemory`, with all as it was: it would become ready, and there is no memory to store that.
     pub fn array_ready(&mut self, lun: Lun) -> Readied
         ensures ready { IsArrayReadied self.old.history lun result self.new.history }
         ensures same { self.new ≡ record self.old { history = self.new.history } }
@@ -203,7 +205,8 @@ impl<L: Turns> ChannelState<L> {
         Readied::of(self.history.array_ready(lun))
     }
 
-    /// Unloads the job of a lease's LUN, if it has ended.
+    /// Unloads the job of a lease's LUN, if it has ended. `NotEnded`, with all as it was: it hasn't. `OutOfMemory`, with all as it was:
+    /// it has, and there is no memory to store that.
     pub fn finish(&mut self, lease: Lease<Loaded>) -> Finished
         ensures finished { IsFinished self.old lease result self.new }
         ensures same { self.new ≡ record self.old { history = self.new.history } }

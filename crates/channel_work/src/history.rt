@@ -18,6 +18,7 @@ ghost use Rattle.channel_work.specs.Done.{ended_of};
 ghost use Rattle.channel_work.specs.Turned.{IsBeside, TookSteps, IsTurn, TellsBusAfterTurn};
 ghost use Rattle.channel_work.specs.declared.stored.Stored.TheVariants.{Step as WasStepped, Ready as BecameReady, ArrayReady as ArrayBecameReady};
 
+use crate::refusing::{make_room_to_finish, refuse_array_ready, refuse_finish, refuse_ready};
 use crate::seats::Seats;
 use crate::start::{Picked, Started, find_last_started, load_one, make_room, pick, take_one};
 use crate::stored::{Name, NamedJob, Stored};
@@ -72,12 +73,12 @@ impl<L: Ledger> Model for History<L> {
 
 impl<L: Ledger> History<L> {
     /// A LUN becomes ready, with failure or without, and is stored so; false, with all as it was, where it isn't there or isn't
-    /// busy. None, with all as it was, without memory.
+    /// busy. None, with all as it was, where it would become ready and there is no memory to store that.
     pub(crate) fn ready(&mut self, lun: Lun, fail: bool) -> Option<bool>
         ensures { IsComing self.old (Ready lun fail) ToReady (BecameReady lun fail) result self.new }
     {
         match self.events.reserve(1) {
-            Err(_) => None,
+            Err(_) => refuse_ready(&self.core, lun, fail),
             Ok(()) => {
                 let from = self.core.trace().len();
                 let came = self.core.ready(lun, fail);
@@ -91,12 +92,12 @@ impl<L: Ledger> History<L> {
     }
 
     /// The array of a LUN becomes ready, and is stored so; false, with all as it was, where it isn't there or isn't busy. None, with
-    /// all as it was, without memory.
+    /// all as it was, where it would become ready and there is no memory to store that.
     pub(crate) fn array_ready(&mut self, lun: Lun) -> Option<bool>
         ensures { IsComing self.old (ArrayReady lun) ToArrayReady (ArrayBecameReady lun) result self.new }
     {
         match self.events.reserve(1) {
-            Err(_) => None,
+            Err(_) => refuse_array_ready(&self.core, lun),
             Ok(()) => {
                 let from = self.core.trace().len();
                 let came = self.core.array_ready(lun);
@@ -224,27 +225,23 @@ impl<L: Ledger> History<L> {
         }
     }
 
-    /// Unloads the job of a LUN, under its name, and tells whether it had ended; None, with all as it was, without memory.
+    /// Unloads the job of a LUN, under its name, and tells whether it had ended; false, with all as it was, where it hadn't. None, with
+    /// all as it was, where it had and there is no memory to store that.
     pub(crate) fn finish(&mut self, lun: Lun) -> Option<bool>
         ensures { IsFinish self.old lun result self.new }
     {
-        match self.events.reserve(1) {
-            Err(_) => None,
-            Ok(()) => match self.done.reserve(1) {
-                Err(_) => None,
-                Ok(()) => {
-                    let name = find_last_started(self.events.as_slice(), lun);
-                    match self.core.unload(lun) {
-                        Err(_) => Some(false),
-                        Ok(done) => match name {
-                            None => unreachable!(),
-                            Some(name) => {
-                                self.events.push_reserved(Stored::Unload(lun));
-                                self.done.push_reserved(NamedJob { name, done });
-                                Some(true)
-                            }
-                        },
-                    }
+        if !make_room_to_finish(&mut self.events, &mut self.done) {
+            return refuse_finish(&self.core, lun);
+        }
+        let name = find_last_started(self.events.as_slice(), lun);
+        match self.core.unload(lun) {
+            Err(_) => Some(false),
+            Ok(done) => match name {
+                None => unreachable!(),
+                Some(name) => {
+                    self.events.push_reserved(Stored::Unload(lun));
+                    self.done.push_reserved(NamedJob { name, done });
+                    Some(true)
                 }
             },
         }

@@ -10,6 +10,7 @@ mod gathered;
 mod history;
 mod park;
 mod readied;
+mod refusing;
 mod seats;
 mod start;
 mod stored;

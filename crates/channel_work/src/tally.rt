@@ -3,8 +3,9 @@ ghost use Rattle.std.specs.Prelude.{◌≡◌, ℕ, ◌-◌, ◌+◌, ◌^◌, �
 ghost use Rattle.target_bus.specs.Bus.{numbered};
 ghost use Rattle.channel_work.specs.Counts.{stands_after, polls_after, count_after, poll_row, AreCounts, IsFewAt, HaveCounted, HasCounted, gives_data, repeats_data, RepeatsAt};
 
+use micro_program::is_ready_status;
 use nand_geometry::Geometry;
-use onfi_cycle::{Item, Kind, Lun, MAX_CHANNEL_LUNS, Status};
+use onfi_cycle::{Item, Kind, Lun, MAX_CHANNEL_LUNS};
 use seq_core::Core;
 
 // The command that asks the one LUN of a target for its status.
@@ -89,7 +90,7 @@ fn count_polls(geometry: &Geometry, stands: u8, polls: u64, kind: Kind, byte: u8
             } else {
                 POLL_LENGTH
             };
-            if stands == whole && byte & Status::RDY.0 == 0 {
+            if stands == whole && !is_ready_status(byte) {
                 polls + 1
             } else {
                 polls

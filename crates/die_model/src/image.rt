@@ -1,7 +1,8 @@
 //! Writing a die's image.
 ghost use Rattle.std.specs.Prelude.{◌≡◌, ◌++◌, [], ◌∷◌, IfOk};
-ghost use Rattle.die_model.specs.Image.{are_blank, is_written, entry, count_of, header};
+ghost use Rattle.die_model.specs.Image.{are_blank, is_written, entry, count_of, four, header};
 
+use byteorder::{ByteOrder, LittleEndian};
 use nand_geometry::{Geometry, Parts, RowParts};
 use std::alloc::{AllocError, Allocator};
 
@@ -36,6 +37,16 @@ pub fn count_entry(geometry: &Geometry, block: u32, page: u64, bytes: &[u8]) -> 
     }
 }
 
+// Appends the four bytes of a number, the least significant first.
+fn push_number<A: Allocator>(number: u32, out: &mut Vec<u8, A>) -> Result<(), AllocError>
+    ensures { IfOk result (λ _. out.new.items ≡ out.old.items ++ four number) }
+{
+    let mut bytes = [0; 4];
+    LittleEndian::write_u32(&mut bytes, number);
+    out.extend_from_slice(&bytes)?;
+    Ok(())
+}
+
 /// Begins an image of so many entries: its header.
 pub fn begin_image<A: Allocator>(
     alloc: A,
@@ -46,11 +57,11 @@ pub fn begin_image<A: Allocator>(
 {
     let mut out = Vec::new(alloc);
     out.extend_from_slice(b"NDI1")?;
-    out.extend_from_slice(&parts.page_bytes.to_le_bytes())?;
-    out.extend_from_slice(&parts.spare_bytes.to_le_bytes())?;
-    out.extend_from_slice(&parts.pages.to_le_bytes())?;
-    out.extend_from_slice(&parts.blocks.to_le_bytes())?;
-    out.extend_from_slice(&count.to_le_bytes())?;
+    push_number(parts.page_bytes, &mut out)?;
+    push_number(parts.spare_bytes, &mut out)?;
+    push_number(parts.pages, &mut out)?;
+    push_number(parts.blocks, &mut out)?;
+    push_number(count, &mut out)?;
     Ok(out)
 }
 
@@ -72,7 +83,7 @@ pub fn write_entry<A: Allocator>(
             block,
             page: page as u32,
         });
-        out.extend_from_slice(&row.to_le_bytes())?;
+        push_number(row, out)?;
         out.extend_from_slice(bytes)?;
     }
     Ok(())

@@ -3,8 +3,9 @@ pub mod Cuts
 pub mod Numbers
 pub mod LineByLine
 pub mod Steps
+pub mod Judgements
+pub mod Looks
 pub mod Words
-pub mod Spelled
 pub mod Again
 pub mod WrittenLines
 pub mod Back

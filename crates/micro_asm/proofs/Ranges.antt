@@ -254,7 +254,7 @@ entry_tested seen entry false true is fits one =
       entries = all_more PairFits seen.entries (seen.line, entry) fits.entries one;
     }
 
-placed_fits : (last : ℕ) (seen : Seen) (l : Line) → SeenFits seen → LineFits l → IfOk (placed last seen l) SeenFits
+pub placed_fits : (last : ℕ) (seen : Seen) (l : Line) → SeenFits seen → LineFits l → IfOk (placed last seen l) SeenFits
 unfolding placed with_label with_entry
 placed_fits last seen Nothing fits one = record { heading = fits.heading; count = fits.count; entries = fits.entries }
 placed_fits last seen (Header s) fits one = heading_fits seen (with_setting seen.heading s) fits (setting_fits seen.heading s fits.heading one)

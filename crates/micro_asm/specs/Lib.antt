@@ -3,6 +3,8 @@ pub mod Targets
 pub mod Line
 pub mod Shown
 pub mod Reading
+pub mod Judged
+pub mod Looked
 pub mod Fits
 pub mod Kept
 pub mod Again

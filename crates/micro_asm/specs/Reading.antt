@@ -1,5 +1,5 @@
 -- Reading a whole text: its microprogram, or its first fault with the line.
-use Rattle.std.specs.Prelude.{◌≡◌, ℕ, ◌+◌, Bool, true, false, ◌==◌, nat_lt, if◌then◌else◌, List, [], ◌∷◌, ◌++◌, length, Option, Some, None, is_some, Result, Ok, Err, ok_or}
+use Rattle.std.specs.Prelude.{◌≡◌, ℕ, ◌+◌, Bool, true, false, ◌==◌, nat_lt, if◌then◌else◌, List, [], ◌∷◌, ◌++◌, length, Option, Some, None, is_some, Result, Ok, Err, IsOk, ok_or}
 use Rattle.std.specs.List.{slice_split}
 use Rattle.std.specs.Map.{update}
 use Rattle.std.specs.Str.{bytes_eq}
@@ -157,7 +157,12 @@ reading text = do
 abbrev pub Spells : List ℕ → Microprogram → Type 0
 Spells text x = reading text ≡ Ok x
 
--- A refusal is the fault that reading tells; or memory was refused, and nothing is said of the text.
+-- A refusal is the fault that reading tells; or memory was refused at a text without a fault.
 abbrev pub IsRefusalOf : {A : Type 0} → AsmRefusal → Result A AsmRefusal → Type 0
 IsRefusalOf (Fault code line) read = read ≡ Err (Fault code line)
-IsRefusalOf OutOfMemory read = Unit {0}
+IsRefusalOf OutOfMemory read = IsOk read
+
+-- The same where only the lines in front of the refused memory are read: it says nothing of those behind.
+abbrev pub MayRefuse : {A : Type 0} → AsmRefusal → Result A AsmRefusal → Type 0
+MayRefuse (Fault code line) read = read ≡ Err (Fault code line)
+MayRefuse OutOfMemory read = Unit {0}

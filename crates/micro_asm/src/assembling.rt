@@ -5,7 +5,7 @@ ghost use Rattle.std.specs.List.{AllByRecursion};
 ghost use Rattle.micro_word.specs.declared.format.Format.TheVariants.{Two};
 ghost use Rattle.micro_word.specs.Word.{IsInRange};
 ghost use Rattle.micro_word.specs.Text.{FitsFormat, Microprogram};
-ghost use Rattle.micro_asm.specs.Reading.{place_of, led, words_of, program, given, reading, Spells, IsRefusalOf};
+ghost use Rattle.micro_asm.specs.Reading.{place_of, led, words_of, program, given, reading, Spells, IsRefusalOf, MayRefuse};
 ghost use Rattle.micro_asm.specs.Fits.{SeenFits, EntryFits, NumbersFit};
 ghost use Rattle.micro_asm.specs.Kept.{seen};
 ghost use Rattle.micro_asm.specs.Shown.{shown_entry};
@@ -13,6 +13,7 @@ ghost use Rattle.micro_asm.specs.Shown.{shown_entry};
 use crate::heading::Numbers;
 use crate::lines::last_word;
 use crate::refusal::{AsmFault, AsmRefusal};
+use crate::second_look::find_fault;
 use crate::statement::Entry;
 use crate::survey::{Survey, fault, survey_of};
 use micro_word::{Text, Word};
@@ -59,7 +60,7 @@ fn words_of<A: Allocator>(alloc: A, survey: &Survey<'_, A>) -> Result<Vec<Word, 
         ≡ Ok v.items) }
     ensures fits { IfOk result (λ v. AllByRecursion (IsInRange Two (length (seen survey.now).entries)) v.items) }
     ensures count { IfOk result (λ v. length v.items ≡ length (seen survey.now).entries) }
-    ensures err { IfErr result (λ e. IsRefusalOf e (words_of (length (seen survey.now).entries) (seen survey.now).labels
+    ensures err { IfErr result (λ e. MayRefuse e (words_of (length (seen survey.now).entries) (seen survey.now).labels
         (seen survey.now).entries)) }
 {
     let mut words = Vec::with_capacity(alloc, survey.entries.len())?;
@@ -85,7 +86,7 @@ fn text_of<A: Allocator>(numbers: Numbers, words: Vec<Word, A>) -> Text<A>
 fn given<A: Allocator>(alloc: A, survey: &Survey<'_, A>) -> Result<Text<A>, AsmRefusal>
     requires { SeenFits (seen survey.now) }
     ensures ok { IfOk result (λ x. given (seen survey.now) ≡ Ok x) }
-    ensures err { IfErr result (λ e. IsRefusalOf e (given (seen survey.now))) }
+    ensures err { IfErr result (λ e. MayRefuse e (given (seen survey.now))) }
 {
     let Some(numbers) = survey.heading.numbers() else {
         return Err(fault(AsmFault::HeaderOutOfOrder, survey.line));
@@ -98,23 +99,38 @@ fn given<A: Allocator>(alloc: A, survey: &Survey<'_, A>) -> Result<Text<A>, AsmR
 
 /// The microprogram of an assembly text (docs/ASSEMBLY.md). Of any other text the lowest line with a fault is told, counted
 /// from 1, and its first fault in the order of [`AsmFault`]; A4 is told only where there is no other fault.
-/// `OutOfMemory` is answered only where memory was refused.
+/// `OutOfMemory` is answered only where memory was refused and the text has no fault. To tell that, the text is looked
+/// through again without memory, in a time that grows with the square of its lines.
 pub fn assemble<A: Allocator + Clone>(alloc: A, text: &str) -> Result<Text<A>, AsmRefusal>
     // What is given is what the lines spell.
     ensures ok { IfOk result (λ x. Spells text.now x) }
     // What the lines spell is given, unless memory is refused.
     ensures only { (x : Microprogram) → Spells text.now x → MatchResult result (λ y. y ≡ x) (λ e. e ≡ AsmRefusal.OutOfMemory) }
-    // A fault is the one that reading tells, at its line.
+    // A fault is the one that reading tells, at its line; of a text with a fault that fault is told, whatever memory there is.
     ensures err { IfErr result (λ e. IsRefusalOf e (reading text.now)) }
 {
-    all_lines(alloc, text)
+    match all_lines(alloc, text) {
+        Ok(program) => Ok(program),
+        Err(AsmRefusal::OutOfMemory) => Err(fault_or_memory(text)),
+        Err(refusal) => Err(refusal),
+    }
 }
 
-// The microprogram, or the first fault.
+// The fault of a text for which memory was refused; if it has none, that memory was refused.
+fn fault_or_memory(text: &str) -> AsmRefusal
+    ensures { IsRefusalOf result (reading text.now) }
+{
+    match find_fault(text.as_bytes()) {
+        Some(refusal) => refusal,
+        None => AsmRefusal::OutOfMemory,
+    }
+}
+
+// The microprogram, or the first fault in front of where memory was refused.
 #[tactic(auto, unfolding(crate::specs::Reading::reading, crate::specs::Reading::seen_in))]
 fn all_lines<A: Allocator + Clone>(alloc: A, text: &str) -> Result<Text<A>, AsmRefusal>
     ensures ok { IfOk result (λ x. reading text.now ≡ Ok x) }
-    ensures err { IfErr result (λ e. IsRefusalOf e (reading text.now)) }
+    ensures err { IfErr result (λ e. MayRefuse e (reading text.now)) }
 {
     let text = text.as_bytes();
     let alloc_of_words = alloc.clone()?;

@@ -1,17 +1,18 @@
 //! The lines of a text, one after another: the header, the words, and the place of each label.
 
 ghost use Rattle.std.specs.Prelude.{◌≡◌, ◌+◌, ◌<◌, ◌^◌, Ok, OnOk, IfOk, IfErr, is_some};
-ghost use Rattle.micro_asm.specs.Fits.{SeenFits, SettingFits, EntryFits, LineFits};
+ghost use Rattle.micro_asm.specs.Fits.{SeenFits, LineFits};
 ghost use Rattle.micro_asm.specs.Kept.{seen};
-ghost use Rattle.micro_asm.specs.Reading.{placed, with_heading, with_setting, with_label, with_entry, with_line, nothing_seen, with_lines, lines, IsRefusalOf};
-ghost use Rattle.micro_asm.specs.Shown.{shown_line, shown_entry};
+ghost use Rattle.micro_asm.specs.Judged.{progress, is_taken, kept};
+ghost use Rattle.micro_asm.specs.Reading.{placed, with_line, nothing_seen, with_lines, lines, MayRefuse};
+ghost use Rattle.micro_asm.specs.Shown.{shown_line};
 
 use crate::heading::Heading;
 use crate::line::spelled;
 use crate::lines::next_line;
+use crate::progress::Progress;
 use crate::refusal::{AsmFault, AsmRefusal};
-use crate::statement::{Entry, Setting, Statement};
-use micro_word::MAX_WORDS;
+use crate::statement::{Entry, Statement};
 use std::alloc::{AllocError, Allocator};
 use std::collections::BTreeMap;
 
@@ -38,23 +39,14 @@ pub(crate) fn fault(fault: AsmFault, line: usize) -> AsmRefusal
 }
 
 impl<'a, A: Allocator + Clone> Survey<'a, A> {
-    // A header line, which must be the next.
-    fn add_setting(&mut self, setting: Setting) -> Result<(), AsmRefusal>
-        requires setting { SettingFits setting }
-        requires room { self.old.line < 2 ^ 63 }
-        requires fits { SeenFits (seen self.old) }
-        ensures ok { OnOk result (with_heading (seen self.old) (with_setting self.old.heading setting) ≡ Ok (seen self.new)) }
-        ensures err { IfErr result (λ e. IsRefusalOf e (with_heading (seen self.old) (with_setting self.old.heading setting))) }
-        ensures fits { OnOk result (SeenFits (seen self.new)) }
-        ensures line { OnOk result (self.new.line ≡ self.old.line + 1) }
+    // How far reading has come.
+    fn progress(&self) -> Progress
+        ensures { result ≡ progress (seen self.now) }
     {
-        match self.heading.with_setting(setting) {
-            Some(heading) => {
-                self.heading = heading;
-                self.line += 1;
-                Ok(())
-            }
-            None => Err(fault(AsmFault::HeaderOutOfOrder, self.line)),
+        Progress {
+            line: self.line,
+            heading: self.heading,
+            words: self.entries.len(),
         }
     }
 
@@ -65,73 +57,55 @@ impl<'a, A: Allocator + Clone> Survey<'a, A> {
         self.labels.get(name).is_some()
     }
 
-    // A label, which names the next word.
-    #[tactic(auto, unfolding(crate::specs::Reading::with_label))]
-    fn add_label(&mut self, last: usize, name: &'a [u8]) -> Result<(), AsmRefusal>
-        requires room { self.old.line < 2 ^ 63 }
-        requires fits { SeenFits (seen self.old) }
-        ensures ok { OnOk result (with_label last (seen self.old) name.now ≡ Ok (seen self.new)) }
-        ensures err { IfErr result (λ e. IsRefusalOf e (with_label last (seen self.old) name.now)) }
-        ensures fits { OnOk result (SeenFits (seen self.new)) }
-        ensures line { OnOk result (self.new.line ≡ self.old.line + 1) }
+    // Whether the line is a label that a line before has.
+    fn is_taken(&self, statement: Statement<'_>) -> bool
+        ensures { result ≡ is_taken (seen self.now) (shown_line statement.entry) }
     {
-        if self.heading.is_heading() {
-            return Err(fault(AsmFault::HeaderOutOfOrder, self.line));
+        match statement {
+            Statement::Label(name) => self.has_label(name),
+            _ => false,
         }
-        if self.has_label(name) {
-            return Err(fault(AsmFault::LabelTwice, self.line));
-        }
-        if self.line >= last {
-            return Err(fault(AsmFault::LabelAfterLastWord, self.line));
-        }
-        let place = self.entries.len();
-        self.labels.insert(name, place)?;
-        self.line += 1;
-        Ok(())
     }
 
-    // A word.
-    #[tactic(auto, unfolding(crate::specs::Reading::with_entry))]
-    fn add_entry(&mut self, word: Entry<'a>) -> Result<(), AsmRefusal>
-        requires word { EntryFits (shown_entry word) }
-        requires room { self.old.line < 2 ^ 63 }
-        requires fits { SeenFits (seen self.old) }
-        ensures ok { OnOk result (with_entry (seen self.old) (shown_entry word.entry) ≡ Ok (seen self.new)) }
-        ensures err { IfErr result (λ e. IsRefusalOf e (with_entry (seen self.old) (shown_entry word.entry))) }
-        ensures fits { OnOk result (SeenFits (seen self.new)) }
-        ensures line { OnOk result (self.new.line ≡ self.old.line + 1) }
+    // Keeps a line's word or label.
+    fn keep(&mut self, statement: Statement<'a>) -> Result<(), AsmRefusal>
+        ensures ok { OnOk result (seen self.new ≡ kept (seen self.old) (shown_line statement.entry)) }
+        ensures err { IfErr result (λ e. e ≡ AsmRefusal.OutOfMemory) }
     {
-        if self.heading.is_heading() {
-            return Err(fault(AsmFault::HeaderOutOfOrder, self.line));
+        match statement {
+            Statement::Nothing | Statement::Header(_) => Ok(()),
+            Statement::Label(name) => {
+                let place = self.entries.len();
+                self.labels.insert(name, place)?;
+                Ok(())
+            }
+            Statement::Entered(entry) => {
+                let line = self.line;
+                self.entries.push(Pending { line, entry })?;
+                Ok(())
+            }
         }
-        if self.entries.len() >= MAX_WORDS {
-            return Err(fault(AsmFault::TooManyWords, self.line));
-        }
-        let line = self.line;
-        self.entries.push(Pending { line, entry: word })?;
-        self.line += 1;
-        Ok(())
     }
 
     // A line in its place.
-    #[tactic(auto, unfolding(crate::specs::Reading::placed))]
     fn place(&mut self, last: usize, statement: Statement<'a>) -> Result<(), AsmRefusal>
         requires line { LineFits (shown_line statement) }
         requires room { self.old.line < 2 ^ 63 }
         requires fits { SeenFits (seen self.old) }
         ensures ok { OnOk result (placed last (seen self.old) (shown_line statement.entry) ≡ Ok (seen self.new)) }
-        ensures err { IfErr result (λ e. IsRefusalOf e (placed last (seen self.old) (shown_line statement.entry))) }
+        ensures err { IfErr result (λ e. MayRefuse e (placed last (seen self.old) (shown_line statement.entry))) }
         ensures fits { OnOk result (SeenFits (seen self.new)) }
         ensures line { OnOk result (self.new.line ≡ self.old.line + 1) }
     {
-        match statement {
-            Statement::Nothing => {
-                self.line += 1;
+        let is_taken = self.is_taken(statement);
+        match self.progress().after(last, is_taken, statement) {
+            Ok(next) => {
+                self.keep(statement)?;
+                self.line = next.line;
+                self.heading = next.heading;
                 Ok(())
             }
-            Statement::Header(setting) => self.add_setting(setting),
-            Statement::Label(name) => self.add_label(last, name),
-            Statement::Entered(entry) => self.add_entry(entry),
+            Err(code) => Err(fault(code, self.line)),
         }
     }
 
@@ -141,7 +115,7 @@ impl<'a, A: Allocator + Clone> Survey<'a, A> {
         requires room { self.old.line < 2 ^ 63 }
         requires fits { SeenFits (seen self.old) }
         ensures ok { OnOk result (with_line last (seen self.old) line.now ≡ Ok (seen self.new)) }
-        ensures err { IfErr result (λ e. IsRefusalOf e (with_line last (seen self.old) line.now)) }
+        ensures err { IfErr result (λ e. MayRefuse e (with_line last (seen self.old) line.now)) }
         ensures fits { OnOk result (SeenFits (seen self.new)) }
         ensures line { OnOk result (self.new.line ≡ self.old.line + 1) }
     {
@@ -175,7 +149,7 @@ pub(crate) fn survey_of<'a, A: Allocator + Clone>(
 ) -> Result<Survey<'a, A>, AsmRefusal>
     ensures ok { IfOk result (λ s. with_lines last nothing_seen (lines text.entry.now) ≡ Ok (seen s)) }
     ensures fits { IfOk result (λ s. SeenFits (seen s)) }
-    ensures err { IfErr result (λ e. IsRefusalOf e (with_lines last nothing_seen (lines text.entry.now))) }
+    ensures err { IfErr result (λ e. MayRefuse e (with_lines last nothing_seen (lines text.entry.now))) }
 {
     let mut survey = nothing_seen(alloc)?;
     let mut rest = text;

@@ -50,7 +50,8 @@ pub sound_90 : (s : Channel) (j : Job) (k : KnownJob s j) (v : State) (past : Li
 sound_90 s j k v past c done rest at byte is scene f clear acc =
     let dec = declared s.geometry j.text v byte ReadId is clear in
     let free = or_parts (may_be_open v) (opener_refused s.geometry v ReadId) (opener_free s.geometry j.text v byte ReadId is refl refl clear) in
-    let two = or_parts (v.lun.busy || may_be_queued v.lun.queue) v.lun.last.cache free.1 in
+    let calm = subst (λ (b : Bool). (not b && (v.lun.busy || may_be_queued v.lun.queue || v.lun.last.cache)) ≡ false) dec.one free.1 in
+    let two = or_parts (v.lun.busy || may_be_queued v.lun.queue) v.lun.last.cache calm in
     let one = or_parts v.lun.busy (may_be_queued v.lun.queue) two.0 in
     plain_opener s j k v past c done rest at byte ReadId is scene f clear
     (record { closed = closed_tail s.geometry j v.target (now_of j done) c.facts (f.tail refl) free.0; one = dec.one; ready = f.lun.ready one.0; no_queue = none_queued s.geometry (index_now j.base done) v.lun.queue c.view.queue one.1 f.lun.queue; no_cache = not_caching v.lun.last c.view.closer f.lun.last two.1 })
@@ -60,7 +61,8 @@ pub sound_ec : (s : Channel) (j : Job) (k : KnownJob s j) (v : State) (past : Li
 sound_ec s j k v past c done rest at byte is scene f clear acc =
     let dec = declared s.geometry j.text v byte ReadParameterPage is clear in
     let free = or_parts (may_be_open v) (opener_refused s.geometry v ReadParameterPage) (opener_free s.geometry j.text v byte ReadParameterPage is refl refl clear) in
-    let two = or_parts (v.lun.busy || may_be_queued v.lun.queue) v.lun.last.cache free.1 in
+    let calm = subst (λ (b : Bool). (not b && (v.lun.busy || may_be_queued v.lun.queue || v.lun.last.cache)) ≡ false) dec.one free.1 in
+    let two = or_parts (v.lun.busy || may_be_queued v.lun.queue) v.lun.last.cache calm in
     let one = or_parts v.lun.busy (may_be_queued v.lun.queue) two.0 in
     plain_opener s j k v past c done rest at byte ReadParameterPage is scene f clear
     (record { closed = closed_tail s.geometry j v.target (now_of j done) c.facts (f.tail refl) free.0; one = dec.one; ready = f.lun.ready one.0; no_queue = none_queued s.geometry (index_now j.base done) v.lun.queue c.view.queue one.1 f.lun.queue; no_cache = not_caching v.lun.last c.view.closer f.lun.last two.1 })

@@ -136,14 +136,18 @@ queue_refuses (SomeRows erase queued drift) planes opener =
 abbrev pub is_unfit : Parts → Command → Bool
 is_unfit g c = not (is_known c) || is_undeclared g c
 
+-- 90h or ECh may not come, though nothing is open: only a target of one LUN is asked, as another refuses them by a rule that comes first
+abbrev pub identity_opener_refused : Parts → State → Bool
+identity_opener_refused g s = not (nat_lt 1 g.luns) && (s.lun.busy || may_be_queued s.lun.queue || s.lun.last.cache)
+
 -- an opener may not come, though nothing is open
 abbrev pub opener_refused : Parts → State → Command → Bool
 opener_refused g s ChangeReadColumn = not (shows_only_data s.target.shows) || s.lun.busy || not (has_page_or_parameters s.lun.register)
 opener_refused g s Read = s.lun.busy
 opener_refused g s BlockErase = s.lun.busy
 opener_refused g s PageProgram = s.lun.busy
-opener_refused g s ReadId = s.lun.busy || may_be_queued s.lun.queue || s.lun.last.cache
-opener_refused g s ReadParameterPage = s.lun.busy || may_be_queued s.lun.queue || s.lun.last.cache
+opener_refused g s ReadId = identity_opener_refused g s
+opener_refused g s ReadParameterPage = identity_opener_refused g s
 opener_refused g s ReadCacheSequential =
     not (drives s.target.shows) || s.lun.busy || s.lun.last.other || not (is_at_most (bound_plus s.lun.cached.page.hi 2) g.pages)
 opener_refused g s ReadCacheEnd = not (drives s.target.shows) || s.lun.busy || s.lun.last.other || s.lun.last.read

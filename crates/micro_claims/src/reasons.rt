@@ -103,7 +103,9 @@ impl State {
                     || !self.lun.has_page_or_parameters()
             }
             Command::Read | Command::BlockErase | Command::PageProgram => self.lun.busy,
-            Command::ReadId | Command::ReadParameterPage => self.lun.may_work(),
+            Command::ReadId | Command::ReadParameterPage => {
+                geometry.parts().luns <= 1 && self.lun.may_work()
+            }
             Command::ReadCacheSequential => {
                 !self.target.drives()
                     || self.lun.busy

@@ -29,3 +29,4 @@ pub mod Shaped
 pub mod Leading
 pub mod CacheReads
 pub mod Bytes
+pub mod Statuses

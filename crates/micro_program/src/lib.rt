@@ -9,8 +9,10 @@
 mod commands;
 pub mod laws;
 mod lines;
+mod status;
 mod verified;
 
 pub use commands::command_word;
 pub use lines::{all_lead_on, continues_cache_read};
+pub use status::is_ready_status;
 pub use verified::Verified;

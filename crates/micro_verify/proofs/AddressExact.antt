@@ -71,10 +71,10 @@ address_cause s text v r c from count some few k is m reason e = by reason (reas
 
     stops : breaks_cycle_forbidden g v (AddressWord from count) ≡ true → lacks_bytes g text r (AddressWord from count) ≡ false → WordStops s j r (AddressWord from count) is_of_cycle_forbidden
     stops h bytes =
-        let two = or_parts (is_misplaced g r (AddressWord from count) || is_outside g text.rows r (AddressWord from count)) (wants_identity (tail_now r) && ltb 2 (from + count)) bytes in
+        let two = or_parts (is_misplaced g r (AddressWord from count) || is_outside g text.rows r (AddressWord from count)) (wants_identity (tail_now r) && ltb 1 from) bytes in
         let one = or_parts (is_misplaced g r (AddressWord from count)) (is_outside g text.rows r (AddressWord from count)) two.0 in
         refused_stops s text v r c from count (word one.1) (sym (ap (λ (t : TailFacts). begins_wrong t from count) is.facts) ∙ one.0)
-        (λ wants. let short = and_rest (wants_identity (tail_now r)) (ltb 2 (from + count)) (ap wants_identity is.facts ∙ wants) two.1 in grind (arith, nat_tests, short)) h
+        (λ wants. let first = and_rest (wants_identity (tail_now r)) (ltb 1 from) (ap wants_identity is.facts ∙ wants) two.1 in grind (arith, nat_tests, first)) h
 
     by : (reason : Reason) → reason_holds g text v (AddressWord from count) reason ≡ true → reason_against g (bounds_of text) v (AddressWord from count) ≡ Some reason → Cause s j r (AddressWord from count) reason
     by CycleForbidden h e = λ bytes. stops h bytes

@@ -58,12 +58,9 @@ second_byte g _ view first byte reads = cc
 
 -- 2. where it stops
 
-column_address : (s : Channel) (text : Microprogram) (r : Run) (from count : ℕ) → from + count ≤ 2 → address s.geometry (lone_job s.geometry text) r.done from count ≡ Some (take count (drop from (column_bytes (column_now r.done))))
-column_address s text r from count few = let short : nat_le (from + count) 2 ≡ true = grind (arith, nat_tests, few) in rw short refl
-
--- among the bytes of the column it is another, or one of two
-pub identity_stops : (s : Channel) (text : Microprogram) (r : Run) (c : Lone) (from count : ℕ) (o : Command) → IsAlone s → IsLone s r.past c → c ≡ asked o c.view → reads_identity o ≡ true → 1 ≤ count → from + count ≤ 2 → (not (count == 1) || not (nat_le from 1 && takes_address o (byte_of_column from (column_now r.done)))) ≡ true → WordStops s (lone_job s.geometry text) r (AddressWord from count) is_of_cycle_forbidden
-identity_stops s text r c from count o k is here reads some few refused = by from count some few refused (column_address s text r from count few)
+-- among the bytes of an address that begins with the column it is another, or one of several
+pub identity_stops : (s : Channel) (text : Microprogram) (r : Run) (c : Lone) (from count : ℕ) (o : Command) → IsAlone s → IsLone s r.past c → c ≡ asked o c.view → reads_identity o ≡ true → 1 ≤ count → from + count ≤ 5 → from ≤ 1 → (r1 r2 r3 : ℕ) → address s.geometry (lone_job s.geometry text) r.done from count ≡ Some (take count (drop from (column_now r.done % 256 ∷ (column_now r.done / 256 % 256 ∷ (r1 ∷ (r2 ∷ (r3 ∷ []))))))) → (not (count == 1) || not (nat_le from 1 && takes_address o (byte_of_column from (column_now r.done)))) ≡ true → WordStops s (lone_job s.geometry text) r (AddressWord from count) is_of_cycle_forbidden
+identity_stops s text r c from count o k is here reads some few first r1 r2 r3 bytes refused = by from count some few first refused bytes
   where
     g : Parts
     g = s.geometry
@@ -79,18 +76,18 @@ identity_stops s text r c from count o k is here reads some few refused = by fro
     at_once from count xs byte bytes some few wrong =
         address_stops s text r c from count 0 (byte ∷ xs) is_of_cycle_forbidden bytes (omega (arith, some)) few k is tt AddressMisplaced (ap (λ (x : Lone). judged g x (AddressCycle byte)) here ∙ other_byte g o c.view byte reads wrong) refl
 
-    by : (from count : ℕ) → 1 ≤ count → from + count ≤ 2 → (not (count == 1) || not (nat_le from 1 && takes_address o (byte_of_column from (column_now r.done)))) ≡ true → address g (lone_job g text) r.done from count ≡ Some (take count (drop from (column_bytes (column_now r.done)))) → WordStops s (lone_job g text) r (AddressWord from count) is_of_cycle_forbidden
-    by from zero some few refused bytes = absurd (omega (arith, some))
-    by zero (suc zero) some few refused bytes = at_once 0 1 (b1 ∷ []) b0 bytes some (omega arith) (not-true _ refused)
-    by (suc zero) (suc zero) some few refused bytes = at_once 1 1 [] b1 bytes some (omega arith) (not-true _ refused)
-    by zero (suc (suc zero)) some few refused bytes = on (takes_address o b0) refl
-      where
-        on : (b : Bool) → takes_address o b0 ≡ b → WordStops s (lone_job g text) r (AddressWord 0 2) is_of_cycle_forbidden
-        on false e = at_once 0 2 (b1 ∷ []) b0 bytes some (omega arith) e
-        on true e =
-            address_stops s text r c 0 2 1 (b0 ∷ (b1 ∷ [])) is_of_cycle_forbidden bytes (omega arith) (omega arith) k is
-            (ap (λ (x : Lone). judged g x (AddressCycle b0)) here ∙ identity_judged g o c.view b0 reads e, tt) AddressMisplaced
-            (ap (λ (x : Lone). judged g (lone_behind g (AddressCycle b0) x) (AddressCycle b1)) here ∙ second_byte g o c.view b0 b1 reads) refl
-    by zero (suc (suc (suc n))) some few refused bytes = absurd (omega (arith, few))
-    by (suc zero) (suc (suc n)) some few refused bytes = absurd (omega (arith, few))
-    by (suc (suc m)) (suc n) some few refused bytes = absurd (omega (arith, few))
+    -- at its first byte, or at its second one
+    at_two : (from n : ℕ) (xs : List ℕ) (byte next : ℕ) → address g (lone_job g text) r.done from (suc (suc n)) ≡ Some (take (suc (suc n)) (byte ∷ (next ∷ xs))) → suc (suc n) ≤ length (byte ∷ (next ∷ xs)) → (b : Bool) → takes_address o byte ≡ b → WordStops s (lone_job g text) r (AddressWord from (suc (suc n))) is_of_cycle_forbidden
+    at_two from n xs byte next bytes few false e = at_once from (suc (suc n)) (next ∷ xs) byte bytes (omega arith) few e
+    at_two from n xs byte next bytes few true e =
+        address_stops s text r c from (suc (suc n)) 1 (byte ∷ (next ∷ xs)) is_of_cycle_forbidden bytes (omega arith) few k is
+        (ap (λ (x : Lone). judged g x (AddressCycle byte)) here ∙ identity_judged g o c.view byte reads e, tt) AddressMisplaced
+        (ap (λ (x : Lone). judged g (lone_behind g (AddressCycle byte) x) (AddressCycle next)) here ∙ second_byte g o c.view byte next reads) refl
+
+    by : (from count : ℕ) → 1 ≤ count → from + count ≤ 5 → from ≤ 1 → (not (count == 1) || not (nat_le from 1 && takes_address o (byte_of_column from (column_now r.done)))) ≡ true → address g (lone_job g text) r.done from count ≡ Some (take count (drop from (b0 ∷ (b1 ∷ (r1 ∷ (r2 ∷ (r3 ∷ []))))))) → WordStops s (lone_job g text) r (AddressWord from count) is_of_cycle_forbidden
+    by from zero some few first refused bytes = absurd (omega (arith, some))
+    by zero (suc zero) some few first refused bytes = at_once 0 1 (b1 ∷ (r1 ∷ (r2 ∷ (r3 ∷ [])))) b0 bytes some (omega arith) (not-true _ refused)
+    by (suc zero) (suc zero) some few first refused bytes = at_once 1 1 (r1 ∷ (r2 ∷ (r3 ∷ []))) b1 bytes some (omega arith) (not-true _ refused)
+    by zero (suc (suc n)) some few first refused bytes = at_two 0 n (r1 ∷ (r2 ∷ (r3 ∷ []))) b0 b1 bytes (omega (arith, few)) _ refl
+    by (suc zero) (suc (suc n)) some few first refused bytes = at_two 1 n (r2 ∷ (r3 ∷ [])) b1 r1 bytes (omega (arith, few)) _ refl
+    by (suc (suc m)) (suc n) some few first refused bytes = absurd (omega (arith, first))

@@ -145,8 +145,8 @@ opener_refused s text v r c from count o n w x inside changes same sure h = by (
         row_stops s text v r c from count o n w x array five (λ takes low. column takes low (omega (arith, five))) (sym (row_refused_is g j v r.done c.view o n a array m.registers m.lun row refl refl) ∙ t.1)
     by false other = subst Column (changed o x.carries other) behind_05 x inside column h
 
-pub refused_stops : (s : Channel) (text : Microprogram) (v : State) (r : Run) (c : Lone) (from count : ℕ) → AddressAt s text v r c from count → begins_wrong c.facts from count ≡ false → (wants_identity c.facts ≡ true → from + count ≤ 2) → address_out_of_place s.geometry v from count v.target.tail ≡ true → WordStops s (lone_job s.geometry text) r (AddressWord from count) is_of_cycle_forbidden
-refused_stops s text v r c from count w right short h =
+pub refused_stops : (s : Channel) (text : Microprogram) (v : State) (r : Run) (c : Lone) (from count : ℕ) → AddressAt s text v r c from count → begins_wrong c.facts from count ≡ false → (wants_identity c.facts ≡ true → from ≤ 1) → address_out_of_place s.geometry v from count v.target.tail ≡ true → WordStops s (lone_job s.geometry text) r (AddressWord from count) is_of_cycle_forbidden
+refused_stops s text v r c from count w right column_first h =
     at (addresses_left t.place == 0) refl
   where
     g : Parts
@@ -184,7 +184,7 @@ refused_stops s text v r c from count w right short h =
             let b = begun o n m.tail.address c.facts is in
             let none : n ≡ 0 = none_yet o n m.tail.address c.facts reads is in
             let wants : wants_identity c.facts ≡ true = ap (opened (λ c n. reads_identity c && n == 0)) b.opening ∙ (λ i. reads i && none i == 0) in
-            identity_stops s text r c from count o w.fit.alone w.lone (asked_is o n m.tail.address c reads is) reads w.some (short wants)
+            identity_stops s text r c from count o w.fit.alone w.lone (asked_is o n m.tail.address c reads is) reads w.some w.few (column_first wants) _ _ _ (column_word s text v r c from count from refl w)
             (sym (λ i. w.fit.one i || not (count == 1) || not (is_identity_byte o from (column i))) ∙ refused)
         on false other =
             let carries = carries_is o n is.place other in

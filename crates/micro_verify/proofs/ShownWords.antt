@@ -25,7 +25,7 @@ use Rattle.micro_verify.proofs.PerformedWords.{came_of}
 
 lacks_are : (g h : Parts) (j : Job) (run : Run) (rows limit : ℕ) (t : TailFacts) (r : Registers) (word : Word) → h ≡ g → t ≡ tail_now run → IsSet r run.done → rows ≡ j.text.rows → limit ≡ j.text.buffer → lacks_told h rows limit t r word ≡ lacks_bytes g j.text run word
 lacks_are g h j run rows limit t r (Address from count) same tail_is set rows_are limit_is =
-    λ i. begins_wrong (tail_is i) from count || (ltb 2 (from + count) && (leb (rows_are i) (set.index i) || leb (planes (same i)) (set.plane i))) || (wants_identity (tail_is i) && ltb 2 (from + count))
+    λ i. begins_wrong (tail_is i) from count || (ltb 2 (from + count) && (leb (rows_are i) (set.index i) || leb (planes (same i)) (set.plane i))) || (wants_identity (tail_is i) && ltb 1 from)
 lacks_are g h j run rows limit t r (Put len) same tail_is set rows_are limit_is = λ i. not (leb (set.place i + len) (limit_is i))
 lacks_are g h j run rows limit t r _ same tail_is set rows_are limit_is = refl
 

@@ -137,10 +137,11 @@ abbrev pub is_not_for_programs : Parts → Word → Bool
 is_not_for_programs g (CommandWord byte) = asks_status (command byte) || breaks_command_unknown g (CommandCycle (command byte)) || breaks_several_luns g (CommandCycle (command byte))
 is_not_for_programs g _ = false
 
--- left out of V7: the bytes of the word may not be there
+-- left out of V7: the bytes of the word may not be there. 90h and ECh take one byte of the column, so a row byte before all others is no
+-- address of theirs that could be judged
 abbrev pub lacks_bytes : Parts → Microprogram → Run → Word → Bool
 lacks_bytes g text r (Address from count) =
-    is_misplaced g r (Address from count) || is_outside g text.rows r (Address from count) || (wants_identity (tail_now r) && nat_lt 2 (from + count))
+    is_misplaced g r (Address from count) || is_outside g text.rows r (Address from count) || (wants_identity (tail_now r) && nat_lt 1 from)
 lacks_bytes g text r (Put len) = not (fits text.buffer (place_now r.done) (Put len))
 lacks_bytes g text r _ = false
 

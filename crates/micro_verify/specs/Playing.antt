@@ -166,7 +166,7 @@ is_outside_told g rows r = nat_le rows r.index || nat_le (planes g) r.plane
 
 abbrev pub lacks_told : Parts → (rows buffer : ℕ) → TailFacts → Registers → Word → Bool
 lacks_told g rows buffer tail r (Address from count) =
-    begins_wrong tail from count || (nat_lt 2 (from + count) && is_outside_told g rows r) || (wants_identity tail && nat_lt 2 (from + count))
+    begins_wrong tail from count || (nat_lt 2 (from + count) && is_outside_told g rows r) || (wants_identity tail && nat_lt 1 from)
 lacks_told g rows buffer tail r (Put len) = not (nat_le (r.place + len) buffer)
 lacks_told g rows buffer tail r word = false
 

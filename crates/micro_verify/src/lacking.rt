@@ -64,8 +64,8 @@ fn is_outside(geometry: &Geometry, rows: u32, registers: Registers) -> bool
     u64::from(rows) <= registers.index || geometry.planes() <= u32::from(registers.plane)
 }
 
-/// The bytes of a word may not be there: an address that begins wrong or whose row is outside, one of a row byte for 90h or ECh, and
-/// inputs past the buffer.
+/// The bytes of a word may not be there: an address that begins wrong or whose row is outside, one that begins with a row byte for 90h or
+/// ECh, and inputs past the buffer.
 pub(crate) fn lacks_bytes(
     geometry: &Geometry,
     rows: u32,
@@ -82,7 +82,7 @@ pub(crate) fn lacks_bytes(
             let row = u32::from(from) + u32::from(count) > 2;
             begins_wrong(tail, from, count)
                 || row && is_outside(geometry, rows, registers)
-                || wants_identity(tail) && row
+                || wants_identity(tail) && from > 1
         }
         Word::Put { len } => registers.place + u64::from(len) > u64::from(buffer),
         _ => false,

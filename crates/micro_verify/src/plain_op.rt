@@ -7,7 +7,7 @@ ghost use Rattle.micro_verify.specs.Plain.{operation_words, operation_len, row_o
 use micro_program::command_word;
 use micro_word::{Format, MAX_ROWS, Word};
 use nand_geometry::Geometry;
-use onfi_cycle::Command;
+use onfi_cycle::{Command, Status};
 use std::alloc::{AllocError, Allocator};
 
 /// One operation on a page or a block of a LUN.
@@ -72,14 +72,14 @@ fn read_words(row: u16, plane: u8, column: u16, place: u32, len: u32) -> [Word; 
     ]
 }
 
-// The bit of the status byte that says failure.
-const FAIL: u8 = 0x01;
-
-// The branch to the failure, where the last status says so.
+// The branch to the failure, where the last status says so (FAIL).
 fn on_failure(target: u16) -> Word
     ensures { result ≡ BranchOnStatus 0x01 target }
 {
-    Word::BranchOnStatus { mask: FAIL, target }
+    Word::BranchOnStatus {
+        mask: Status::FAIL.0,
+        target,
+    }
 }
 
 // The words of a program.

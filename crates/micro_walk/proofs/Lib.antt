@@ -19,5 +19,5 @@ pub mod Joining
 pub mod Ahead
 pub mod ShapeNested
 pub mod ShapeTable
-pub mod OfWords
+pub mod Ends
 pub mod Verdicts

@@ -38,8 +38,8 @@ opener_on g v s a d ChangeReadColumn =
 opener_on g v s a d Read = d.lun.busy
 opener_on g v s a d BlockErase = d.lun.busy
 opener_on g v s a d PageProgram = d.lun.busy
-opener_on g v s a d ReadId = or_on _ _ _ _ (or_on _ _ _ _ d.lun.busy (queued_on s.lun.queue a.lun.queue d.lun.queue)) d.lun.last_cache
-opener_on g v s a d ReadParameterPage = or_on _ _ _ _ (or_on _ _ _ _ d.lun.busy (queued_on s.lun.queue a.lun.queue d.lun.queue)) d.lun.last_cache
+opener_on g v s a d ReadId = and_on _ _ _ _ (same_on _) (or_on _ _ _ _ (or_on _ _ _ _ d.lun.busy (queued_on s.lun.queue a.lun.queue d.lun.queue)) d.lun.last_cache)
+opener_on g v s a d ReadParameterPage = and_on _ _ _ _ (same_on _) (or_on _ _ _ _ (or_on _ _ _ _ d.lun.busy (queued_on s.lun.queue a.lun.queue d.lun.queue)) d.lun.last_cache)
 opener_on g v s a d ReadCacheSequential =
     or_on _ _ _ _ (or_on _ _ _ _ (or_on _ _ _ _ (not_drives_on g v s a d) d.lun.busy) d.lun.last_other)
     (not_on _ _ (most_on s.lun.cached.page.hi a.lun.cached.page.hi 2 g.pages g.pages d.lun.cached_page.high (omega arith)))

@@ -1,5 +1,5 @@
 -- What becomes of a text, by its kind.
-use Rattle.std.proofs.Common.{◌≡◌, ℕ, ◌*◌, ◌≤◌, ◌<◌, Bool, true, false, cond, List, Option, Some, None, refl, sym, ap, ap₂, ◌∙◌, subst, arith, length, inl, inr}
+use Rattle.std.proofs.Common.{◌≡◌, ℕ, Bool, true, false, cond, List, Option, Some, None, refl, sym, ap, ap₂, ◌∙◌, subst, arith, length, inl, inr}
 use Rattle.nand_geometry.specs.declared.parts.Parts.{Parts}
 use Rattle.nand_geometry.specs.Limits.{InLimits}
 use Rattle.micro_word.specs.declared.format.Format.TheVariants.{Two}
@@ -91,9 +91,9 @@ loops_fault_of text g shape loops =
     ap (λ (o : Option Fault). or_fault o (cond (has_loop text.words) None (followed g (bounds_of text) (known_first text.words) 0 text.words))) shape
     ∙ ap (λ (b : Bool). cond b None (followed g (bounds_of text) (known_first text.words) 0 text.words)) loops
 
-pub loops_refused : (text : Microprogram) (g : Parts) (words : List Word) (fault : Fault) → words ≡ text.words → shape_fault text.words ≡ None → has_loop text.words ≡ true → IsOfWord words fault → MayBe g text fault
-loops_refused text g words fault same shape loops some =
-    (inr (record { loops = loops; shape = shape; of_word = subst (λ (ws : List Word). IsOfWord ws fault) same some }))
+pub loops_refused : (text : Microprogram) (g : Parts) (b : Bounds) (words : List Word) (fault : Fault) → Read text b words → shape_fault text.words ≡ None → has_loop text.words ≡ true → IsOfWord g b words fault → MayBe g text fault
+loops_refused text g b words fault r shape loops some =
+    (inr (record { loops = loops; shape = shape; of_word = subst (λ (ws : List Word). IsOfWord g (bounds_of text) ws fault) r.same (subst (λ (x : Bounds). IsOfWord g x words fault) r.bounds some) }))
 
 pub loops_verified : (text : Microprogram) (g : Parts) (b : Bounds) (words : List Word) (claims : List (Option State)) (count : ℕ) → Read text b words → InLimits g → FitsFormat Two text → shape_fault text.words ≡ None → has_loop text.words ≡ true → is_certified (machine g b) words claims ≡ true → IsFewWalked words count → IsVerified text g count
 loops_verified text g b words claims count r limits fits shape loops is few =

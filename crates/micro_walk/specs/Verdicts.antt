@@ -1,17 +1,18 @@
 -- What is found of a text: that it is safe, or what is against it.
-use Rattle.std.specs.Prelude.{◌≡◌, ℕ, ◌<◌, ◌⊎◌, Bool, true, false, List, Some, None, length}
+use Rattle.std.specs.Prelude.{◌≡◌, ℕ, ◌⊎◌, Bool, true, false, List, Some, None, slice_get}
 use Rattle.nand_geometry.specs.declared.parts.Parts.{Parts}
 use Rattle.micro_word.specs.declared.word.Word.{Word}
 use Rattle.micro_word.specs.Text.{Microprogram}
 use Rattle.micro_claims.specs.declared.refusal.Reason.{Reason}
 use Rattle.micro_claims.specs.declared.refusal.Reason.TheVariants.{NoWords, LoopUnpaired, LoopsTooDeep, BranchMisplaced, LastWordNotEnd}
 use Rattle.micro_claims.specs.declared.refusal.Fault.{Fault}
-use Rattle.micro_program.specs.Lines.{all_lead_on}
+use Rattle.micro_claims.specs.declared.state.State.{State}
+use Rattle.micro_claims.specs.declared.bounds.Bounds.{Bounds}
+use Rattle.micro_claims.specs.State.{bounds_of}
+use Rattle.micro_claims.specs.Reasons.{reason_against}
 use Rattle.micro_program.specs.Safe.{IsSafe}
 use Rattle.micro_program.specs.Places.{IsShaped}
 use Rattle.micro_program.specs.Verified.{IsFewWalked}
-use Rattle.micro_walk.specs.declared.finding.Finding.{Finding}
-use Rattle.micro_walk.specs.declared.finding.Finding.TheVariants.{Against, OutOfMemory}
 use Rattle.micro_walk.specs.Shape.{shape_fault}
 use Rattle.micro_walk.specs.Faults.{has_loop, fault_of}
 
@@ -24,28 +25,22 @@ is_of_shape BranchMisplaced = true
 is_of_shape LastWordNotEnd = true
 is_of_shape _ = false
 
--- of some word, and a reason against a word
-pub record IsOfWord (words : List Word) (fault : Fault) : Type 0 where
-  pub inside : fault.word < length words
-  pub of_word : is_of_shape fault.reason ≡ false
+-- of a word of the text, and the lowest reason against it by what was claimed before it
+pub record IsOfWord (g : Parts) (b : Bounds) (words : List Word) (fault : Fault) : Type 0 where
+  pub word : Word
+  pub there : slice_get words fault.word ≡ Some word
+  pub claimed : State
+  pub against : reason_against g b claimed word ≡ Some fault.reason
 
 -- of a text with loops whose shape is right
-pub record IsOfLoops (text : Microprogram) (fault : Fault) : Type 0 where
+pub record IsOfLoops (g : Parts) (text : Microprogram) (fault : Fault) : Type 0 where
   pub loops : has_loop text.words ≡ true
   pub shape : shape_fault text.words ≡ None
-  pub of_word : IsOfWord text.words fault
+  pub of_word : IsOfWord g (bounds_of text) text.words fault
 
 -- what may be against a text: its fault, or a word of a text with loops
 abbrev pub MayBe : Parts → Microprogram → Fault → Type 0
-MayBe g text fault = (fault_of g text ≡ Some fault) ⊎ IsOfLoops text fault
-
--- memory is asked for where a text of the right shape has a branch or a loop
-abbrev pub AsksForRoom : Microprogram → Type 0
-AsksForRoom text = (shape_fault text.words ≡ None) × (all_lead_on text.words ≡ false)
-
-abbrev pub MayFind : Finding → Parts → Microprogram → Type 0
-MayFind (Against fault) g text = MayBe g text fault
-MayFind OutOfMemory g text = AsksForRoom text
+MayBe g text fault = (fault_of g text ≡ Some fault) ⊎ IsOfLoops g text fault
 
 -- what is shown of a text against which nothing is found
 pub record IsVerified (text : Microprogram) (g : Parts) (walked : ℕ) : Type 0 where

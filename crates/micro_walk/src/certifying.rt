@@ -4,26 +4,28 @@ ghost use Rattle.micro_walk.specs.Certified.{is_shown};
 ghost use Rattle.micro_claims.specs.State.{bounds_of};
 
 use crate::check::is_certified;
+use crate::claim_table::nothing_known;
 use crate::examining::bounds_of;
 use crate::search::find;
 use crate::shape::shape_fault;
+use arrayvec::ArrayVec;
 use micro_claims::State;
 use micro_program::Verified;
-use micro_word::Text;
+use micro_word::{MAX_WORDS, Text};
 use nand_geometry::Geometry;
-use std::alloc::{AllocError, Allocator, Global};
+use std::alloc::Allocator;
 use std::marker::Model;
 
 // How many words the search walks at most: 65,536 for each of 1,024 words.
 const MOST_WALKED: u32 = 67_108_864;
 
-/// What is claimed before each word of a text; nothing where no way leads.
+/// What is claimed before each word of a text; nothing where no way leads. It stands where it is put, and takes no memory.
 #[derive(Drop)]
-pub struct Claims<A: Allocator = Global> {
-    claims: Vec<Option<State>, A>,
+pub struct Claims {
+    claims: ArrayVec<Option<State>, MAX_WORDS>,
 }
 
-impl<A: Allocator> Model for Claims<A> {
+impl Model for Claims {
     ghost use Rattle.std.specs.Prelude.{List, Option};
     ghost use Rattle.micro_claims.specs.declared.state.State.{State};
 
@@ -32,16 +34,12 @@ impl<A: Allocator> Model for Claims<A> {
     ghost view = { λ c. c.claims.items };
 }
 
-impl<A: Allocator> Claims<A> {
+impl Claims {
     /// Looks for claims of a text for a geometry. Nothing is promised of them: [`certify`] tells whether they are a certificate. Where the
     /// search finds something against a word, the claims after it are missing.
-    pub fn find<B: Allocator>(
-        alloc: A,
-        text: &Text<B>,
-        geometry: &Geometry,
-    ) -> Result<Claims<A>, AllocError> {
+    pub fn find<A: Allocator>(text: &Text<A>, geometry: &Geometry) -> Claims {
         let words = text.words();
-        let mut claims = vec![in alloc; None; words.len()]?;
+        let mut claims = nothing_known(words.len());
         // How far the search came and where it stopped says nothing of the claims.
         let _ = find(
             geometry,
@@ -50,16 +48,12 @@ impl<A: Allocator> Claims<A> {
             claims.as_mut_slice(),
             MOST_WALKED,
         );
-        Ok(Claims { claims })
+        Claims { claims }
     }
 }
 
 // Whether the claims are a certificate of a text whose loops and branches are nested.
-fn is_shown<A: Allocator, B: Allocator>(
-    text: &Text<A>,
-    geometry: &Geometry,
-    claims: &Claims<B>,
-) -> bool
+fn is_shown<A: Allocator>(text: &Text<A>, geometry: &Geometry, claims: &Claims) -> bool
     ensures { result ≡ is_shown geometry.now text.now claims.now }
 {
     let words = text.words();
@@ -68,11 +62,7 @@ fn is_shown<A: Allocator, B: Allocator>(
 }
 
 // A text with its certificate, as one that is verified.
-fn shown_by<A: Allocator, B: Allocator>(
-    text: Text<A>,
-    geometry: Geometry,
-    claims: &Claims<B>,
-) -> Verified<A>
+fn shown_by<A: Allocator>(text: Text<A>, geometry: Geometry, claims: &Claims) -> Verified<A>
     requires { is_shown geometry text claims.now ≡ true }
     ensures { (result.text ≡ text) × (result.geometry ≡ geometry) }
 {
@@ -85,10 +75,10 @@ fn shown_by<A: Allocator, B: Allocator>(
 /// Verifies a text with branches and loops for a geometry, by claims for its places: exactly when its loops pair, four deep at most, its
 /// branches lead on inside their loop, and the claims are a certificate (docs/PROOF.md). Else the text is handed back. Takes no
 /// memory. What is verified so is safe like all that the verifier accepts, whoever made the claims.
-pub fn certify<A: Allocator, B: Allocator>(
+pub fn certify<A: Allocator>(
     text: Text<A>,
     geometry: Geometry,
-    claims: &Claims<B>,
+    claims: &Claims,
 ) -> Result<Verified<A>, Text<A>>
     ensures accepted { IsOk result ↔ (is_shown geometry text claims.now ≡ true) }
     ensures value { IfOk result (λ v. (v.text ≡ text) × (v.geometry ≡ geometry)) }

@@ -1,22 +1,22 @@
 //! Examining a text: its shape first, and then, from its first word on, what is known before each word and whether anything is against it.
-ghost use Rattle.std.specs.Prelude.{◌≡◌, true, false, length, replicate, Option, Some, None, IfOk, IfErr};
+ghost use Rattle.std.specs.Prelude.{◌≡◌, ◌≤◌, true, false, length, replicate, Option, Some, None, IfOk, IfErr};
 ghost use Rattle.micro_claims.specs.declared.refusal.Fault.{Fault};
 ghost use Rattle.micro_program.specs.Lines.{all_lead_on};
 ghost use Rattle.micro_claims.specs.declared.state.State.{State};
 ghost use Rattle.micro_claims.specs.State.{first_state, bounds_of};
 ghost use Rattle.micro_walk.specs.Shape.{shape_fault};
 ghost use Rattle.micro_walk.specs.Faults.{onward, walked, is_loop, has_loop, fault_of};
-ghost use Rattle.micro_walk.specs.Verdicts.{MayFind, IsVerified};
+ghost use Rattle.micro_walk.specs.Verdicts.{MayBe, IsVerified};
 
-use crate::finding::Finding;
+use crate::claim_table::{FEW_WORDS, nothing_known};
 use crate::following::{follow, reason_at};
 use crate::looping::find_certificate;
 use crate::shape::shape_fault;
 use micro_claims::{Bounds, Fault, State};
 use micro_program::{all_lead_on, continues_cache_read};
-use micro_word::{Text, Word};
+use micro_word::{MAX_WORDS, Text, Word};
 use nand_geometry::Geometry;
-use std::alloc::{AllocError, Allocator};
+use std::alloc::Allocator;
 
 // What is read off a text before its first word.
 pub(crate) fn bounds_of<A: Allocator>(text: &Text<A>) -> Bounds
@@ -65,16 +65,16 @@ fn first_fault(geometry: &Geometry, bounds: Bounds, words: &[Word]) -> Option<Fa
 }
 
 // A text without branches and loops: how many words were walked, or why it is refused.
-fn examine_straight<A: Allocator>(text: &Text<A>, geometry: &Geometry) -> Result<u64, Finding>
+fn examine_straight<A: Allocator>(text: &Text<A>, geometry: &Geometry) -> Result<u64, Fault>
     requires shape { shape_fault text.now.words ≡ None }
     requires straight { all_lead_on text.now.words ≡ true }
     ensures verified { IfOk result (λ walked. IsVerified text.now geometry.now walked) }
-    ensures refused { IfErr result (λ e. MayFind e geometry.now text.now) }
+    ensures refused { IfErr result (λ fault. MayBe geometry.now text.now fault) }
 {
     let words = text.words();
     match first_fault(geometry, bounds_of(text), words) {
         None => Ok(words.len() as u64),
-        Some(fault) => Err(Finding::Against(fault)),
+        Some(fault) => Err(fault),
     }
 }
 
@@ -83,19 +83,19 @@ fn examine_branches<A: Allocator>(
     text: &Text<A>,
     geometry: &Geometry,
     known: &mut [Option<State>],
-) -> Result<u64, Finding>
+) -> Result<u64, Fault>
     requires shape { shape_fault text.now.words ≡ None }
     requires no_loops { has_loop text.now.words ≡ false }
     requires room { known.old ≡ replicate (length text.now.words) None }
     ensures verified { IfOk result (λ walked. IsVerified text.now geometry.now walked) }
-    ensures refused { IfErr result (λ e. MayFind e geometry.now text.now) }
+    ensures refused { IfErr result (λ fault. MayBe geometry.now text.now fault) }
 {
     // The call hands out what the proof needs: that the geometry is within its limits.
     let _ = geometry.parts();
     let words = text.words();
     match follow(geometry, bounds_of(text), words, known) {
         None => Ok(words.len() as u64),
-        Some(fault) => Err(Finding::Against(fault)),
+        Some(fault) => Err(fault),
     }
 }
 
@@ -104,19 +104,60 @@ fn examine_loops<A: Allocator>(
     text: &Text<A>,
     geometry: &Geometry,
     claims: &mut [Option<State>],
-) -> Result<u64, Finding>
+) -> Result<u64, Fault>
     requires shape { shape_fault text.now.words ≡ None }
     requires loops { has_loop text.now.words ≡ true }
     requires room { length text.now.words ≡ length claims.old }
     ensures verified { IfOk result (λ walked. IsVerified text.now geometry.now walked) }
-    ensures refused { IfErr result (λ e. MayFind e geometry.now text.now) }
+    ensures refused { IfErr result (λ fault. MayBe geometry.now text.now fault) }
 {
     // The call hands out what the proof needs: that the geometry is within its limits.
     let _ = geometry.parts();
     match find_certificate(geometry, bounds_of(text), text.words(), claims) {
         Ok(walked) => Ok(walked),
-        Err(fault) => Err(Finding::Against(fault)),
+        Err(fault) => Err(fault),
     }
+}
+
+// A text with branches or loops, with room for what is known before each word.
+fn examine_ways<A: Allocator>(
+    text: &Text<A>,
+    geometry: &Geometry,
+    known: &mut [Option<State>],
+) -> Result<u64, Fault>
+    requires shape { shape_fault text.now.words ≡ None }
+    requires room { known.old ≡ replicate (length text.now.words) None }
+    ensures verified { IfOk result (λ walked. IsVerified text.now geometry.now walked) }
+    ensures refused { IfErr result (λ fault. MayBe geometry.now text.now fault) }
+{
+    if has_loop(text.words()) {
+        examine_loops(text, geometry, known)
+    } else {
+        examine_branches(text, geometry, known)
+    }
+}
+
+// A text of few words with branches or loops, with a small table.
+#[inline(never)]
+fn examine_few<A: Allocator>(text: &Text<A>, geometry: &Geometry) -> Result<u64, Fault>
+    requires shape { shape_fault text.now.words ≡ None }
+    requires few { length text.now.words ≤ 64 }
+    ensures verified { IfOk result (λ walked. IsVerified text.now geometry.now walked) }
+    ensures refused { IfErr result (λ fault. MayBe geometry.now text.now fault) }
+{
+    let mut known = nothing_known::<FEW_WORDS>(text.words().len());
+    examine_ways(text, geometry, known.as_mut_slice())
+}
+
+// A text of any number of words with branches or loops, with a large table.
+#[inline(never)]
+fn examine_many<A: Allocator>(text: &Text<A>, geometry: &Geometry) -> Result<u64, Fault>
+    requires shape { shape_fault text.now.words ≡ None }
+    ensures verified { IfOk result (λ walked. IsVerified text.now geometry.now walked) }
+    ensures refused { IfErr result (λ fault. MayBe geometry.now text.now fault) }
+{
+    let mut known = nothing_known::<MAX_WORDS>(text.words().len());
+    examine_ways(text, geometry, known.as_mut_slice())
 }
 
 /// Examines a text for a geometry: how many words were walked to find that it is safe, or what is against it.
@@ -126,22 +167,22 @@ fn examine_loops<A: Allocator>(
 /// a text without loops, the lowest word with something against it, in any way that leads to it, and its lowest reason; of a text with
 /// loops, a word at which a fault can't be ruled out. Words that no way reaches are looked at for their shape alone.
 ///
-/// Texts with branches or loops, and only they, take memory, from the allocator of the text, before their words are walked: where it is
-/// refused the answer is `OutOfMemory`.
-pub fn examine<A: Allocator>(text: &Text<A>, geometry: &Geometry) -> Result<u64, Finding>
+/// It takes no memory: of a text with branches or loops it keeps what is known before each word on the stack (docs/SPEED.md says how much
+/// that is).
+pub fn examine<A: Allocator>(text: &Text<A>, geometry: &Geometry) -> Result<u64, Fault>
     ensures verified { IfOk result (λ walked. IsVerified text.now geometry.now walked) }
-    ensures refused { IfErr result (λ e. MayFind e geometry.now text.now) }
+    ensures refused { IfErr result (λ fault. MayBe geometry.now text.now fault) }
 {
     let words = text.words();
     if let Some(fault) = shape_fault(words) {
-        return Err(Finding::Against(fault));
+        return Err(fault);
     }
     if all_lead_on(words) {
         return examine_straight(text, geometry);
     }
-    match vec![in text.allocator(); None; words.len()] {
-        Err(AllocError) => Err(Finding::OutOfMemory),
-        Ok(mut claims) if has_loop(words) => examine_loops(text, geometry, claims.as_mut_slice()),
-        Ok(mut claims) => examine_branches(text, geometry, claims.as_mut_slice()),
+    if words.len() <= FEW_WORDS {
+        examine_few(text, geometry)
+    } else {
+        examine_many(text, geometry)
     }
 }

@@ -1,13 +1,14 @@
 //! Walking a text: whether each way through it is safe, found by what is known before each word.
 //!
 //! The definitions stand in `specs/`: the shape of a text (`Shape`), its fault (`Faults`), what may be found against it (`Verdicts`), and texts
-//! with a certificate (`Certified`). [`examine`] looks at a whole text, [`certify`] goes by claims that somebody else has found.
+//! with a certificate (`Certified`). [`examine`] looks at a whole text, [`certify`] goes by claims that somebody else has found. Neither takes memory:
+//! what is known before each word stands in a table on the stack, with a place for each of the 1,024 words that a text may have.
 #![tactic(auto)]
 
 mod certifying;
 mod check;
+mod claim_table;
 mod examining;
-mod finding;
 mod following;
 pub mod laws;
 mod looping;
@@ -17,5 +18,4 @@ mod shape;
 
 pub use certifying::{Claims, certify};
 pub use examining::examine;
-pub use finding::Finding;
 pub use proved::faultless;

@@ -4,6 +4,7 @@ ghost use Rattle.micro_claims.specs.declared.refusal.Fault.{Fault};
 ghost use Rattle.micro_claims.specs.Certificate.{is_certified};
 ghost use Rattle.micro_claims.specs.Order.{machine};
 ghost use Rattle.micro_program.specs.Verified.{IsFewWalked};
+ghost use Rattle.micro_walk.specs.Shape.{ends};
 ghost use Rattle.micro_walk.specs.Verdicts.{IsOfWord};
 
 use crate::check::{is_certified, word_holds};
@@ -32,7 +33,32 @@ fn most_walked(words: &[Word]) -> u32
     each * words.len() as u32
 }
 
-// The lowest reason against the word at a place; V7 where there is none.
+// The last word, an `end`: it comes too soon where the LUN may be busy.
+fn busy_at_end(geometry: &Geometry, bounds: Bounds, words: &[Word]) -> Fault
+    requires ends { ends words.now ≡ true }
+    ensures { IsOfWord geometry.now bounds words.now result }
+{
+    Fault {
+        word: words.len() - 1,
+        reason: Reason::EndsTooSoon,
+    }
+}
+
+// The first word from a place on with a reason against it where nothing is known; the last one has one.
+fn first_against_unknown(geometry: &Geometry, bounds: Bounds, words: &[Word], from: usize) -> Fault
+    requires ends { ends words.now ≡ true }
+    ensures { IsOfWord geometry.now bounds words.now result }
+{
+    let unknown = Some(State::unknown());
+    for at in from..words.len() {
+        if let Some(reason) = reason_at(geometry, bounds, &unknown, words[at]) {
+            return Fault { word: at, reason };
+        }
+    }
+    busy_at_end(geometry, bounds, words)
+}
+
+// The lowest reason against the word at a place, by what is claimed there. Where there is none, the claims are given up from there on.
 fn fault_there(
     geometry: &Geometry,
     bounds: Bounds,
@@ -42,13 +68,13 @@ fn fault_there(
 ) -> Fault
     requires inside { at < length words.now }
     requires same { length words.now ≡ length claims.now }
-    ensures { IsOfWord words.now result }
+    requires ends { ends words.now ≡ true }
+    ensures { IsOfWord geometry.now bounds words.now result }
 {
-    let reason = match reason_at(geometry, bounds, &claims[at], words[at]) {
-        Some(reason) => reason,
-        None => Reason::CycleForbidden,
-    };
-    Fault { word: at, reason }
+    match reason_at(geometry, bounds, &claims[at], words[at]) {
+        Some(reason) => Fault { word: at, reason },
+        None => first_against_unknown(geometry, bounds, words, at),
+    }
 }
 
 // The first place whose claim doesn't lead to what is claimed where its word leads; the first place of all, if there is none.
@@ -79,12 +105,12 @@ pub(crate) fn find_certificate(
     words: &[Word],
     claims: &mut [Option<State>],
 ) -> Result<u64, Fault>
-    requires some { 0 < length words.now }
+    requires ends { ends words.now ≡ true }
     requires few { length words.now ≤ 1024 }
     requires same { length words.now ≡ length claims.old }
     ensures certified { IfOk result (λ walked. is_certified (machine geometry.now bounds) words.now claims.new ≡ true) }
     ensures walked { IfOk result (λ walked. IsFewWalked words.now walked) }
-    ensures refused { IfErr result (λ fault. IsOfWord words.now fault) }
+    ensures refused { IfErr result (IsOfWord geometry.now bounds words.now) }
 {
     let Found { walked, stopped } = find(geometry, bounds, words, claims, most_walked(words));
     let at = match stopped {

@@ -10,7 +10,9 @@ use byteorder::{ByteOrder, LittleEndian};
 fn u32_bytes(number: u32) -> [u8; 4]
     ensures { result ≡ low_bytes 4 number }
 {
-    number.to_le_bytes()
+    let mut bytes = [0; 4];
+    LittleEndian::write_u32(&mut bytes, number);
+    bytes
 }
 
 /// A bit of a field, where it is set.

@@ -69,7 +69,7 @@ refused base bytes = refused_file base (reading bytes)
 
 -- a text with loops whose shape is right may also be refused at some word of it, for a reason against a word
 abbrev pub IsOfLoopsIn : List ℕ → Refusal → Type 0
-IsOfLoopsIn bytes (Text reason word) = (x : Microprogram) × (reading bytes ≡ Ok x) × IsOfLoops x (record { word = word; reason = reason })
+IsOfLoopsIn bytes (Text reason word) = (x : Microprogram) × (reading bytes ≡ Ok x) × IsOfLoops one_lun x (record { word = word; reason = reason })
 IsOfLoopsIn bytes _ = ⊥
 
 -- what a file at a base may be refused for

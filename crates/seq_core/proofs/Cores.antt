@@ -1,11 +1,12 @@
 -- What the calls of a sequencer do, told of its bus, its slots and its holder.
-use Rattle.std.proofs.Common.{◌≡◌, ℕ, zero, suc, ◌+◌, ◌*◌, ◌^◌, ◌<◌, ◌≤◌, ◌↔◌, Bool, true, false, not, cond, List, [], ◌∷◌, ◌++◌, Option, Some, None, is_some, refl, sym, ap, ◌∙◌, subst, arith, length, get_or, set, replicate, IfSome, IsTrue}
+use Rattle.std.proofs.Common.{◌≡◌, ℕ, zero, suc, ◌+◌, ◌*◌, ◌^◌, ◌<◌, ◌≤◌, ◌↔◌, Bool, true, false, not, cond, List, [], ◌∷◌, ◌++◌, Option, Some, None, is_some, is_none, refl, sym, ap, ◌∙◌, subst, arith, length, get_or, set, replicate, IfSome, IsTrue}
 use Rattle.std.proofs.lemmas.Nat.{mul-le}
 use Rattle.nand_geometry.specs.declared.parts.Parts.{Parts}
 use Rattle.onfi_cycle.specs.declared.lun.Lun.{Lun}
 use Rattle.onfi_cycle.specs.declared.item.Item.{Item}
 use Rattle.onfi_cycle.specs.declared.item.Item.TheVariants.{Rdy, Ard}
-use Rattle.onfi_cycle.specs.Permitted.{is_permitted}
+use Rattle.onfi_cycle.specs.declared.forbidden.Forbidden.{Forbidden}
+use Rattle.onfi_cycle.specs.Permitted.{broken, is_permitted}
 use Rattle.onfi_cycle.specs.Channel.{Channel, IsChannel, is_there}
 use Rattle.micro_program.specs.Places.{IsShaped}
 use Rattle.micro_program.specs.Program.{Job}
@@ -24,7 +25,7 @@ use Rattle.seq_core.specs.Progress.{Progress, fresh_progress}
 use Rattle.seq_core.specs.Shows.{CoreView, channel_in, KeepsAll, IsAt}
 use Rattle.seq_core.specs.declared.slot_state.SlotState.{SlotState}
 use Rattle.seq_core.specs.declared.slot_state.SlotState.TheVariants as state
-use Rattle.seq_core.specs.Calls.{IsCore, IsEvent, CanStep, Steps, slot_at, state_of, has_job, slot_state, all_are_empty, load_fault_at, holder_after, TellsBus, fault_by, stepped_view, with_item}
+use Rattle.seq_core.specs.Calls.{IsCore, IsEvent, CanStep, Steps, slot_at, state_of, has_job, slot_state, all_are_empty, load_fault_at, holder_after, TellsBus, fault_by, stepped_view, with_item, with_slot_at, WouldAnswer}
 use Rattle.seq_core.specs.Playing.{IsSame, IsUntouched}
 use Rattle.seq_core.proofs.Main.{fresh_is_lawful, lawful_slot}
 use Rattle.seq_core.proofs.Slots.{number_below, same_lun_self}
@@ -274,6 +275,19 @@ pub array_ready_now : (b d : Traced) (slots : List (Option Progress)) (holder : 
 array_ready_now b d slots holder l came core h does stays =
     came_event b d slots holder (Ard l.ce l.lun) (ArrayReady l) (ToArrayReady came) came does stays (array_ready_event (view_of b slots holder) l came core.is_channel h)
 
+came_of : (rule : Option Forbidden) (came : Bool) → is_some rule ≡ not came → came ≡ is_none rule
+came_of None true h = refl
+came_of None false h = cc
+came_of (Some r) true h = cc
+came_of (Some r) false h = refl
+
+-- what a ready would answer, by the rule that it breaks first
+pub ready_admitted : (b : Traced) (slots : List (Option Progress)) (holder : Option Lun) (l : Lun) (fail : Bool) (rule : Option Forbidden) (came : Bool) → IsCore (view_of b slots holder) → rule ≡ broken b.geometry b.targets b.past (Rdy l.ce l.lun fail) → is_some rule ≡ not came → IsEvent (view_of b slots holder) (Ready l fail) (ToReady came) (with_item (view_of b slots holder) (Rdy l.ce l.lun fail) came)
+ready_admitted b slots holder l fail rule came core first is = ready_event (view_of b slots holder) l fail came core.is_channel (came_of rule came is ∙ ap is_none first)
+
+pub array_ready_admitted : (b : Traced) (slots : List (Option Progress)) (holder : Option Lun) (l : Lun) (rule : Option Forbidden) (came : Bool) → IsCore (view_of b slots holder) → rule ≡ broken b.geometry b.targets b.past (Ard l.ce l.lun) → is_some rule ≡ not came → IsEvent (view_of b slots holder) (ArrayReady l) (ToArrayReady came) (with_item (view_of b slots holder) (Ard l.ce l.lun) came)
+array_ready_admitted b slots holder l rule came core first is = array_ready_event (view_of b slots holder) l came core.is_channel (came_of rule came is ∙ ap is_none first)
+
 -- where the bus is as it was, all is
 pub none_came : (b d : Traced) (slots : List (Option Progress)) (holder : Option Lun) (v : CoreView) (came : Bool) → (came ≡ false → d ≡ b) → view_of b slots holder ≡ v → came ≡ false → view_of d slots holder ≡ v
 none_came b d slots holder v came stays is no_item = ap (λ (x : Traced). view_of x slots holder) (stays no_item) ∙ is
@@ -285,6 +299,11 @@ none_unloaded c l k h = empty_unload c l k.is_channel (no_slot (slot_at c l) h)
 
 pub early_now : (c : CoreView) (l : Lun) → IsCore c → state.Running ≡ slot_state (slot_at c l) → IsEvent c (Unload l) (ToUnload (NotUnloaded StillRunning)) c
 early_now c l k h = let s = has_code (slot_at c l) None h in early_unload c l s.v k.is_channel s.is s.code_is
+
+pub would_unload : (c : CoreView) (l : Lun) (code : ℕ) → IsCore c → state.Ended code ≡ slot_state (slot_at c l) → (job : Job) × WouldAnswer c (Unload l) (ToUnload (Unloaded job code))
+would_unload c l code k h =
+    let s = has_code (slot_at c l) (Some code) h in
+    (s.v.job, record { later = with_slot_at c l None; event = done_unload c l s.v code k.is_channel s.is s.code_is })
 
 pub unloaded_now : (b : Traced) (slots later : List (Option Progress)) (holder : Option Lun) (l : Lun) (k code : ℕ) (v : Progress) → IsCore (view_of b slots holder) → Some k ≡ place_of (view_of b slots holder) l → state.Ended code ≡ slot_state (slot_at (view_of b slots holder) l) → get_or slots k None ≡ Some v → later ≡ set slots k None → IsEvent (view_of b slots holder) (Unload l) (ToUnload (Unloaded v.job code)) (view_of b later holder)
 unloaded_now b slots later holder l k code v core place h found is =

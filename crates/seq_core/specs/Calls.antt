@@ -150,3 +150,8 @@ all_are_empty slots = list_all (λ slot. not (is_some slot)) slots
 pub record CanGoOn (c : CoreView) (l : Lun) : Type 0 where
   pub running : state.Running ≡ slot_state (slot_at c l)
   pub free : is_held c.holder l ≡ false
+
+-- an event would be answered so
+pub record WouldAnswer (c : CoreView) (e : Event) (reply : Reply) : Type 0 where
+  pub later : CoreView
+  pub event : IsEvent c e reply later

@@ -1,7 +1,9 @@
 //! The sequencer: it runs a program on each LUN, and hands the bus from one to another.
 ghost use Rattle.std.specs.Prelude.{◌≡◌, ◌↔◌, ℕ, ◌*◌, ◌<◌, ◌≤◌, ◌∷◌, List, [], Some, None, if◌then◌else◌, IfOk, OnErr, IfErr, IfSome, IfNone, length, replicate, reverse, get_or, set, is_some, not, true, false};
+ghost use Rattle.onfi_cycle.specs.declared.item.Item.TheVariants.{Rdy, Ard};
 ghost use Rattle.onfi_cycle.specs.Permitted.{is_legal};
 ghost use Rattle.onfi_cycle.specs.Channel.{Channel, is_there};
+ghost use Rattle.micro_program.specs.Program.{Job as JobValue};
 ghost use Rattle.target_bus.specs.Bus.{Traced, channel_of};
 ghost use Rattle.seq_core.specs.World.{World, fresh, number};
 ghost use Rattle.seq_core.specs.Event.{Load, Step, Ready, ArrayReady, Unload, IsVerified};
@@ -11,7 +13,7 @@ ghost use Rattle.seq_core.specs.Lawful.{LawfulWorld};
 ghost use Rattle.seq_core.specs.Progress.{Progress};
 ghost use Rattle.seq_core.specs.Shows.{CoreView, IsAt, channel_in};
 ghost use Rattle.seq_core.specs.declared.slot_state.SlotState.{SlotState};
-ghost use Rattle.seq_core.specs.Calls.{IsCore, IsEvent, CanGoOn, CanStep, Steps, slot_at, slot_state, all_are_empty, holder_after, TellsBus, fault_by, load_fault_at};
+ghost use Rattle.seq_core.specs.Calls.{IsCore, IsEvent, CanGoOn, CanStep, Steps, slot_at, slot_state, all_are_empty, holder_after, TellsBus, fault_by, load_fault_at, with_item, WouldAnswer};
 ghost use Rattle.seq_core.specs.Playing.{IsSame, IsUntouched};
 
 use crate::job::Job;
@@ -371,6 +373,42 @@ impl<A: Allocator + Copy> Core<A> {
         }
     }
 
+    /// What [`ready`](Core::ready) would answer.
+    pub fn admits_ready(&self, lun: Lun, fail: bool) -> bool
+        ensures { IsEvent self.now (Ready lun fail) (ToReady result) (with_item self.now (Rdy lun.ce lun.lun fail) result) }
+    {
+        let item = Item::Rdy {
+            ce: lun.ce,
+            lun: lun.lun,
+            fail,
+        };
+        self.bus.state().judge(item).is_none()
+    }
+
+    /// What [`array_ready`](Core::array_ready) would answer.
+    pub fn admits_array_ready(&self, lun: Lun) -> bool
+        ensures { IsEvent self.now (ArrayReady lun) (ToArrayReady result) (with_item self.now (Ard lun.ce lun.lun) result) }
+    {
+        let item = Item::Ard {
+            ce: lun.ce,
+            lun: lun.lun,
+        };
+        self.bus.state().judge(item).is_none()
+    }
+
+    /// What [`unload`](Core::unload) would answer: the code with which the LUN's job has ended, or why no job is taken.
+    pub fn admits_unload(&self, lun: Lun) -> Result<u8, UnloadFault>
+        ensures ended { IfOk result (λ code. SlotState.Ended code ≡ slot_state (slot_at self.now lun)) }
+        ensures ok { IfOk result (λ code. (job : JobValue) × WouldAnswer self.now (Unload lun) (ToUnload (Unloaded job code))) }
+        ensures err { IfErr result (λ fault. IsEvent self.now (Unload lun) (ToUnload (NotUnloaded fault)) self.now) }
+    {
+        match self.state_at(lun) {
+            SlotState::Empty => Err(UnloadFault::NoJob),
+            SlotState::Running => Err(UnloadFault::StillRunning),
+            SlotState::Ended(code) => Ok(code),
+        }
+    }
+
     /// A LUN becomes ready, with failure or without; false, with all as it was, where it isn't there or isn't busy. Takes no
     /// memory.
     pub fn ready(&mut self, lun: Lun, fail: bool) -> bool
@@ -395,10 +433,9 @@ impl<A: Allocator + Copy> Core<A> {
         ensures err { IfErr result (λ fault. (self.new ≡ self.old)
             × IsEvent self.old (Unload lun) (ToUnload (NotUnloaded fault)) self.new) }
     {
-        match self.state_at(lun) {
-            SlotState::Empty => Err(UnloadFault::NoJob),
-            SlotState::Running => Err(UnloadFault::StillRunning),
-            SlotState::Ended(code) => Ok(UnloadedJob {
+        match self.admits_unload(lun) {
+            Err(fault) => Err(fault),
+            Ok(code) => Ok(UnloadedJob {
                 job: self.empty(lun, code),
                 code,
             }),

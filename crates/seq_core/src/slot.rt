@@ -17,9 +17,9 @@ use crate::playing::play;
 use crate::registers::Registers;
 use crate::stepped::Stepped;
 use arrayvec::ArrayVec;
-use micro_program::Verified;
+use micro_program::{Verified, is_ready_status};
 use micro_word::Word;
-use onfi_cycle::{Lun, Status};
+use onfi_cycle::Lun;
 use std::alloc::{AllocError, Allocator};
 use std::marker::Model;
 use target_bus::Bus;
@@ -71,7 +71,7 @@ fn outcome_of(word: Word, status: u8) -> Stepped
     match word {
         Word::End { .. } => Stepped::Ended,
         Word::Yield => Stepped::HandedOver,
-        Word::Wait if status & Status::RDY.0 == 0 => Stepped::NotReady,
+        Word::Wait if !is_ready_status(status) => Stepped::NotReady,
         _ => Stepped::Went,
     }
 }

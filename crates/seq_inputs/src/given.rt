@@ -14,7 +14,7 @@ use crate::medium::Medium;
 use crate::refusal::Refusal;
 use micro_claims::Fault;
 use micro_program::Verified;
-use micro_walk::{Finding, examine};
+use micro_walk::examine;
 use micro_word::{Text, WordRefusal, read};
 use nand_geometry::Geometry;
 use seq_files::Files;
@@ -141,14 +141,13 @@ fn verify_text<A: Allocator + Clone>(
 {
     match examine(&text, &geometry) {
         Ok(walked) => Ok(Verified::of(text, geometry, walked)),
-        Err(Finding::Against(Fault { word, reason })) => {
+        Err(Fault { word, reason }) => {
             let refusal = Refusal::Text { reason, word };
             Err(Failure::Refused {
                 refusal,
                 words: words_of_word(alloc, path, refusal, &text),
             })
         }
-        Err(Finding::OutOfMemory) => Err(Failure::OutOfMemory),
     }
 }
 

@@ -1,4 +1,5 @@
-//! One worker's calls on a channel, call by call, and what each answers. A call to which memory is refused is made again.
+//! One worker's calls on a channel, call by call, and what each answers. A call to which memory is refused is made again, but one that is
+//! refused for another reason never answers out of memory.
 ghost use Rattle.std.specs.Prelude.{◌≡◌};
 
 use crate::tests::TWO_ERASES;
@@ -20,6 +21,7 @@ enum Call {
     Start,
     Turn,
     Ready { lun: Lun, fail: bool },
+    ArrayReady { lun: Lun },
     Park,
     Unpark,
     Finish,
@@ -77,8 +79,8 @@ fn turn<L: Turns>(
     }
 }
 
-fn ready<L: Turns>(state: &mut ChannelState<L>, lun: Lun, fail: bool) -> Answer {
-    match state.ready(lun, fail) {
+fn tell_readied(readied: Readied) -> Answer {
+    match readied {
         Readied::OutOfMemory => Answer::OutOfMemory,
         other => Answer::Became(other),
     }
@@ -134,7 +136,8 @@ fn make_call<L: Turns, R: Wait>(
     match call {
         Call::Start => start(rt, state, held),
         Call::Turn => turn(state, pass, held),
-        Call::Ready { lun, fail } => ready(state, lun, fail),
+        Call::Ready { lun, fail } => tell_readied(state.ready(lun, fail)),
+        Call::ArrayReady { lun } => tell_readied(state.array_ready(lun)),
         Call::Park => park(state, held),
         Call::Unpark => unpark(state, held),
         Call::Finish => finish(state, held),
@@ -144,8 +147,13 @@ fn make_call<L: Turns, R: Wait>(
 // A call and what it must answer.
 type Line = (Call, Answer);
 
+// A call that must answer so may answer out of memory first: out of memory comes last.
+fn may_want_memory(answer: Answer) -> bool {
+    !matches!(answer, Answer::NotEnded | Answer::Became(Readied::NotBusy))
+}
+
 // Makes the calls of a script, and tells how many there were that answered out of memory, and then what they must; or the place of the
-// first that didn't.
+// first that didn't, or that answered out of memory in place of another refusal.
 fn play<L: Turns, R: Wait>(
     rt: &R,
     state: &mut ChannelState<L>,
@@ -157,7 +165,7 @@ fn play<L: Turns, R: Wait>(
     for k in 0..script.len() {
         let (call, answer) = script[k];
         let mut told = make_call(rt, state, pass, &mut held, call);
-        if told == Answer::OutOfMemory {
+        if told == Answer::OutOfMemory && may_want_memory(answer) {
             refused = refused.saturating_add(1);
             told = make_call(rt, state, pass, &mut held, call);
         }
@@ -205,6 +213,8 @@ const FAIL_ONE: Call = Call::Ready {
     lun: ONE,
     fail: true,
 };
+
+const ARRAY_READY_ZERO: Call = Call::ArrayReady { lun: ZERO };
 
 const FIRST_POLL: Answer = Answer::Turned(Turn::NotReady { polls: 1, works: 0 });
 
@@ -282,6 +292,49 @@ const UNTIMELY_TRACE: &str = "0 C 60\n0 A 00\n0 A 00\n0 A 00\n0 C d0\n\
     0 C 78\n0 A 20\n0 A 00\n0 A 00\n0 O e1\n\
     0 C 78\n0 A 00\n0 A 00\n0 A 00\n0 O e0\n";
 
+// Calls that are refused where each of them would ask for memory: the first ready comes before there is room for an event, the first end
+// before there is room for a job that is done, the array ready is the ninth event and the last refused end the seventeenth, and rooms
+// double.
+const REFUSED: [Line; 24] = [
+    (READY_ZERO, NOT_BUSY),
+    (Call::Start, Answer::Holds(0)),
+    (Call::Finish, Answer::NotEnded),
+    (Call::Turn, FIRST_POLL),
+    (Call::Turn, SECOND_POLL),
+    (Call::Turn, THIRD_POLL),
+    (Call::Turn, FOURTH_POLL),
+    (ARRAY_READY_ZERO, NOT_BUSY),
+    (READY_ZERO, YES),
+    (Call::Park, Answer::Parked),
+    (Call::Start, Answer::Holds(1)),
+    (Call::Turn, FIRST_POLL),
+    (Call::Turn, SECOND_POLL),
+    (Call::Turn, THIRD_POLL),
+    (Call::Finish, Answer::NotEnded),
+    (READY_ONE, YES),
+    (READY_ONE, NOT_BUSY),
+    (Call::Turn, ENDED),
+    (Call::Finish, Answer::Done),
+    (Call::Unpark, Answer::Holds(0)),
+    (Call::Turn, ENDED),
+    (Call::Finish, Answer::Done),
+    (ARRAY_READY_ZERO, NOT_BUSY),
+    (Call::Unpark, Answer::NoLease),
+];
+
+// What the refused calls and those between them put onto the bus.
+const REFUSED_TRACE: &str = "0 C 60\n0 A 00\n0 A 00\n0 A 00\n0 C d0\n\
+    0 C 78\n0 A 00\n0 A 00\n0 A 00\n0 O 80\n\
+    0 C 78\n0 A 00\n0 A 00\n0 A 00\n0 O 80\n\
+    0 C 78\n0 A 00\n0 A 00\n0 A 00\n0 O 80\n\
+    0 C 78\n0 A 00\n0 A 00\n0 A 00\n0 O 80\n0 R 0 0\n\
+    0 C 60\n0 A 20\n0 A 00\n0 A 00\n0 C d0\n\
+    0 C 78\n0 A 20\n0 A 00\n0 A 00\n0 O 80\n\
+    0 C 78\n0 A 20\n0 A 00\n0 A 00\n0 O 80\n\
+    0 C 78\n0 A 20\n0 A 00\n0 A 00\n0 O 80\n0 R 1 0\n\
+    0 C 78\n0 A 20\n0 A 00\n0 A 00\n0 O e0\n\
+    0 C 78\n0 A 00\n0 A 00\n0 A 00\n0 O e0\n";
+
 // All is done and given back, with so many turns, or one more for each call that answered out of memory.
 fn is_whole(gathered: &Gathered, turns: u64, refused: u64) -> bool {
     gathered.done.len() == 2
@@ -313,5 +366,17 @@ fn untimely_calls(rt: HostRuntime) -> Result<(), Fail> {
     assert_eq!(rt; tell_done(done, 0), Some((0, 1, ONE, 0)));
     assert_eq!(rt; tell_done(done, 1), Some((0, 0, ZERO, 0)));
     assert!(rt; is_whole(&gathered, 8, refused));
+    Ok(())
+}
+
+#[test]
+fn refusals_come_before_memory(rt: HostRuntime) -> Result<(), Fail> {
+    let trace = read_trace(rt.alloc(), REFUSED_TRACE)?;
+    let (gathered, refused) = act::<Brand, _>(&rt, Blank::new(9), &REFUSED)?;
+    assert!(rt; gathered.core.trace() == trace.as_slice());
+    let done = gathered.done.as_slice();
+    assert_eq!(rt; tell_done(done, 0), Some((0, 1, ONE, 0)));
+    assert_eq!(rt; tell_done(done, 1), Some((0, 0, ZERO, 0)));
+    assert!(rt; is_whole(&gathered, 9, refused));
     Ok(())
 }

@@ -211,6 +211,42 @@ const PLACES: Table<'static> = &[
     ),
 ];
 
+// Texts whose last line alone has a fault; most have a label and words in front, which want memory.
+const LAST_LINES: Table<'static> = &[
+    (
+        "rows 1\nbuffer 0\nbudget 5\nL6:\nwait\nbrs 01 L6\nend 0\nfoo\n",
+        AsmFault::UnknownWord,
+        8,
+    ),
+    (
+        "rows 1\nbuffer 0\nbudget 5\nL6:\nwait\nbrs 01 L6\nend 0\ncmd 6g\n",
+        AsmFault::BadOperand,
+        8,
+    ),
+    (
+        "rows 1\nbuffer 0\nbudget 5\nL6:\nwait\nbrs 01 L6\nend 0\nend 256\n",
+        AsmFault::OperandOutOfRange,
+        8,
+    ),
+    (
+        "rows 1\nbuffer 0\nbudget 5\nL6:\nwait\nbrs 01 L6\nend 0\njmp L7\n",
+        AsmFault::NoSuchLabel,
+        8,
+    ),
+    (
+        "rows 1\nbuffer 0\nbudget 5\nL6:\nwait\nbrs 01 L6\nend 0\nL6:\n",
+        AsmFault::LabelTwice,
+        8,
+    ),
+    (
+        "rows 1\nbuffer 0\nbudget 5\nL6:\nwait\nbrs 01 L6\nend 0\nL7:\n",
+        AsmFault::LabelAfterLastWord,
+        8,
+    ),
+    ("rows 1\nbuffer 0\nwait\n", AsmFault::HeaderOutOfOrder, 3),
+    ("rows 1\nbuffer 0\n", AsmFault::HeaderOutOfOrder, 3),
+];
+
 // Labels of 32 characters, and of 33.
 const LONG_LABEL: &str =
     "rows 1\nbuffer 0\nbudget 0\nabcdefghijklmnopqrstuvwxyz_01234:\njmp abcdefghijklmnopqrstuvwxyz_01234\n";
@@ -429,6 +465,63 @@ fn memory_refused_to_the_assembler(rt: HostRuntime) -> Result<(), Fail> {
         }
     }
     assert!(rt; refused && sufficed);
+    Ok(())
+}
+
+// Each of these texts is refused as its row says, however little memory this heap has.
+fn all_refused_on(rt: &impl Abort, heap: &LocalHeap, table: Table<'_>) {
+    for (text, code, line) in table {
+        let wanted = Some(AsmRefusal::Fault {
+            fault: *code,
+            line: *line,
+        });
+        assert_eq!(rt; assemble(heap, text).err(), wanted, "{text}");
+    }
+}
+
+#[test]
+fn faults_come_before_want_of_memory(rt: HostRuntime) -> Result<(), Fail> {
+    for size in 0..120usize {
+        let heap = LocalHeap::new(rt.alloc(), 16 * size)?;
+        all_refused_on(&rt, &heap, LAST_LINES);
+        all_refused_on(&rt, &heap, ERASES);
+        all_refused_on(&rt, &heap, PLACES);
+    }
+    Ok(())
+}
+
+// A text of so many labels, each in front of a jump to it.
+fn loops(alloc: Global, count: usize) -> Result<String, Fail> {
+    let mut text = String::from_str(alloc, "rows 1\nbuffer 0\nbudget 0\n")?;
+    for at in 0..count {
+        text.push_str(format!(in alloc; "x{at}:\njmp x{at}\n")?.as_str())?;
+    }
+    Ok(text)
+}
+
+// Why a text is refused on a heap of so many bytes.
+fn refusal_on(alloc: Global, size: usize, text: &str) -> Result<Option<AsmRefusal>, Fail> {
+    let heap = LocalHeap::new(alloc, size)?;
+    Ok(assemble(&heap, text).err())
+}
+
+#[test]
+fn long_texts_without_memory(rt: HostRuntime) -> Result<(), Fail> {
+    let mut text = loops(rt.alloc(), 128)?;
+    let found = refusal_on(rt.alloc(), 4096, text.as_str())?;
+    assert_eq!(rt; found, Some(AsmRefusal::OutOfMemory));
+    text.push_str("x127:\n")?;
+    let twice = Some(AsmRefusal::Fault {
+        fault: AsmFault::LabelTwice,
+        line: 260,
+    });
+    assert_eq!(rt; refusal_on(rt.alloc(), 4096, text.as_str())?, twice);
+    let waits = waits(rt.alloc(), 1025)?;
+    let many = Some(AsmRefusal::Fault {
+        fault: AsmFault::TooManyWords,
+        line: 1028,
+    });
+    assert_eq!(rt; refusal_on(rt.alloc(), 4096, waits.as_str())?, many);
     Ok(())
 }
 

@@ -279,10 +279,10 @@ fn lacks_bytes(
     word: Word,
 ) -> Result<bool, AllocError> {
     match word {
-        Word::Address { from, count } => Ok(
+        Word::Address { from, .. } => Ok(
             is_unaligned(tail, word)
                 || is_outside(alloc, geometry, run, word)?
-                || (wants_identity(tail) && from.saturating_add(count) > 2),
+                || (wants_identity(tail) && from > 1),
         ),
         Word::Put { len } => Ok(run.place.saturating_add(len) > BUFFER),
         _ => Ok(false),

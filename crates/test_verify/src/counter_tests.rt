@@ -54,6 +54,20 @@ const HANDOVER: [Word; 8] = [
     Word::End { code: 0 },
 ];
 
+// An identifier with an address that begins with the column and goes on with the row, and with one that begins with the row.
+const IDENTIFIER_WITH_ROW: [Word; 4] = [
+    Word::Column { column: 0x20 },
+    Word::Command { byte: 0x90 },
+    Word::Address { from: 0, count: 3 },
+    Word::End { code: 0 },
+];
+
+const IDENTIFIER_OF_ROW: [Word; 3] = [
+    Word::Command { byte: 0x90 },
+    Word::Address { from: 2, count: 3 },
+    Word::End { code: 0 },
+];
+
 // An address that no opener wants.
 const ADDRESS_ALONE: [Word; 2] = [Word::Address { from: 0, count: 1 }, Word::End { code: 0 }];
 
@@ -147,6 +161,22 @@ fn the_first_word_may_be_the_one(rt: HostRuntime) -> Result<(), Fail> {
     assert_eq!(rt; word, 0);
     assert!(rt; counter.items.is_empty());
     assert_eq!(rt; Item::Cyc(counter.cycle), item(Kind::Adr, 0x00));
+    Ok(())
+}
+
+// The bytes of an address that begins with the column are there: the second one isn't wanted. Those of one that begins with the row may not
+// be, so it has no run.
+#[test]
+fn addresses_of_an_identifier(rt: HostRuntime) -> Result<(), Fail> {
+    let (word, counter) = shown(rt.alloc(), 0, &IDENTIFIER_WITH_ROW)?;
+    assert_eq!(rt; word, 2);
+    assert_eq!(rt;
+        counter.items.as_slice(),
+        [item(Kind::Cmd, 0x90), item(Kind::Adr, 0x20)].as_slice()
+    );
+    assert_eq!(rt; Item::Cyc(counter.cycle), item(Kind::Adr, 0x00));
+    let row = refusal(rt.alloc(), ONE_LUN, 0, &IDENTIFIER_OF_ROW)?;
+    assert!(rt; matches!(row, Some((1, Reason::CycleForbidden, None))));
     Ok(())
 }
 

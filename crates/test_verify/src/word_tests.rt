@@ -611,6 +611,12 @@ const PARAMETERS: [Word; 6] = [
     END,
 ];
 
+// An erase that isn't waited for, and then an identifier, of which several LUNs have none.
+const IDENTIFIER_WHILE_BUSY: [Word; 5] = [ERASE, ROW, START_ERASE, READ_ID, END];
+
+// The same with a row queued.
+const PARAMETERS_WHILE_QUEUED: [Word; 5] = [ERASE, ROW, QUEUE_ERASE, READ_PARAMETERS, END];
+
 const RESET_ALL: [Word; 3] = [RESET, WAIT, END];
 
 const FOUR: Try<'static> = Try {
@@ -619,7 +625,7 @@ const FOUR: Try<'static> = Try {
     ..PLAIN
 };
 
-const IDENTIFIERS_AND_PARAMETERS_TRIES: [Try<'static>; 9] = [
+const IDENTIFIERS_AND_PARAMETERS_TRIES: [Try<'static>; 12] = [
     Try {
         words: &IDENTIFIER,
         buffer: 4,
@@ -666,6 +672,23 @@ const IDENTIFIERS_AND_PARAMETERS_TRIES: [Try<'static>; 9] = [
         words: &RESET_ALL,
         parts: TWO_LUNS,
         refused: Some((0, Reason::CommandNotAllowed)),
+        ..FOUR
+    },
+    Try {
+        words: &IDENTIFIER_WHILE_BUSY,
+        refused: Some((3, Reason::CycleForbidden)),
+        ..FOUR
+    },
+    Try {
+        words: &IDENTIFIER_WHILE_BUSY,
+        parts: TWO_LUNS,
+        refused: Some((3, Reason::CommandNotAllowed)),
+        ..FOUR
+    },
+    Try {
+        words: &PARAMETERS_WHILE_QUEUED,
+        parts: TWO_LUNS,
+        refused: Some((3, Reason::CommandNotAllowed)),
         ..FOUR
     },
 ];
@@ -1463,7 +1486,7 @@ fn certificates(rt: HostRuntime) -> Result<(), Fail> {
     ] {
         let geometry = Geometry::of(it.parts)?;
         let text = text_of(rt.alloc(), it)?;
-        let claims = Claims::find(rt.alloc(), &text, &geometry)?;
+        let claims = Claims::find(&text, &geometry);
         assert_eq!(rt; certify(text, geometry, &claims).is_ok(), is_one);
     }
     Ok(())
@@ -1493,41 +1516,80 @@ fn a_text_full_of_branches(rt: HostRuntime) -> Result<(), Fail> {
     Ok(())
 }
 
-// Whether the words are accepted with the memory of an allocator; None where there is too little for the words. Where there is too little
-// for the verifier, the text is handed back.
-fn accepted_in<A: Allocator + Copy>(alloc: A, words: &[Word]) -> Result<Option<bool>, Fail> {
+// What the verifier says of words with the memory of an allocator; None where there is too little for the words. `Ok(true)` is accepted,
+// `Ok(false)` out of memory with the text handed back.
+fn answer_in<A: Allocator + Copy>(
+    alloc: A,
+    words: &[Word],
+) -> Result<Option<Result<bool, (usize, Reason)>>, Fail> {
     let Ok(copy) = words.to_vec(alloc) else {
         return Ok(None);
     };
     let Ok(text) = Text::of(1, 0, 5, copy) else {
         return Err(Fail::from("the words are no text"));
     };
-    match verify(text, Geometry::of(ONE_LUN)?) {
-        Ok(_) => Ok(Some(true)),
-        Err(TextRefused { refusal, text }) => {
-            if matches!(refusal, VerifyRefusal::OutOfMemory) && text.words() == words {
-                return Ok(Some(false));
-            }
-            Err(Fail::from("refused, or another text"))
-        }
+    let Err(TextRefused { refusal, text }) = verify(text, Geometry::of(ONE_LUN)?) else {
+        return Ok(Some(Ok(true)));
+    };
+    if text.words() != words {
+        return Err(Fail::from("another text came back"));
+    }
+    match refusal {
+        VerifyRefusal::OutOfMemory => Ok(Some(Ok(false))),
+        VerifyRefusal::Refusal { word, reason, .. } => Ok(Some(Err((word, reason)))),
     }
 }
 
-// A text with a branch takes memory; one without takes none.
+// An erase that gives its status where it failed, and a word too early: the place in the buffer is past its end.
+const GET_AFTER_BRANCH: [Word; 8] = [
+    ERASE,
+    ROW,
+    START_ERASE,
+    WAIT,
+    Word::BranchOnStatus { mask: 1, target: 6 },
+    END,
+    Word::Get { len: 1 },
+    END,
+];
+
+// The same in a loop that turns twice.
+const GET_IN_LOOP: [Word; 8] = [
+    Word::Loop { turns: 2 },
+    ERASE,
+    ROW,
+    START_ERASE,
+    WAIT,
+    Word::Get { len: 1 },
+    Word::Next,
+    END,
+];
+
+// The bus is let go after an opener.
+const YIELD_AFTER_OPENER: [Word; 4] = [STAT, ERASE, Word::Yield, END];
+
+// Texts with branches and loops take no memory: each answer is what it is without want, however little there is.
 #[test]
-fn want_of_memory(rt: HostRuntime) -> Result<(), Fail> {
-    let mut refused = false;
-    let mut accepted = false;
+fn memory_is_wanted_for_counters_alone(rt: HostRuntime) -> Result<(), Fail> {
+    let mut answered = false;
     for size in 1..64usize {
-        let heap = LocalHeap::new(rt.alloc(), 256 * size)?;
-        match accepted_in(&heap, &ERASE_CHECKED)? {
-            None => {}
-            Some(true) => accepted = true,
-            Some(false) => refused = true,
+        let heap = LocalHeap::new(rt.alloc(), 16 * size)?;
+        for (words, answer) in [
+            (ERASE_BLOCK.as_slice(), Ok(true)),
+            (ERASE_CHECKED.as_slice(), Ok(true)),
+            (GET_AFTER_BRANCH.as_slice(), Err((6, Reason::BufferPassed))),
+            (GET_IN_LOOP.as_slice(), Err((5, Reason::BufferPassed))),
+            (
+                YIELD_AFTER_OPENER.as_slice(),
+                Err((2, Reason::HandoverInSequence)),
+            ),
+        ] {
+            if let Some(it) = answer_in(&heap, words)? {
+                assert_eq!(rt; it, answer);
+                answered = true;
+            }
         }
-        assert!(rt; accepted_in(&heap, &ERASE_BLOCK)? != Some(false));
     }
-    assert!(rt; refused && accepted);
+    assert!(rt; answered);
     Ok(())
 }
 

@@ -7,4 +7,4 @@ returns-in-Ok-clause-verified g c =
 
 pub returns-in-Err-clause-refused : goal.returns-in-Err-clause-refused
 returns-in-Err-clause-refused g c =
-    loops_refused c.args.text.now c.args.geometry.now c.words.result.now c.in-Err.fault c.words.ensures.value c.requires.shape c.requires.loops c.in-Err.ensures.refused
+    loops_refused c.args.text.now c.args.geometry.now c.bounds_of.result c.words.result.now c.in-Err.fault (was_read c.args.text.now _ _ c.bounds_of.ensures c.words.ensures.value) c.requires.shape c.requires.loops c.in-Err.ensures.refused

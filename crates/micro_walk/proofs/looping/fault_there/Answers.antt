@@ -1,10 +1,8 @@
 use Rattle.std.proofs.Common.{◌∙◌, sym}
-use Rattle.micro_walk.proofs.OfWords.{of_word}
+use Rattle.std.proofs.lemmas.Option.{slice_get-get_or}
+use Rattle.micro_walk.proofs.Ends.{found_against}
 use Rattle.micro_walk.proofs.looping.fault_there.Goals as goal
 
 pub returns-in-Some : goal.returns-in-Some
 returns-in-Some c =
-    record {
-      inside = c.requires.inside;
-      of_word = of_word c.args.geometry.now c.args.bounds _ _ c.in-Some.reason (sym c.reason_at.ensures ∙ c.in-Some.is);
-    }
+    found_against c.args.geometry.now c.args.bounds c.args.words.now _ _ c.args.at c.in-Some.reason (slice_get-get_or c.args.words.now c.args.at _ c.requires.inside) (sym c.reason_at.ensures ∙ c.in-Some.is)

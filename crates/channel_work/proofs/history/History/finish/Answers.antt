@@ -6,47 +6,53 @@ use Rattle.channel_work.specs.declared.stored.Stored.TheVariants.{Unload as WasU
 use Rattle.channel_work.specs.Stored.{last_started}
 use Rattle.channel_work.specs.Channel.{HistoryView}
 use Rattle.channel_work.specs.Done.{ended_of}
-use Rattle.channel_work.specs.Finished.{HasFinished, HasNotEnded}
+use Rattle.channel_work.specs.Finished.{HasFinished, HasNotEnded, IsFinish}
 use Rattle.channel_work.proofs.Jobs.{unload_keeps}
 use Rattle.channel_work.proofs.Naming.{named_if_unloaded}
-use Rattle.channel_work.proofs.Finishing.{has_finished, has_not_ended}
+use Rattle.channel_work.proofs.Finishing.{has_finished, has_not_ended, refused_finish}
 use Rattle.channel_work.proofs.history.History.finish.Goals as goal
 
 pub invariant_of-self-in-Some : goal.invariant_of-self-in-Some
 invariant_of-self-in-Some g c =
     let v : HistoryView = record { core = c.self.inside.core; taker = c.self.inside.taker; events = c.self.inside.events.items; taken = c.self.inside.taken.items; started = c.self.inside.started.items; backlog = c.self.inside.backlog.items; done = map ended_of c.self.inside.done.items; counts = c.self.inside.counts; turns = c.self.inside.turns } in
     let h = c.self.invariant.0 in
-    let d : NamedJob _ = record { name = c.in-Some.name; done = c.in-Ok-unload.done } in
-    let named : last_started c.args.lun (reverse v.events) ≡ Some c.in-Some.name = sym (sym c.in-Some.is ∙ (c.find_last_started-name.ensures ∙ ap (λ (xs : List Stored). last_started c.args.lun (reverse xs)) (c.as_slice.ensures.value ∙ c.reserve.ensures.items))) in (
-      unload_keeps v c.unload.new.self c.push_reserved.new.self.items c.args.lun c.in-Some.name c.in-Ok-unload.done.job c.in-Ok-unload.done.code (map ended_of c.push_reserved-in-Some.new.self.items)
-          h c.in-Ok-unload.ensures.ok named
-          (c.push_reserved.ensures.items ∙ ap (λ (xs : List Stored). xs ++ (WasUnloaded c.args.lun ∷ [])) c.reserve.ensures.items)
-          (ap (map ended_of) (c.push_reserved-in-Some.ensures.items ∙ ap (λ xs. xs ++ (d ∷ [])) c.reserve-in-Ok.ensures.items) ∙ map-append ended_of c.self.inside.done.items (d ∷ [])),
+    let d : NamedJob _ = record { name = c.in-Some.name; done = c.in-Ok.done } in
+    let named : last_started c.args.lun (reverse v.events) ≡ Some c.in-Some.name = sym (sym c.in-Some.is ∙ (c.find_last_started-name.ensures ∙ ap (λ (xs : List Stored). last_started c.args.lun (reverse xs)) (c.as_slice.ensures.value ∙ c.make_room_to_finish.ensures.same.0))) in (
+      unload_keeps v c.unload.new.self c.push_reserved.new.self.items c.args.lun c.in-Some.name c.in-Ok.done.job c.in-Ok.done.code (map ended_of c.push_reserved-in-Some.new.self.items)
+          h c.in-Ok.ensures.ok named
+          (c.push_reserved.ensures.items ∙ ap (λ (xs : List Stored). xs ++ (WasUnloaded c.args.lun ∷ [])) c.make_room_to_finish.ensures.same.0)
+          (ap (map ended_of) (c.push_reserved-in-Some.ensures.items ∙ ap (λ xs. xs ++ (d ∷ [])) c.make_room_to_finish.ensures.same.1) ∙ map-append ended_of c.self.inside.done.items (d ∷ [])),
       c.self.invariant.1,
     )
 
-pub returns-in-Err-unload : goal.returns-in-Err-unload
-returns-in-Err-unload g c =
+pub returns-in-Err : goal.returns-in-Err
+returns-in-Err g c =
     let v : HistoryView = record { core = c.self.inside.core; taker = c.self.inside.taker; events = c.self.inside.events.items; taken = c.self.inside.taken.items; started = c.self.inside.started.items; backlog = c.self.inside.backlog.items; done = map ended_of c.self.inside.done.items; counts = c.self.inside.counts; turns = c.self.inside.turns } in
     let h = c.self.invariant.0 in
-    let u : HistoryView = record v { core = c.unload.new.self; events = c.reserve.new.self.items; done = map ended_of c.reserve-in-Ok.new.self.items } in
+    let u : HistoryView = record v { core = c.unload.new.self; events = c.make_room_to_finish.new.events.items; done = map ended_of c.make_room_to_finish.new.done.items } in
     subst (λ (x : HistoryView). HasNotEnded x c.args.lun u) c.self.view_is
-    (has_not_ended v c.args.lun c.unload.new.self c.reserve.new.self.items (map ended_of c.reserve-in-Ok.new.self.items) c.in-Err-unload.field-0 c.in-Err-unload.ensures.err.0 c.in-Err-unload.ensures.err.1 c.reserve.ensures.items (ap (map ended_of) c.reserve-in-Ok.ensures.items))
+    (has_not_ended v c.args.lun c.unload.new.self c.make_room_to_finish.new.events.items (map ended_of c.make_room_to_finish.new.done.items) c.in-Err.field-0 c.in-Err.ensures.err.0 c.in-Err.ensures.err.1 c.make_room_to_finish.ensures.same.0 (ap (map ended_of) c.make_room_to_finish.ensures.same.1))
 
 pub returns-in-Some : goal.returns-in-Some
 returns-in-Some g c =
     let v : HistoryView = record { core = c.self.inside.core; taker = c.self.inside.taker; events = c.self.inside.events.items; taken = c.self.inside.taken.items; started = c.self.inside.started.items; backlog = c.self.inside.backlog.items; done = map ended_of c.self.inside.done.items; counts = c.self.inside.counts; turns = c.self.inside.turns } in
     let h = c.self.invariant.0 in
-    let d : NamedJob _ = record { name = c.in-Some.name; done = c.in-Ok-unload.done } in
-    let named : last_started c.args.lun (reverse v.events) ≡ Some c.in-Some.name = sym (sym c.in-Some.is ∙ (c.find_last_started-name.ensures ∙ ap (λ (xs : List Stored). last_started c.args.lun (reverse xs)) (c.as_slice.ensures.value ∙ c.reserve.ensures.items))) in
+    let d : NamedJob _ = record { name = c.in-Some.name; done = c.in-Ok.done } in
+    let named : last_started c.args.lun (reverse v.events) ≡ Some c.in-Some.name = sym (sym c.in-Some.is ∙ (c.find_last_started-name.ensures ∙ ap (λ (xs : List Stored). last_started c.args.lun (reverse xs)) (c.as_slice.ensures.value ∙ c.make_room_to_finish.ensures.same.0))) in
     let u : HistoryView = record v { core = c.unload.new.self; events = c.push_reserved.new.self.items; done = map ended_of c.push_reserved-in-Some.new.self.items } in
     subst (λ (x : HistoryView). HasFinished x c.args.lun u) c.self.view_is
-    (has_finished v c.args.lun c.unload.new.self c.push_reserved.new.self.items (map ended_of c.push_reserved-in-Some.new.self.items) c.in-Some.name c.in-Ok-unload.done.job c.in-Ok-unload.done.code named c.in-Ok-unload.ensures.ok
-    (c.push_reserved.ensures.items ∙ ap (λ (xs : List Stored). xs ++ (WasUnloaded c.args.lun ∷ [])) c.reserve.ensures.items)
-    (ap (map ended_of) (c.push_reserved-in-Some.ensures.items ∙ ap (λ xs. xs ++ (d ∷ [])) c.reserve-in-Ok.ensures.items) ∙ map-append ended_of c.self.inside.done.items (d ∷ [])))
+    (has_finished v c.args.lun c.unload.new.self c.push_reserved.new.self.items (map ended_of c.push_reserved-in-Some.new.self.items) c.in-Some.name c.in-Ok.done.job c.in-Ok.done.code named c.in-Ok.ensures.ok
+    (c.push_reserved.ensures.items ∙ ap (λ (xs : List Stored). xs ++ (WasUnloaded c.args.lun ∷ [])) c.make_room_to_finish.ensures.same.0)
+    (ap (map ended_of) (c.push_reserved-in-Some.ensures.items ∙ ap (λ xs. xs ++ (d ∷ [])) c.make_room_to_finish.ensures.same.1) ∙ map-append ended_of c.self.inside.done.items (d ∷ [])))
 
 pub unreachable-requires : goal.unreachable-requires
 unreachable-requires g c =
     let v : HistoryView = record { core = c.self.inside.core; taker = c.self.inside.taker; events = c.self.inside.events.items; taken = c.self.inside.taken.items; started = c.self.inside.started.items; backlog = c.self.inside.backlog.items; done = map ended_of c.self.inside.done.items; counts = c.self.inside.counts; turns = c.self.inside.turns } in
-    named_if_unloaded v c.unload.new.self c.args.lun c.in-Ok-unload.done.job c.in-Ok-unload.done.code c.self.invariant.0 c.in-Ok-unload.ensures.ok
-    (sym (sym c.in-None.is ∙ (c.find_last_started-name.ensures ∙ ap (λ (xs : List Stored). last_started c.args.lun (reverse xs)) (c.as_slice.ensures.value ∙ c.reserve.ensures.items))))
+    named_if_unloaded v c.unload.new.self c.args.lun c.in-Ok.done.job c.in-Ok.done.code c.self.invariant.0 c.in-Ok.ensures.ok
+    (sym (sym c.in-None.is ∙ (c.find_last_started-name.ensures ∙ ap (λ (xs : List Stored). last_started c.args.lun (reverse xs)) (c.as_slice.ensures.value ∙ c.make_room_to_finish.ensures.same.0))))
+
+pub returns-then-not-make_room_to_finish : goal.returns-then-not-make_room_to_finish
+returns-then-not-make_room_to_finish g c =
+    let v : HistoryView = record { core = c.self.inside.core; taker = c.self.inside.taker; events = c.self.inside.events.items; taken = c.self.inside.taken.items; started = c.self.inside.started.items; backlog = c.self.inside.backlog.items; done = map ended_of c.self.inside.done.items; counts = c.self.inside.counts; turns = c.self.inside.turns } in
+    subst (λ (w : HistoryView). IsFinish w c.args.lun c.refuse_finish.result (record v { events = c.make_room_to_finish.new.events.items; done = map ended_of c.make_room_to_finish.new.done.items })) c.self.view_is
+    (refused_finish v c.args.lun c.make_room_to_finish.new.events.items (map ended_of c.make_room_to_finish.new.done.items) c.refuse_finish.result c.refuse_finish.ensures c.make_room_to_finish.ensures.same.0 (ap (map ended_of) c.make_room_to_finish.ensures.same.1))

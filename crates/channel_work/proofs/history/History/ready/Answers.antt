@@ -8,7 +8,7 @@ use Rattle.channel_work.specs.Channel.{HistoryView}
 use Rattle.channel_work.specs.Coming.{IsComing}
 use Rattle.channel_work.specs.Done.{ended_of}
 use Rattle.channel_work.proofs.Keeping.{plain_keeps}
-use Rattle.channel_work.proofs.Readying.{none_came}
+use Rattle.channel_work.proofs.Readying.{none_came, refused}
 use Rattle.channel_work.proofs.history.History.ready.Goals as goal
 
 pub invariant_of-self-then-came : goal.invariant_of-self-then-came
@@ -28,3 +28,9 @@ returns-else-came g c =
     let v : HistoryView = record { core = c.self.inside.core; taker = c.self.inside.taker; events = c.self.inside.events.items; taken = c.self.inside.taken.items; started = c.self.inside.started.items; backlog = c.self.inside.backlog.items; done = map ended_of c.self.inside.done.items; counts = c.self.inside.counts; turns = c.self.inside.turns } in
     subst (λ (w : HistoryView). IsComing w (Ready c.args.lun c.args.fail) ToReady (BecameReady c.args.lun c.args.fail) (Some c.ready-came.result) (record v { core = c.ready-came.new.self; events = c.reserve.new.self.items })) c.self.view_is
     (none_came v c.ready-came.new.self c.reserve.new.self.items (Ready c.args.lun c.args.fail) ToReady (BecameReady c.args.lun c.args.fail) c.ready-came.result c.if-came.false c.ready-came.ensures.no c.ready-came.ensures.came c.reserve.ensures.items)
+
+pub returns-in-Err : goal.returns-in-Err
+returns-in-Err g c =
+    let v : HistoryView = record { core = c.self.inside.core; taker = c.self.inside.taker; events = c.self.inside.events.items; taken = c.self.inside.taken.items; started = c.self.inside.started.items; backlog = c.self.inside.backlog.items; done = map ended_of c.self.inside.done.items; counts = c.self.inside.counts; turns = c.self.inside.turns } in
+    subst (λ (w : HistoryView). IsComing w (Ready c.args.lun c.args.fail) ToReady (BecameReady c.args.lun c.args.fail) c.refuse_ready.result (record v { events = c.reserve.new.self.items })) c.self.view_is
+    (refused v c.reserve.new.self.items (Ready c.args.lun c.args.fail) ToReady (BecameReady c.args.lun c.args.fail) c.refuse_ready.result c.refuse_ready.ensures c.reserve.ensures.items)

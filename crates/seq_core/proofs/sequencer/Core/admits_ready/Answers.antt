@@ -1,0 +1,13 @@
+use Rattle.std.proofs.Common.{subst}
+use Rattle.onfi_cycle.specs.declared.item.Item.TheVariants.{Rdy}
+use Rattle.seq_core.specs.Shows.{CoreView}
+use Rattle.seq_core.specs.Event.{Ready}
+use Rattle.seq_core.specs.Reply.{ToReady}
+use Rattle.seq_core.specs.Calls.{IsEvent, with_item}
+use Rattle.seq_core.proofs.Cores.{ready_admitted}
+use Rattle.seq_core.proofs.sequencer.Core.admits_ready.Goals as goal
+
+pub returns : goal.returns
+returns g c =
+    subst (λ (x : CoreView). IsEvent x (Ready c.args.lun c.args.fail) (ToReady c.is_none.result) (with_item x (Rdy c.args.lun.ce c.args.lun.lun c.args.fail) c.is_none.result)) c.self.view_is
+    (ready_admitted c.self.inside.bus c.self.inside.slots.items c.self.inside.holder c.args.lun c.args.fail c.judge.result c.is_none.result c.self.invariant (c.judge.ensures.past _ _ _ c.state.ensures) c.is_none.ensures)
