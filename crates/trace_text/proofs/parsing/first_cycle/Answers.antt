@@ -1,4 +1,4 @@
-use Rattle.std.proofs.Common.{◌≡◌, ◌<◌, ◌≤◌, get_or, length, ◌∙◌, ap, sym, arith}
+use Rattle.std.proofs.Common.{◌≡◌, ◌≤◌, get_or, length, ◌∙◌, ap, sym, arith}
 use Rattle.std.proofs.lemmas.Str.{lead_after_ascii}
 use Rattle.trace_text.proofs.Texts.{begins_spaced}
 use Rattle.trace_text.proofs.parsing.first_cycle.Goals as goal
