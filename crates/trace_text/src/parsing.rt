@@ -14,6 +14,7 @@ use onfi_cycle::{Cycle, Item, Kind};
 use std::alloc::{AllocError, Allocator};
 
 // The kind of cycle that a letter stands for.
+#[inline(always)]
 fn kind_of(letter: u8) -> Option<Kind>
     ensures { IfSome result (λ kind. letter ≡ kind_letter kind) }
 {
@@ -27,6 +28,7 @@ fn kind_of(letter: u8) -> Option<Kind>
 }
 
 // The item of a line that has these bytes around its two spaces, where it is that of a cycle.
+#[inline(always)]
 fn cycle_of(ce: u8, letter: u8, high: u8, low: u8) -> Option<Item>
     ensures { IfSome result (λ item. line_item (ce ∷ 32 ∷ letter ∷ 32 ∷ high ∷ low ∷ []) ≡ Ok item) }
 {
@@ -44,6 +46,7 @@ fn cycle_of(ce: u8, letter: u8, high: u8, low: u8) -> Option<Item>
 
 // The item of the first line and the text after that line, where the line is that of a cycle. Nearly all lines are, so
 // these are known by their seven bytes and aren't cut into fields.
+#[inline(always)]
 fn first_cycle(text: &str) -> Option<(Item, &str)>
     ensures some { IfSome result (λ x. BeginsWith text.entry.now x.0 x.1.now) }
     ensures utf8 { IfSome result (λ x. IsUtf8 x.1.now) }
@@ -59,6 +62,7 @@ fn first_cycle(text: &str) -> Option<(Item, &str)>
 }
 
 // The item of the first line and the text after that line, if the text isn't empty.
+#[inline(always)]
 fn first_item(text: &str) -> Result<Option<(Item, &str)>, TraceFault>
     ensures ok { IfOk result (λ o. MatchOption o (text.entry.now ≡ []) (λ x. BeginsWith text.entry.now x.0 x.1.now)) }
     ensures utf8 { IfOk result (λ o. IfSome o (λ x. IsUtf8 x.1.now)) }
@@ -71,6 +75,8 @@ fn first_item(text: &str) -> Result<Option<(Item, &str)>, TraceFault>
 }
 
 // The same for a line of any kind, which is cut into its fields.
+#[cold]
+#[inline(never)]
 fn first_of_fields(text: &str) -> Result<Option<(Item, &str)>, TraceFault>
     ensures ok { IfOk result (λ o. MatchOption o (text.entry.now ≡ []) (λ x. BeginsWith text.entry.now x.0 x.1.now)) }
     ensures utf8 { IfOk result (λ o. IfSome o (λ x. IsUtf8 x.1.now)) }
