@@ -61,20 +61,8 @@ fn first_cycle(text: &str) -> Option<(Item, &str)>
     Some((item, &text[7..]))
 }
 
-// The item of the first line and the text after that line, if the text isn't empty.
-#[inline(always)]
-fn first_item(text: &str) -> Result<Option<(Item, &str)>, TraceFault>
-    ensures ok { IfOk result (λ o. MatchOption o (text.entry.now ≡ []) (λ x. BeginsWith text.entry.now x.0 x.1.now)) }
-    ensures utf8 { IfOk result (λ o. IfSome o (λ x. IsUtf8 x.1.now)) }
-    ensures err { IfErr result (HasFault text.entry.now) }
-{
-    match first_cycle(text) {
-        Some(found) => Ok(Some(found)),
-        None => first_of_fields(text),
-    }
-}
-
-// The same for a line of any kind, which is cut into its fields.
+// The item of the first line, of whatever kind, and the text after that line, if the text isn't empty. The line is cut
+// into its fields.
 #[cold]
 #[inline(never)]
 fn first_of_fields(text: &str) -> Result<Option<(Item, &str)>, TraceFault>
@@ -97,7 +85,12 @@ fn count_items(text: &str) -> Result<usize, TraceRefusal>
     let mut rest = text;
     let mut count = 0;
     'lines: loop {
-        match first_item(rest) {
+        if let Some((_, behind)) = first_cycle(rest) {
+            rest = behind;
+            count += 1;
+            continue 'lines;
+        }
+        match first_of_fields(rest) {
             Ok(Some((_, behind))) => {
                 rest = behind;
                 count += 1;
@@ -120,11 +113,20 @@ fn items_of<A: Allocator>(alloc: A, text: &str, count: usize) -> Result<Vec<Item
 {
     let mut items = Vec::with_capacity(alloc, count)?;
     let mut rest = text;
-    'lines: while let Some((item, behind)) = first_item(rest).unwrap() {
-        items.push(item)?;
-        rest = behind;
+    'lines: loop {
+        if let Some((item, behind)) = first_cycle(rest) {
+            items.push(item)?;
+            rest = behind;
+            continue 'lines;
+        }
+        match first_of_fields(rest).unwrap() {
+            Some((item, behind)) => {
+                items.push(item)?;
+                rest = behind;
+            }
+            None => return Ok(items),
+        }
     }
-    Ok(items)
 }
 
 // The items, or the first fault.
