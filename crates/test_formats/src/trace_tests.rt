@@ -145,6 +145,11 @@ fn lines_of_the_wrong_shape(rt: HostRuntime) -> Result<(), Fail> {
         "0 R 0 0 ",
         "0 Y 0 \r",
         "\r",
+        // Six bytes that are all but those of a cycle.
+        "0 R 60",
+        "0 o 60",
+        "0xO 60",
+        "0 Ox60",
     ];
     for line in lines {
         let mut text = String::from_str(rt.alloc(), line)?;
@@ -197,6 +202,19 @@ fn numbers_of_the_wrong_form(rt: HostRuntime) {
         "0 R  0\n",
         "0 R 0 \n",
         " R  \n",
+        // Seven bytes that are all but those of a cycle.
+        "4 O e0\n",
+        "/ O e0\n",
+        "0 O E0\n",
+        "0 O eF\n",
+        "0 O g0\n",
+        "0 O e:\n",
+        "0 O e/\n",
+        "0 O e`\n",
+        "0 O e\r\n",
+        "0 O \u{e9}\n",
+        "\u{e9} O 0\n",
+        "0 Y 60\n",
     ];
     for text in texts {
         assert_eq!(rt;
@@ -244,6 +262,13 @@ fn lowest_fault_is_told(rt: HostRuntime) {
         ("9 C  D0\n", TraceFault::BadShape, 1),
         ("0 C 60\r\n0 X 60\n", TraceFault::BadNumber, 1),
         ("0 C 60\r", TraceFault::BadShape, 1),
+        // Behind lines of cycles, one that is all but such a line.
+        ("0 C 60\n3 O e0", TraceFault::BadShape, 2),
+        ("0 C 60\n3 O e0x", TraceFault::BadShape, 2),
+        ("0 C 60\n3 O e0x\n", TraceFault::BadNumber, 2),
+        ("0 C 60\n3 O e0\r\n", TraceFault::BadNumber, 2),
+        ("0 C 60\n0 R 60\n4 O e0\n", TraceFault::BadShape, 2),
+        ("0 C 60\n3 O e0\n4 O e0\n3 O E0\n", TraceFault::BadNumber, 3),
     ];
     for (text, code, line) in texts {
         assert_eq!(rt; refusal(rt.alloc(), text), fault(code, line), "{text:?}");

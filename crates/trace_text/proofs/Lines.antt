@@ -1,5 +1,5 @@
 -- A line that is read is the line of its item, and the line of an item is read.
-use Rattle.std.proofs.Common.{◌≡◌, ℕ, ◌<◌, ◌≤◌, ◌/◌, ◌%◌, Bool, false, eqb, List, [], ◌∷◌, ◌++◌, Option, Some, None, Ok, refl, subst, ◌∙◌, arith}
+use Rattle.std.proofs.Common.{◌≡◌, ℕ, ◌+◌, ◌-◌, ◌*◌, ◌<◌, ◌≤◌, ◌/◌, ◌%◌, Bool, false, eqb, List, [], ◌∷◌, ◌++◌, Option, Some, None, Ok, refl, ap, subst, ◌∙◌, arith}
 use Rattle.std.specs.Prelude.{ok_or}
 use Rattle.std.specs.List.{AllByRecursion, join_with_byte}
 use Rattle.std.proofs.lemmas.Option.{same_Some}
@@ -11,8 +11,8 @@ use Rattle.trace_text.specs.declared.refusal.TraceFault.TheVariants.{BadNumber}
 use Rattle.trace_text.specs.declared.line.Letter.{Letter}
 use Rattle.trace_text.specs.declared.line.Letter.TheVariants.{CycleOf, Ready, ArrayReady}
 use Rattle.trace_text.specs.Line.{digit, hex_digit, kind_letter, fail_digit, line, IsPrintable, HasByte}
-use Rattle.trace_text.specs.Reading.{and_then, fields, place_of, byte_of, fail_of, letter_of, cycle, ready, array_ready, of_three, of_four, item_of, line_item}
-use Rattle.trace_text.proofs.Ranges.{and_then_some, IsPlain, place_takes, place_again, plain_digit, is_hex, byte_takes, byte_again, fail_takes, fail_again, plain_fail, letter_takes, letter_again, plain_letter}
+use Rattle.trace_text.specs.Reading.{and_then, fields, hex_value, place_of, byte_of, fail_of, letter_of, cycle, ready, array_ready, of_three, of_four, item_of, line_item}
+use Rattle.trace_text.proofs.Ranges.{and_then_some, IsPlain, place_takes, place_again, plain_digit, hex_takes, is_hex, byte_takes, byte_again, fail_takes, fail_again, plain_fail, letter_takes, letter_again, plain_letter}
 
 -- the front of a line, up to its line feed, is the item's
 pub record IsLineOf (front : List ℕ) (item : Item) : Type 0 where
@@ -133,6 +133,24 @@ cycle_again ce kind byte printable small =
       no_feed = (first.no_feed, (refl, (letter.no_feed, (refl, (high.no_feed, (low.no_feed, tt))))));
       read = whole ∙ rw (letter_again (CycleOf kind), place_again ce printable, byte_again byte small) refl;
     }
+
+same_bytes : (a k h l b m i n : ℕ) → a ≡ b → k ≡ m → h ≡ i → l ≡ n → line_item (a ∷ 32 ∷ k ∷ 32 ∷ h ∷ l ∷ []) ≡ line_item (b ∷ 32 ∷ m ∷ 32 ∷ i ∷ n ∷ [])
+same_bytes a k h l b m i n e f g j = rw (e, f, g, j) refl
+
+-- the same of a line whose bytes were looked at one by one
+pub cycle_read : (a k x y h l : ℕ) (kind : Kind) → 48 ≤ a → a ≤ 51 → k ≡ kind_letter kind → hex_value x ≡ Some h → hex_value y ≡ Some l → line_item (a ∷ 32 ∷ k ∷ 32 ∷ x ∷ y ∷ []) ≡ Ok (Cyc (record { ce = a - 48; kind = kind; byte = 16 * h + l }))
+unfolding cycle_again
+cycle_read a k x y h l kind low high letter upper lower =
+    let byte : ℕ = 16 * h + l in
+    let first = hex_takes x h upper in
+    let second = hex_takes y l lower in
+    let small_h : h < 16 = first.1 in
+    let small_l : l < 16 = second.1 in
+    let is_h : h ≡ byte / 16 = omega arith in
+    let is_l : l ≡ byte % 16 = omega arith in
+    let place : a ≡ digit (a - 48) = omega arith in
+    same_bytes a k x y (digit (a - 48)) (kind_letter kind) (hex_digit (byte / 16)) (hex_digit (byte % 16)) place letter (first.0 ∙ ap hex_digit is_h) (second.0 ∙ ap hex_digit is_l)
+    ∙ (cycle_again (a - 48) kind byte (omega arith) (omega arith)).read
 
 pub line_again : (item : Item) → IsPrintable item → HasByte item → HasLine item
 unfolding ready array_ready

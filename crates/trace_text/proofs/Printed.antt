@@ -1,13 +1,12 @@
--- What is printed of an item is its line.
-use Rattle.std.proofs.Common.{◌≡◌, ℕ, ◌+◌, ◌/◌, ◌%◌, ◌<◌, ◌≤◌, ◌↔◌, Bool, true, false, Option, Some, List, [], ◌∷◌, ◌++◌, length, take, get_or, Ok, refl, sym, ap, ◌∙◌, arith}
-use Rattle.std.specs.Int.{from_bool}
-use Rattle.std.specs.Fmt.{decimal, AppendsText, ◌++?◌}
-use Rattle.std.specs.Char.{encode_utf8}
+-- What is printed of a trace is its text, which is read back.
+use Rattle.std.proofs.Common.{◌≡◌, ℕ, ◌+◌, ◌/◌, ◌%◌, ◌<◌, ◌≤◌, ◌↔◌, Bool, true, false, ltb, List, [], ◌∷◌, ◌++◌, length, take, get_or, Ok, refl, sym, ap, subst, ◌∙◌, arith}
 use Rattle.std.specs.List.{All, AllByRecursion, list_all}
+use Rattle.std.specs.Str.{IsUtf8, IsAscii}
 use Rattle.std.proofs.lemmas.Bool.Decides.{nat_tests}
-use Rattle.std.proofs.lemmas.Fmt.{decimal_digit}
 use Rattle.std.proofs.lemmas.List.{take_more, take_all, flat_map_more}
 use Rattle.std.proofs.lemmas.List.Elements.{All-same, All-push, All-from_recursion, recursion_from_All}
+use Rattle.std.proofs.lemmas.Str.{IsUtf8-from_ascii, IsAscii-append}
+use Rattle.std.proofs.lemmas.Str.Ascii.{IsAscii-nil, IsAscii-from_all}
 use Rattle.std.proofs.lemmas.Bool.{and_parts as both_true}
 use Rattle.onfi_cycle.specs.declared.item.Kind.{Kind}
 use Rattle.onfi_cycle.specs.declared.item.Kind.TheVariants.{Cmd, Adr, Din, Dout}
@@ -15,39 +14,7 @@ use Rattle.onfi_cycle.specs.declared.item.Item.{Item}
 use Rattle.onfi_cycle.specs.declared.item.Item.TheVariants.{Cyc, Rdy, Ard}
 use Rattle.trace_text.specs.Line.{hex_digit, kind_letter, fail_digit, line, text, IsPrintable, is_printable_item, HasByte}
 use Rattle.trace_text.specs.Reading.{reading}
-use Rattle.trace_text.proofs.Texts.{read_back}
-
-pub printed_array : (ce lun : ℕ) → ce ≤ 3 → lun ≤ 3 → decimal ce ++ 32 ∷ 89 ∷ 32 ∷ (decimal lun ++ 10 ∷ []) ≡ line (Ard ce lun)
-printed_array ce lun h k =
-    let first = decimal_digit ce (omega arith) in
-    let second = decimal_digit lun (omega arith) in
-    rw (first, second) refl
-
-fail_number : (fail : Bool) (n : ℕ) → n ≡ from_bool fail → decimal n ≡ fail_digit fail ∷ []
-fail_number true n e = ap decimal e ∙ decimal_digit 1 (omega arith)
-fail_number false n e = ap decimal e ∙ decimal_digit 0 (omega arith)
-
-pub printed_ready : (ce lun n : ℕ) (fail : Bool) → ce ≤ 3 → lun ≤ 3 → n ≡ from_bool fail → decimal ce ++ 32 ∷ 82 ∷ 32 ∷ (decimal lun ++ 32 ∷ (decimal n ++ 10 ∷ [])) ≡ line (Rdy ce lun fail)
-printed_ready ce lun n fail h k e =
-    let first = decimal_digit ce (omega arith) in
-    let second = decimal_digit lun (omega arith) in
-    let third = fail_number fail n e in
-    rw (first, second, third) refl
-
-letter_bytes : (kind : Kind) → encode_utf8 (kind_letter kind) ≡ kind_letter kind ∷ []
-unfolding encode_utf8
-letter_bytes Cmd = refl
-letter_bytes Adr = refl
-letter_bytes Din = refl
-letter_bytes Dout = refl
-
-pub printed_cycle : (old new : List ℕ) (o : Option (List ℕ)) (ce letter byte : ℕ) (kind : Kind) → ce ≤ 3 → letter ≡ kind_letter kind → o ≡ Some (hex_digit (byte / 16) ∷ hex_digit (byte % 16) ∷ [])
-    → AppendsText old new (Some (decimal ce) ++? (Some (32 ∷ []) ++? (Some (encode_utf8 letter) ++? (Some (32 ∷ []) ++? (o ++? Some (10 ∷ [])))))) → new ≡ old ++ line (Cyc (record { ce = ce; kind = kind; byte = byte }))
-printed_cycle old new o ce letter byte kind printable is digits e =
-    let first = decimal_digit ce (omega arith) in
-    let second : encode_utf8 letter ≡ kind_letter kind ∷ [] = ap encode_utf8 is ∙ letter_bytes kind in
-    let written = rw digits at e in
-    written ∙ ap (λ (l : List ℕ). old ++ l) (rw (first, second) refl)
+use Rattle.trace_text.proofs.Texts.{read_back, is_found}
 
 -- one more line
 pub printed_more : (old new : List ℕ) (items : List Item) (i : ℕ) (d : Item) → i < length items → old ≡ text (take i items) → new ≡ old ++ line (get_or items i d) → new ≡ text (take (i + 1) items)
@@ -87,3 +54,41 @@ all_are_printable (i ∷ items) h = let first = is_printable_of i h.0 in let oth
 pub tells_printable : (b : Bool) (items : List Item) → b ≡ list_all is_printable_item items → (b ≡ true) ↔ All IsPrintable items
 tells_printable b items e =
     (λ t. All-from_recursion IsPrintable items (all_printable_of items (sym e ∙ t)), λ printable. e ∙ all_are_printable items (recursion_from_All IsPrintable items printable))
+
+-- ---- a text is made of ASCII characters
+
+hex_ascii : (n : ℕ) → n < 16 → hex_digit n < 128
+hex_ascii n h = at (ltb n 10) refl
+  where
+    at : (t : Bool) → ltb n 10 ≡ t → hex_digit n < 128
+    at true is = rw is (omega arith)
+    at false is = rw is (omega arith)
+
+letter_ascii : (kind : Kind) → kind_letter kind < 128
+letter_ascii Cmd = omega arith
+letter_ascii Adr = omega arith
+letter_ascii Din = omega arith
+letter_ascii Dout = omega arith
+
+fail_ascii : (fail : Bool) → fail_digit fail < 128
+fail_ascii false = omega arith
+fail_ascii true = omega arith
+
+line_ascii : (item : Item) → IsPrintable item → HasByte item → AllByRecursion (λ b. b < 128) (line item)
+line_ascii (Cyc c) printable byte =
+    let small : c.byte < 256 = byte in
+    (omega arith, (omega arith, (letter_ascii c.kind, (omega arith, (hex_ascii (c.byte / 16) (omega arith), (hex_ascii (c.byte % 16) (omega arith), (omega arith, tt)))))))
+line_ascii (Rdy ce lun fail) printable byte = (omega arith, (omega arith, (omega arith, (omega arith, (omega arith, (omega arith, (fail_ascii fail, (omega arith, tt))))))))
+line_ascii (Ard ce lun) printable byte = (omega arith, (omega arith, (omega arith, (omega arith, (omega arith, (omega arith, tt))))))
+
+text_ascii : (items : List Item) → AllByRecursion IsPrintable items → AllByRecursion HasByte items → IsAscii (text items)
+text_ascii [] printable byte = IsAscii-nil
+text_ascii (i ∷ items) printable byte =
+    IsAscii-append (line i) (text items) (IsAscii-from_all (line i) (All-from_recursion (λ (b : ℕ). b < 128) (line i) (line_ascii i printable.0 byte.0))) (text_ascii items printable.1 byte.1)
+
+-- what is read as items is UTF-8
+pub read_is_utf8 : (bs : List ℕ) (items : List Item) → reading bs ≡ Ok items → IsUtf8 bs
+read_is_utf8 bs items e =
+    let is = is_found bs items e in
+    let ascii = text_ascii items (recursion_from_All IsPrintable items is.printable) (recursion_from_All HasByte items is.bytes_fit) in
+    subst IsUtf8 (sym is.spelled) (IsUtf8-from_ascii (text items) ascii)

@@ -73,7 +73,7 @@ plain_digit n h = plain (48 + n) (omega arith)
 
 -- ---- a byte
 
-hex_takes : (d n : ℕ) → hex_value d ≡ Some n → (d ≡ hex_digit n) × (n < 16)
+pub hex_takes : (d n : ℕ) → hex_value d ≡ Some n → (d ≡ hex_digit n) × (n < 16)
 hex_takes d n e = at (leb 48 d && leb d 57) refl e
   where
     at : (t : Bool) → (leb 48 d && leb d 57) ≡ t → cond t (Some (d - 48)) (cond (leb 97 d && leb d 102) (Some (d - 87)) None) ≡ Some n → (d ≡ hex_digit n) × (n < 16)

@@ -1,9 +1,9 @@
 -- A text is read line by line; what is read is the text of its items, and their text is read.
-use Rattle.std.proofs.Common.{◌≡◌, ℕ, ◌+◌, ◌<◌, Bool, true, false, cond, eqb, List, [], ◌∷◌, ◌++◌, length, get_or, Some, None, Result, Ok, Err, refl, sym, ap, subst, ◌∙◌, append_assoc, arith, length-append, Bor, lit<}
+use Rattle.std.proofs.Common.{◌≡◌, ℕ, ◌+◌, ◌<◌, ◌≤◌, Bool, true, false, cond, eqb, List, [], ◌∷◌, ◌++◌, length, get_or, drop, Some, None, Result, Ok, Err, refl, sym, ap, subst, ◌∙◌, append_assoc, arith, length-append, Bor, lit<}
 use Rattle.std.specs.Prelude.{IfOk, IfErr, MatchResult}
 use Rattle.std.specs.List.{All, AllByRecursion}
 use Rattle.std.proofs.lemmas.Bool.{eqb-true, ne_eqb}
-use Rattle.std.proofs.lemmas.List.{append-nil, nil_from_length}
+use Rattle.std.proofs.lemmas.List.{append-nil, append_cancel_right, nil_from_length}
 use Rattle.std.proofs.lemmas.List.Elements.{All-from_get_or, recursion_from_All, All-from_recursion}
 use Rattle.std.proofs.lemmas.Str.Pattern.{IsSplitOnceResult, split_parts}
 use Rattle.onfi_cycle.specs.declared.item.Item.{Item}
@@ -51,6 +51,33 @@ begins bs x item h e =
       shorter = rw whole (omega (arith, length-append x.0.now (10 ∷ x.1.now)));
       read = λ n. ap (reading_from n []) whole ∙ by_line n [] x.0.now x.1.now (no_feed x.0.now parts.1) ∙ rw e refl;
     }
+
+-- a line that is read has no line feed
+read_no_feed : (l : List ℕ) (item : Item) → line_item l ≡ Ok item → HasNoFeed l
+read_no_feed l item e =
+    let taken = line_takes l item e in
+    let again = line_again item taken.printable taken.byte in
+    let same : l ≡ again.front = append_cancel_right l again.front (10 ∷ []) (taken.spelled ∙ again.spelled) in
+    subst HasNoFeed (sym same) again.no_feed
+
+pub begins_ended : (l rest : List ℕ) (item : Item) → line_item l ≡ Ok item → BeginsWith (l ++ 10 ∷ rest) item rest
+begins_ended l rest item e = record {
+  shorter = omega (arith, length-append l (10 ∷ rest));
+  read = λ n. by_line n [] l rest (read_no_feed l item e) ∙ rw e refl;
+}
+
+-- the same of a text whose first bytes were looked at one by one
+pub begins_spaced : (bs rest : List ℕ) (item : Item) → 7 ≤ length bs → rest ≡ drop 7 bs → get_or bs 1 0 ≡ 32 → get_or bs 3 0 ≡ 32 → get_or bs 6 0 ≡ 10
+    → line_item (get_or bs 0 0 ∷ 32 ∷ get_or bs 2 0 ∷ 32 ∷ get_or bs 4 0 ∷ get_or bs 5 0 ∷ []) ≡ Ok item → BeginsWith bs item rest
+begins_spaced (a ∷ b ∷ c ∷ d ∷ e ∷ f ∷ g ∷ bs) rest item long is first second feed read =
+    rw (is, first, second, feed) (begins_ended (a ∷ 32 ∷ c ∷ 32 ∷ e ∷ f ∷ []) bs item read)
+begins_spaced [] rest item long is first second feed read = absurd (omega arith)
+begins_spaced (a ∷ []) rest item long is first second feed read = absurd (omega arith)
+begins_spaced (a ∷ b ∷ []) rest item long is first second feed read = absurd (omega arith)
+begins_spaced (a ∷ b ∷ c ∷ []) rest item long is first second feed read = absurd (omega arith)
+begins_spaced (a ∷ b ∷ c ∷ d ∷ []) rest item long is first second feed read = absurd (omega arith)
+begins_spaced (a ∷ b ∷ c ∷ d ∷ e ∷ []) rest item long is first second feed read = absurd (omega arith)
+begins_spaced (a ∷ b ∷ c ∷ d ∷ e ∷ f ∷ []) rest item long is first second feed read = absurd (omega arith)
 
 pub fails : (bs : List ℕ) (x : Bor (List ℕ) × Bor (List ℕ)) (code : TraceFault) → IsSplitOnceResult 10 bs (Some x) → line_item x.0.now ≡ Err code → HasFault bs code
 fails bs x code h e =

@@ -21,6 +21,6 @@ mod refusal;
 
 pub use checking::{CheckRefusal, check, check_watched, first_broken};
 pub use parsing::parse;
-pub use printing::{is_printable, print};
+pub use printing::{is_printable, print, print_bytes};
 pub use progress::{CheckProgress, NoProgress};
 pub use refusal::{TraceFault, TraceRefusal};

@@ -44,7 +44,7 @@ fn place_of(field: &str) -> Option<u8>
 }
 
 // The number of a hexadecimal digit in lower case.
-fn hex_value(digit: u8) -> Option<u8>
+pub(crate) fn hex_value(digit: u8) -> Option<u8>
     ensures value { result ≡ hex_value digit }
     ensures below { IfSome result (λ n. n < 16) }
 {

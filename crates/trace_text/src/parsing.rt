@@ -1,19 +1,71 @@
 //! Reading the text of a trace.
 
-ghost use Rattle.std.specs.Prelude.{◌≡◌, [], List, IsOk, OnOk, IfOk, IfErr, IfSome, MatchOption, MatchResult};
+ghost use Rattle.std.specs.Prelude.{◌≡◌, [], ◌∷◌, List, Ok, IsOk, OnOk, IfOk, IfErr, IfSome, MatchOption, MatchResult};
 ghost use Rattle.std.specs.Str.{IsUtf8};
 ghost use Rattle.onfi_cycle.specs.declared.item.Item.{Item};
 ghost use Rattle.trace_text.specs.declared.refusal.TraceRefusal.TheVariants.{OutOfMemory};
+ghost use Rattle.trace_text.specs.Line.{kind_letter};
 ghost use Rattle.trace_text.specs.Trace.{IsTextOf};
-ghost use Rattle.trace_text.specs.Reading.{reading, IsRefusalOf, BeginsWith, HasFault};
+ghost use Rattle.trace_text.specs.Reading.{line_item, reading, IsRefusalOf, BeginsWith, HasFault};
 
-use crate::line::line_item;
+use crate::line::{hex_value, line_item};
 use crate::refusal::{TraceFault, TraceRefusal};
-use onfi_cycle::Item;
+use onfi_cycle::{Cycle, Item, Kind};
 use std::alloc::{AllocError, Allocator};
 
-// The item of the first line and the text after that line, if the text isn't empty.
-fn first_item(text: &str) -> Result<Option<(Item, &str)>, TraceFault>
+// The kind of cycle that a letter stands for.
+#[inline(always)]
+fn kind_of(letter: u8) -> Option<Kind>
+    ensures { IfSome result (λ kind. letter ≡ kind_letter kind) }
+{
+    match letter {
+        b'C' => Some(Kind::Cmd),
+        b'A' => Some(Kind::Adr),
+        b'I' => Some(Kind::Din),
+        b'O' => Some(Kind::Dout),
+        _ => None,
+    }
+}
+
+// The item of a line that has these bytes around its two spaces, where it is that of a cycle.
+#[inline(always)]
+fn cycle_of(ce: u8, letter: u8, high: u8, low: u8) -> Option<Item>
+    ensures { IfSome result (λ item. line_item (ce ∷ 32 ∷ letter ∷ 32 ∷ high ∷ low ∷ []) ≡ Ok item) }
+{
+    let kind = kind_of(letter)?;
+    let byte = 16 * hex_value(high)? + hex_value(low)?;
+    match ce {
+        b'0'..=b'3' => Some(Item::Cyc(Cycle {
+            ce: ce - b'0',
+            kind,
+            byte,
+        })),
+        _ => None,
+    }
+}
+
+// The item of the first line and the text after that line, where the line is that of a cycle. Nearly all lines are, so
+// these are known by their seven bytes and aren't cut into fields.
+#[inline(always)]
+fn first_cycle(text: &str) -> Option<(Item, &str)>
+    ensures some { IfSome result (λ x. BeginsWith text.entry.now x.0 x.1.now) }
+    ensures utf8 { IfSome result (λ x. IsUtf8 x.1.now) }
+{
+    let [ce, before, letter, behind, high, low, end, ..] = text.as_bytes() else {
+        return None;
+    };
+    if *before != b' ' || *behind != b' ' || *end != b'\n' {
+        return None;
+    }
+    let item = cycle_of(*ce, *letter, *high, *low)?;
+    Some((item, &text[7..]))
+}
+
+// The item of the first line, of whatever kind, and the text after that line, if the text isn't empty. The line is cut
+// into its fields.
+#[cold]
+#[inline(never)]
+fn first_of_fields(text: &str) -> Result<Option<(Item, &str)>, TraceFault>
     ensures ok { IfOk result (λ o. MatchOption o (text.entry.now ≡ []) (λ x. BeginsWith text.entry.now x.0 x.1.now)) }
     ensures utf8 { IfOk result (λ o. IfSome o (λ x. IsUtf8 x.1.now)) }
     ensures err { IfErr result (HasFault text.entry.now) }
@@ -33,7 +85,12 @@ fn count_items(text: &str) -> Result<usize, TraceRefusal>
     let mut rest = text;
     let mut count = 0;
     'lines: loop {
-        match first_item(rest) {
+        if let Some((_, behind)) = first_cycle(rest) {
+            rest = behind;
+            count += 1;
+            continue 'lines;
+        }
+        match first_of_fields(rest) {
             Ok(Some((_, behind))) => {
                 rest = behind;
                 count += 1;
@@ -56,11 +113,20 @@ fn items_of<A: Allocator>(alloc: A, text: &str, count: usize) -> Result<Vec<Item
 {
     let mut items = Vec::with_capacity(alloc, count)?;
     let mut rest = text;
-    'lines: while let Some((item, behind)) = first_item(rest).unwrap() {
-        items.push(item)?;
-        rest = behind;
+    'lines: loop {
+        if let Some((item, behind)) = first_cycle(rest) {
+            items.push(item)?;
+            rest = behind;
+            continue 'lines;
+        }
+        match first_of_fields(rest).unwrap() {
+            Some((item, behind)) => {
+                items.push(item)?;
+                rest = behind;
+            }
+            None => return Ok(items),
+        }
     }
-    Ok(items)
 }
 
 // The items, or the first fault.

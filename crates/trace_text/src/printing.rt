@@ -1,57 +1,118 @@
 //! Writing the text of a trace.
 
-ghost use Rattle.std.specs.Prelude.{◌≡◌, ◌++◌, ◌<◌, ◌≤◌, ◌↔◌, IsTrue, IfOk, OnOk};
+ghost use Rattle.std.specs.Prelude.{◌≡◌, ◌+◌, ◌++◌, ◌<◌, ◌≤◌, ◌↔◌, IsTrue, IfOk};
 ghost use Rattle.std.specs.String.{string_bytes};
+ghost use Rattle.std.specs.Vec.{vec_len, vec_capacity};
 ghost use Rattle.std.specs.List.{All, list_all};
-ghost use Rattle.onfi_cycle.specs.declared.item.Item.TheVariants.{Cyc};
-ghost use Rattle.trace_text.specs.Line.{kind_letter, line, text, IsPrintable, is_printable_item, HasByte};
+ghost use Rattle.onfi_cycle.specs.declared.item.Item.TheVariants.{Cyc, Rdy, Ard};
+ghost use Rattle.trace_text.specs.Line.{hex_digit, kind_letter, fail_digit, line, text, IsPrintable, is_printable_item, HasByte};
 ghost use Rattle.trace_text.specs.Reading.{reading};
 
 use onfi_cycle::{Cycle, Item, Kind};
 use std::alloc::{AllocError, Allocator};
 
+// How many bytes the line of an item has at most.
+const LONGEST_LINE: usize = 8;
+
 // The letter of a cycle.
-fn kind_letter(kind: Kind) -> char
+fn kind_letter(kind: Kind) -> u8
     ensures { result ≡ kind_letter kind }
 {
     match kind {
-        Kind::Cmd => 'C',
-        Kind::Adr => 'A',
-        Kind::Din => 'I',
-        Kind::Dout => 'O',
+        Kind::Cmd => b'C',
+        Kind::Adr => b'A',
+        Kind::Din => b'I',
+        Kind::Dout => b'O',
     }
 }
 
-// Adds the line of a cycle to a text.
-fn push_cycle<A: Allocator>(
-    text: &mut String<A>,
-    ce: u8,
-    kind: Kind,
-    byte: u8,
-) -> Result<(), AllocError>
-    requires { ce ≤ 3 }
-    ensures value { OnOk result (string_bytes text.new ≡ string_bytes text.old
-        ++ line (Cyc (record { ce = ce; kind = kind; byte = byte }))) }
-    ensures byte { byte < 256 }
+// The digit of a number below sixteen.
+fn hex_digit(number: u8) -> u8
+    requires { number < 16 }
+    ensures { result ≡ hex_digit number }
 {
-    let letter = kind_letter(kind);
-    writeln!(text, "{ce} {letter} {byte:02x}")
+    if number < 10 {
+        b'0' + number
+    } else {
+        b'a' - 10 + number
+    }
 }
 
-// Adds the line of an item to a text.
-fn push_line<A: Allocator>(text: &mut String<A>, item: Item) -> Result<(), AllocError>
-    requires { IsPrintable item }
-    ensures value { OnOk result (string_bytes text.new ≡ string_bytes text.old ++ line item) }
+// The digit of a failure.
+fn fail_digit(fail: bool) -> u8
+    ensures { result ≡ fail_digit fail }
+{
+    if fail { b'1' } else { b'0' }
+}
+
+// Adds the line of a cycle to a text that has places for it; so do the two below with theirs.
+fn push_cycle<A: Allocator>(text: &mut Vec<u8, A>, ce: u8, kind: Kind, byte: u8)
+    requires ce { ce ≤ 3 }
+    requires places { vec_len text.old + 8 ≤ vec_capacity text.old }
+    ensures value { text.new.items ≡ text.old.items ++ line (Cyc (record { ce = ce; kind = kind; byte = byte })) }
+    ensures len { vec_len text.new ≤ vec_len text.old + 8 }
+    ensures capacity { vec_capacity text.new ≡ vec_capacity text.old }
+    ensures byte { byte < 256 }
+{
+    text.push_reserved(b'0' + ce);
+    text.push_reserved(b' ');
+    text.push_reserved(kind_letter(kind));
+    text.push_reserved(b' ');
+    text.push_reserved(hex_digit(byte / 16));
+    text.push_reserved(hex_digit(byte % 16));
+    text.push_reserved(b'\n');
+}
+
+// The line of a LUN that becomes ready.
+fn push_ready<A: Allocator>(text: &mut Vec<u8, A>, ce: u8, lun: u8, fail: bool)
+    requires ce { ce ≤ 3 }
+    requires lun { lun ≤ 3 }
+    requires places { vec_len text.old + 8 ≤ vec_capacity text.old }
+    ensures value { text.new.items ≡ text.old.items ++ line (Rdy ce lun fail) }
+    ensures len { vec_len text.new ≤ vec_len text.old + 8 }
+    ensures capacity { vec_capacity text.new ≡ vec_capacity text.old }
+{
+    text.push_reserved(b'0' + ce);
+    text.push_reserved(b' ');
+    text.push_reserved(b'R');
+    text.push_reserved(b' ');
+    text.push_reserved(b'0' + lun);
+    text.push_reserved(b' ');
+    text.push_reserved(fail_digit(fail));
+    text.push_reserved(b'\n');
+}
+
+// The line of a LUN whose array becomes ready.
+fn push_array_ready<A: Allocator>(text: &mut Vec<u8, A>, ce: u8, lun: u8)
+    requires ce { ce ≤ 3 }
+    requires lun { lun ≤ 3 }
+    requires places { vec_len text.old + 8 ≤ vec_capacity text.old }
+    ensures value { text.new.items ≡ text.old.items ++ line (Ard ce lun) }
+    ensures len { vec_len text.new ≤ vec_len text.old + 8 }
+    ensures capacity { vec_capacity text.new ≡ vec_capacity text.old }
+{
+    text.push_reserved(b'0' + ce);
+    text.push_reserved(b' ');
+    text.push_reserved(b'Y');
+    text.push_reserved(b' ');
+    text.push_reserved(b'0' + lun);
+    text.push_reserved(b'\n');
+}
+
+// Adds the line of an item to a text that has places for it.
+fn push_line<A: Allocator>(text: &mut Vec<u8, A>, item: Item)
+    requires printable { IsPrintable item }
+    requires places { vec_len text.old + 8 ≤ vec_capacity text.old }
+    ensures value { text.new.items ≡ text.old.items ++ line item }
+    ensures len { vec_len text.new ≤ vec_len text.old + 8 }
+    ensures capacity { vec_capacity text.new ≡ vec_capacity text.old }
     // The byte of an item fits its type.
     ensures byte { HasByte item }
 {
     match item {
         Item::Cyc(Cycle { ce, kind, byte }) => push_cycle(text, ce, kind, byte),
-        Item::Rdy { ce, lun, fail } => {
-            let fail = u8::from(fail);
-            writeln!(text, "{ce} R {lun} {fail}")
-        }
-        Item::Ard { ce, lun } => writeln!(text, "{ce} Y {lun}"),
+        Item::Rdy { ce, lun, fail } => push_ready(text, ce, lun, fail),
+        Item::Ard { ce, lun } => push_array_ready(text, ce, lun),
     }
 }
 
@@ -87,9 +148,21 @@ pub fn print<A: Allocator>(alloc: A, items: &[Item]) -> Result<String<A>, AllocE
     // What was printed is read back.
     ensures read_back { IfOk result (λ s. reading (string_bytes s) ≡ Ok items.now) }
 {
-    let mut text = String::new(alloc);
+    let bytes = print_bytes(alloc, items)?;
+    // Each of them is an ASCII character.
+    Ok(unsafe { String::from_utf8_unchecked(bytes) })
+}
+
+/// The same text as bytes. Memory is asked for once.
+pub fn print_bytes<A: Allocator>(alloc: A, items: &[Item]) -> Result<Vec<u8, A>, AllocError>
+    requires { All IsPrintable items.now }
+    ensures value { IfOk result (λ v. v.items ≡ text items.now) }
+    ensures read_back { IfOk result (λ v. reading v.items ≡ Ok items.now) }
+{
+    let places = items.len().checked_mul(LONGEST_LINE).ok_or(AllocError)?;
+    let mut text = Vec::with_capacity(alloc, places)?;
     for item in items {
-        push_line(&mut text, *item)?;
+        push_line(&mut text, *item);
     }
     Ok(text)
 }

@@ -20,3 +20,14 @@ returns-in-Ok-None-clause-ok c =
     let before = c.lines.invariant.so_far in
     let empty = rw c.in-Ok-None.field-0-is at c.in-Ok-None.ensures.ok in
     ap is_ok (is_done (c.lines.count + 1) c.lines.rest.now c.args.text.now before.0 empty before.1)
+
+pub lines-preserved-in-Some : goal.lines-preserved-in-Some
+lines-preserved-in-Some c =
+    let before = c.lines.invariant.so_far in
+    let first = c.in-Some.ensures.some in
+    let shorter : length c.in-Some.behind.now < length c.lines.rest.now = first.shorter in
+    record {
+      counted = omega arith;
+      utf8 = c.in-Some.ensures.utf8;
+      so_far = (before.0 ++ c.in-Some.field-0-0 ∷ [], goes_on (c.lines.count + 1) c.lines.rest.now c.args.text.now c.in-Some.behind.now before.0 c.in-Some.field-0-0 first before.1);
+    }

@@ -3,7 +3,7 @@ use Rattle.std.proofs.lemmas.Bool.{eqb-false}
 use Rattle.std.proofs.lemmas.Result.{err_from_is_err_and}
 use Rattle.trace_text.specs.Reading.{line_item}
 use Rattle.trace_text.proofs.Texts.{begins, fails, unended}
-use Rattle.trace_text.proofs.parsing.first_item.Goals as goal
+use Rattle.trace_text.proofs.parsing.first_of_fields.Goals as goal
 
 pub returns-in_err-line_item-in-Some-clause-err : goal.returns-in_err-line_item-in-Some-clause-err
 returns-in_err-line_item-in-Some-clause-err c =
