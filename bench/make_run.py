@@ -1,4 +1,5 @@
-"""Makes the files of a run for run.sh in the folder that is given: 1,000 jobs (or as many as are given) on 8 LUNs, each of which reads a whole page."""
+"""Makes the files of a run for run.sh: make_run.py FOLDER read|program [JOBS]. So many jobs (1,000) on 8 LUNs, each of which reads a whole page, or programs
+one from a file of its length."""
 import sys
 from pathlib import Path
 
@@ -31,21 +32,29 @@ def parameter_page():
     return bytes(page)
 
 
-def program():
-    length = PAGE_BYTES + SPARE_BYTES
-    return f"rows 1\nbuffer {length}\nbudget {length + 12}\n cmd 00\n addr 0 5\n cmd 30\n wait\n cmd 00\n get {length}\n end 0\n"
+LENGTH = PAGE_BYTES + SPARE_BYTES
+WORDS = {
+    "read": f" cmd 00\n addr 0 5\n cmd 30\n wait\n cmd 00\n get {LENGTH}\n",
+    "program": f" cmd 80\n addr 0 5\n put {LENGTH}\n cmd 10\n wait\n",
+}
 
 
-def run_file(folder, jobs):
+def program(work):
+    return f"rows 1\nbuffer {LENGTH}\nbudget {LENGTH + 12}\n{WORDS[work]} end 0\n"
+
+
+def run_file(folder, work, jobs):
     lines = [f"page {folder}/chip.page", f"targets {TARGETS}", "polls 2"]
+    data = f"{folder}/data" if work == "program" else "-"
     for job in range(jobs):
         lun = job % (TARGETS * LUNS)
-        lines.append(f"job {lun // LUNS} {lun % LUNS} {job % 4096} {folder}/read.nmp - -")
+        lines.append(f"job {lun // LUNS} {lun % LUNS} {job % 4096} {folder}/words.nmp {data} -")
     return "\n".join(lines) + "\n"
 
 
-folder, jobs = Path(sys.argv[1]), int(sys.argv[2]) if len(sys.argv) > 2 else 1000
+folder, work, jobs = Path(sys.argv[1]), sys.argv[2], int(sys.argv[3]) if len(sys.argv) > 3 else 1000
 folder.mkdir(parents=True, exist_ok=True)
 (folder / "chip.page").write_bytes(parameter_page())
-(folder / "read.asm").write_text(program())
-(folder / "run").write_text(run_file(folder, jobs))
+(folder / "words.asm").write_text(program(work))
+(folder / "data").write_bytes(bytes(place % 251 for place in range(LENGTH)))
+(folder / "run").write_text(run_file(folder, work, jobs))

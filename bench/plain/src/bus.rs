@@ -146,6 +146,37 @@ impl Bus {
         Ok(byte)
     }
 
+    /// Takes a byte for each place, as that many calls of `take`, but judged once; or answers the first rule that this breaks, with all as it was.
+    pub fn take_all(&mut self, ce: u8, bytes: &mut [u8]) -> Result<(), u8> {
+        if bytes.is_empty() {
+            return Ok(());
+        }
+        if self.channel.outputs_left(ce)? < bytes.len() as u64 {
+            return Err(14);
+        }
+        self.show_all(ce, bytes);
+        self.channel.apply_outputs(ce, bytes.len() as u64);
+        let kind = Kind::Output;
+        self.trace.extend(bytes.iter().map(|byte| Item::Cycle { ce, kind, byte: *byte }));
+        Ok(())
+    }
+
+    /// Puts inputs on the bus, as that many calls of `put`, but judged once; or answers the first rule that this breaks, with all as it was.
+    pub fn put_all(&mut self, ce: u8, bytes: &[u8]) -> Result<(), u8> {
+        if bytes.is_empty() {
+            return Ok(());
+        }
+        if self.channel.inputs_left(ce)? < bytes.len() as u64 {
+            return Err(14);
+        }
+        let (plane, column) = self.filled(ce);
+        plane[column..column + bytes.len()].copy_from_slice(bytes);
+        self.channel.apply_inputs(ce, bytes.len() as u64);
+        let kind = Kind::Input;
+        self.trace.extend(bytes.iter().map(|byte| Item::Cycle { ce, kind, byte: *byte }));
+        Ok(())
+    }
+
     /// A LUN becomes ready; false where it isn't there or isn't busy.
     pub fn ready(&mut self, ce: u8, lun: u8, fail: bool) -> bool {
         let item = Item::Ready { ce, lun, fail };
@@ -181,13 +212,32 @@ impl Bus {
         }
     }
 
-    fn work_input(&mut self, ce: u8, byte: u8) {
+    // Fills the bytes with what the one driver of a target shows next.
+    fn show_all(&self, ce: u8, bytes: &mut [u8]) {
+        let luns = &self.channel.targets[usize::from(ce)].luns;
+        match driver(luns) {
+            Some(n) if luns[n].latch == Latch::Data => {
+                let place = luns[n].place().map_or(0, |place| place as usize);
+                let shown = &self.dies[self.number(ce, n)].register[place..place + bytes.len()];
+                bytes.copy_from_slice(shown);
+            }
+            _ => bytes.fill(self.shown(ce)),
+        }
+    }
+
+    // The plane that the next input of a target fills, and where.
+    fn filled(&mut self, ce: u8) -> (&mut [u8], usize) {
         let row = self.row(ce);
         let k = self.number(ce, row.lun as usize);
         let tail = &self.channel.targets[usize::from(ce)].tail;
         let planes = &mut self.dies[k].planes;
         let plane = row.block as usize % planes.len();
-        planes[plane][tail.column as usize + tail.inputs as usize] = byte;
+        (&mut planes[plane], tail.column as usize + tail.inputs as usize)
+    }
+
+    fn work_input(&mut self, ce: u8, byte: u8) {
+        let (plane, column) = self.filled(ce);
+        plane[column] = byte;
     }
 
     fn work_address(&mut self, ce: u8, byte: u8) {

@@ -36,6 +36,15 @@ impl Geometry {
         }
     }
 
+    /// Two LUNs of one plane, which show their status one by one.
+    pub fn two_luns(page_len: u32, pages: u32, blocks: u32) -> Geometry {
+        Geometry {
+            luns: 2,
+            enhanced: true,
+            ..Geometry::one_lun(page_len, pages, blocks)
+        }
+    }
+
     pub fn row(&self, bytes: [u8; 3]) -> Row {
         let row = u32::from_le_bytes([bytes[0], bytes[1], bytes[2], 0]);
         Row {
@@ -388,6 +397,42 @@ impl Channel {
         self.targets.get(usize::from(ce))?.luns.get(usize::from(lun))
     }
 
+    /// How many outputs in a row a target may give; none where already the first breaks a rule, which is answered.
+    pub fn outputs_left(&self, ce: u8) -> Result<u64, u8> {
+        let target = self.targets.get(usize::from(ce)).ok_or(1)?;
+        match target.judge_output(&self.geometry) {
+            Some(rule) => Err(rule),
+            None => Ok(target.outputs_left(&self.geometry)),
+        }
+    }
+
+    /// How many inputs in a row a target may take; none where already the first breaks a rule, which is answered.
+    pub fn inputs_left(&self, ce: u8) -> Result<u64, u8> {
+        let target = self.targets.get(usize::from(ce)).ok_or(1)?;
+        match target.judge(&self.geometry, Kind::Input, 0) {
+            Some(rule) => Err(rule),
+            None => Ok(u64::from(self.geometry.page_len) - u64::from(target.tail.column) - target.tail.inputs),
+        }
+    }
+
+    /// Goes on by so many permitted outputs, one at least.
+    pub fn apply_outputs(&mut self, ce: u8, count: u64) {
+        let target = &mut self.targets[usize::from(ce)];
+        if let Some(n) = driver(&target.luns) {
+            if target.luns[n].latch == Latch::Data {
+                target.luns[n].outputs += count;
+            }
+        }
+        target.tail.extend(Kind::Output, 0);
+    }
+
+    /// Goes on by so many permitted inputs, one at least.
+    pub fn apply_inputs(&mut self, ce: u8, count: u64) {
+        let tail = &mut self.targets[usize::from(ce)].tail;
+        tail.extend(Kind::Input, 0);
+        tail.inputs += count - 1;
+    }
+
     /// Goes on by an item that is permitted.
     pub fn apply(&mut self, item: Item) {
         match item {
@@ -553,6 +598,16 @@ impl Target {
         match lun.place() {
             None => Some(13),
             Some(place) => (place >= lun.register_len(geometry)).then_some(14),
+        }
+    }
+
+    // How many outputs the one driver has left, where the next is permitted.
+    fn outputs_left(&self, geometry: &Geometry) -> u64 {
+        match driver(&self.luns).map(|n| &self.luns[n]) {
+            Some(lun) if lun.latch == Latch::Data => {
+                lun.place().map_or(0, |place| lun.register_len(geometry) - place)
+            }
+            _ => u64::MAX,
         }
     }
 

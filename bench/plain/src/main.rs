@@ -1,11 +1,14 @@
 //! How fast a trace is checked, and how fast a bus is, in plain Rust: `plain [ITEMS]` makes the trace that `bench trace` makes,
-//! and checks it; `plain bus [PAGES]` does on its bus what `bench bus` does on ours.
+//! and checks it; `plain bus [PAGES]` does on its bus what `bench bus` does on ours; `plain run read|program items|runs [JOBS]` does
+//! the jobs of `bench/run.sh`, their data item by item or by runs.
 
 mod bus;
 mod channel;
+mod jobs;
 mod work;
 
 use channel::{check, Geometry, Item, Kind};
+use jobs::{Pace, Work};
 use std::hint::black_box;
 use std::time::Instant;
 
@@ -43,10 +46,26 @@ fn check_trace(count: usize) {
     eprintln!("{millis} ms, {} items per second", count as u128 * 1000 / millis);
 }
 
+fn run_jobs(mut arguments: impl Iterator<Item = String>) {
+    let work = match arguments.next().as_deref() {
+        Some("read") => Work::Read,
+        Some("program") => Work::Program,
+        other => panic!("read or program, not {other:?}"),
+    };
+    let pace = match arguments.next().as_deref() {
+        Some("items") => Pace::Items,
+        Some("runs") => Pace::Runs,
+        other => panic!("items or runs, not {other:?}"),
+    };
+    jobs::run(number(arguments.next(), 1000), work, pace);
+}
+
 fn main() {
     let mut arguments = std::env::args().skip(1).peekable();
     if arguments.next_if_eq("bus").is_some() {
         work::run(number(arguments.next(), 10));
+    } else if arguments.next_if_eq("run").is_some() {
+        run_jobs(arguments);
     } else {
         check_trace(number(arguments.next(), 1000));
     }

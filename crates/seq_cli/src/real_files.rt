@@ -1,6 +1,7 @@
-//! The files of the system. A file comes whole or not at all, as far as the system allows, and no file is touched that isn't asked for.
+//! The files of the system. A file comes whole or not at all, several of them all or none, as far as the system allows, and no file is touched that
+//! isn't asked for.
 
-use seq_files::{FileError, Files, read_all};
+use seq_files::{FileError, Files, NewFile, NotWritten, read_all};
 use std::alloc::{Allocator, Global};
 use std::fs::{self, Metadata, OpenFile, OpenOptions, Permissions};
 use std::io::{self, ErrorKind, Write};
@@ -8,14 +9,28 @@ use std::os::unix::fs::MetadataExt;
 use std::path::PathBuf;
 use std::rt;
 
-// How many files in the making a folder may have at once, with those that killed runs have left.
-const MOST_PARTS: u32 = 1_000;
+// How many names are tried for a file in the making: killed runs may have left some.
+const MOST_NAMES: usize = 1_000;
 
 /// The files of the system.
 #[derive(Clone, Copy)]
 pub struct RealFiles<'a, R: rt::Files> {
     system: &'a R,
     alloc: Global,
+}
+
+// A file in the making, and the path that it is to have.
+#[derive(Drop)]
+struct Part {
+    name: String,
+    path: String,
+}
+
+// A file whose bytes are in its part; one without a part is written into.
+#[derive(Drop)]
+struct Prepared<'p, 'b> {
+    file: NewFile<'p, 'b>,
+    part: Option<Part>,
 }
 
 // The folder of a path, with the slash that ends it; nothing for a path without a slash.
@@ -61,9 +76,10 @@ impl<'a, R: rt::Files> RealFiles<'a, R> {
         }
     }
 
-    // Makes a file in the making in a folder, under a name that nothing has.
-    fn make_part(&self, folder: &str) -> io::Result<(String, R::File)> {
-        for number in 0..MOST_PARTS {
+    // Makes a file in the making in a folder, under a name that nothing has: one with this number or the next that is free.
+    fn make_part(&self, folder: &str, first: usize) -> io::Result<(String, R::File)> {
+        for tried in 0..MOST_NAMES {
+            let number = first.saturating_add(tried);
             let part = format!(in self.alloc; "{folder}.onfiseq-part-{number}")?;
             let made = OpenOptions::new()
                 .write(true)
@@ -78,23 +94,33 @@ impl<'a, R: rt::Files> RealFiles<'a, R> {
         Err(io::Error::from(ErrorKind::AlreadyExists))
     }
 
-    // Fills the file in the making and gives it the path; where that fails it is removed.
-    fn put_in_place(
+    // An empty file in the making for this path, which is that of the file of this place among several.
+    fn begin_part(&self, path: &str, place: usize) -> io::Result<(Part, R::File)> {
+        let path = String::from_str(self.alloc, path)?;
+        let (name, file) = self.make_part(folder_of(path.as_str()), place)?;
+        Ok((Part { name, path }, file))
+    }
+
+    // Fills a file in the making; where that fails it is removed.
+    fn fill_part(
         &self,
-        part: &str,
+        part: Part,
         mut file: R::File,
-        path: &str,
         permissions: Option<Permissions>,
         bytes: &[u8],
-    ) -> io::Result<()> {
-        let result = match fill_file(&mut file, permissions, bytes) {
-            Ok(()) => fs::rename(self.system, part, path),
-            Err(error) => Err(error),
-        };
-        if result.is_err() {
-            let _ = fs::remove_file(self.system, part);
+    ) -> io::Result<Part> {
+        match fill_file(&mut file, permissions, bytes) {
+            Ok(()) => Ok(part),
+            Err(error) => {
+                self.remove_part(&part);
+                Err(error)
+            }
         }
-        result
+    }
+
+    // Removes a file in the making.
+    fn remove_part(&self, part: &Part) {
+        let _ = fs::remove_file(self.system, part.name.as_str());
     }
 
     // Writes into what has the path, as a shell does.
@@ -112,41 +138,136 @@ impl<'a, R: rt::Files> RealFiles<'a, R> {
         self.system.canonicalize(self.alloc, path)
     }
 
-    // A new file in place of another, with its permissions. In a folder where none can be made, that one is written.
-    fn replace(&self, path: &str, old: &Metadata, bytes: &[u8]) -> io::Result<()> {
+    // A new file in place of another, with its permissions; none in a folder where none can be made.
+    fn prepare_anew(
+        &self,
+        place: usize,
+        file: NewFile<'_, '_>,
+        old: &Metadata,
+    ) -> io::Result<Option<Part>> {
         if self.is_output(old) {
             return Err(io::Error::from(ErrorKind::InvalidInput));
         }
-        let behind = self.behind_links(path)?;
-        match self.make_part(folder_of(behind.as_str())) {
-            Ok((part, file)) => self.put_in_place(
-                part.as_str(),
-                file,
-                behind.as_str(),
-                Some(old.permissions()),
-                bytes,
-            ),
-            Err(error) if is_closed_folder(error.kind()) => self.write_into(path, bytes),
+        let behind = self.behind_links(file.path)?;
+        match self.begin_part(behind.as_str(), place) {
+            Ok((part, empty)) => {
+                let part = self.fill_part(part, empty, Some(old.permissions()), file.bytes)?;
+                Ok(Some(part))
+            }
+            Err(error) if is_closed_folder(error.kind()) => Ok(None),
             Err(error) => Err(error),
         }
     }
 
-    // A file where none was; where a link leads nowhere, what it leads to.
-    fn write_first(&self, path: &str, bytes: &[u8]) -> io::Result<()> {
-        if fs::symlink_metadata(self.system, path).is_ok() {
-            return self.write_into(path, bytes);
+    // A new file where none was; none where a link leads nowhere, since what it leads to is made.
+    fn prepare_first(&self, place: usize, file: NewFile<'_, '_>) -> io::Result<Option<Part>> {
+        if fs::symlink_metadata(self.system, file.path).is_ok() {
+            return Ok(None);
         }
-        let (part, file) = self.make_part(folder_of(path))?;
-        self.put_in_place(part.as_str(), file, path, None, bytes)
+        let (part, empty) = self.begin_part(file.path, place)?;
+        let part = self.fill_part(part, empty, None, file.bytes)?;
+        Ok(Some(part))
     }
 
-    fn write_whole(&self, path: &str, bytes: &[u8]) -> io::Result<()> {
-        match fs::metadata(self.system, path) {
-            Ok(old) if old.is_file() => self.replace(path, &old, bytes),
-            Ok(_) => self.write_into(path, bytes),
-            Err(error) if error.kind() == ErrorKind::NotFound => self.write_first(path, bytes),
+    // The filled file in the making for this path, or none where what has the path is written into.
+    fn prepare(&self, place: usize, file: NewFile<'_, '_>) -> io::Result<Option<Part>> {
+        match fs::metadata(self.system, file.path) {
+            Ok(old) if old.is_file() => self.prepare_anew(place, file, &old),
+            Ok(_) => Ok(None),
+            Err(error) if error.kind() == ErrorKind::NotFound => self.prepare_first(place, file),
             Err(error) => Err(error),
         }
+    }
+
+    // Prepares one of several files.
+    fn prepare_one<'p, 'b>(
+        &self,
+        prepared: &mut Vec<Prepared<'p, 'b>>,
+        place: usize,
+        file: NewFile<'p, 'b>,
+    ) -> Result<(), FileError> {
+        let part = self.prepare(place, file)?;
+        match prepared.push(Prepared { file, part }) {
+            Ok(()) => Ok(()),
+            Err(failed) => {
+                self.remove_parts(&[failed.value]);
+                Err(FileError::OutOfMemory)
+            }
+        }
+    }
+
+    // Prepares one file after the other, up to one that can't be prepared.
+    fn prepare_each<'p, 'b>(
+        &self,
+        prepared: &mut Vec<Prepared<'p, 'b>>,
+        files: &[NewFile<'p, 'b>],
+    ) -> Result<(), NotWritten> {
+        for place in 0..files.len() {
+            if let Err(error) = self.prepare_one(prepared, place, files[place]) {
+                return Err(NotWritten { file: place, error });
+            }
+        }
+        Ok(())
+    }
+
+    // Removes the files in the making.
+    fn remove_parts(&self, prepared: &[Prepared<'_, '_>]) {
+        for one in prepared {
+            if let Some(part) = &one.part {
+                self.remove_part(part);
+            }
+        }
+    }
+
+    // Writes into a file that has no part.
+    fn write_open(&self, one: &Prepared<'_, '_>) -> io::Result<()> {
+        match one.part {
+            None => self.write_into(one.file.path, one.file.bytes),
+            Some(_) => Ok(()),
+        }
+    }
+
+    // Gives a part its path.
+    fn put_in_place(&self, one: &Prepared<'_, '_>) -> io::Result<()> {
+        match &one.part {
+            Some(part) => fs::rename(self.system, part.name.as_str(), part.path.as_str()),
+            None => Ok(()),
+        }
+    }
+
+    // Writes into the files that have no part. Where that fails, all parts are removed.
+    fn write_open_ones(&self, prepared: &[Prepared<'_, '_>]) -> Result<(), NotWritten> {
+        for place in 0..prepared.len() {
+            if let Err(error) = self.write_open(&prepared[place]) {
+                self.remove_parts(prepared);
+                let error = FileError::of(&error);
+                return Err(NotWritten { file: place, error });
+            }
+        }
+        Ok(())
+    }
+
+    // Gives the parts their paths. Where that fails, those that have none yet are removed.
+    fn put_all_in_place(&self, prepared: &[Prepared<'_, '_>]) -> Result<(), NotWritten> {
+        for place in 0..prepared.len() {
+            if let Err(error) = self.put_in_place(&prepared[place]) {
+                self.remove_parts(&prepared[place..]);
+                let error = FileError::of(&error);
+                return Err(NotWritten { file: place, error });
+            }
+        }
+        Ok(())
+    }
+
+    // Fills a part for each file before the first of them gets its path.
+    fn write_each(&self, files: &[NewFile<'_, '_>]) -> Result<(), NotWritten> {
+        let mut prepared = Vec::new(self.alloc);
+        if let Err(refused) = self.prepare_each(&mut prepared, files) {
+            self.remove_parts(prepared.as_slice());
+            return Err(refused);
+        }
+        self.write_open_ones(prepared.as_slice())?;
+        self.put_all_in_place(prepared.as_slice())
     }
 }
 
@@ -157,7 +278,13 @@ impl<'a, R: rt::Files> Files for RealFiles<'a, R> {
     }
 
     fn write(&mut self, path: &str, bytes: &[u8]) -> Result<(), FileError> {
-        self.write_whole(path, bytes)?;
-        Ok(())
+        match self.write_each(&[NewFile { path, bytes }]) {
+            Ok(()) => Ok(()),
+            Err(NotWritten { error, .. }) => Err(error),
+        }
+    }
+
+    fn write_all(&mut self, files: &[NewFile<'_, '_>]) -> Result<(), NotWritten> {
+        self.write_each(files)
     }
 }

@@ -1,7 +1,8 @@
 -- What a file system holds: the bytes of each file, by its path.
-use Rattle.std.specs.Prelude.{◌≡◌, ℕ, ⊤, List, Option, Some, None}
+use Rattle.std.specs.Prelude.{◌≡◌, ℕ, ⊤, List, [], ◌∷◌, Option, Some, None}
 use Rattle.std.specs.Map.{update}
 use Rattle.std.specs.Str.{bytes_eq}
+use Rattle.seq_files.specs.declared.new_file.NewFile.{NewFile}
 
 abbrev pub Store : Type 0
 Store = List ℕ → Option (List ℕ)
@@ -15,3 +16,15 @@ Holds (Some files) path bytes = files path ≡ Some bytes
 abbrev pub with_file : Option Store → List ℕ → List ℕ → Option Store
 with_file None path bytes = None
 with_file (Some files) path bytes = Some (update bytes_eq files path (Some bytes))
+
+-- a file that is written: its path and its bytes
+abbrev pub Written : Type 0
+Written = List ℕ × List ℕ
+
+abbrev pub written_of : NewFile → Written
+written_of file = (file.path.now, file.bytes.now)
+
+-- the files after these were written, one after the other
+unfoldable pub with_all : List Written → Option Store → Option Store
+with_all [] files = files
+with_all (w ∷ ws) files = with_all ws (with_file files w.0 w.1)

@@ -54,3 +54,10 @@ impl<T: Drop> From<AllocFailed<T>> for FileError {
         FileError::OutOfMemory
     }
 }
+
+/// Of several files this one, counted from 0, isn't written.
+#[derive(Clone, Copy, Debug, PartialEq, Eq)]
+pub struct NotWritten {
+    pub file: usize,
+    pub error: FileError,
+}

@@ -1,8 +1,9 @@
 //! What a command asks of a file system.
-ghost use Rattle.std.specs.Prelude.{◌≡◌, Option, None, IfOk, OnOk, OnErr};
-ghost use Rattle.seq_files.specs.Store.{Store, Holds, with_file};
+ghost use Rattle.std.specs.Prelude.{◌≡◌, Option, None, IfOk, OnOk, OnErr, map};
+ghost use Rattle.seq_files.specs.Store.{Store, Holds, with_file, with_all, written_of};
 
-use crate::error::FileError;
+use crate::error::{FileError, NotWritten};
+use crate::new_file::NewFile;
 use std::alloc::Allocator;
 
 /// Whole files, by their paths.
@@ -18,5 +19,10 @@ pub trait Files {
     /// Makes a file of these bytes, in place of one that has the path. What fails changes nothing.
     fn write(&mut self, path: &str, bytes: &[u8]) -> Result<(), FileError>
         ensures written { OnOk result (store self.new ≡ with_file (store self.old) path.now bytes.now) }
+        ensures stays { OnErr result (store self.new ≡ store self.old) };
+
+    /// Makes these files, in their order, each in place of one that has its path: all of them or none.
+    fn write_all(&mut self, files: &[NewFile<'_, '_>]) -> Result<(), NotWritten>
+        ensures written { OnOk result (store self.new ≡ with_all (map written_of files.now) (store self.old)) }
         ensures stays { OnErr result (store self.new ≡ store self.old) };
 }

@@ -1,18 +1,27 @@
 //! Files in memory.
-ghost use Rattle.std.specs.Prelude.{◌≡◌, Some, IfOk, OnOk, OnErr, option_map};
-ghost use Rattle.seq_files.specs.Store.{Holds, with_file};
+ghost use Rattle.std.specs.Prelude.{◌≡◌, ◌++◌, List, Some, IfOk, OnOk, OnErr, option_map, map};
+ghost use Rattle.seq_files.specs.declared.map_files.KeptFile.{KeptFile};
+ghost use Rattle.seq_files.specs.Store.{Holds, with_file, with_all, written_of};
 ghost use Rattle.seq_files.specs.Kept.{files_in};
 
-use crate::error::FileError;
+use crate::error::{FileError, NotWritten};
 use crate::files::Files;
+use crate::new_file::NewFile;
 use std::alloc::{AllocError, Allocator, Global};
-use std::collections::BTreeMap;
 
-/// Files in memory. They count the calls, and one call may be told to fail.
+// A file in memory.
+#[derive(Drop)]
+struct KeptFile {
+    path: String,
+    bytes: Vec<u8>,
+}
+
+/// Files in memory. They count the calls, each file of several a call, and one call may be told to fail.
 #[derive(Drop)]
 pub struct MapFiles {
     alloc: Global,
-    files: BTreeMap<String, Vec<u8>>,
+    // A file that was made later counts before one of the same path.
+    files: Vec<KeptFile>,
     calls: usize,
     bad: Option<(usize, FileError)>,
 }
@@ -22,7 +31,7 @@ impl MapFiles {
     pub fn new(alloc: Global) -> MapFiles {
         MapFiles {
             alloc,
-            files: BTreeMap::new(alloc),
+            files: Vec::new(alloc),
             calls: 0,
             bad: None,
         }
@@ -30,23 +39,30 @@ impl MapFiles {
 
     /// Makes a file, which is no call.
     pub fn put(&mut self, path: &str, bytes: &[u8]) -> Result<(), AllocError>
-        ensures written { OnOk result (Some (files_in self.new.files) ≡ with_file (Some (files_in self.old.files)) path.now bytes.now) }
-        ensures stays { OnErr result (files_in self.new.files ≡ files_in self.old.files) }
+        ensures written { OnOk result (Some (files_in self.new.files.items) ≡ with_file (Some (files_in self.old.files.items)) path.now bytes.now) }
+        ensures stays { OnErr result (self.new.files.items ≡ self.old.files.items) }
+        ensures more { (later : List KeptFile) × (self.new.files.items ≡ self.old.files.items ++ later) }
     {
-        let key = String::from_str(self.alloc, path)?;
-        let value = bytes.to_vec(self.alloc)?;
-        self.files.insert(key, value)?;
+        let file = KeptFile {
+            path: String::from_str(self.alloc, path)?,
+            bytes: bytes.to_vec(self.alloc)?,
+        };
+        self.files.push(file)?;
         Ok(())
     }
 
     /// The bytes of a file, if it is there.
     pub fn get(&self, path: &str) -> Option<&[u8]>
-        ensures { option_map (λ bytes. bytes.now) result ≡ files_in self.now.files path.now }
+        ensures { option_map (λ bytes. bytes.now) result ≡ files_in self.now.files.items path.now }
     {
-        match self.files.get(path) {
-            Some(bytes) => Some(bytes.as_slice()),
-            None => None,
+        let mut place = self.files.len();
+        while place > 0 {
+            place -= 1;
+            if self.files[place].path.as_str() == path {
+                return Some(self.files[place].bytes.as_slice());
+            }
         }
+        None
     }
 
     /// The call of this number, counted from 0, is to fail so, and no other.
@@ -73,13 +89,39 @@ impl MapFiles {
             _ => Ok(()),
         }
     }
+
+    // Makes a file, which is a call.
+    fn make(&mut self, file: NewFile<'_, '_>) -> Result<(), FileError>
+        ensures written { OnOk result (Some (files_in self.new.files.items) ≡ with_file (Some (files_in self.old.files.items)) file.entry.path.now file.entry.bytes.now) }
+        ensures stays { OnErr result (self.new.files.items ≡ self.old.files.items) }
+        ensures more { (later : List KeptFile) × (self.new.files.items ≡ self.old.files.items ++ later) }
+    {
+        self.call()?;
+        self.put(file.path, file.bytes)?;
+        Ok(())
+    }
+
+    // Makes one file after the other, up to one that can't be made.
+    #[tactic(auto, using(crate::proofs::Several::behind))]
+    fn make_each(&mut self, files: &[NewFile<'_, '_>]) -> Result<(), NotWritten>
+        ensures written { OnOk result (Some (files_in self.new.files.items) ≡ with_all (map written_of files.now) (Some (files_in self.old.files.items))) }
+        ensures more { (later : List KeptFile) × (self.new.files.items ≡ self.old.files.items ++ later) }
+    {
+        for place in 0..files.len() {
+            match self.make(files[place]) {
+                Ok(()) => {}
+                Err(error) => return Err(NotWritten { file: place, error }),
+            }
+        }
+        Ok(())
+    }
 }
 
 impl Files for MapFiles {
     ghost use Rattle.std.specs.Prelude.{Some};
     ghost use Rattle.seq_files.specs.Kept.{files_in};
 
-    ghost store = { λ m. Some (files_in m.files) };
+    ghost store = { λ m. Some (files_in m.files.items) };
 
     fn read<A: Allocator>(&mut self, alloc: A, path: &str) -> Result<Vec<u8, A>, FileError> {
         self.call()?;
@@ -90,8 +132,15 @@ impl Files for MapFiles {
     }
 
     fn write(&mut self, path: &str, bytes: &[u8]) -> Result<(), FileError> {
-        self.call()?;
-        self.put(path, bytes)?;
-        Ok(())
+        self.make(NewFile { path, bytes })
+    }
+
+    fn write_all(&mut self, files: &[NewFile<'_, '_>]) -> Result<(), NotWritten> {
+        let before = self.files.len();
+        let made = self.make_each(files);
+        if made.is_err() {
+            self.files.truncate(before);
+        }
+        made
     }
 }

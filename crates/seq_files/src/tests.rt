@@ -1,4 +1,8 @@
-use crate::{FileError, Files, MapFiles, SlowReader, SlowWriter, read_all, write_text};
+ghost use Rattle.std.specs.Prelude.{◌≤◌, length};
+
+use crate::{
+    FileError, Files, MapFiles, NewFile, NotWritten, SlowReader, SlowWriter, read_all, write_text,
+};
 use std::alloc::Global;
 use std::io::{self, Read};
 use std::process::Abort;
@@ -28,6 +32,41 @@ fn files_in_memory(rt: HostRuntime) -> Result<(), Fail> {
     assert_eq!(rt; files.calls(), 5);
     assert_eq!(rt; files.get("a"), Some(b"three".as_slice()));
     assert_eq!(rt; files.get("c"), None);
+    Ok(())
+}
+
+// Writes two files at one path by one call: what stands before this place, and then what stands behind it.
+fn write_twice(
+    files: &mut MapFiles,
+    path: &str,
+    bytes: &[u8],
+    place: usize,
+) -> Result<(), NotWritten>
+    requires { place ≤ length bytes.now }
+{
+    let (first, second) = bytes.split_at(place);
+    files.write_all(&[
+        NewFile { path, bytes: first },
+        NewFile {
+            path,
+            bytes: second,
+        },
+    ])
+}
+
+#[test]
+fn several_files_at_once(rt: HostRuntime) -> Result<(), Fail> {
+    let mut files = MapFiles::new(rt.alloc());
+    files.put("a", b"one")?;
+    let error = FileError::Fault;
+    files.fail_at(1, error);
+    let refused = write_twice(&mut files, "a", b"twothree", 3);
+    assert_eq!(rt; refused, Err(NotWritten { file: 1, error }));
+    expect(&rt, &mut files, "a", Ok(b"one".as_slice()));
+    let written = write_twice(&mut files, "a", b"twothree", 3);
+    assert_eq!(rt; written, Ok(()));
+    assert_eq!(rt; files.calls(), 5);
+    expect(&rt, &mut files, "a", Ok(b"three".as_slice()));
     Ok(())
 }
 

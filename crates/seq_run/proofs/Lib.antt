@@ -6,6 +6,6 @@ pub mod Endings
 pub mod Happening
 pub mod Printing
 pub mod Resting
-pub mod FilesWritten
+pub mod FilesMade
 pub mod Outcomes
 pub mod OfFiles

@@ -2,7 +2,7 @@
 use Rattle.std.proofs.Common.{◌≡◌, ◌⊎◌, List, [], ◌++◌, ℕ, ◌*◌, true, length, drop, reverse, Option, Result, Ok, Err, OnOk, OnErr, refl, sym, ap, ◌∙◌, subst, inl, inr}
 use Rattle.std.proofs.lemmas.List.{append-nil}
 use Rattle.std.specs.Option.{option_copied}
-use Rattle.seq_files.specs.Store.{Store, Holds}
+use Rattle.seq_files.specs.Store.{Store, Holds, Written, with_all}
 use Rattle.nand_geometry.specs.declared.parts.Parts.{Parts}
 use Rattle.run_file.specs.Told.{told}
 use Rattle.seq_run.specs.declared.request.RunRequest.{RunRequest}
@@ -15,7 +15,7 @@ use Rattle.target_bus.specs.Bus.{Traced, channel_of, StandFor}
 use Rattle.seq_run.specs.declared.running.Ran.{Ran}
 use Rattle.seq_run.specs.Lines.{job_lines}
 use Rattle.seq_run.specs.Happened.{HasHappened}
-use Rattle.seq_run.specs.Written.{Written, with_all, IsCut, buffers_of, images_of, trace_at, printed_trace, codes_of}
+use Rattle.seq_run.specs.Written.{buffers_of, images_of, trace_at, printed_trace, codes_of}
 use Rattle.seq_run.specs.Runs.{Outcome, ShowsAll, IsOutcomeOf, IsPlanned, IsRunDone, RunMayLeave, writes_of, lines_of}
 use Rattle.seq_run.specs.declared.refusal.PlanFault.{PlanFault}
 use Rattle.seq_run.specs.declared.refusal.PlanRefusal.{PlanRefusal}
@@ -59,11 +59,12 @@ is_done request ran dies outgoing files later Prints lines dies_left happened is
   subst Prints is_lines prints,
 )
 
-pub is_run_cut : (request : RunRequest) (ran : Ran) (dies : List Die) (outgoing : List Written) (files later : Option Store) → AreLeft ran.bus dies → HasHappened ran.bus ran.jobs.items → outgoing ≡ images_of dies ran.images.items ++ trace_at (option_copied request.trace) (reverse ran.bus.past) → IsCut (buffers_of ran.jobs.items ++ outgoing) files later → (o : Outcome) × ShowsAll ran o × IsCut (writes_of request o) files later
-is_run_cut request ran dies outgoing files later dies_left happened is_outgoing cut = (
+pub is_written : (request : RunRequest) (ran : Ran) (dies : List Die) (outgoing : List Written) (files later : Option Store) → AreLeft ran.bus dies → HasHappened ran.bus ran.jobs.items → outgoing ≡ images_of dies ran.images.items ++ trace_at (option_copied request.trace) (reverse ran.bus.past) → (later ≡ files) ⊎ (later ≡ with_all (buffers_of ran.jobs.items ++ outgoing) files) → (later ≡ files) ⊎ ((o : Outcome) × ShowsAll ran o × (later ≡ with_all (writes_of request o) files))
+is_written request ran dies outgoing files later dies_left happened is_outgoing (inl same) = inl same
+is_written request ran dies outgoing files later dies_left happened is_outgoing (inr left) = inr (
   outcome_of ran dies dies_left happened,
   record { bus = refl; jobs = refl; images = refl },
-  subst (λ (l : List Written). IsCut (buffers_of ran.jobs.items ++ l) files later) is_outgoing cut,
+  left ∙ ap (λ (l : List Written). with_all (buffers_of ran.jobs.items ++ l) files) is_outgoing,
 )
 
 pub on_ok : {A E P Q : Type 0} (r : Result A E) → OnOk r P → (P → Q) → OnOk r Q
@@ -87,9 +88,9 @@ is_outcome plan ran o channel outputs images shows = record {
 pub done_of_plan : (request : RunRequest) (plan : RunPlan) (ran : Ran) (files later : Option Store) (Prints : List ℕ → Type 0) → (ran.bus.geometry ≡ plan.dies.geometry) × (ran.bus.targets ≡ plan.dies.targets) → ended_outputs ran.jobs.items ≡ planned_outputs plan.jobs.all.items → ran.images ≡ plan.images → (o : Outcome) × ShowsAll ran o × (later ≡ with_all (writes_of request o) files) × Prints (lines_of request o) → (o : Outcome) × IsOutcomeOf plan o × (later ≡ with_all (writes_of request o) files) × Prints (lines_of request o)
 done_of_plan request plan ran files later Prints channel outputs images (o, shows, left, prints) = (o, is_outcome plan ran o channel outputs images shows, left, prints)
 
-pub cut_of_plan : (request : RunRequest) (plan : RunPlan) (ran : Ran) (files later : Option Store) → (ran.bus.geometry ≡ plan.dies.geometry) × (ran.bus.targets ≡ plan.dies.targets) → ended_outputs ran.jobs.items ≡ planned_outputs plan.jobs.all.items → ran.images ≡ plan.images → (later ≡ files) ⊎ ((o : Outcome) × ShowsAll ran o × IsCut (writes_of request o) files later) → (later ≡ files) ⊎ ((o : Outcome) × IsOutcomeOf plan o × IsCut (writes_of request o) files later)
-cut_of_plan request plan ran files later channel outputs images (inl same) = inl same
-cut_of_plan request plan ran files later channel outputs images (inr (o, shows, cut)) = inr (o, is_outcome plan ran o channel outputs images shows, cut)
+pub written_of_plan : (request : RunRequest) (plan : RunPlan) (ran : Ran) (files later : Option Store) → (ran.bus.geometry ≡ plan.dies.geometry) × (ran.bus.targets ≡ plan.dies.targets) → ended_outputs ran.jobs.items ≡ planned_outputs plan.jobs.all.items → ran.images ≡ plan.images → (later ≡ files) ⊎ ((o : Outcome) × ShowsAll ran o × (later ≡ with_all (writes_of request o) files)) → (later ≡ files) ⊎ ((o : Outcome) × IsOutcomeOf plan o × (later ≡ with_all (writes_of request o) files))
+written_of_plan request plan ran files later channel outputs images (inl same) = inl same
+written_of_plan request plan ran files later channel outputs images (inr (o, shows, left)) = inr (o, is_outcome plan ran o channel outputs images shows, left)
 
 -- ---- of the text of a run file
 
@@ -118,22 +119,15 @@ pub done_leaves : (request : RunRequest) (text : List ℕ) (plan : RunPlan) (fil
 done_leaves request text plan files now later Prints same is_there is (o, of_plan, left, prints) = inr (record {
   o = o;
   planned = planned_of files request text plan o is_there is of_plan;
-  cut = (
-    [],
-    record {
-      first = writes_of request o;
-      both = sym (append-nil (writes_of request o));
-      now = left ∙ ap (λ (s : Option Store). with_all (writes_of request o) s) same;
-    },
-  );
+  left = left ∙ ap (λ (s : Option Store). with_all (writes_of request o) s) same;
 })
 
-pub cut_leaves : (request : RunRequest) (text : List ℕ) (plan : RunPlan) (files now later : Option Store) → now ≡ files → Holds files request.path.now text → IsPlanOf files text plan → (later ≡ now) ⊎ ((o : Outcome) × IsOutcomeOf plan o × IsCut (writes_of request o) now later) → RunMayLeave files later request
-cut_leaves request text plan files now later same is_there is (inl none) = inl (none ∙ same)
-cut_leaves request text plan files now later same is_there is (inr (o, of_plan, cut)) = inr (record {
+pub written_leaves : (request : RunRequest) (text : List ℕ) (plan : RunPlan) (files now later : Option Store) → now ≡ files → Holds files request.path.now text → IsPlanOf files text plan → (later ≡ now) ⊎ ((o : Outcome) × IsOutcomeOf plan o × (later ≡ with_all (writes_of request o) now)) → RunMayLeave files later request
+written_leaves request text plan files now later same is_there is (inl none) = inl (none ∙ same)
+written_leaves request text plan files now later same is_there is (inr (o, of_plan, left)) = inr (record {
   o = o;
   planned = planned_of files request text plan o is_there is of_plan;
-  cut = subst (λ (s : Option Store). IsCut (writes_of request o) s later) same cut;
+  left = left ∙ ap (λ (s : Option Store). with_all (writes_of request o) s) same;
 })
 
 -- what is told is refused

@@ -1,7 +1,7 @@
 -- A run: what its files say, what happens on its channel, and what is written and printed of it.
 use Rattle.std.specs.Prelude.{◌≡◌, ◌⊎◌, ℕ, ◌*◌, ⊤, true, List, ◌++◌, length, reverse, drop, Option}
 use Rattle.std.specs.Option.{option_copied}
-use Rattle.seq_files.specs.Store.{Store, Holds}
+use Rattle.seq_files.specs.Store.{Store, Holds, Written, with_all}
 use Rattle.onfi_cycle.specs.Permitted.{is_legal}
 use Rattle.die_model.specs.Die.{Die}
 use Rattle.target_bus.specs.Bus.{Traced, channel_of, StandFor}
@@ -17,7 +17,7 @@ use Rattle.seq_run.specs.Judged.{PlanPasses, PlanIsRefused}
 use Rattle.seq_run.specs.Planned.{outputs_of, images_in, planned_outputs, planned_images, ended_outputs}
 use Rattle.seq_run.specs.Lines.{job_lines}
 use Rattle.seq_run.specs.Happened.{HasHappened}
-use Rattle.seq_run.specs.Written.{Written, with_all, IsCut, buffers_of, images_of, trace_at, printed_trace, codes_of}
+use Rattle.seq_run.specs.Written.{buffers_of, images_of, trace_at, printed_trace, codes_of}
 
 -- what has come of a channel: what happened on its bus, which is legal, a die for each LUN as that left it, the jobs after their end, whose codes and
 -- buffers come from there, and the images to be written
@@ -73,15 +73,15 @@ pub record RunIsRefused (files : Option Store) (request : RunRequest) (refusal :
   pub is_there : Holds files request.path.now text
   pub refused : PlanIsRefused files (told text) refusal.fault refusal.line
 
--- the run was cut off while its files were written
-pub record IsRunCut (files later : Option Store) (request : RunRequest) : Type 0 where
+-- all files of the run are written, though it isn't done: what is to be printed couldn't be
+pub record IsRunWritten (files later : Option Store) (request : RunRequest) : Type 0 where
   pub o : Outcome
   pub planned : IsPlanned files request o
-  pub cut : IsCut (writes_of request o) files later
+  pub left : later ≡ with_all (writes_of request o) files
 
--- what a run may leave, however it ends
+-- what a run may leave, however it ends: all its files or none
 abbrev pub RunMayLeave : (files later : Option Store) → RunRequest → Type 0
-RunMayLeave files later request = (later ≡ files) ⊎ IsRunCut files later request
+RunMayLeave files later request = (later ≡ files) ⊎ IsRunWritten files later request
 
 -- the run is neither done nor refused
 abbrev pub EndsUnrefused : RunEnd → Type 0

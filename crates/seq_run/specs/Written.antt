@@ -2,7 +2,7 @@
 use Rattle.std.specs.Prelude.{◌≡◌, ℕ, Bool, if◌then◌else◌, List, [], ◌∷◌, ◌++◌, map, Option, Some, None, slice_get}
 use Rattle.std.specs.List.{filter_map}
 use Rattle.std.specs.Option.{option_map}
-use Rattle.seq_files.specs.Store.{Store, with_file}
+use Rattle.seq_files.specs.Store.{Written}
 use Rattle.onfi_cycle.specs.declared.item.Item.{Item}
 use Rattle.die_model.specs.Die.{Die}
 use Rattle.die_model.specs.Image.{image_of}
@@ -10,30 +10,6 @@ use Rattle.trace_text.specs.Line.{text}
 use Rattle.seq_run.specs.declared.plan.PlannedImage.{PlannedImage}
 use Rattle.seq_run.specs.declared.job_ends.EndedJob.{EndedJob}
 use Rattle.seq_run.specs.declared.writing.Outgoing.{Outgoing}
-
--- a file that is written: its path and its bytes
-abbrev pub Written : Type 0
-Written = List ℕ × List ℕ
-
--- the files after these were written, one after the other
-unfoldable pub with_all : List Written → Option Store → Option Store
-with_all [] files = files
-with_all (w ∷ ws) files = with_all ws (with_file files w.0 w.1)
-
--- the files after this one was written, if there is one
-abbrev pub with_optional : Option Written → Option Store → Option Store
-with_optional None files = files
-with_optional (Some w) files = with_file files w.0 w.1
-
--- of all files that are to be written the first are written, and these are left
-pub record IsWritten (all left : List Written) (files later : Option Store) : Type 0 where
-  pub first : List Written
-  pub both : all ≡ first ++ left
-  pub now : later ≡ with_all first files
-
--- the writing was cut off, before the first or later
-abbrev pub IsCut : List Written → (files later : Option Store) → Type 0
-IsCut all files later = (left : List Written) × IsWritten all left files later
 
 -- the buffer of a job, if it has an output
 abbrev pub buffer_of : EndedJob → Option Written
@@ -56,13 +32,13 @@ abbrev pub trace_at : Option (List ℕ) → List Item → List Written
 trace_at None items = []
 trace_at (Some path) items = (path, text items) ∷ []
 
--- what is written of a file in memory
-abbrev pub written_of : Outgoing → Written
-written_of file = (file.path.now, file.bytes.items)
+-- what is written of a file that was made
+abbrev pub made_of : Outgoing → Written
+made_of file = (file.path.now, file.bytes.items)
 
 abbrev pub optional_of : Option Outgoing → List Written
 optional_of None = []
-optional_of (Some file) = written_of file ∷ []
+optional_of (Some file) = made_of file ∷ []
 
 -- the text of a trace, unless it is kept quiet
 abbrev pub printed_trace : Bool → List Item → List ℕ

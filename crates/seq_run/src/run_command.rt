@@ -2,14 +2,13 @@
 ghost use Rattle.std.specs.Prelude.{◌≡◌, ◌⊎◌, List, ℕ, drop, IfOk, IfErr, OnOk, OnErr};
 ghost use Rattle.std.specs.Io.KnownBytes.{Appends};
 ghost use Rattle.run_file.specs.Told.{told};
-ghost use Rattle.seq_files.specs.Store.{Holds, with_file};
+ghost use Rattle.seq_files.specs.Store.{Holds, with_all};
 ghost use Rattle.seq_run.specs.declared.refusal.PlanRefusal.{PlanRefusal};
 ghost use Rattle.seq_run.specs.Failures.{Refuses, RefusesNothing, Tells};
 ghost use Rattle.seq_run.specs.Runs.{EndsUnrefused};
 ghost use Rattle.seq_run.specs.Judged.{PlanPasses, PlanIsRefused};
 ghost use Rattle.seq_run.specs.Lines.{line_of};
 ghost use Rattle.seq_run.specs.Planned.{outputs_of, images_in, planned_outputs, planned_images};
-ghost use Rattle.seq_run.specs.Written.{with_all, IsCut};
 ghost use Rattle.seq_run.specs.Runs.{Outcome, IsOutcomeOf, writes_of, lines_of, IsRunDone, RunIsRefused, RunMayLeave};
 
 use crate::ending::RunEnd;
@@ -63,7 +62,7 @@ fn carry_out<'a, R: Threads + Wait + Sync, F: Files, W: Write, P: RunProgress>(
         × (F.store files.new ≡ with_all (writes_of request.entry o) (F.store files.old))
         × Appends (W.contents output.old) (W.contents output.new) (lines_of request.entry o)) }
     ensures err { OnErr result ((F.store files.new ≡ F.store files.old) ⊎ ((o : Outcome) × IsOutcomeOf plan.entry o
-        × IsCut (writes_of request.entry o) (F.store files.old) (F.store files.new))) }
+        × (F.store files.new ≡ with_all (writes_of request.entry o) (F.store files.old)))) }
     ensures nothing { IfErr result RefusesNothing }
 {
     progress.begin(Phase::Running {

@@ -4,13 +4,13 @@ ghost use Rattle.std.specs.Io.KnownBytes.{Appends};
 ghost use Rattle.std.specs.List.{cons_option};
 ghost use Rattle.std.specs.Option.{option_copied};
 ghost use Rattle.std.specs.String.{string_bytes};
-ghost use Rattle.seq_files.specs.Store.{with_file};
+ghost use Rattle.seq_files.specs.Store.{with_all, written_of};
 ghost use Rattle.die_model.specs.Image.{image_of};
 ghost use Rattle.trace_text.specs.Line.{text};
 ghost use Rattle.seq_run.specs.Lines.{job_lines};
 ghost use Rattle.seq_run.specs.Failures.{RefusesNothing};
 ghost use Rattle.seq_run.specs.Happened.{HasHappened};
-ghost use Rattle.seq_run.specs.Written.{with_all, with_optional, IsWritten, IsCut, buffer_of, buffers_of, image_at, images_of, trace_at, written_of, optional_of, printed_trace, codes_of};
+ghost use Rattle.seq_run.specs.Written.{buffer_of, buffers_of, image_at, images_of, trace_at, made_of, optional_of, printed_trace, codes_of};
 ghost use Rattle.seq_run.specs.Runs.{Outcome, ShowsAll, writes_of, lines_of};
 
 use crate::job_ends::{EndedJob, push_job_lines};
@@ -20,73 +20,22 @@ use crate::request::RunRequest;
 use crate::running::Ran;
 use crate::summary::Summary;
 use die_model::LunDie;
-use seq_files::{FileError, Files, write_text};
+use seq_files::{FileError, Files, NewFile, NotWritten, write_text};
 use std::alloc::{AllocError, Global};
 use std::io::Write;
 use target_bus::Bus;
 use trace_text::print;
 
-// A file that is to be written.
+// A file that was made to be written.
 #[derive(Drop)]
 struct Outgoing<'a> {
     path: &'a str,
     bytes: Vec<u8>,
 }
 
-// Writes a file.
-fn write_file<'a, F: Files>(files: &mut F, path: &'a str, bytes: &[u8]) -> Result<(), NotRun<'a>>
-    ensures ok { OnOk result (F.store files.new ≡ with_file (F.store files.old) path.now bytes.now) }
-    ensures err { OnErr result (F.store files.new ≡ F.store files.old) }
-    ensures nothing { IfErr result RefusesNothing }
-{
-    match files.write(path, bytes) {
-        Ok(()) => Ok(()),
-        Err(FileError::Fault) => Err(NotRun::FileFault(path)),
-        Err(FileError::OutOfMemory) => Err(NotRun::OutOfMemory),
-    }
-}
-
-// Writes the buffer of a job, if it has an output.
-fn write_buffer<'a, F: Files>(files: &mut F, job: &EndedJob<'a>) -> Result<(), NotRun<'a>>
-    ensures ok { OnOk result (F.store files.new ≡ with_optional (buffer_of job.now) (F.store files.old)) }
-    ensures err { OnErr result (F.store files.new ≡ F.store files.old) }
-    ensures nothing { IfErr result RefusesNothing }
-{
-    match job.output {
-        Some(path) => write_file(files, path, job.done.job.buffer()),
-        None => Ok(()),
-    }
-}
-
-// Writes the buffer of each job that has an output, in the order of the jobs.
-#[tactic(auto, using(crate::proofs::FilesWritten::begins, crate::proofs::FilesWritten::buffer_more))]
-fn write_buffers<'a, F: Files>(files: &mut F, jobs: &[EndedJob<'a>]) -> Result<(), NotRun<'a>>
-    ensures ok { OnOk result (IsWritten (buffers_of jobs.now) [] (F.store files.old) (F.store files.new)) }
-    ensures err { OnErr result (IsCut (buffers_of jobs.now) (F.store files.old) (F.store files.new)) }
-    ensures nothing { IfErr result RefusesNothing }
-{
-    for job in jobs {
-        write_buffer(files, job)?;
-    }
-    Ok(())
-}
-
-// Writes files in their order.
-#[tactic(auto, using(crate::proofs::FilesWritten::begins, crate::proofs::FilesWritten::file_more))]
-fn write_files<'a, F: Files>(files: &mut F, outgoing: &[Outgoing<'a>]) -> Result<(), NotRun<'a>>
-    ensures ok { OnOk result (IsWritten (map written_of outgoing.now) [] (F.store files.old) (F.store files.new)) }
-    ensures err { OnErr result (IsCut (map written_of outgoing.now) (F.store files.old) (F.store files.new)) }
-    ensures nothing { IfErr result RefusesNothing }
-{
-    for file in outgoing {
-        write_file(files, file.path, file.bytes.as_slice())?;
-    }
-    Ok(())
-}
-
 // The image of a die, for this path.
 fn make_image<'a>(path: &'a str, die: &LunDie) -> Result<Outgoing<'a>, AllocError>
-    ensures { IfOk result (λ file. written_of file ≡ (path.now, image_of die.now)) }
+    ensures { IfOk result (λ file. made_of file ≡ (path.now, image_of die.now)) }
 {
     Ok(Outgoing {
         path,
@@ -95,13 +44,13 @@ fn make_image<'a>(path: &'a str, die: &LunDie) -> Result<Outgoing<'a>, AllocErro
 }
 
 // Adds the image of a die to the files that are to be written.
-#[tactic(auto, using(crate::proofs::FilesWritten::pushed, crate::proofs::FilesWritten::not_pushed))]
+#[tactic(auto, using(crate::proofs::FilesMade::pushed, crate::proofs::FilesMade::not_pushed))]
 fn push_image<'a>(
     made: &mut Vec<Outgoing<'a>>,
     dies: &[LunDie],
     image: &PlannedImage<'a>,
 ) -> Result<(), AllocError>
-    ensures { OnOk result (map written_of made.new.items ≡ map written_of made.old.items ++ cons_option (image_at dies.now image.now) []) }
+    ensures { OnOk result (map made_of made.new.items ≡ map made_of made.old.items ++ cons_option (image_at dies.now image.now) []) }
 {
     match dies.get(image.number) {
         Some(die) => {
@@ -114,13 +63,13 @@ fn push_image<'a>(
 }
 
 // The images of dies that are to be written.
-#[tactic(auto, using(crate::proofs::FilesWritten::image_more))]
+#[tactic(auto, using(crate::proofs::FilesMade::image_more))]
 fn make_images<'a>(
     alloc: Global,
     dies: &[LunDie],
     images: &[PlannedImage<'a>],
 ) -> Result<Vec<Outgoing<'a>>, AllocError>
-    ensures { IfOk result (λ made. map written_of made.items ≡ images_of dies.now images.now) }
+    ensures { IfOk result (λ made. map made_of made.items ≡ images_of dies.now images.now) }
 {
     let mut made = Vec::new(alloc);
     for image in images {
@@ -184,7 +133,7 @@ fn make_outgoing<'a>(
     images: &[PlannedImage<'a>],
     trace: Option<Outgoing<'a>>,
 ) -> Result<Vec<Outgoing<'a>>, AllocError>
-    ensures { IfOk result (λ made. map written_of made.items ≡ images_of dies.now images.now ++ optional_of trace.entry) }
+    ensures { IfOk result (λ made. map made_of made.items ≡ images_of dies.now images.now ++ optional_of trace.entry) }
 {
     let mut outgoing = make_images(alloc, dies, images)?;
     if let Some(trace) = trace {
@@ -193,19 +142,87 @@ fn make_outgoing<'a>(
     Ok(outgoing)
 }
 
-// Writes the buffers, and then the other files.
-#[tactic(auto, using(crate::proofs::FilesWritten::cut_first, crate::proofs::FilesWritten::cut_next, crate::proofs::FilesWritten::written_next))]
-fn write_all<'a, F: Files>(
-    files: &mut F,
-    jobs: &[EndedJob<'a>],
-    outgoing: &[Outgoing<'a>],
-) -> Result<(), NotRun<'a>>
-    ensures ok { OnOk result (IsWritten (buffers_of jobs.now ++ map written_of outgoing.now) [] (F.store files.old) (F.store files.new)) }
-    ensures err { OnErr result (IsCut (buffers_of jobs.now ++ map written_of outgoing.now) (F.store files.old) (F.store files.new)) }
+// Adds the buffer of a job, if it has an output, to the files that are to be written.
+#[tactic(auto, using(crate::proofs::FilesMade::listed_more))]
+fn list_buffer<'p, 'b>(
+    files: &mut Vec<NewFile<'p, 'b>>,
+    job: &'b EndedJob<'p>,
+) -> Result<(), AllocError>
+    ensures { OnOk result (map written_of files.new.items ≡ map written_of files.old.items ++ cons_option (buffer_of job.entry.now) []) }
+{
+    if let Some(path) = job.output {
+        let bytes = job.done.job.buffer();
+        files.push(NewFile { path, bytes })?;
+    }
+    Ok(())
+}
+
+// Adds the buffers of the jobs that have an output, in the order of the jobs.
+#[tactic(auto, using(crate::proofs::FilesMade::buffer_more))]
+fn list_buffers<'p, 'b>(
+    files: &mut Vec<NewFile<'p, 'b>>,
+    jobs: &'b [EndedJob<'p>],
+) -> Result<(), AllocError>
+    ensures { OnOk result (map written_of files.new.items ≡ map written_of files.old.items ++ buffers_of jobs.entry.now) }
+{
+    for job in jobs {
+        list_buffer(files, job)?;
+    }
+    Ok(())
+}
+
+// Adds the files that were made.
+#[tactic(auto, using(crate::proofs::FilesMade::made_more))]
+fn list_made<'p, 'b>(
+    files: &mut Vec<NewFile<'p, 'b>>,
+    outgoing: &'b [Outgoing<'p>],
+) -> Result<(), AllocError>
+    ensures { OnOk result (map written_of files.new.items ≡ map written_of files.old.items ++ map made_of outgoing.entry.now) }
+{
+    for file in outgoing {
+        files.push(NewFile {
+            path: file.path,
+            bytes: file.bytes.as_slice(),
+        })?;
+    }
+    Ok(())
+}
+
+// The files that are to be written: the buffers, and then those that were made.
+fn list_files<'p, 'b>(
+    alloc: Global,
+    jobs: &'b [EndedJob<'p>],
+    outgoing: &'b [Outgoing<'p>],
+) -> Result<Vec<NewFile<'p, 'b>>, AllocError>
+    ensures { IfOk result (λ files. map written_of files.items ≡ buffers_of jobs.entry.now ++ map made_of outgoing.entry.now) }
+{
+    let mut files = Vec::new(alloc);
+    list_buffers(&mut files, jobs)?;
+    list_made(&mut files, outgoing)?;
+    Ok(files)
+}
+
+// Why a run isn't done of whose files this one couldn't be written.
+fn not_written<'p>(made: &[NewFile<'p, '_>], refused: NotWritten) -> NotRun<'p>
+    ensures { RefusesNothing result }
+{
+    match (refused.error, made.get(refused.file)) {
+        (FileError::Fault, Some(file)) => NotRun::FileFault(file.path),
+        (FileError::Fault, None) => NotRun::FileFault("-"),
+        (FileError::OutOfMemory, _) => NotRun::OutOfMemory,
+    }
+}
+
+// Writes the files, all or none.
+fn write_files<'p, F: Files>(files: &mut F, made: &[NewFile<'p, '_>]) -> Result<(), NotRun<'p>>
+    ensures ok { OnOk result (F.store files.new ≡ with_all (map written_of made.now) (F.store files.old)) }
+    ensures err { OnErr result (F.store files.new ≡ F.store files.old) }
     ensures nothing { IfErr result RefusesNothing }
 {
-    write_buffers(files, jobs)?;
-    write_files(files, outgoing)
+    match files.write_all(made) {
+        Ok(()) => Ok(()),
+        Err(refused) => Err(not_written(made, refused)),
+    }
 }
 
 // Prints a text.
@@ -221,27 +238,25 @@ fn print_lines<'a, W: Write>(output: &mut W, text: &str) -> Result<(), NotRun<'a
 }
 
 // Writes the files, and then prints.
-#[tactic(auto, using(crate::proofs::FilesWritten::ends, crate::proofs::FilesWritten::all_cut))]
-fn write_outcome<'a, F: Files, W: Write>(
+fn write_outcome<'p, F: Files, W: Write>(
     files: &mut F,
     output: &mut W,
-    jobs: &[EndedJob<'a>],
-    outgoing: &[Outgoing<'a>],
+    made: &[NewFile<'p, '_>],
     lines: &str,
-) -> Result<(), NotRun<'a>>
-    ensures files { OnOk result (F.store files.new ≡ with_all (buffers_of jobs.now ++ map written_of outgoing.now) (F.store files.old)) }
+) -> Result<(), NotRun<'p>>
+    ensures files { OnOk result (F.store files.new ≡ with_all (map written_of made.now) (F.store files.old)) }
     ensures printed { OnOk result (Appends (W.contents output.old) (W.contents output.new) lines.now) }
-    ensures err { OnErr result (IsCut (buffers_of jobs.now ++ map written_of outgoing.now) (F.store files.old) (F.store files.new)) }
+    ensures err { OnErr result ((F.store files.new ≡ F.store files.old) ⊎ (F.store files.new ≡ with_all (map written_of made.now) (F.store files.old))) }
     ensures nothing { IfErr result RefusesNothing }
 {
-    match write_all(files, jobs, outgoing) {
+    match write_files(files, made) {
         Ok(()) => print_lines(output, lines),
         Err(not_run) => Err(not_run),
     }
 }
 
-/// Writes the buffers in the order of the jobs, the images in the order of their lines, the file of the trace if there is one, and then prints. It
-/// tells what there was. What takes memory comes before the first file is written.
+/// Writes the buffers in the order of the jobs, the images in the order of their lines, the file of the trace if there is one, all or none, and then
+/// prints. It tells what there was. What takes memory comes before the first file is written.
 pub(crate) fn write_run<'a, F: Files, W: Write>(
     alloc: Global,
     files: &mut F,
@@ -254,7 +269,7 @@ pub(crate) fn write_run<'a, F: Files, W: Write>(
         × (F.store files.new ≡ with_all (writes_of request.entry o) (F.store files.old))
         × Appends (W.contents output.old) (W.contents output.new) (lines_of request.entry o)) }
     ensures err { OnErr result ((F.store files.new ≡ F.store files.old)
-        ⊎ ((o : Outcome) × ShowsAll ran.entry o × IsCut (writes_of request.entry o) (F.store files.old) (F.store files.new))) }
+        ⊎ ((o : Outcome) × ShowsAll ran.entry o × (F.store files.new ≡ with_all (writes_of request.entry o) (F.store files.old)))) }
     ensures nothing { IfErr result RefusesNothing }
 {
     let Ran { bus, images, jobs } = ran;
@@ -263,13 +278,8 @@ pub(crate) fn write_run<'a, F: Files, W: Write>(
     let summary = Summary::of(jobs.len(), bus.trace());
     let dies = bus.into_dies();
     let outgoing = make_outgoing(alloc, dies.as_slice(), images.as_slice(), trace)?;
-    match write_outcome(
-        files,
-        output,
-        jobs.as_slice(),
-        outgoing.as_slice(),
-        lines.as_str(),
-    ) {
+    let made = list_files(alloc, jobs.as_slice(), outgoing.as_slice())?;
+    match write_outcome(files, output, made.as_slice(), lines.as_str()) {
         Ok(()) => Ok(summary),
         Err(not_run) => Err(not_run),
     }

@@ -18,9 +18,6 @@ const CALLS: [&str; 11] = [
     "run", "two", "die0", "die1", "erase", "erase", "out0", "out1", "die0", "die1", "trace",
 ];
 
-// So many of the calls read.
-const READS: usize = 6;
-
 // A file that is written, with its length before the run and after it.
 struct Written {
     path: &'static str,
@@ -79,18 +76,12 @@ fn ask_trace() -> RunRequest<'static> {
     }
 }
 
-// So many files are written, the first ones, and the others are as they were.
-fn expect_written(rt: &impl Abort, files: &MapFiles, count: usize) {
-    let mut place: usize = 0;
+// All files are written, or all are as they were.
+fn expect_written(rt: &impl Abort, files: &MapFiles, is_done: bool) {
     for file in &WRITTEN {
-        let length = if place < count {
-            file.after
-        } else {
-            file.before
-        };
+        let length = if is_done { file.after } else { file.before };
         let found = files.get(file.path).map(|bytes| bytes.len());
-        assert_eq!(rt; found, Some(length), "{} of {count}", file.path);
-        place = place.saturating_add(1);
+        assert_eq!(rt; found, Some(length), "{}", file.path);
     }
 }
 
@@ -105,7 +96,7 @@ fn play_failing<R: Threads + Wait + Sync + Abort + AllocGlobal>(
     let played = play(rt, &mut files, ask_trace());
     assert!(rt; played.output.is_empty(), "call {call}");
     assert_eq!(rt; files.calls(), call.saturating_add(1));
-    expect_written(rt, &files, call.saturating_sub(READS));
+    expect_written(rt, &files, false);
     Ok(played)
 }
 
@@ -137,7 +128,7 @@ fn no_call_fails(rt: HostRuntime) -> Result<(), Fail> {
     let played = play(&rt, &mut files, ask_trace());
     assert_eq!(rt; played.end, RunEnd::Done);
     assert_eq!(rt; files.calls(), CALLS.len());
-    expect_written(&rt, &files, 5);
+    expect_written(&rt, &files, true);
     assert_eq!(rt; played.output.len(), 226 + 24);
     Ok(())
 }
@@ -177,7 +168,7 @@ fn outputs_that_are_full(rt: HostRuntime) -> Result<(), Fail> {
         let played = play_full(&rt, &mut files, kind);
         assert_eq!(rt; played.end, end);
         assert_eq!(rt; played.errors.as_slice(), errors.as_bytes());
-        expect_written(&rt, &files, 5);
+        expect_written(&rt, &files, true);
     }
     Ok(())
 }

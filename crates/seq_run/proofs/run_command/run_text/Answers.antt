@@ -2,7 +2,7 @@ use Rattle.std.proofs.Common.{List, ℕ}
 use Rattle.std.specs.Io.KnownBytes.{Appends}
 use Rattle.run_file.specs.Told.{told}
 use Rattle.seq_run.specs.Judged.{PlanIsRefused}
-use Rattle.seq_run.proofs.Outcomes.{run_is_done, done_leaves, cut_leaves, told_refused, nothing_told}
+use Rattle.seq_run.proofs.Outcomes.{run_is_done, done_leaves, written_leaves, told_refused, nothing_told}
 use Rattle.seq_run.proofs.run_command.run_text.Goals as goal
 
 pub returns-in-Err-clause-refused : goal.returns-in-Err-clause-refused
@@ -47,5 +47,5 @@ returns-in-Err-carry_out-clause-refused g c refusal is =
 
 pub returns-in-Err-carry_out-clause-leaves : goal.returns-in-Err-carry_out-clause-leaves
 returns-in-Err-carry_out-clause-leaves g c =
-    cut_leaves c.args.request c.args.text.now c.in-Ok.plan (g.F.Files.store c.args.files.now) (g.F.Files.store c.plan_text.new.files) (g.F.Files.store c.carry_out.new.files)
+    written_leaves c.args.request c.args.text.now c.in-Ok.plan (g.F.Files.store c.args.files.now) (g.F.Files.store c.plan_text.new.files) (g.F.Files.store c.carry_out.new.files)
     c.in-Ok.ensures.stays c.requires (record { passes = c.in-Ok.ensures.ok; outputs = c.in-Ok.ensures.jobs; images = c.in-Ok.ensures.images }) c.in-Err-carry_out.ensures.err

@@ -1,6 +1,6 @@
 use Rattle.std.proofs.Common.{◌≡◌, drop, map, ◌++◌}
-use Rattle.seq_run.specs.Written.{images_of, written_of}
+use Rattle.seq_run.specs.Written.{images_of, made_of}
 use Rattle.seq_run.proofs.writing.make_images.Given as goal
 
 abbrev pub invariant-loop-image : goal.invariant-loop-image
-invariant-loop-image l = map written_of l.made.items ++ images_of l.dies (drop l.image-index l.images) ≡ images_of l.dies l.images
+invariant-loop-image l = map made_of l.made.items ++ images_of l.dies (drop l.image-index l.images) ≡ images_of l.dies l.images

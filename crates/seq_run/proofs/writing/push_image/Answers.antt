@@ -1,4 +1,4 @@
-use Rattle.seq_run.proofs.FilesWritten.{pushed, not_pushed, die_is_there}
+use Rattle.seq_run.proofs.FilesMade.{pushed, not_pushed, die_is_there}
 use Rattle.seq_run.proofs.writing.push_image.Goals as goal
 
 pub returns-in_ok-push-in-Some : goal.returns-in_ok-push-in-Some
