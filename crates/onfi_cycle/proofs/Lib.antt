@@ -21,5 +21,7 @@ pub mod Following
 pub mod Working
 pub mod Due
 pub mod Applied
+pub mod Runs
 pub mod Outputs
+pub mod Inputs
 pub mod Booleans

@@ -7,7 +7,6 @@ use Rattle.nand_geometry.specs.declared.parts.Parts.{Parts}
 use Rattle.onfi_cycle.specs.declared.effect.Effect.TheVariants.{Unaffected, DataOutput}
 use Rattle.onfi_cycle.specs.declared.forbidden.Forbidden.{Forbidden}
 use Rattle.onfi_cycle.specs.declared.forbidden.Forbidden.TheVariants.{NotThere, NoSoleDriver, DataNotReady, ColumnOutside}
-use Rattle.onfi_cycle.specs.declared.item.Item.{Item}
 use Rattle.onfi_cycle.specs.declared.item.Kind.TheVariants.{Dout}
 use Rattle.onfi_cycle.specs.declared.latch.Latch.{Latch}
 use Rattle.onfi_cycle.specs.declared.latch.Latch.TheVariants.{Off, Status, Data}
@@ -20,15 +19,16 @@ use Rattle.onfi_cycle.specs.Sequence.{facts_after, is_open}
 use Rattle.onfi_cycle.specs.Effect.{is_off, is_data}
 use Rattle.onfi_cycle.specs.Lun.{view_after, output_column, option_plus}
 use Rattle.onfi_cycle.specs.Rules.{driving, only, driver, is_some_and, driver_is, register_len, is_past, lacks, is_empty, has_no_byte, is_past_register, breaks_not_there, breaks_command_unknown, breaks_sequence_open, breaks_several_luns, breaks_no_column_to_change, breaks_command_misplaced, breaks_address_misplaced, breaks_row_outside, breaks_lun_busy, breaks_queue_clash, breaks_input_misplaced, breaks_no_sole_driver, breaks_data_not_ready, breaks_column_outside, breaks_cache_read_misplaced}
-use Rattle.onfi_cycle.specs.Permitted.{judge, broken}
+use Rattle.onfi_cycle.specs.Permitted.{judge}
 use Rattle.onfi_cycle.specs.Channel.{cycle}
 use Rattle.onfi_cycle.specs.Applied.{luns_after_cycle}
 use Rattle.onfi_cycle.specs.Bounds.{TargetFits, LunsFit, BusFits}
-use Rattle.onfi_cycle.specs.State.{TargetView, BusView, Follows, judged, judged_on, luns_after, has_driver, target_after, changed_at, bus_after, target}
-use Rattle.onfi_cycle.specs.Outputs.{with_outputs, first_rule, broken_outputs, judged_outputs, after_outputs, given_on, given_target, given_bus, is_over, has_fewer, against_rest, AreFew}
+use Rattle.onfi_cycle.specs.State.{TargetView, BusView, judged, judged_on, luns_after, has_driver, target_after, changed_at, bus_after, bus, target}
+use Rattle.onfi_cycle.specs.Outputs.{judged_outputs, after_outputs, given_on, given_target, given_bus, is_over, has_fewer, against_rest, AreFew}
 use Rattle.onfi_cycle.proofs.Others.{first_passed}
 use Rattle.onfi_cycle.proofs.Applied.{cycle_on_luns}
-use Rattle.onfi_cycle.proofs.Following.{bus_goes_on, judged_is_broken, applied, applied_fits, permitted_there}
+use Rattle.onfi_cycle.proofs.Following.{applied, applied_fits, permitted_there}
+use Rattle.onfi_cycle.proofs.Runs.{GoesBy, Begins, IsData, changed_found, changed_length, changed_same, changed_twice, changed_got, found_some, after_begun, judged_begun, first_permitted, run_fits, run_applied}
 
 -- 1. what one output leaves of a target with one driver
 
@@ -210,33 +210,10 @@ target_more g ce byte k s w h =
     ap (target (facts_after OutputCycle s.tail))
     (luns_given g ce byte (facts_after OutputCycle s.tail) (map (given_on k) s.luns) (ap (is_some_and (λ v. true)) (driver_given k s.luns w h)) ∙ all_given_twice k s.luns)
 
-changed_found : (f : TargetView → TargetView) (ts : List TargetView) (k : ℕ) (t : TargetView) → slice_get ts k ≡ Some t → slice_get (changed_at f k ts) k ≡ Some (f t)
-changed_found f [] k t h = cc
-changed_found f (x ∷ ts) zero t h = let same : x ≡ t = cc in ap (λ (y : TargetView). Some (f y)) same
-changed_found f (x ∷ ts) (suc k) t h = changed_found f ts k t h
-
-pub changed_length : (f : TargetView → TargetView) (ts : List TargetView) (k : ℕ) → length (changed_at f k ts) ≡ length ts
-changed_length f [] k = refl
-changed_length f (x ∷ ts) zero = refl
-changed_length f (x ∷ ts) (suc k) = ap suc (changed_length f ts k)
-
-changed_same : (f h : TargetView → TargetView) (ts : List TargetView) (k : ℕ) → ((t : TargetView) → slice_get ts k ≡ Some t → f t ≡ h t) → changed_at f k ts ≡ changed_at h k ts
-changed_same f h [] k same = refl
-changed_same f h (x ∷ ts) zero same = ap (λ (y : TargetView). y ∷ ts) (same x refl)
-changed_same f h (x ∷ ts) (suc k) same = ap (λ (ys : List TargetView). x ∷ ys) (changed_same f h ts k same)
-
-changed_twice : (f h m : TargetView → TargetView) (ts : List TargetView) (k : ℕ) → ((t : TargetView) → slice_get ts k ≡ Some t → h (f t) ≡ m t) → changed_at h k (changed_at f k ts) ≡ changed_at m k ts
-changed_twice f h m [] k same = refl
-changed_twice f h m (x ∷ ts) zero same = ap (λ (y : TargetView). y ∷ ts) (same x refl)
-changed_twice f h m (x ∷ ts) (suc k) same = ap (λ (ys : List TargetView). x ∷ ys) (changed_twice f h m ts k same)
-
 -- the target of this number is there, and one of its LUNs drives alone
 pub record Drives (s : BusView) (ce : ℕ) (t : TargetView) (w : LunView) : Type 0 where
   pub there : slice_get s.targets ce ≡ Some t
   pub one : driver t.luns ≡ Some w
-
-abbrev state_with : Parts → List TargetView → BusView
-state_with g ts = record { geometry = g; targets = ts }
 
 driver_moved : (s : BusView) (ce : ℕ) (t u : TargetView) (w : LunView) → Drives s ce t w → slice_get s.targets ce ≡ Some u → driver u.luns ≡ Some w
 driver_moved s ce t u w d h = let same : t ≡ u = the_same (sym d.there ∙ h) in ap (λ (x : TargetView). driver x.luns) (sym same) ∙ d.one
@@ -246,22 +223,11 @@ driver_moved s ce t u w d h = let same : t ≡ u = the_same (sym d.there ∙ h) 
 
 bus_first : (s : BusView) (ce byte : ℕ) (t : TargetView) (w : LunView) → Drives s ce t w → bus_after (cycle ce Dout byte) s ≡ given_bus ce 1 s
 bus_first s ce byte t w d =
-    ap (state_with s.geometry) (changed_same (target_after s.geometry (cycle ce Dout byte)) (given_target 1) s.targets ce (λ u h. target_first s.geometry ce byte u w (driver_moved s ce t u w d h)))
+    ap (bus s.geometry) (changed_same (target_after s.geometry (cycle ce Dout byte)) (given_target 1) s.targets ce (λ u h. target_first s.geometry ce byte u w (driver_moved s ce t u w d h)))
 
 bus_more : (s : BusView) (ce byte k : ℕ) (t : TargetView) (w : LunView) → Drives s ce t w → bus_after (cycle ce Dout byte) (given_bus ce k s) ≡ given_bus ce (k + 1) s
 bus_more s ce byte k t w d =
-    ap (state_with s.geometry) (changed_twice (given_target k) (target_after s.geometry (cycle ce Dout byte)) (given_target (k + 1)) s.targets ce (λ u h. target_more s.geometry ce byte k u w (driver_moved s ce t u w d h)))
-
-after_more : (s : BusView) (ce : ℕ) (t : TargetView) (w : LunView) → Drives s ce t w → (k m : ℕ) → after_outputs ce k (given_bus ce m s) ≡ given_bus ce (m + k) s
-after_more s ce t w d zero m = let same : m ≡ m + 0 = omega arith in ap (λ (n : ℕ). given_bus ce n s) same
-after_more s ce t w d (suc k) m =
-    let same : m + 1 + k ≡ m + suc k = omega arith in
-    ap (after_outputs ce k) (bus_more s ce 0 m t w d) ∙ (after_more s ce t w d k (m + 1) ∙ ap (λ (n : ℕ). given_bus ce n s) same)
-
-after_run : (s : BusView) (ce : ℕ) (t : TargetView) (w : LunView) → Drives s ce t w → (k : ℕ) → after_outputs ce (suc k) s ≡ given_bus ce (suc k) s
-after_run s ce t w d k =
-    let same : 1 + k ≡ suc k = omega arith in
-    ap (after_outputs ce k) (bus_first s ce 0 t w d) ∙ (after_more s ce t w d k 1 ∙ ap (λ (n : ℕ). given_bus ce n s) same)
+    ap (bus s.geometry) (changed_twice (given_target k) (target_after s.geometry (cycle ce Dout byte)) (given_target (k + 1)) s.targets ce (λ u h. target_more s.geometry ce byte k u w (driver_moved s ce t u w d h)))
 
 -- 6. a run is judged by its last output
 
@@ -279,91 +245,50 @@ judged_given s ce m t there more =
     g : Parts
     g = s.geometry
 
-judged_more : (s : BusView) (ce : ℕ) (t : TargetView) → slice_get s.targets ce ≡ Some t → (more : GivesMore s.geometry (length s.targets) ce t) → (k m : ℕ) → has_fewer s.geometry m more.one ≡ false → judged_outputs ce k (given_bus ce m s) ≡ cond (has_fewer s.geometry (m + k) more.one) (Some ColumnOutside) None
-judged_more s ce t there more zero m h =
-    let same : m ≡ m + 0 = omega arith in
-    ap (λ (b : Bool). cond b (Some ColumnOutside) None) (sym (ap (λ (n : ℕ). has_fewer s.geometry n more.one) (sym same) ∙ h))
-judged_more s ce t there more (suc k) m h = at (has_fewer s.geometry (m + 1) more.one) refl (judged_more s ce t there more k (m + 1))
-  where
-    first : judged_outputs ce (suc k) (given_bus ce m s) ≡ first_rule (cond (has_fewer s.geometry (m + 1) more.one) (Some ColumnOutside) None) (judged_outputs ce k (given_bus ce (m + 1) s))
-    first =
-        ap (λ (o : Option Forbidden). first_rule o (judged_outputs ce k (bus_after (cycle ce Dout 0) (given_bus ce m s)))) (judged_given s ce m t there more) ∙
-        ap (λ (x : BusView). first_rule (cond (has_fewer s.geometry (m + 1) more.one) (Some ColumnOutside) None) (judged_outputs ce k x)) (bus_more s ce 0 m t more.one (record { there = there; one = more.is_one }))
-
-    at : (b : Bool) → has_fewer s.geometry (m + 1) more.one ≡ b → (has_fewer s.geometry (m + 1) more.one ≡ false → judged_outputs ce k (given_bus ce (m + 1) s) ≡ cond (has_fewer s.geometry (m + 1 + k) more.one) (Some ColumnOutside) None) → judged_outputs ce (suc k) (given_bus ce m s) ≡ cond (has_fewer s.geometry (m + suc k) more.one) (Some ColumnOutside) None
-    at true e ih =
-        let less : m + 1 ≤ m + suc k = omega arith in
-        first ∙
-        (ap (λ (b : Bool). first_rule (cond b (Some ColumnOutside) None) (judged_outputs ce k (given_bus ce (m + 1) s))) e ∙
-        ap (λ (b : Bool). cond b (Some ColumnOutside) None) (sym (fewer_still s.geometry (m + 1) (m + suc k) more.one less e)))
-    at false e ih =
-        let same : m + 1 + k ≡ m + suc k = omega arith in
-        first ∙
-        (ap (λ (b : Bool). first_rule (cond b (Some ColumnOutside) None) (judged_outputs ce k (given_bus ce (m + 1) s))) e ∙
-        (ih e ∙ ap (λ (n : ℕ). cond (has_fewer s.geometry n more.one) (Some ColumnOutside) None) same))
+goes : (s : BusView) (ce : ℕ) (t : TargetView) → slice_get s.targets ce ≡ Some t → (more : GivesMore s.geometry (length s.targets) ce t) → GoesBy Dout ce (λ m. given_bus ce m s) (λ m. has_fewer s.geometry m more.one)
+goes s ce t there more =
+    record {
+      moves = λ m. bus_more s ce 0 m t more.one (record { there = there; one = more.is_one });
+      judges = λ m. judged_given s ce m t there more;
+      grows = λ j k less. fewer_still s.geometry j k more.one less;
+    }
 
 more_there : (s : BusView) (ce : ℕ) (t : TargetView) → slice_get s.targets ce ≡ Some t → judged s (cycle ce Dout 0) ≡ None → GivesMore s.geometry (length s.targets) ce t
 more_there s ce t there h = gives_more s.geometry (length s.targets) ce 0 t (sym (ap (λ (o : Option TargetView). judged_on s.geometry (length s.targets) o (cycle ce Dout 0)) there) ∙ h)
 
-judged_run : (s : BusView) (ce k : ℕ) (t : TargetView) → slice_get s.targets ce ≡ Some t → judged s (cycle ce Dout 0) ≡ None → judged_outputs ce (suc k) s ≡ against_rest s.geometry (suc k) t.luns
-judged_run s ce k t there h =
-    let more = more_there s ce t there h in
-    let same : 1 + k ≡ suc k = omega arith in
-    ap (λ (o : Option Forbidden). first_rule o (judged_outputs ce k (bus_after (cycle ce Dout 0) s))) h ∙
-    (ap (judged_outputs ce k) (bus_first s ce 0 t more.one (record { there = there; one = more.is_one })) ∙
-    (judged_more s ce t there more k 1 (first_given s.geometry more.one more.inside) ∙
-    (ap (λ (n : ℕ). cond (has_fewer s.geometry n more.one) (Some ColumnOutside) None) same ∙
-    ap (λ (o : Option LunView). cond (is_some_and (has_fewer s.geometry (suc k)) o) (Some ColumnOutside) None) (sym more.is_one))))
+begins : (s : BusView) (ce : ℕ) (t : TargetView) → slice_get s.targets ce ≡ Some t → judged s (cycle ce Dout 0) ≡ None → (more : GivesMore s.geometry (length s.targets) ce t) → Begins Dout ce (λ m. given_bus ce m s) (λ m. has_fewer s.geometry m more.one) s
+begins s ce t there h more =
+    record {
+      goes = goes s ce t there more;
+      permitted = h;
+      first = bus_first s ce 0 t more.one (record { there = there; one = more.is_one });
+      room = first_given s.geometry more.one more.inside;
+    }
 
 -- as the code asks: so many, one at least
 
 pub judged_some : (s : BusView) (ce count : ℕ) (t : TargetView) → 0 < count → slice_get s.targets ce ≡ Some t → None ≡ judged s (cycle ce Dout 0) → against_rest s.geometry count t.luns ≡ judged_outputs ce count s
-judged_some s ce zero t some there h = absurd (omega (arith, some))
-judged_some s ce (suc k) t some there h = sym (judged_run s ce k t there (sym h))
+judged_some s ce count t some there h =
+    let more = more_there s ce t there (sym h) in
+    ap (λ (o : Option LunView). cond (is_some_and (has_fewer s.geometry count) o) (Some ColumnOutside) None) more.is_one ∙
+    sym (judged_begun Dout ce (λ m. given_bus ce m s) (λ m. has_fewer s.geometry m more.one) s (begins s ce t there (sym h) more) count some)
 
-pub judged_first : (s : BusView) (ce count : ℕ) (rule : Forbidden) → 0 < count → Some rule ≡ judged s (cycle ce Dout 0) → Some rule ≡ judged_outputs ce count s
-judged_first s ce zero rule some h = absurd (omega (arith, some))
-judged_first s ce (suc k) rule some h = ap (λ (o : Option Forbidden). first_rule o (judged_outputs ce k (bus_after (cycle ce Dout 0) s))) h
+pub after_some : (s : BusView) (ce count : ℕ) → 0 < count → judged_outputs ce count s ≡ None → after_outputs ce count s ≡ given_bus ce count s
+after_some s ce count some h =
+    let first = first_permitted Dout s ce count some h in
+    let found = found_some s ce 0 Dout first in
+    let more = more_there s ce found.0 found.1 first in
+    after_begun Dout ce (λ m. given_bus ce m s) (λ m. has_fewer s.geometry m more.one) s (begins s ce found.0 found.1 first more) count some
 
--- a permitted run has its target there, and its first output is permitted
-pub first_permitted : (s : BusView) (ce count : ℕ) → 0 < count → judged_outputs ce count s ≡ None → judged s (cycle ce Dout 0) ≡ None
-first_permitted s ce zero some h = absurd (omega (arith, some))
-first_permitted s ce (suc k) some h = at (judged s (cycle ce Dout 0)) h
-  where
-    at : (o : Option Forbidden) → first_rule o (judged_outputs ce k (bus_after (cycle ce Dout 0) s)) ≡ None → o ≡ None
-    at None h = refl
-    at (Some rule) h = cc
+-- 7. a state sees no byte of an output, and fits after it
 
-pub after_some : (s : BusView) (ce count : ℕ) (t : TargetView) → 0 < count → slice_get s.targets ce ≡ Some t → judged_outputs ce count s ≡ None → after_outputs ce count s ≡ given_bus ce count s
-after_some s ce zero t some there h = absurd (omega (arith, some))
-after_some s ce (suc k) t some there h =
-    let more = more_there s ce t there (first_permitted s ce (suc k) some h) in
-    after_run s ce t more.one (record { there = there; one = more.is_one }) k
-
--- 7. what fits, and what follows a past, goes on
-
-found_some : (s : BusView) (ce : ℕ) → judged s (cycle ce Dout 0) ≡ None → (t : TargetView) × (slice_get s.targets ce ≡ Some t)
-found_some s ce h = at (slice_get s.targets ce) refl h
-  where
-    at : (o : Option TargetView) → slice_get s.targets ce ≡ o → judged_on s.geometry (length s.targets) o (cycle ce Dout 0) ≡ None → (t : TargetView) × (slice_get s.targets ce ≡ Some t)
-    at None e h = cc
-    at (Some t) e h = (t, e)
-
-pub output_fits : (s : BusView) (ce : ℕ) → judged s (cycle ce Dout 0) ≡ None → BusFits s → BusFits (bus_after (cycle ce Dout 0) s)
+output_fits : (s : BusView) (ce : ℕ) → judged s (cycle ce Dout 0) ≡ None → BusFits s → BusFits (bus_after (cycle ce Dout 0) s)
 output_fits s ce h f =
-    let d = (found_some s ce h).0 in
+    let d = (found_some s ce 0 Dout h).0 in
     let here = f.targets ce d (permitted_there s (cycle ce Dout 0) h) in
     let small : (facts_after OutputCycle (get_or s.targets ce d).tail).column < 2 ^ 16 = subst (λ (n : ℕ). n < 2 ^ 16) (sym (column_kept (get_or s.targets ce d).tail)) here.tail.column in
     subst BusFits (applied s.geometry s.targets (cycle ce Dout 0) ce d _ refl refl)
     (applied_fits s.geometry s.targets (cycle ce Dout 0) ce d (target_after s.geometry (cycle ce Dout 0) (get_or s.targets ce d)) h f refl refl small)
-
-pub outputs_fit : (ce k : ℕ) (s : BusView) → judged_outputs ce k s ≡ None → BusFits s → BusFits (after_outputs ce k s)
-outputs_fit ce zero s h f = f
-outputs_fit ce (suc k) s h f = at (judged s (cycle ce Dout 0)) refl h (outputs_fit ce k (bus_after (cycle ce Dout 0) s))
-  where
-    at : (o : Option Forbidden) → judged s (cycle ce Dout 0) ≡ o → first_rule o (judged_outputs ce k (bus_after (cycle ce Dout 0) s)) ≡ None → (judged_outputs ce k (bus_after (cycle ce Dout 0) s) ≡ None → BusFits (bus_after (cycle ce Dout 0) s) → BusFits (after_outputs ce k (bus_after (cycle ce Dout 0) s))) → BusFits (after_outputs ce k (bus_after (cycle ce Dout 0) s))
-    at None e h ih = ih h (output_fits s ce e f)
-    at (Some rule) e h ih = cc
 
 any_byte : (s : BusView) (ce a b : ℕ) → judged s (cycle ce Dout a) ≡ judged s (cycle ce Dout b)
 any_byte s ce a b = at (slice_get s.targets ce)
@@ -374,38 +299,14 @@ any_byte s ce a b = at (slice_get s.targets ce)
 
 after_any_byte : (s : BusView) (ce a b : ℕ) → bus_after (cycle ce Dout a) s ≡ bus_after (cycle ce Dout b) s
 after_any_byte s ce a b =
-    ap (state_with s.geometry)
+    ap (bus s.geometry)
     (changed_same (target_after s.geometry (cycle ce Dout a)) (target_after s.geometry (cycle ce Dout b)) s.targets ce
     (λ t h. ap (target (facts_after OutputCycle t.tail))
     (sym (cycle_on_luns s.geometry t.tail (has_driver t.luns) (record { ce = ce; kind = Dout; byte = a }) 0 t.luns) ∙
     cycle_on_luns s.geometry t.tail (has_driver t.luns) (record { ce = ce; kind = Dout; byte = b }) 0 t.luns)))
 
-pub follows_output : (g : Parts) (n : ℕ) (s : BusView) (past : List Item) (ce byte : ℕ) → judged s (cycle ce Dout 0) ≡ None → Follows g n s past → Follows g n (bus_after (cycle ce Dout 0) s) (cycle ce Dout byte ∷ past)
-follows_output g n s past ce byte h f =
-    subst (λ (x : BusView). Follows g n x (cycle ce Dout byte ∷ past)) (after_any_byte s ce byte 0)
-    (bus_goes_on g n s past (cycle ce Dout byte) (any_byte s ce byte 0 ∙ h) f)
-
-pub output_judged : (g : Parts) (n : ℕ) (s : BusView) (past : List Item) (ce byte : ℕ) → Follows g n s past → judged s (cycle ce Dout 0) ≡ broken g n past (cycle ce Dout byte)
-output_judged g n s past ce byte f = any_byte s ce 0 byte ∙ judged_is_broken g n s past (cycle ce Dout byte) f
-
-pub outputs_judged : (g : Parts) (n ce : ℕ) (bytes : List ℕ) (s : BusView) (past : List Item) → Follows g n s past → judged_outputs ce (length bytes) s ≡ broken_outputs g n ce bytes past
-outputs_judged g n ce [] s past f = refl
-outputs_judged g n ce (byte ∷ bytes) s past f =
-    at (judged s (cycle ce Dout 0)) refl (outputs_judged g n ce bytes (bus_after (cycle ce Dout 0) s) (cycle ce Dout byte ∷ past)) ∙
-    ap (λ (o : Option Forbidden). first_rule o (broken_outputs g n ce bytes (cycle ce Dout byte ∷ past))) (output_judged g n s past ce byte f)
-  where
-    at : (o : Option Forbidden) → judged s (cycle ce Dout 0) ≡ o → (Follows g n (bus_after (cycle ce Dout 0) s) (cycle ce Dout byte ∷ past) → judged_outputs ce (length bytes) (bus_after (cycle ce Dout 0) s) ≡ broken_outputs g n ce bytes (cycle ce Dout byte ∷ past)) → first_rule o (judged_outputs ce (length bytes) (bus_after (cycle ce Dout 0) s)) ≡ first_rule o (broken_outputs g n ce bytes (cycle ce Dout byte ∷ past))
-    at None e ih = ih (follows_output g n s past ce byte e f)
-    at (Some rule) e ih = refl
-
-pub outputs_followed : (g : Parts) (n ce : ℕ) (bytes : List ℕ) (s : BusView) (past : List Item) → judged_outputs ce (length bytes) s ≡ None → Follows g n s past → Follows g n (after_outputs ce (length bytes) s) (with_outputs ce bytes past)
-outputs_followed g n ce [] s past h f = f
-outputs_followed g n ce (byte ∷ bytes) s past h f =
-    at (judged s (cycle ce Dout 0)) refl h (outputs_followed g n ce bytes (bus_after (cycle ce Dout 0) s) (cycle ce Dout byte ∷ past))
-  where
-    at : (o : Option Forbidden) → judged s (cycle ce Dout 0) ≡ o → first_rule o (judged_outputs ce (length bytes) (bus_after (cycle ce Dout 0) s)) ≡ None → (judged_outputs ce (length bytes) (bus_after (cycle ce Dout 0) s) ≡ None → Follows g n (bus_after (cycle ce Dout 0) s) (cycle ce Dout byte ∷ past) → Follows g n (after_outputs ce (length bytes) (bus_after (cycle ce Dout 0) s)) (with_outputs ce bytes (cycle ce Dout byte ∷ past))) → Follows g n (after_outputs ce (length bytes) (bus_after (cycle ce Dout 0) s)) (with_outputs ce bytes (cycle ce Dout byte ∷ past))
-    at None e h ih = ih h (follows_output g n s past ce byte e f)
-    at (Some rule) e h ih = cc
+pub outputs_are_data : IsData Dout
+outputs_are_data = record { any_byte = any_byte; after_any = after_any_byte; fits = output_fits }
 
 -- 8. as the code does it
 
@@ -413,17 +314,9 @@ pub few_there : (g : Parts) (t : TailFacts) (n : ℕ) (vs : List LunView) → Lu
 few_there g t n [] f = tt
 few_there g t n (v ∷ vs) f = (f.0.outputs, few_there g t (n + 1) vs f.3)
 
-changed_set : (f : TargetView → TargetView) (ts : List TargetView) (k : ℕ) (d : TargetView) → set ts k (f (get_or ts k d)) ≡ changed_at f k ts
-changed_set f [] k d = refl
-changed_set f (x ∷ ts) zero d = refl
-changed_set f (x ∷ ts) (suc k) d = ap (λ (ys : List TargetView). x ∷ ys) (changed_set f ts k d)
-
-pub run_applied : (g : Parts) (ts : List TargetView) (ce k count : ℕ) (d u : TargetView) → k ≡ ce → 0 < count → judged_outputs ce count (state_with g ts) ≡ None → u ≡ given_target count (get_or ts k d) → state_with g (set ts k u) ≡ after_outputs ce count (state_with g ts)
-run_applied g ts ce k count d u place some h is =
-    let found = found_some (state_with g ts) ce (first_permitted (state_with g ts) ce count some h) in
-    ap (λ (x : TargetView). state_with g (set ts k x)) is ∙
-    (ap (state_with g) (changed_set (given_target count) ts k d ∙ ap (λ (n : ℕ). changed_at (given_target count) n ts) place) ∙
-    sym (after_some (state_with g ts) ce count found.0 some found.1 h))
+pub outputs_applied : (g : Parts) (ts : List TargetView) (ce k count : ℕ) (d u : TargetView) → k ≡ ce → 0 < count → judged_outputs ce count (bus g ts) ≡ None → u ≡ given_target count (get_or ts k d) → bus g (set ts k u) ≡ after_outputs ce count (bus g ts)
+outputs_applied g ts ce k count d u place some h is =
+    run_applied Dout g ts ce k count d u (given_target count) place (after_some (bus g ts) ce count some h) is
 
 -- 9. a run lies inside the register
 
@@ -446,7 +339,7 @@ left_in g w count byte few shows = at (output_column w.column) refl (lack shows 
 
 pub run_inside : (s : BusView) (ce count : ℕ) (t : TargetView) (w : LunView) → slice_get s.targets ce ≡ Some t → driver t.luns ≡ Some w → 0 < count → judged_outputs ce count s ≡ None → HasLeft s.geometry w count
 run_inside s ce count t w there is some h =
-    let first = first_permitted s ce count some h in
+    let first = first_permitted Dout s ce count some h in
     let more = more_there s ce t there first in
     let one : more.one ≡ w = the_same (sym more.is_one ∙ is) in
     let none : against_rest s.geometry count t.luns ≡ None = judged_some s ce count t some there (sym first) ∙ h in
@@ -462,18 +355,11 @@ run_inside s ce count t w there is some h =
 
 -- 10. and none gives more than its register has
 
-changed_got : (f : TargetView → TargetView) (ts : List TargetView) (k : ℕ) (d : TargetView) → k < length ts → get_or (changed_at f k ts) k d ≡ f (get_or ts k d)
-changed_got f [] k d low = absurd (omega (arith, low))
-changed_got f (x ∷ ts) zero d low = refl
-changed_got f (x ∷ ts) (suc k) d low = let less : k < length ts = omega (arith, low) in changed_got f ts k d less
-
-pub few_after : (g : Parts) (ts : List TargetView) (ce k count : ℕ) (d : TargetView) → k ≡ ce → 0 < count → judged_outputs ce count (state_with g ts) ≡ None → BusFits (state_with g ts) → AreFew (map (given_on count) (get_or ts k d).luns)
+pub few_after : (g : Parts) (ts : List TargetView) (ce k count : ℕ) (d : TargetView) → k ≡ ce → 0 < count → judged_outputs ce count (bus g ts) ≡ None → BusFits (bus g ts) → AreFew (map (given_on count) (get_or ts k d).luns)
 few_after g ts ce k count d place some h f =
-    let s = state_with g ts in
-    let first = first_permitted s ce count some h in
-    let found = found_some s ce first in
-    let there : ce < length ts = permitted_there s (cycle ce Dout 0) first in
-    let fits : BusFits (given_bus ce count s) = subst BusFits (after_some s ce count found.0 some found.1 h) (outputs_fit ce count s h f) in
+    let s = bus g ts in
+    let there : ce < length ts = permitted_there s (cycle ce Dout 0) (first_permitted Dout s ce count some h) in
+    let fits : BusFits (given_bus ce count s) = subst BusFits (after_some s ce count some h) (run_fits Dout outputs_are_data ce count s h f) in
     let inside : ce < length (changed_at (given_target count) ce ts) = subst (λ (n : ℕ). ce < n) (sym (changed_length (given_target count) ts ce)) there in
     let target : TargetFits g (given_target count (get_or ts ce d)) = subst (TargetFits g) (changed_got (given_target count) ts ce d there) (fits.targets ce d inside) in
     subst (λ (n : ℕ). AreFew (map (given_on count) (get_or ts n d).luns)) (sym place) (few_there g _ 0 _ target.luns)

@@ -20,4 +20,6 @@ pub mod Readies
 pub mod Look
 pub mod Applied
 pub mod Codes
+pub mod Runs
 pub mod Outputs
+pub mod Inputs

@@ -1,5 +1,5 @@
 -- A run of outputs on one target: which rule its first forbidden output breaks, and what it leaves.
-use Rattle.std.specs.Prelude.{ℕ, zero, suc, ◌+◌, ◌^◌, ◌≤◌, ◌&&◌, Bool, false, nat_lt, if◌then◌else◌, List, [], ◌∷◌, Option, Some, None, map}
+use Rattle.std.specs.Prelude.{ℕ, ◌+◌, ◌^◌, ◌≤◌, ◌&&◌, Bool, false, nat_lt, if◌then◌else◌, List, [], ◌∷◌, Option, Some, None, map}
 use Rattle.nand_geometry.specs.declared.parts.Parts.{Parts}
 use Rattle.onfi_cycle.specs.declared.item.Item.{Item}
 use Rattle.onfi_cycle.specs.declared.item.Kind.TheVariants.{Dout}
@@ -11,35 +11,24 @@ use Rattle.onfi_cycle.specs.Sequence.{facts_after}
 use Rattle.onfi_cycle.specs.Effect.{is_data}
 use Rattle.onfi_cycle.specs.Lun.{output_column}
 use Rattle.onfi_cycle.specs.Rules.{driver_is, register_len}
-use Rattle.onfi_cycle.specs.Permitted.{broken}
-use Rattle.onfi_cycle.specs.Channel.{cycle}
-use Rattle.onfi_cycle.specs.State.{TargetView, BusView, judged, bus_after, changed_at}
+use Rattle.onfi_cycle.specs.State.{TargetView, BusView, changed_at}
+use Rattle.onfi_cycle.specs.Runs.{with_run, broken_run, judged_run, after_run}
 
 -- a past with outputs of these bytes after it, the first byte first
 abbrev pub with_outputs : ℕ → List ℕ → List Item → List Item
-with_outputs ce [] past = past
-with_outputs ce (byte ∷ bytes) past = with_outputs ce bytes (cycle ce Dout byte ∷ past)
-
--- the rule of the first, and where it breaks none that of the rest
-abbrev pub first_rule : Option Forbidden → Option Forbidden → Option Forbidden
-first_rule None rest = rest
-first_rule (Some rule) rest = Some rule
+with_outputs = with_run Dout
 
 -- the rule that the first forbidden one of these outputs breaks first
 abbrev pub broken_outputs : Parts → ℕ → ℕ → List ℕ → List Item → Option Forbidden
-broken_outputs g targets ce [] past = None
-broken_outputs g targets ce (byte ∷ bytes) past =
-    first_rule (broken g targets past (cycle ce Dout byte)) (broken_outputs g targets ce bytes (cycle ce Dout byte ∷ past))
+broken_outputs g targets = broken_run g targets Dout
 
--- the same by a running state, which sees no byte of an output
+-- the same by a running state
 abbrev pub judged_outputs : ℕ → ℕ → BusView → Option Forbidden
-judged_outputs ce zero s = None
-judged_outputs ce (suc count) s = first_rule (judged s (cycle ce Dout 0)) (judged_outputs ce count (bus_after (cycle ce Dout 0) s))
+judged_outputs = judged_run Dout
 
 -- what so many outputs leave of a running state
 abbrev pub after_outputs : ℕ → ℕ → BusView → BusView
-after_outputs ce zero s = s
-after_outputs ce (suc count) s = after_outputs ce count (bus_after (cycle ce Dout 0) s)
+after_outputs = after_run Dout
 
 -- a LUN that has given so many bytes more, where it shows data
 abbrev pub given_on : ℕ → LunView → LunView

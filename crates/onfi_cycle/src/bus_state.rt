@@ -13,8 +13,9 @@ ghost use Rattle.onfi_cycle.specs.State.{BusView, Follows, judged, bus_after, bu
 ghost use Rattle.onfi_cycle.specs.Look.{looked, look_after};
 ghost use Rattle.onfi_cycle.specs.Bounds.{BusFits};
 ghost use Rattle.onfi_cycle.specs.Channel.{cycle};
-ghost use Rattle.onfi_cycle.specs.declared.item.Kind.TheVariants.{Dout};
-ghost use Rattle.onfi_cycle.specs.Outputs.{with_outputs, broken_outputs, judged_outputs, after_outputs, given_bus};
+ghost use Rattle.onfi_cycle.specs.declared.item.Kind.TheVariants.{Din, Dout};
+ghost use Rattle.onfi_cycle.specs.Outputs.{with_outputs, broken_outputs, judged_outputs, after_outputs};
+ghost use Rattle.onfi_cycle.specs.Inputs.{with_inputs, broken_inputs, judged_inputs, after_inputs};
 
 use crate::target_state::TargetState;
 use crate::{
@@ -79,16 +80,12 @@ fn apply_on(geometry: &Geometry, targets: &mut [TargetState], item: Item)
     target.apply(geometry, item);
 }
 
-// An output on a target; which byte it is isn't judged.
+// A data cycle on a target; which byte it is isn't judged.
 #[inline(always)]
-fn output(ce: u8) -> Item
-    ensures { result ≡ cycle ce Dout 0 }
+fn data_cycle(ce: u8, kind: Kind) -> Item
+    ensures { result ≡ cycle ce kind 0 }
 {
-    Item::Cyc(Cycle {
-        ce,
-        kind: Kind::Dout,
-        byte: 0,
-    })
+    Item::Cyc(Cycle { ce, kind, byte: 0 })
 }
 
 // The first rule that the first forbidden one of so many outputs on these targets breaks, one at least.
@@ -102,7 +99,7 @@ fn judge_outputs_on(
     requires some { 0 < count }
     ensures { result ≡ judged_outputs ce count (bus geometry.now targets.now) }
 {
-    if let Some(rule) = judge_on(geometry, targets, output(ce)) {
+    if let Some(rule) = judge_on(geometry, targets, data_cycle(ce, Kind::Dout)) {
         return Some(rule);
     }
     match target_at(targets, ce) {
@@ -121,6 +118,38 @@ fn apply_outputs_on(geometry: &Geometry, targets: &mut [TargetState], ce: u8, co
 {
     let target = &mut targets[usize::from(ce)];
     target.give(geometry, count);
+}
+
+// The first rule that the first forbidden one of so many inputs on these targets breaks, one at least.
+fn judge_inputs_on(
+    geometry: &Geometry,
+    targets: &[TargetState],
+    ce: u8,
+    count: usize,
+) -> Option<Forbidden>
+    requires fits { BusFits (bus geometry.now targets.now) }
+    requires some { 0 < count }
+    ensures { result ≡ judged_inputs ce count (bus geometry.now targets.now) }
+{
+    if let Some(rule) = judge_on(geometry, targets, data_cycle(ce, Kind::Din)) {
+        return Some(rule);
+    }
+    match target_at(targets, ce) {
+        None => None,
+        Some(target) => target.against_inputs(geometry, count),
+    }
+}
+
+// Goes on by so many inputs, one at least, which are permitted on these targets.
+fn apply_inputs_on(geometry: &Geometry, targets: &mut [TargetState], ce: u8, count: usize)
+    requires fits { BusFits (bus geometry.now targets.old) }
+    requires some { 0 < count }
+    requires permitted { judged_inputs ce count (bus geometry.now targets.old) ≡ None }
+    ensures value { bus geometry.now targets.new ≡ after_inputs ce count (bus geometry.now targets.old) }
+    ensures fits { BusFits (bus geometry.now targets.new) }
+{
+    let target = &mut targets[usize::from(ce)];
+    target.feed(count);
 }
 
 impl BusState {
@@ -200,6 +229,33 @@ impl BusState {
         if count > 0 {
             let geometry = self.geometry;
             apply_outputs_on(&geometry, self.targets.as_mut_slice(), ce, count);
+        }
+    }
+
+    /// The first rule that the first forbidden one of so many inputs in a row on a target breaks, None where all are permitted.
+    /// It costs the same for any number of them.
+    pub fn judge_inputs(&self, ce: u8, count: usize) -> Option<Forbidden>
+        ensures state { result ≡ judged_inputs ce count self.now }
+        ensures past { (g : Parts) (n : ℕ) (past : List Item) (bytes : List ℕ) → Follows g n self.now past → length bytes ≡ count
+            → result ≡ broken_inputs g n ce bytes past }
+    {
+        if count == 0 {
+            return None;
+        }
+        judge_inputs_on(&self.geometry, self.targets.as_slice(), ce, count)
+    }
+
+    /// Goes on by so many inputs in a row that [`judge_inputs`](BusState::judge_inputs) permits. It costs the same for any
+    /// number of them.
+    pub fn apply_inputs(&mut self, ce: u8, count: usize)
+        requires { judged_inputs ce count self.old ≡ None }
+        ensures state { self.new ≡ after_inputs ce count self.old }
+        ensures past { (g : Parts) (n : ℕ) (past : List Item) (bytes : List ℕ) → Follows g n self.old past → length bytes ≡ count
+            → Follows g n self.new (with_inputs ce bytes past) }
+    {
+        if count > 0 {
+            let geometry = self.geometry;
+            apply_inputs_on(&geometry, self.targets.as_mut_slice(), ce, count);
         }
     }
 

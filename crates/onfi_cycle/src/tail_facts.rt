@@ -3,8 +3,10 @@ ghost use Rattle.std.specs.Prelude.{ℕ, [], ◌≡◌, ◌+◌, ◌^◌, ◌<�
 ghost use Rattle.onfi_cycle.specs.Command.{addresses_the_array, is_change_read_column};
 ghost use Rattle.onfi_cycle.specs.Sequence.{AreSmall, target_cycle, begins_sequence, facts_of, facts_after, extended_facts, next_address_place, column_after_address, takes_inputs, wants_address, wants_command, wants, is_proper_beginning, is_open, row, row_with, column_with, input_column, target_of};
 ghost use Rattle.onfi_cycle.specs.Rules.{ends_row, second_of_page, second_column};
+ghost use Rattle.onfi_cycle.specs.Inputs.{fed_tail, has_no_room};
 
 use crate::{Command, DataPhase, Opening, RowBytes, TargetCycle};
+use nand_geometry::Geometry;
 
 /// What the rules see of a target's tail, which is its cycles from the last opener on.
 #[derive(Clone, Copy, Debug, PartialEq, Eq)]
@@ -139,6 +141,17 @@ impl TailFacts {
         }
     }
 
+    /// Goes on with a tail by so many inputs, one at least.
+    pub(crate) fn extend_by_inputs(&mut self, count: usize)
+        requires { self.old.inputs + count < 2 ^ 63 }
+        ensures { self.new ≡ fed_tail count self.old }
+    {
+        self.opening = None;
+        self.phase = self.phase.after_input();
+        self.inputs += count;
+        self.is_empty = false;
+    }
+
     /// The tail goes on with this address.
     pub fn wants_address(self, byte: u8) -> bool
         ensures { result ≡ wants_address self byte }
@@ -265,5 +278,15 @@ impl TailFacts {
         ensures { result ≡ input_column self }
     {
         u64::from(self.column) + self.inputs as u64
+    }
+
+    /// The page has no place for so many inputs more.
+    pub(crate) fn has_no_room(self, geometry: &Geometry, count: usize) -> bool
+        requires { (self.column < 2 ^ 16) × (self.inputs < 2 ^ 63) }
+        ensures { result ≡ has_no_room geometry.now count self }
+    {
+        let len = u64::from(geometry.page_len());
+        let column = self.input_column();
+        len < column || len - column < count as u64
     }
 }

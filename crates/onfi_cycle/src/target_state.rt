@@ -14,6 +14,7 @@ ghost use Rattle.onfi_cycle.specs.State.{TargetView, target_view, effect_alone, 
 ghost use Rattle.onfi_cycle.specs.Look.{look_at_some};
 ghost use Rattle.onfi_cycle.specs.Bounds.{LunsFit, TargetFits};
 ghost use Rattle.onfi_cycle.specs.Outputs.{AreFew, given_on, given_target, against_rest};
+ghost use Rattle.onfi_cycle.specs.Inputs.{fed_target, against_inputs};
 
 use crate::readies::due_of;
 use crate::{
@@ -257,6 +258,27 @@ impl TargetState {
         match driver(self.luns.as_slice()) {
             Some(lun) if lun.has_fewer(geometry, count) => Some(Forbidden::ColumnOutside),
             _ => None,
+        }
+    }
+
+    /// It takes so many inputs more, one at least.
+    pub(crate) fn feed(&mut self, count: usize)
+        requires few { self.old.tail.inputs + count < 2 ^ 63 }
+        ensures { self.new ≡ fed_target count self.old }
+    {
+        self.tail.extend_by_inputs(count);
+    }
+
+    /// What is against so many inputs, one at least, whose first is permitted.
+    pub(crate) fn against_inputs(&self, geometry: &Geometry, count: usize) -> Option<Forbidden>
+        requires limits { InLimits geometry.now }
+        requires fits { TargetFits geometry.now self.now }
+        ensures { result ≡ against_inputs geometry.now count self.now.tail }
+    {
+        if self.tail.has_no_room(geometry, count) {
+            Some(Forbidden::ColumnOutside)
+        } else {
+            None
         }
     }
 

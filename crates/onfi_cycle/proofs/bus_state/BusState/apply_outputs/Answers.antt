@@ -2,7 +2,9 @@ use Rattle.std.proofs.Common.{◌≡◌, None, length, refl, sym, ap, subst, ◌
 use Rattle.onfi_cycle.specs.State.{Follows, BusView, bus}
 use Rattle.onfi_cycle.specs.Outputs.{with_outputs, judged_outputs, after_outputs}
 use Rattle.onfi_cycle.proofs.Following.{refilled}
-use Rattle.onfi_cycle.proofs.Outputs.{outputs_followed}
+use Rattle.onfi_cycle.specs.declared.item.Kind.TheVariants.{Dout}
+use Rattle.onfi_cycle.proofs.Runs.{run_followed}
+use Rattle.onfi_cycle.proofs.Outputs.{outputs_are_data}
 use Rattle.onfi_cycle.proofs.bus_state.BusState.apply_outputs.Goals as goal
 
 pub returns-then-count-gt0-clause-state : goal.returns-then-count-gt0-clause-state
@@ -14,4 +16,4 @@ pub returns-then-count-gt0-clause-past : goal.returns-then-count-gt0-clause-past
 returns-then-count-gt0-clause-past c = λ g n past bytes f count.
     subst (λ s. Follows g n s (with_outputs c.args.ce bytes past)) (sym (returns-then-count-gt0-clause-state c))
     (subst (λ k. Follows g n (after_outputs c.args.ce k c.args.self.now) (with_outputs c.args.ce bytes past)) count
-    (outputs_followed g n c.args.ce bytes c.args.self.now past (subst (λ k. judged_outputs c.args.ce k c.args.self.now ≡ None) (sym count) c.requires) f))
+    (run_followed Dout outputs_are_data g n c.args.ce bytes c.args.self.now past (subst (λ k. judged_outputs c.args.ce k c.args.self.now ≡ None) (sym count) c.requires) f))
