@@ -1,5 +1,5 @@
 -- What a die shows that stands for its LUN.
-use Rattle.std.proofs.Common.{◌≡◌, ℕ, Bool, true, false, ◌&&◌, not, cond, List, [], ◌∷◌, refl, ap, ◌∙◌}
+use Rattle.std.proofs.Common.{◌≡◌, ℕ, Bool, true, false, not, cond, List, [], ◌∷◌, refl, ap, ◌∙◌}
 use Rattle.std.proofs.lemmas.Bool.{not-true, and_parts as both}
 use Rattle.nand_geometry.specs.Page.{parameter_bytes}
 use Rattle.onfi_cycle.specs.declared.page_address.PageAddress.{PageAddress}

@@ -1,5 +1,5 @@
 -- One LUN's array and registers: what its pages hold, what it works on, and how its last work ended.
-use Rattle.std.specs.Prelude.{◌≡◌, ℕ, ◌%◌, ◌^◌, ◌<◌, Bool, true, false, ◌||◌, ◌&&◌, not, if◌then◌else◌, List, [], ◌∷◌, Option, Some, None, length, replicate, slice_get, slice_index_or}
+use Rattle.std.specs.Prelude.{◌≡◌, ℕ, ◌%◌, ◌^◌, ◌<◌, Bool, true, false, ◌||◌, ◌&&◌, not, if◌then◌else◌, List, [], ◌∷◌, Option, Some, None, length, replicate, slice_get, slice_set, slice_index_or}
 use Rattle.std.specs.Option.{IsSome}
 use Rattle.nand_geometry.specs.declared.parts.Parts.{Parts}
 use Rattle.nand_geometry.specs.Limits.{InLimits, page_len, planes}
@@ -12,7 +12,7 @@ use Rattle.onfi_cycle.specs.declared.register.Register.TheVariants.{Empty, Page}
 use Rattle.onfi_cycle.specs.declared.effect.Effect.{Effect}
 use Rattle.onfi_cycle.specs.declared.effect.Effect.TheVariants.{ReadStarted, EraseStarted, ProgramStarted, IdRead, ParameterPageReadStarted, CacheReadContinued, CacheReadEnded, ResetStarted}
 use Rattle.onfi_cycle.specs.Lun.{busy_after, array_busy_after, array_page_after, register_after, queue_after}
-use Rattle.onfi_cycle.specs.Content.{ArrayWork, ErasesBlock, ProgramsPage, queued_work_after, pending_work_after, content_after, failed_after, register_bytes}
+use Rattle.onfi_cycle.specs.Content.{ArrayWork, ErasesBlock, ProgramsPage, queued_work_after, pending_work_after, content_after, failed_after, register_bytes, written}
 use Rattle.onfi_cycle.specs.Bounds.{is_row}
 use Rattle.onfi_cycle.specs.Rules.{is_empty, has_some, some_queued_clashes}
 use Rattle.die_model.specs.declared.work.Work.{Work}
@@ -58,6 +58,10 @@ page_of d p = page_in (page_len d.geometry) d.pages p
 -- the page register of the plane in which a page lies
 abbrev pub plane_bytes : Parts → List (List ℕ) → PageAddress → List ℕ
 plane_bytes g registers at = slice_index_or registers (at.block % planes g) []
+
+-- a die with these bytes in the register of a plane, from a column on
+abbrev pub filled_with : (plane column : ℕ) → List ℕ → Die → Die
+filled_with plane column bytes d = record d { planes = slice_set d.planes plane (written bytes column (slice_index_or d.planes plane [])) }
 
 -- what a row is to do: a program takes its bytes from the register of its plane
 abbrev pub work_of : Parts → List (List ℕ) → Queued → ArrayWork

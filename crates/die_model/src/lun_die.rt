@@ -10,7 +10,7 @@ ghost use Rattle.onfi_cycle.specs.declared.register.Register.{Register};
 ghost use Rattle.die_model.specs.Pages.{kept, page_in};
 ghost use Rattle.die_model.specs.Image.{image_of};
 ghost use Rattle.die_model.specs.Loading.{image_fault, IsJudgedBy, IsLoaded, Restores};
-ghost use Rattle.die_model.specs.Die.{CanBegin, IsAfter, effect_of, status_of, bytes_shown, is_new, new_die, page_of};
+ghost use Rattle.die_model.specs.Die.{CanBegin, IsAfter, effect_of, status_of, bytes_shown, is_new, new_die, page_of, filled_with};
 
 use crate::activity::Activity;
 use crate::effects::{end_works, plane_of};
@@ -340,6 +340,16 @@ impl<A: Allocator + Copy> LunDie<A> {
     {
         let register = &mut self.planes[plane];
         register.set(column, byte);
+    }
+
+    /// Sets the bytes of the register of a page's plane from a column on.
+    pub fn fill_from(&mut self, at: PageAddress, column: usize, bytes: &[u8])
+        requires { column + length bytes.now ≤ page_len self.old.geometry }
+        ensures { self.new ≡ filled_with (at.block % planes self.old.geometry) column bytes.now self.old }
+    {
+        let plane = plane_of(self.geometry().parts(), at);
+        let register = &mut self.planes[plane];
+        register.set_all(column, bytes);
     }
 
     /// Works what an item does, if that is no ready. Without memory for it all stays as it was.

@@ -7,7 +7,8 @@ use Rattle.nand_geometry.specs.Row.{row_bytes_of, row_cycles, row_number, indexe
 use Rattle.onfi_cycle.specs.declared.item.Kind.{Kind}
 use Rattle.onfi_cycle.specs.declared.item.Kind.TheVariants.{Cmd, Adr, Din}
 use Rattle.micro_word.specs.declared.word.Word.TheVariants.{Command, Address, Get, Put, Wait, ReadStatus}
-use Rattle.micro_program.specs.Program.{Job, Done, Answer, Nothing, Polled, Got, poll_cost, written, buffer_after, buffer_now, place_now, index_now, plane_now, column_now}
+use Rattle.micro_program.specs.Program.{Job, Done, Answer, Nothing, Polled, Got, poll_cost, buffer_after, buffer_now, place_now, index_now, plane_now, column_now}
+use Rattle.onfi_cycle.proofs.Written.{written_len}
 use Rattle.micro_program.specs.Moves.{CostsCountMoves, BufferKeepsLength, Move, Give, Take, and_then, moves, gives, poll, part, put_bytes}
 
 gives_len : (kind : Kind) (bytes : List ℕ) → length (gives kind bytes) ≡ length bytes
@@ -74,10 +75,6 @@ cost_is g j done (Put n) moved format words h w e = put_len j done n moved e
 cost_is g j done ReadStatus moved format words h w e = poll_len g j moved e
 cost_is g j done Wait moved format words h w e = cc
 cost_is g j done _ moved format words h w e = let same : moved ≡ [] = cc in ap length same
-
-written_len : (bytes : List ℕ) (place : ℕ) (buffer : List ℕ) → length (written bytes place buffer) ≡ length buffer
-written_len [] place buffer = refl
-written_len (b ∷ bytes) place buffer = written_len bytes (place + 1) _ ∙ length-set buffer place b
 
 -- the buffer keeps its length
 pub buffer_len : BufferKeepsLength

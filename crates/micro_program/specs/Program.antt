@@ -1,8 +1,9 @@
 -- A job, and a program in progress: the words that it has done, the newest first. All that its next word depends on is
 -- looked up there, so there is no word index and no loop counter.
-use Rattle.std.specs.Prelude.{ℕ, ◌+◌, ◌==◌, Bool, true, ◌&&◌, not, nat_le, nat_lt, if◌then◌else◌, List, [], ◌∷◌, slice_set, bit_and}
+use Rattle.std.specs.Prelude.{ℕ, ◌+◌, ◌==◌, Bool, true, ◌&&◌, not, nat_le, nat_lt, if◌then◌else◌, List, [], ◌∷◌, bit_and}
 use Rattle.nand_geometry.specs.declared.parts.Parts.{Parts}
 use Rattle.onfi_cycle.specs.declared.lun.Lun.{Lun}
+use Rattle.onfi_cycle.specs.Content.{written}
 use Rattle.micro_word.specs.declared.word.Word.{Word}
 use Rattle.micro_word.specs.declared.word.Word.TheVariants.{Command, Address, Get, Put, Seek, Column, RowAdd, Row, Plane, ReadStatus}
 use Rattle.micro_word.specs.Text.{Microprogram}
@@ -73,11 +74,6 @@ status_after _ before = before
 abbrev pub status_now : List Done → ℕ
 status_now [] = 0
 status_now (d ∷ done) = status_after d.answer (status_now done)
-
--- the buffer with some bytes written from a place on
-abbrev pub written : List ℕ → ℕ → List ℕ → List ℕ
-written [] place buffer = buffer
-written (byte ∷ bytes) place buffer = written bytes (place + 1) (slice_set buffer place byte)
 
 abbrev pub buffer_after : Answer → ℕ → List ℕ → List ℕ
 buffer_after (Got bytes) place buffer = written bytes place buffer

@@ -14,7 +14,8 @@ use Rattle.micro_word.specs.declared.word.Word.{Word}
 use Rattle.micro_word.specs.declared.word.Word.TheVariants.{End, Command, Address, Get, Put, Seek, Column, RowAdd, Row, Plane, Wait, Yield, ReadStatus, BranchOnStatus, Loop, Next, Jump}
 use Rattle.micro_word.specs.Word.{IsInRange}
 use Rattle.target_bus.specs.Bus.{Traced, channel_of}
-use Rattle.micro_program.specs.Program.{Job, Done as Past, index_now, place_now, buffer_now, written}
+use Rattle.micro_program.specs.Program.{Job, Done as Past, index_now, place_now, buffer_now}
+use Rattle.onfi_cycle.specs.Content.{written}
 use Rattle.micro_program.specs.Moves.{Move, Give, Take, and_then, part, column_bytes, address, gives, put_bytes, poll, moves}
 use Rattle.micro_program.specs.Played.{Played, played}
 use Rattle.micro_program.proofs.Bytes.{short_part}

@@ -13,7 +13,7 @@ use Rattle.onfi_cycle.specs.Channel.{Channel, cycle, bus_byte}
 use Rattle.target_bus.specs.Bus.{Traced, channel_of, IsNext}
 use Rattle.micro_program.specs.Moves.{Move, Give, Take, and_then}
 use Rattle.micro_program.specs.Played.{Played, played, with_byte}
-use Rattle.micro_program.specs.Program.{written}
+use Rattle.onfi_cycle.specs.Content.{written}
 use Rattle.std.specs.Prelude.{slice_set}
 use Rattle.micro_verify.specs.declared.moves.Move.{Move as Told}
 use Rattle.micro_verify.specs.Lazy.{item_of, Counter, counter_in}

@@ -8,7 +8,8 @@ use Rattle.onfi_cycle.specs.declared.item.Kind.TheVariants.{Cmd, Adr, Din}
 use Rattle.onfi_cycle.specs.Permitted.{broken}
 use Rattle.micro_word.specs.declared.word.Word.{Word}
 use Rattle.micro_word.specs.declared.word.Word.TheVariants.{Command, Address, Get, Put, Seek, Column, RowAdd, Row, Plane, Wait, ReadStatus}
-use Rattle.micro_program.specs.Program.{Job, Done as Past, buffer_now, column_now, plane_now, index_now, place_now, written}
+use Rattle.micro_program.specs.Program.{Job, Done as Past, buffer_now, column_now, plane_now, index_now, place_now}
+use Rattle.onfi_cycle.specs.Content.{written}
 use Rattle.micro_program.specs.Moves.{Move, Give, Take, and_then, part, column_bytes}
 use Rattle.micro_program.specs.Played.{Played, played}
 use Rattle.micro_verify.specs.declared.moves.Move.{Move as Told}

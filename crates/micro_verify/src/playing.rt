@@ -4,7 +4,7 @@ ghost use Rattle.std.specs.List.{All};
 ghost use Rattle.micro_word.specs.declared.format.Format.TheVariants.{Two};
 ghost use Rattle.micro_word.specs.Word.{IsInRange};
 ghost use Rattle.micro_program.specs.Moves.{Take};
-ghost use Rattle.micro_program.specs.Program.{written};
+ghost use Rattle.onfi_cycle.specs.Content.{written};
 ghost use Rattle.micro_verify.specs.Lazy.{awaited};
 ghost use Rattle.micro_verify.specs.Playing.{meant, IsGiven, IsOfFive, HasGone, HasPlayed, HasPerformed, stored, IsSmall, HasRunFrom};
 ghost use Rattle.target_bus.specs.Bus.{channel_of};

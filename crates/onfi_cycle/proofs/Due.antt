@@ -2,7 +2,7 @@
 use Rattle.std.proofs.Common.{◌≡◌, ℕ, zero, suc, ◌+◌, ◌≤◌, ◌<◌, ◌==◌, Bool, true, false, ◌&&◌, ◌||◌, cond, not, leb, List, [], ◌∷◌, Option, Some, None, refl, sym, ap, ◌∙◌, arith, subst, length}
 use Rattle.std.proofs.lemmas.Bool.Decides.{nat_tests}
 use Rattle.std.proofs.lemmas.Option.{slice_get_within}
-use Rattle.std.specs.List.{slice_get, All}
+use Rattle.std.specs.List.{slice_get}
 use Rattle.std.proofs.lemmas.Bool.{not-false, and_parts as both, or_parts as neither}
 use Rattle.nand_geometry.specs.declared.parts.Parts.{Parts}
 use Rattle.onfi_cycle.specs.declared.command.Command.{Command}
@@ -29,7 +29,7 @@ use Rattle.onfi_cycle.specs.Rules.{lun_is, breaks_not_there}
 use Rattle.onfi_cycle.specs.Channel.{is_cycle}
 use Rattle.onfi_cycle.specs.Permitted.{judge}
 use Rattle.onfi_cycle.specs.State.{TargetView, BusView, judged, judged_on, luns_after, has_driver, target_after, changed_at, bus_after}
-use Rattle.onfi_cycle.specs.Bounds.{TailFits, TargetFits, BusFits}
+use Rattle.onfi_cycle.specs.Bounds.{TailFits, BusFits}
 use Rattle.onfi_cycle.specs.Readies.{starts, cycle_starts, starts_work, is_parameter_page, awaits_parameters, one_if, due_at, due_of, target_due, due_there, targets_due, bus_due, ReadiesAreDue}
 use Rattle.onfi_cycle.proofs.Applied.{ready_on_luns, array_ready_on_luns}
 use Rattle.onfi_cycle.proofs.Others.{first_passed}

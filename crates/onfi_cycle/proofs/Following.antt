@@ -27,7 +27,7 @@ use Rattle.onfi_cycle.specs.Lun.{latch, latch_alone, effect_on, drivers, is_only
 use Rattle.onfi_cycle.specs.Rules.{driver, is_some_and}
 use Rattle.onfi_cycle.specs.Permitted.{judge, broken}
 use Rattle.onfi_cycle.specs.State.{TargetView, BusView, Follows, target_view, targets_from, judged, judged_on, tail_after, effect_alone, luns_after, has_driver, target_after, changed_at, bus_after, target, bus}
-use Rattle.onfi_cycle.specs.Bounds.{TailFits, LunFits, RowFits, RowStands, EffectFits, LunsFit, TargetFits, BusFits}
+use Rattle.onfi_cycle.specs.Bounds.{TailFits, LunFits, LunsFit, TargetFits, BusFits}
 use Rattle.onfi_cycle.proofs.Others.{rests_elsewhere, targets_keep}
 use Rattle.onfi_cycle.proofs.Drivers.{driver_of_target}
 use Rattle.onfi_cycle.proofs.Latches.{one_by_views, sole_off}

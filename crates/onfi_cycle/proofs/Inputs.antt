@@ -1,5 +1,5 @@
 -- A run of inputs on one target is judged at once, and leaves what is said of it.
-use Rattle.std.proofs.Common.{◌≡◌, ℕ, zero, suc, ◌+◌, ◌<◌, ◌≤◌, Bool, true, false, ◌||◌, cond, not, leb, ltb, List, [], ◌∷◌, Option, Some, None, refl, sym, ap, ◌∙◌, subst, arith, length, get_or, set, ◌^◌}
+use Rattle.std.proofs.Common.{◌≡◌, ℕ, ◌+◌, ◌<◌, ◌≤◌, Bool, true, false, cond, not, leb, ltb, List, Option, Some, None, refl, sym, ap, ◌∙◌, subst, arith, length, get_or, set, ◌^◌}
 use Rattle.std.proofs.lemmas.Bool.Decides.{nat_tests}
 use Rattle.std.specs.List.{slice_get}
 use Rattle.std.proofs.lemmas.Bool.{not-false}
@@ -18,14 +18,14 @@ use Rattle.onfi_cycle.specs.Sequence.{facts_after, takes_inputs, phase_after_inp
 use Rattle.onfi_cycle.specs.Rules.{breaks_not_there, breaks_command_unknown, breaks_sequence_open, breaks_several_luns, breaks_no_column_to_change, breaks_command_misplaced, breaks_address_misplaced, breaks_row_outside, breaks_lun_busy, breaks_queue_clash, breaks_input_misplaced, breaks_no_sole_driver, breaks_data_not_ready, breaks_column_outside, breaks_cache_read_misplaced}
 use Rattle.onfi_cycle.specs.Permitted.{judge}
 use Rattle.onfi_cycle.specs.Channel.{cycle}
-use Rattle.onfi_cycle.specs.Bounds.{TailFits, TargetFits, BusFits}
+use Rattle.onfi_cycle.specs.Bounds.{TailFits, BusFits}
 use Rattle.onfi_cycle.specs.State.{TargetView, BusView, judged, judged_on, luns_after, has_driver, target_after, changed_at, bus_after, bus, target}
 use Rattle.onfi_cycle.specs.Inputs.{judged_inputs, after_inputs, fed_tail, fed_target, fed_bus, has_no_room, against_inputs}
 use Rattle.onfi_cycle.proofs.Others.{first_passed}
 use Rattle.onfi_cycle.proofs.Applied.{cycle_on_luns, luns_rest}
 use Rattle.onfi_cycle.proofs.Following.{applied, applied_fits, permitted_there}
 use Rattle.onfi_cycle.proofs.Working.{target_fits_at}
-use Rattle.onfi_cycle.proofs.Runs.{GoesBy, Begins, IsData, changed_found, changed_length, changed_same, changed_twice, found_some, after_begun, judged_begun, first_permitted, run_applied}
+use Rattle.onfi_cycle.proofs.Runs.{Begins, IsData, changed_found, changed_length, changed_same, changed_twice, found_some, after_begun, judged_begun, first_permitted, run_applied}
 
 -- 1. an input is judged by three tests
 

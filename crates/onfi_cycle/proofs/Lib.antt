@@ -24,4 +24,5 @@ pub mod Applied
 pub mod Runs
 pub mod Outputs
 pub mod Inputs
+pub mod Written
 pub mod Booleans

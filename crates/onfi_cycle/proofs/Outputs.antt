@@ -1,5 +1,5 @@
 -- A run of outputs on one target is judged at once, and leaves what is said of it.
-use Rattle.std.proofs.Common.{◌≡◌, ℕ, zero, suc, ◌+◌, ◌<◌, ◌≤◌, Bool, true, false, ◌&&◌, ◌||◌, cond, not, leb, ltb, List, [], ◌∷◌, Option, Some, None, refl, sym, ap, ◌∙◌, subst, arith, length, map, get_or, set, ◌^◌}
+use Rattle.std.proofs.Common.{◌≡◌, ℕ, ◌+◌, ◌<◌, ◌≤◌, Bool, true, false, ◌&&◌, ◌||◌, cond, not, leb, ltb, List, [], ◌∷◌, Option, Some, None, refl, sym, ap, ◌∙◌, subst, arith, length, map, get_or, set, ◌^◌}
 use Rattle.std.proofs.lemmas.Bool.Decides.{nat_tests}
 use Rattle.std.specs.List.{slice_get}
 use Rattle.std.proofs.lemmas.Bool.{not-false, or_parts as neither}
@@ -8,9 +8,6 @@ use Rattle.onfi_cycle.specs.declared.effect.Effect.TheVariants.{Unaffected, Data
 use Rattle.onfi_cycle.specs.declared.forbidden.Forbidden.{Forbidden}
 use Rattle.onfi_cycle.specs.declared.forbidden.Forbidden.TheVariants.{NotThere, NoSoleDriver, DataNotReady, ColumnOutside}
 use Rattle.onfi_cycle.specs.declared.item.Kind.TheVariants.{Dout}
-use Rattle.onfi_cycle.specs.declared.latch.Latch.{Latch}
-use Rattle.onfi_cycle.specs.declared.latch.Latch.TheVariants.{Off, Status, Data}
-use Rattle.onfi_cycle.specs.declared.read_column.ReadColumn.{ReadColumn}
 use Rattle.onfi_cycle.specs.declared.tail_facts.TailFacts.{TailFacts}
 use Rattle.onfi_cycle.specs.declared.data_phase.DataPhase.TheVariants.{Outside}
 use Rattle.onfi_cycle.specs.declared.target_cycle.TargetCycle.TheVariants.{OutputCycle}

@@ -34,7 +34,7 @@ use Rattle.onfi_cycle.specs.Permitted.{broken}
 use Rattle.onfi_cycle.specs.State.{BusView, TargetView, Follows, target_view}
 use Rattle.onfi_cycle.specs.Bounds.{LunFits, RowFits, RowStands, EffectFits, LunsFit, TargetFits, BusFits, TailFits, names_identity}
 use Rattle.onfi_cycle.specs.Working.{fills, begins, works_on, IsLun, FactsFit}
-use Rattle.onfi_cycle.proofs.Passed.{KeepsRules, permitted_keeps}
+use Rattle.onfi_cycle.proofs.Passed.{permitted_keeps}
 use Rattle.onfi_cycle.proofs.Keeping.{view_at}
 use Rattle.onfi_cycle.proofs.EffectBounds.{effect_fits, identity_waits}
 use Rattle.onfi_cycle.proofs.Following.{found_target, effect_by_state, effect_elsewhere}

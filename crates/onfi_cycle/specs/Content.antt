@@ -1,5 +1,5 @@
 -- What the pages of a LUN contain, and what a LUN shows.
-use Rattle.std.specs.Prelude.{ℕ, ◌==◌, Bool, true, false, ◌&&◌, if◌then◌else◌, List, [], ◌∷◌, Option, Some, None, bit_and, replicate, slice_get}
+use Rattle.std.specs.Prelude.{ℕ, ◌+◌, ◌==◌, Bool, true, false, ◌&&◌, if◌then◌else◌, List, [], ◌∷◌, Option, Some, None, bit_and, replicate, slice_get, slice_set}
 use Rattle.nand_geometry.specs.declared.parts.Parts.{Parts}
 use Rattle.nand_geometry.specs.Limits.{page_len}
 use Rattle.onfi_cycle.specs.declared.lun.Lun.{Lun}
@@ -13,6 +13,11 @@ use Rattle.onfi_cycle.specs.declared.effect.Effect.{Effect}
 use Rattle.onfi_cycle.specs.declared.effect.Effect.TheVariants.{ParameterPageReadStarted, CacheReadContinued, CacheReadEnded, ResetStarted, BecameReady, ReadStarted, EraseStarted, ProgramStarted}
 use Rattle.onfi_cycle.specs.Sequence.{tail, filled}
 use Rattle.onfi_cycle.specs.Lun.{effect_on, latch, is_busy, is_array_busy, read_column, output_column, register}
+
+-- a list with these bytes written over it from a place on, the first byte first
+abbrev pub written : List ℕ → ℕ → List ℕ → List ℕ
+written [] place old = old
+written (byte ∷ bytes) place old = written bytes (place + 1) (slice_set old place byte)
 
 abbrev pub and_bytes : List ℕ → List ℕ → List ℕ
 and_bytes [] new = []

@@ -12,7 +12,8 @@ use Rattle.onfi_cycle.specs.Channel.{Channel, cycle}
 use Rattle.micro_word.specs.declared.word.Word.{Word}
 use Rattle.micro_word.specs.declared.word.Word.TheVariants.{End, Command, Address, Get, Put, Wait, Yield, ReadStatus, BranchOnStatus, Jump}
 use Rattle.micro_program.specs.Lines.{Line}
-use Rattle.micro_program.specs.Program.{Job, Done, Answer, Nothing, Polled, Got, written, buffer_after, buffer_now, place_now, is_ready_status}
+use Rattle.micro_program.specs.Program.{Job, Done, Answer, Nothing, Polled, Got, buffer_after, buffer_now, place_now, is_ready_status}
+use Rattle.onfi_cycle.specs.Content.{written}
 use Rattle.micro_program.specs.Moves.{Move, Give, Take, and_then, moves, gives, poll, address, put_bytes}
 use Rattle.micro_program.specs.Played.{Played, answered, played, with_byte}
 use Rattle.micro_program.specs.Step.{Stride, Went, NotReady, did, Outcome, first_byte, stride, answered_step}

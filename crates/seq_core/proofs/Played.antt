@@ -11,7 +11,7 @@ use Rattle.onfi_cycle.specs.Command.{command}
 use Rattle.onfi_cycle.specs.declared.forbidden.Forbidden.{Forbidden as Rule}
 use Rattle.onfi_cycle.specs.Channel.{Channel, IsOwn, cycle}
 use Rattle.micro_program.specs.Moves.{Move, Give, Take, gives}
-use Rattle.micro_program.specs.Program.{written}
+use Rattle.onfi_cycle.specs.Content.{written}
 use Rattle.micro_program.specs.Safe.{MovesAreOwn}
 use Rattle.target_bus.specs.declared.refusal.BusRefusal.{BusRefusal}
 use Rattle.target_bus.specs.declared.refusal.BusRefusal.TheVariants.{Forbidden, OutOfMemory}

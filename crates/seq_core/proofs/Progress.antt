@@ -11,7 +11,8 @@ use Rattle.onfi_cycle.specs.declared.item.Kind.TheVariants.{Adr, Din}
 use Rattle.micro_word.specs.declared.word.Word.{Word}
 use Rattle.micro_word.specs.declared.word.Word.TheVariants.{End, Command, Address, Get, Put, Seek, Column, RowAdd, Row, Plane, Wait, Yield, ReadStatus, BranchOnStatus, Loop, Next, Jump}
 use Rattle.micro_program.specs.Lines.{Line}
-use Rattle.micro_program.specs.Program.{Job, Done, written, buffer_now, column_now, plane_now, index_now, place_now, status_now, is_ready_status}
+use Rattle.micro_program.specs.Program.{Job, Done, buffer_now, column_now, plane_now, index_now, place_now, status_now, is_ready_status}
+use Rattle.onfi_cycle.specs.Content.{written}
 use Rattle.micro_program.specs.Moves.{Move, and_then, part, column_bytes, address, gives, put_bytes, moves}
 use Rattle.micro_program.specs.Played.{Played}
 use Rattle.micro_program.specs.Step.{Stride, stride, first_byte}

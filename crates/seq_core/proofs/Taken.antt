@@ -8,7 +8,7 @@ use Rattle.onfi_cycle.specs.declared.lun.Lun.{Lun}
 use Rattle.onfi_cycle.specs.Channel.{Channel, cycle}
 use Rattle.onfi_cycle.specs.Outputs.{with_outputs, broken_outputs, first_rule}
 use Rattle.micro_program.specs.Moves.{Move, Take, and_then}
-use Rattle.micro_program.specs.Program.{written}
+use Rattle.onfi_cycle.specs.Content.{written}
 use Rattle.micro_program.specs.Played.{Played, played, with_byte}
 use Rattle.micro_program.specs.Safe.{MovesAreOwn}
 use Rattle.target_bus.specs.declared.refusal.BusRefusal.{BusRefusal}
@@ -58,21 +58,3 @@ taken_plays a b ce len bytes size t =
       plays = subst (λ (past : List Item). Plays (channel_of a) ce (replicate (length bytes) Take) a.past past bytes) (sym t.past) (shown_plays (channel_of a) ce bytes a.past t.shown);
       room = t.room;
     })
-
--- 3. the buffer
-
-written_behind : (bytes : List ℕ) (place x : ℕ) (buffer : List ℕ) → written bytes (suc place) (x ∷ buffer) ≡ x ∷ written bytes place buffer
-written_behind [] place x buffer = refl
-written_behind (byte ∷ bytes) place x buffer =
-    let same : suc place + 1 ≡ suc (place + 1) = omega arith in
-    ap (λ (n : ℕ). written bytes n (x ∷ slice_set buffer place byte)) same ∙ written_behind bytes (place + 1) x (slice_set buffer place byte)
-
-written_first : (bytes buffer : List ℕ) → length bytes ≤ length buffer → written bytes 0 buffer ≡ bytes ++ drop (length bytes) buffer
-written_first [] buffer h = refl
-written_first (byte ∷ bytes) [] h = absurd (omega (arith, h))
-written_first (byte ∷ bytes) (x ∷ buffer) h = let less : length bytes ≤ length buffer = omega (arith, h) in written_behind bytes 0 byte buffer ∙ ap (λ (xs : List ℕ). byte ∷ xs) (written_first bytes buffer less)
-
-pub written_is : (bytes : List ℕ) (place : ℕ) (buffer : List ℕ) → place + length bytes ≤ length buffer → take place buffer ++ (bytes ++ drop (length bytes) (drop place buffer)) ≡ written bytes place buffer
-written_is bytes zero buffer h = let less : length bytes ≤ length buffer = omega (arith, h) in sym (written_first bytes buffer less)
-written_is bytes (suc place) [] h = absurd (omega (arith, h))
-written_is bytes (suc place) (x ∷ buffer) h = let less : place + length bytes ≤ length buffer = omega (arith, h) in ap (λ (xs : List ℕ). x ∷ xs) (written_is bytes place buffer less) ∙ sym (written_behind bytes place x buffer)

@@ -6,7 +6,8 @@ use Rattle.nand_geometry.specs.Row.{row_bytes_of}
 use Rattle.onfi_cycle.specs.declared.item.Kind.TheVariants.{Cmd, Adr, Din}
 use Rattle.micro_word.specs.declared.word.Word.{Word}
 use Rattle.micro_word.specs.declared.word.Word.TheVariants.{End, Command, Address, Get, Put, Seek, Column, RowAdd, Row, Plane, Wait, Yield, ReadStatus}
-use Rattle.micro_program.specs.Program.{Job, written, is_ready_status}
+use Rattle.micro_program.specs.Program.{Job, is_ready_status}
+use Rattle.onfi_cycle.specs.Content.{written}
 use Rattle.micro_program.specs.Moves.{Move, Give, Take, and_then, part, column_bytes, gives}
 use Rattle.micro_program.specs.Step.{first_byte}
 use Rattle.seq_core.specs.declared.stepped.Stepped.{Stepped}

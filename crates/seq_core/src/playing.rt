@@ -4,7 +4,7 @@ ghost use Rattle.std.specs.Prelude.{◌≡◌, ℕ, ◌+◌, ◌<◌, ◌≤◌,
 ghost use Rattle.onfi_cycle.specs.declared.item.Kind.TheVariants.{Cmd, Adr, Din, Dout};
 ghost use Rattle.onfi_cycle.specs.Channel.{IsOwn, cycle, bus_byte};
 ghost use Rattle.micro_program.specs.Moves.{Move, Give, Take, gives, part};
-ghost use Rattle.micro_program.specs.Program.{written};
+ghost use Rattle.onfi_cycle.specs.Content.{written};
 ghost use Rattle.micro_program.specs.Safe.{MovesAreOwn};
 ghost use Rattle.target_bus.specs.Bus.{Traced, channel_of};
 ghost use Rattle.seq_core.specs.Progress.{poll_at};

@@ -1,5 +1,5 @@
 use Rattle.std.proofs.Common.{◌≡◌, ◌+◌, drop}
-use Rattle.micro_program.specs.Program.{written}
+use Rattle.onfi_cycle.specs.Content.{written}
 use Rattle.micro_verify.proofs.playing.store.Given as goal
 
 abbrev pub invariant-loop-k : goal.invariant-loop-k

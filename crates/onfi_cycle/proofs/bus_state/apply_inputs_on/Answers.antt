@@ -1,4 +1,4 @@
-use Rattle.std.proofs.Common.{◌∙◌, sym, subst}
+use Rattle.std.proofs.Common.{sym, subst}
 use Rattle.onfi_cycle.specs.Bounds.{BusFits}
 use Rattle.onfi_cycle.specs.State.{bus}
 use Rattle.onfi_cycle.specs.declared.item.Kind.TheVariants.{Din}

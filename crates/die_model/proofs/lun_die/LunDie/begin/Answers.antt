@@ -1,8 +1,8 @@
-use Rattle.std.proofs.Common.{◌≡◌, ℕ, List, [], cond, sym, ap, subst, ◌∙◌, refl}
+use Rattle.std.proofs.Common.{ℕ, List, [], cond, sym, ap, subst, ◌∙◌, refl}
 use Rattle.nand_geometry.specs.Limits.{page_len}
 use Rattle.onfi_cycle.specs.Content.{queued_work_after, pending_work_after}
 use Rattle.die_model.specs.Die.{Die, CanBegin, IsAfter, effect_of, is_reset, page_to_keep, works_of}
-use Rattle.die_model.proofs.Begun.{die_of, die_begun, not_closed, queue_begun, queued_begun, pending_begun, content_begun, failed_begun, page_kept, fewer, Keeps, kept_so, waits, ends, taken_is, kept_lengths, shows_begun}
+use Rattle.die_model.proofs.Begun.{die_of, die_begun, not_closed, queue_begun, queued_begun, pending_begun, content_begun, failed_begun, page_kept, fewer, kept_so, waits, ends, taken_is, kept_lengths, shows_begun}
 use Rattle.die_model.proofs.lun_die.LunDie.begin.Goals as goal
 
 pub begin-requires-clause-room : goal.begin-requires-clause-room

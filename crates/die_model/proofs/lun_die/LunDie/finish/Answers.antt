@@ -1,4 +1,4 @@
-use Rattle.std.proofs.Common.{◌≡◌, Bool, [], ap, subst, ◌∙◌, refl}
+use Rattle.std.proofs.Common.{ap, subst, ◌∙◌, refl}
 use Rattle.onfi_cycle.specs.declared.effect.Effect.TheVariants.{BecameReady}
 use Rattle.die_model.specs.Die.{Die, IsAfter, works_of}
 use Rattle.die_model.proofs.Begun.{die_of, die_ended, shows_ended, ended_pages, ended_failed, waits, ends}

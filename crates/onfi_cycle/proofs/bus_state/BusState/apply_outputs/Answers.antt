@@ -1,5 +1,5 @@
 use Rattle.std.proofs.Common.{◌≡◌, None, length, refl, sym, ap, subst, ◌∙◌}
-use Rattle.onfi_cycle.specs.State.{Follows, BusView, bus}
+use Rattle.onfi_cycle.specs.State.{Follows, bus}
 use Rattle.onfi_cycle.specs.Outputs.{with_outputs, judged_outputs, after_outputs}
 use Rattle.onfi_cycle.proofs.Following.{refilled}
 use Rattle.onfi_cycle.specs.declared.item.Kind.TheVariants.{Dout}

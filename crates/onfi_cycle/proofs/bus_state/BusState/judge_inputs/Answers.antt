@@ -1,5 +1,5 @@
-use Rattle.std.proofs.Common.{◌≡◌, None, sym, ap, ◌∙◌}
-use Rattle.onfi_cycle.specs.State.{BusView, bus}
+use Rattle.std.proofs.Common.{sym, ap, ◌∙◌}
+use Rattle.onfi_cycle.specs.State.{bus}
 use Rattle.onfi_cycle.specs.Inputs.{judged_inputs}
 use Rattle.onfi_cycle.specs.declared.item.Kind.TheVariants.{Din}
 use Rattle.onfi_cycle.proofs.Runs.{run_judged}
