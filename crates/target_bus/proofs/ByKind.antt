@@ -1,5 +1,5 @@
 -- What a cycle can't do, by its kind.
-use Rattle.std.proofs.Common.{◌≡◌, ◌≢◌, ℕ, ◌+◌, ◌<◌, ◌≤◌, ◌==◌, Bool, true, false, ◌||◌, cond, List, Option, Some, None, Result, Ok, Err, OnErr, IfSome, length, refl, sym, ap, ◌∙◌, arith}
+use Rattle.std.proofs.Common.{◌≡◌, ℕ, ◌+◌, ◌<◌, ◌≤◌, ◌==◌, Bool, true, false, cond, List, Some, None, Result, Ok, Err, OnErr, length, refl, sym, ap, ◌∙◌, arith}
 use Rattle.std.proofs.lemmas.Bool.Decides.{nat_tests}
 use Rattle.std.proofs.lemmas.Bool.{or_from, or_left}
 use Rattle.nand_geometry.specs.declared.parts.Parts.{Parts}
@@ -10,7 +10,6 @@ use Rattle.onfi_cycle.specs.declared.item.Kind.{Kind}
 use Rattle.onfi_cycle.specs.declared.item.Kind.TheVariants.{Cmd, Adr, Din, Dout}
 use Rattle.onfi_cycle.specs.declared.lun.Lun.{Lun}
 use Rattle.onfi_cycle.specs.declared.tail_facts.TailFacts.{TailFacts}
-use Rattle.onfi_cycle.specs.declared.effect.Effect.{Effect}
 use Rattle.onfi_cycle.specs.declared.effect.Effect.TheVariants.{Unaffected}
 use Rattle.onfi_cycle.specs.declared.filling.Filling.TheVariants.{Leaves}
 use Rattle.onfi_cycle.specs.Sequence.{tail, facts_of, target_cycle}

@@ -4,4 +4,6 @@ pub mod Due
 pub mod Shown
 pub mod Opened
 pub mod ByKind
+pub mod Runs
 pub mod Outputs
+pub mod Inputs

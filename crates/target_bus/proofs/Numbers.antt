@@ -1,11 +1,10 @@
 -- The numbers of LUNs, and lists with one member changed.
-use Rattle.std.proofs.Common.{◌≡◌, ◌≢◌, ℕ, zero, suc, ◌+◌, ◌*◌, ◌/◌, ◌%◌, ◌<◌, ◌≤◌, Bool, List, [], ◌∷◌, Some, None, refl, sym, ap, ◌∙◌, arith, length, set}
+use Rattle.std.proofs.Common.{◌≡◌, ◌≢◌, ℕ, zero, suc, ◌+◌, ◌*◌, ◌%◌, ◌<◌, ◌≤◌, List, [], ◌∷◌, Some, None, refl, sym, ap, ◌∙◌, arith, length, set}
 use Rattle.std.proofs.Math.Nat.{mod-lt, div-add-mod, div-lt_iff_lt-mul, mul-le-mul_right, suc-mul}
 use Rattle.std.proofs.lemmas.Nat.{div-add-mod', div-mul-add, mod-mul-add}
 use Rattle.std.specs.List.{slice_get}
 use Rattle.nand_geometry.specs.declared.parts.Parts.{Parts}
 use Rattle.onfi_cycle.specs.declared.lun.Lun.{Lun}
-use Rattle.die_model.specs.Die.{Die}
 use Rattle.target_bus.specs.Bus.{numbered, number_of}
 
 pub target_there : (g : Parts) (n k : ℕ) → 1 ≤ g.luns → k < n * g.luns → (numbered g k).ce < n

@@ -1,5 +1,5 @@
 -- A bus of new dies.
-use Rattle.std.proofs.Common.{◌≡◌, ℕ, zero, suc, ◌+◌, ◌*◌, ◌/◌, ◌<◌, ◌≤◌, ◌==◌, Bool, true, false, ◌&&◌, ◌||◌, ◌++◌, List, [], ◌∷◌, Option, Some, None, refl, sym, ap, subst, ◌∙◌, arith, length, set, eqb-true, get_or, map, append_assoc, drop, take, ◌-◌}
+use Rattle.std.proofs.Common.{◌≡◌, ℕ, zero, suc, ◌+◌, ◌*◌, ◌/◌, ◌≤◌, ◌==◌, Bool, true, false, ◌||◌, ◌++◌, List, [], ◌∷◌, Option, Some, None, refl, sym, ap, subst, ◌∙◌, arith, length, set, eqb-true, get_or, map, append_assoc, drop, take, ◌-◌}
 use Rattle.std.proofs.lemmas.Nat.{div-mul-add}
 use Rattle.std.proofs.lemmas.List.{length-replicate}
 use Rattle.std.specs.List.{slice_get}
@@ -12,7 +12,7 @@ use Rattle.onfi_cycle.specs.declared.item.Item.{Item}
 use Rattle.onfi_cycle.specs.declared.page_address.PageAddress.{PageAddress}
 use Rattle.onfi_cycle.specs.Sequence.{facts_of}
 use Rattle.onfi_cycle.specs.Lun.{views_from}
-use Rattle.onfi_cycle.specs.State.{BusView, TargetView, Follows, targets_from}
+use Rattle.onfi_cycle.specs.State.{BusView, Follows, targets_from}
 use Rattle.onfi_cycle.specs.Readies.{due_of, targets_due, bus_due}
 use Rattle.onfi_cycle.proofs.Following.{count_of}
 use Rattle.die_model.specs.Pages.{page_in}

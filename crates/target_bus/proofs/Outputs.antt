@@ -1,18 +1,16 @@
 -- A run of outputs: what it leaves of the readies and of the dies, and what the driver shows in it.
-use Rattle.std.proofs.Common.{◌≡◌, ◌≢◌, ℕ, zero, suc, ◌+◌, ◌-◌, ◌*◌, ◌<◌, ◌≤◌, ◌==◌, Bool, true, false, cond, eq-eqb, List, [], ◌∷◌, ◌++◌, Option, Some, None, refl, sym, ap, subst, ◌∙◌, arith, length, map, reverse, append_assoc, append-nil}
+use Rattle.std.proofs.Common.{◌≡◌, ℕ, zero, suc, ◌+◌, ◌*◌, ◌<◌, ◌≤◌, ◌==◌, Bool, true, false, cond, eq-eqb, List, [], ◌∷◌, ◌++◌, Option, Some, None, refl, sym, ap, subst, ◌∙◌, arith, length, map, reverse}
 use Rattle.std.specs.List.{slice_get}
 use Rattle.nand_geometry.specs.declared.parts.Parts.{Parts}
 use Rattle.nand_geometry.specs.Page.{parameter_bytes}
 use Rattle.nand_geometry.proofs.PageLemmas.{parameters_have_their_length}
 use Rattle.onfi_cycle.specs.declared.effect.Effect.{Effect}
 use Rattle.onfi_cycle.specs.declared.effect.Effect.TheVariants.{Unaffected, DataOutput}
-use Rattle.onfi_cycle.specs.declared.forbidden.Forbidden.{Forbidden}
 use Rattle.onfi_cycle.specs.declared.item.Item.{Item}
 use Rattle.onfi_cycle.specs.declared.item.Kind.TheVariants.{Dout}
 use Rattle.onfi_cycle.specs.declared.latch.Latch.{Latch}
 use Rattle.onfi_cycle.specs.declared.latch.Latch.TheVariants.{Off, Status, Data}
 use Rattle.onfi_cycle.specs.declared.lun.Lun.{Lun}
-use Rattle.onfi_cycle.specs.declared.lun_state.LunState.{LunState}
 use Rattle.onfi_cycle.specs.declared.read_column.ReadColumn.{ReadColumn}
 use Rattle.onfi_cycle.specs.Effect.{is_off, is_data}
 use Rattle.onfi_cycle.specs.Lun.{effect_on, latch, latch_after, drivers, drivers_from, is_only, lun_view, register, read_column, read_column_after, output_column, option_plus}
@@ -21,14 +19,15 @@ use Rattle.onfi_cycle.specs.Permitted.{broken}
 use Rattle.onfi_cycle.specs.Channel.{Channel, cycle, bus_byte, byte_of_driver}
 use Rattle.onfi_cycle.specs.State.{BusView, Follows, judged, bus_after, target_view, target_after}
 use Rattle.onfi_cycle.specs.Bounds.{BusFits}
-use Rattle.onfi_cycle.specs.Readies.{bus_due, ReadiesAreDue}
+use Rattle.onfi_cycle.specs.Readies.{bus_due}
 use Rattle.onfi_cycle.specs.Rules.{register_len}
-use Rattle.onfi_cycle.specs.Outputs.{with_outputs, first_rule, judged_outputs, after_outputs}
+use Rattle.onfi_cycle.specs.Outputs.{with_outputs, judged_outputs, after_outputs}
 use Rattle.onfi_cycle.proofs.Bytes.{register_bytes_len, content_len}
 use Rattle.onfi_cycle.proofs.Drivers.{driver_of_target}
 use Rattle.onfi_cycle.proofs.Following.{found_target}
 use Rattle.onfi_cycle.proofs.Meaning.{driver_on}
-use Rattle.onfi_cycle.proofs.Outputs.{output_fits, follows_output, output_judged, changed_length, first_permitted, run_inside, HasLeft}
+use Rattle.onfi_cycle.proofs.Runs.{changed_length, first_permitted, splits, cycle_judged, cycle_followed}
+use Rattle.onfi_cycle.proofs.Outputs.{outputs_are_data, run_inside, HasLeft}
 use Rattle.onfi_cycle.proofs.Working.{facts_fit}
 use Rattle.die_model.specs.Die.{Die, status_of, bytes_shown}
 use Rattle.die_model.specs.Standing.{IsDieOf}
@@ -36,43 +35,24 @@ use Rattle.die_model.proofs.Showing.{dies_show}
 use Rattle.target_bus.specs.Bus.{Entries, channel_on, numbered, number_of, first_of, IsStanding, IsRunning, AreShown, AreTaken, AreOf, HasBytes, shown_later}
 use Rattle.target_bus.proofs.Numbers.{numbered_number, slice_get_none}
 use Rattle.target_bus.proofs.Shown.{output_there, driver_found, die_of_driver}
-use Rattle.target_bus.proofs.Standing.{stands_on, stands_output, reversed, same_channel, traced}
+use Rattle.target_bus.proofs.Runs.{with_pushed}
+use Rattle.target_bus.proofs.Standing.{stands_on, stands_output, same_channel, traced}
 
 -- 1. what is kept goes on
 
 abbrev output : ℕ → Item
 output ce = cycle ce Dout 0
 
--- the first is permitted, and then the rest
-pub record Splits (ce count : ℕ) (s : BusView) : Type 0 where
-  pub first : judged s (output ce) ≡ None
-  pub rest : judged_outputs ce count (bus_after (output ce) s) ≡ None
-
-pub splits : (ce count : ℕ) (s : BusView) → judged_outputs ce (suc count) s ≡ None → Splits ce count s
-splits ce count s h = at (judged s (output ce)) refl h
-  where
-    at : (o : Option Forbidden) → judged s (output ce) ≡ o → first_rule o (judged_outputs ce count (bus_after (output ce) s)) ≡ None → Splits ce count s
-    at None e h = record { first = e; rest = h }
-    at (Some rule) e h = cc
-
-pub outputs_due : ReadiesAreDue → (ce count : ℕ) (s : BusView) → judged_outputs ce count s ≡ None → BusFits s → bus_due (after_outputs ce count s) ≤ bus_due s
-outputs_due law ce zero s h f = omega arith
-outputs_due law ce (suc count) s h f =
-    let parts = splits ce count s h in
-    let rest = outputs_due law ce count (bus_after (output ce) s) parts.rest (output_fits s ce parts.first f) in
-    let one = law.cycles s (output ce) f refl refl in
-    omega (arith, rest, one)
-
 pub one_stands : (s : BusView) (opened : List Entries) (dies : List Die) (past : List Item) (ce byte : ℕ) → IsStanding s opened dies past → BusFits s → judged s (output ce) ≡ None → IsStanding (bus_after (output ce) s) opened dies (cycle ce Dout byte ∷ past)
 one_stands s opened dies past ce byte f fits h =
-    stands_on s (bus_after (output ce) s) opened dies dies past (cycle ce Dout byte) f (follows_output s.geometry (length s.targets) s past ce byte h f.follows) refl
-    (stands_output s opened dies past ce byte f (sym (output_judged s.geometry (length s.targets) s past ce byte f.follows) ∙ h) (facts_fit s.geometry (length s.targets) s past fits f.follows))
+    stands_on s (bus_after (output ce) s) opened dies dies past (cycle ce Dout byte) f (cycle_followed Dout outputs_are_data s.geometry (length s.targets) s past ce byte h f.follows) refl
+    (stands_output s opened dies past ce byte f (sym (cycle_judged Dout outputs_are_data s.geometry (length s.targets) s past ce byte f.follows) ∙ h) (facts_fit s.geometry (length s.targets) s past fits f.follows))
 
 pub run_stands : (ce : ℕ) (bytes : List ℕ) (s : BusView) (opened : List Entries) (dies : List Die) (past : List Item) → IsStanding s opened dies past → BusFits s → judged_outputs ce (length bytes) s ≡ None → IsStanding (after_outputs ce (length bytes) s) opened dies (with_outputs ce bytes past)
 run_stands ce [] s opened dies past f fits h = f
 run_stands ce (byte ∷ bytes) s opened dies past f fits h =
-    let parts = splits ce (length bytes) s h in
-    run_stands ce bytes (bus_after (output ce) s) opened dies (cycle ce Dout byte ∷ past) (one_stands s opened dies past ce byte f fits parts.first) (output_fits s ce parts.first fits) parts.rest
+    let parts = splits Dout ce (length bytes) s h in
+    run_stands ce bytes (bus_after (output ce) s) opened dies (cycle ce Dout byte ∷ past) (one_stands s opened dies past ce byte f fits parts.first) (outputs_are_data.fits s ce parts.first fits) parts.rest
 
 -- 2. an output leaves the drivers, and moves the column on by one
 
@@ -156,16 +136,16 @@ one_shown s opened dies past ce m k byte d f h is shows =
     let l : Lun = record { ce = ce; lun = m } in
     let c : Channel = channel_on s.geometry (length s.targets) opened in
     let number : numbered s.geometry k ≡ l = ap (numbered s.geometry) is.place ∙ numbered_number s.geometry l is.lun in (
-      sym (output_judged s.geometry (length s.targets) s past ce byte f.follows) ∙ h,
+      sym (cycle_judged Dout outputs_are_data s.geometry (length s.targets) s past ce byte f.follows) ∙ h,
       ap (byte_of_driver c past ce) is.one ∙ (shown_is c past l d (subst (λ (x : Lun). IsDieOf c past x d) number (f.stand k d is.die)) refl ∙ shows),
     )
 
 pub run_shown : (ce m k : ℕ) (d : Die) (opened : List Entries) (dies : List Die) (n : ℕ) (bytes : List ℕ) (s : BusView) (past : List Item) → IsStanding s opened dies past → BusFits s → length s.targets ≡ n → judged_outputs ce (length bytes) s ≡ None → IsDriver s dies past ce m k d → AreOf d (latch s.geometry past (record { ce = ce; lun = m })) (output_column (read_column s.geometry past (record { ce = ce; lun = m }))) bytes → AreShown (channel_on s.geometry n opened) ce bytes past
 run_shown ce m k d opened dies n [] s past f fits same h is all = tt
 run_shown ce m k d opened dies n (byte ∷ bytes) s past f fits same h is all =
-    let parts = splits ce (length bytes) s h in
+    let parts = splits Dout ce (length bytes) s h in
     let here : Shows s opened past n ce byte = subst (λ (n : ℕ). Shows s opened past n ce byte) same (one_shown s opened dies past ce m k byte d f parts.first is (all 0 byte refl)) in
-    let later = run_shown ce m k d opened dies n bytes (bus_after (output ce) s) (cycle ce Dout byte ∷ past) (one_stands s opened dies past ce byte f fits parts.first) (output_fits s ce parts.first fits)
+    let later = run_shown ce m k d opened dies n bytes (bus_after (output ce) s) (cycle ce Dout byte ∷ past) (one_stands s opened dies past ce byte f fits parts.first) (outputs_are_data.fits s ce parts.first fits)
     (changed_length (target_after s.geometry (output ce)) s.targets ce ∙ same) parts.rest
     (record { one = drivers_kept s.geometry past ce byte ∙ is.one; lun = is.lun; place = is.place; die = is.die })
     (λ i b at. later_kept s.geometry past ce byte m d i is.one ∙ all (suc i) b at) in
@@ -224,7 +204,7 @@ run_at s opened dies past ce luns lun k count bytes o at f fits h size same foun
 
     some : 0 < count → AreShown (channel_on s.geometry (length s.targets) opened) ce bytes past
     some more =
-        let permitted : broken s.geometry (length s.targets) past (cycle ce Dout 0) ≡ None = sym (output_judged s.geometry (length s.targets) s past ce 0 f.follows) ∙ first_permitted s ce count more h in
+        let permitted : broken s.geometry (length s.targets) past (cycle ce Dout 0) ≡ None = sym (cycle_judged Dout outputs_are_data s.geometry (length s.targets) s past ce 0 f.follows) ∙ first_permitted Dout s ce count more h in
         let one = driver_found s opened dies past ce luns o f permitted same found in
         let driver : one.0 ≡ lun = the_same (sym one.1.0 ∙ first) in
         let there = output_there s.geometry (length s.targets) past ce 0 permitted in
@@ -246,29 +226,19 @@ pub none_at : (s : BusView) (opened : List Entries) (dies : List Die) (past : Li
 none_at s opened dies past ce luns count bytes o f h size same found none =
     none_taken ce count s bytes (channel_on s.geometry (length s.targets) opened) past size
     (λ more.
-    let permitted : broken s.geometry (length s.targets) past (cycle ce Dout 0) ≡ None = sym (output_judged s.geometry (length s.targets) s past ce 0 f.follows) ∙ first_permitted s ce count more h in
+    let permitted : broken s.geometry (length s.targets) past (cycle ce Dout 0) ≡ None = sym (cycle_judged Dout outputs_are_data s.geometry (length s.targets) s past ce 0 f.follows) ∙ first_permitted Dout s ce count more h in
     let one = driver_found s opened dies past ce luns o f permitted same found in
     let clash : None ≡ Some one.0 = sym none ∙ one.1.0 in
     cc)
 
 -- 6. the trace and what is kept beside it
 
-pushed : (ce : ℕ) (bytes : List ℕ) (items : List Item) → with_outputs ce bytes (reverse items) ≡ reverse (items ++ map (λ (byte : ℕ). cycle ce Dout byte) bytes)
-pushed ce [] items = ap reverse (sym (append-nil items))
-pushed ce (byte ∷ bytes) items =
-    ap (with_outputs ce bytes) (reversed items (items ++ (cycle ce Dout byte ∷ [])) (cycle ce Dout byte) refl) ∙
-    (pushed ce bytes (items ++ (cycle ce Dout byte ∷ [])) ∙
-    ap reverse (append_assoc items (cycle ce Dout byte ∷ []) (map (λ (byte : ℕ). cycle ce Dout byte) bytes)))
-
-pub with_pushed : (ce : ℕ) (bytes : List ℕ) (items more : List Item) → more ≡ items ++ map (λ (byte : ℕ). cycle ce Dout byte) bytes → with_outputs ce bytes (reverse items) ≡ reverse more
-with_pushed ce bytes items more is = pushed ce bytes items ∙ ap reverse (sym is)
-
 -- the run has happened, and the bus runs on
 pub run_goes_on : (s next : BusView) (opened : List Entries) (dies : List Die) (items more : List Item) (ce count len capacity room due : ℕ) (bytes : List ℕ) → IsStanding s opened dies (reverse items) → BusFits s → judged_outputs ce count s ≡ None → length bytes ≡ count → next ≡ after_outputs ce count s → more ≡ items ++ map (λ (byte : ℕ). cycle ce Dout byte) bytes → bus_due next ≤ due → len + room + due ≤ capacity → IsRunning next opened dies more len capacity room due
 run_goes_on s next opened dies items more ce count len capacity room due bytes f fits h size is pushes readies places =
     record {
       standing =
-          subst (IsStanding next opened dies) (with_pushed ce bytes items more pushes)
+          subst (IsStanding next opened dies) (with_pushed Dout ce bytes items more pushes)
           (subst (λ (x : BusView). IsStanding x opened dies (with_outputs ce bytes (reverse items))) (ap (λ (n : ℕ). after_outputs ce n s) size ∙ sym is)
           (run_stands ce bytes s opened dies (reverse items) f fits (subst (λ (n : ℕ). judged_outputs ce n s ≡ None) (sym size) h)));
       readies = readies;
@@ -277,4 +247,4 @@ run_goes_on s next opened dies items more ce count len capacity room due bytes f
 
 pub are_taken : (s next : BusView) (opened : List Entries) (items more : List Item) (ce room left : ℕ) (bytes : List ℕ) → Follows s.geometry (length s.targets) next (with_outputs ce bytes (reverse items)) → AreShown (channel_on s.geometry (length s.targets) opened) ce bytes (reverse items) → more ≡ items ++ map (λ (byte : ℕ). cycle ce Dout byte) bytes → room ≤ left + length bytes → AreTaken (traced s opened items room) (traced next opened more left) ce bytes
 are_taken s next opened items more ce room left bytes f shows pushes enough =
-    record { channel = same_channel s next opened (with_outputs ce bytes (reverse items)) f; shown = shows; past = sym (with_pushed ce bytes items more pushes); room = enough }
+    record { channel = same_channel s next opened (with_outputs ce bytes (reverse items)) f; shown = shows; past = sym (with_pushed Dout ce bytes items more pushes); room = enough }

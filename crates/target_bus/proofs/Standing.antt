@@ -25,7 +25,6 @@ use Rattle.onfi_cycle.specs.declared.latch.Latch.{Latch}
 use Rattle.onfi_cycle.specs.declared.lun.Lun.{Lun}
 use Rattle.onfi_cycle.specs.declared.opening.Opening.{Opening}
 use Rattle.onfi_cycle.specs.declared.page_address.PageAddress.{PageAddress}
-use Rattle.onfi_cycle.specs.declared.queued.Queued.{Queued}
 use Rattle.onfi_cycle.specs.declared.tail_facts.TailFacts.{TailFacts}
 use Rattle.onfi_cycle.specs.declared.target_cycle.TargetCycle.{TargetCycle}
 use Rattle.onfi_cycle.specs.declared.target_cycle.TargetCycle.TheVariants.{CommandCycle, AddressCycle, InputCycle, OutputCycle}
@@ -46,12 +45,10 @@ use Rattle.onfi_cycle.proofs.Others.{first_passed}
 use Rattle.onfi_cycle.proofs.Passed.{permitted_keeps}
 use Rattle.onfi_cycle.proofs.Keeping.{views_length}
 use Rattle.onfi_cycle.proofs.Following.{count_of}
-use Rattle.die_model.specs.declared.Work.{Work}
-use Rattle.die_model.specs.declared.Work.TheVariants as w
-use Rattle.die_model.specs.Die.{Die, work_begun, is_program, CanBegin, IsAfter}
+use Rattle.die_model.specs.Die.{Die, work_begun, is_program, IsAfter}
 use Rattle.die_model.specs.Standing.{IsDieOf, WorkedBy, CanBeginSome, is_no_ready, CanWork, IsWorked}
-use Rattle.die_model.proofs.Standing.{IsInput, is_input, dies_go_on}
-use Rattle.target_bus.specs.Bus.{Entries, channel_on, opened_page, numbered, number_of, lun_at, StandFor, IsWorkedAt, FindsWork, IsStanding, Permits, IsNext, IsRunning, Traced, spent}
+use Rattle.die_model.proofs.Standing.{is_input, dies_go_on}
+use Rattle.target_bus.specs.Bus.{Entries, channel_on, opened_page, numbered, number_of, lun_at, StandFor, FindsWork, IsStanding, Permits, IsNext, IsRunning, Traced, spent}
 use Rattle.target_bus.specs.declared.working.Worked.{Worked}
 use Rattle.target_bus.proofs.Numbers.{target_there, lun_there, numbered_number, number_apart, number_below, set_here, set_other}
 

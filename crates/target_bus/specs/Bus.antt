@@ -15,12 +15,15 @@ use Rattle.onfi_cycle.specs.declared.filling.Filling.{Filling}
 use Rattle.onfi_cycle.specs.declared.effect.Effect.{Effect}
 use Rattle.onfi_cycle.specs.declared.latch.Latch.{Latch}
 use Rattle.onfi_cycle.specs.declared.latch.Latch.TheVariants.{Status, Data}
-use Rattle.onfi_cycle.specs.Sequence.{tail, facts_of}
+use Rattle.onfi_cycle.specs.declared.tail_facts.TailFacts.{TailFacts}
+use Rattle.onfi_cycle.specs.Sequence.{tail, facts_of, takes_inputs, row, input_column}
+use Rattle.onfi_cycle.specs.Effect.{names_lun, page_address}
 use Rattle.onfi_cycle.specs.Filling.{filling}
 use Rattle.onfi_cycle.specs.Lun.{effect_on, option_plus}
 use Rattle.onfi_cycle.specs.Content.{shown_by, byte_at}
 use Rattle.onfi_cycle.specs.Permitted.{broken}
 use Rattle.onfi_cycle.specs.Outputs.{with_outputs}
+use Rattle.onfi_cycle.specs.Inputs.{with_inputs, judged_inputs, after_inputs}
 use Rattle.onfi_cycle.specs.Channel.{Channel, cycle, bus_byte}
 use Rattle.onfi_cycle.specs.State.{BusView, Follows}
 use Rattle.onfi_cycle.specs.Working.{fills, works_on}
@@ -29,6 +32,7 @@ use Rattle.die_model.specs.Pages.{page_in}
 use Rattle.die_model.specs.Die.{Die, page_of, is_new, status_of, bytes_shown}
 use Rattle.die_model.specs.Standing.{IsDieOf}
 use Rattle.target_bus.specs.declared.working.Worked.{Worked}
+use Rattle.target_bus.specs.declared.working.FilledLun.{FilledLun}
 use Rattle.target_bus.specs.declared.refusal.BusFault.{BusFault}
 use Rattle.target_bus.specs.declared.refusal.BusFault.TheVariants.{DiesMissing, DieUnfit, OutOfMemory}
 use Rattle.target_bus.specs.declared.refusal.BusRefusal.{BusRefusal}
@@ -146,6 +150,12 @@ pub record AreTaken (old new : Traced) (ce : ℕ) (bytes : List ℕ) : Type 0 wh
   pub past : new.past ≡ with_outputs ce bytes old.past
   pub room : old.room ≤ new.room + length bytes
 
+-- these inputs have happened on the channel, and nothing else
+pub record ArePut (old new : Traced) (ce : ℕ) (bytes : List ℕ) : Type 0 where
+  pub channel : channel_of new ≡ channel_of old
+  pub past : new.past ≡ with_inputs ce bytes old.past
+  pub room : old.room ≤ new.room + length bytes
+
 abbrev pub is_output : Kind → Bool
 is_output Dout = true
 is_output _ = false
@@ -180,6 +190,22 @@ FindsWork g past i ce n (Some w) = IsWorkedAt g past i (lun_at ce w.lun) w.filli
 abbrev pub LeavesBelow : Parts → List Item → Item → (ce n : ℕ) → Type 0
 LeavesBelow g past i ce n = (m : ℕ) → m < n → fills (filling g (facts_of (tail past ce)) i (lun_at ce m)) ≡ false
 
+-- inputs fill a page register of the LUN of this number
+abbrev pub is_filled : Parts → TailFacts → ℕ → Bool
+is_filled g t lun = takes_inputs t.phase && names_lun g (row t) lun
+
+-- they fill the register of this page's plane, from this column on
+pub record IsFilledAt (g : Parts) (t : TailFacts) (lun : ℕ) (page : PageAddress) (column : ℕ) : Type 0 where
+  pub there : lun < g.luns
+  pub fills : is_filled g t lun ≡ true
+  pub page_is : page ≡ page_address g (row t)
+  pub column_is : column ≡ input_column t
+
+-- of the LUNs of a target from number n on, the one whose register inputs fill; None where they fill none
+abbrev pub FindsFilled : Parts → TailFacts → ℕ → Option FilledLun → Type 0
+FindsFilled g t n None = (m : ℕ) → n ≤ m → m < g.luns → is_filled g t m ≡ false
+FindsFilled g t n (Some f) = IsFilledAt g t f.lun f.page f.column
+
 -- a running state and its dies stand for a past
 pub record IsStanding (state : BusView) (opened : List Entries) (dies : List Die) (past : List Item) : Type 0 where
   pub follows : Follows state.geometry (length state.targets) state past
@@ -202,6 +228,19 @@ abbrev pub StandOn : BusView → (dies after : List Die) → Item → Type 0
 StandOn state dies after i =
     (opened : List Entries) (past : List Item) → IsStanding state opened dies past → broken state.geometry (length state.targets) past i ≡ None
     → StandFor (channel_on state.geometry (length state.targets) opened) (i ∷ past) after
+
+-- they stand for some past, after which so many inputs are permitted
+pub record PermitsInputs (state : BusView) (dies : List Die) (ce count : ℕ) : Type 0 where
+  pub opened : List Entries
+  pub past : List Item
+  pub standing : IsStanding state opened dies past
+  pub permitted : judged_inputs ce count state ≡ None
+
+-- the state after permitted inputs of these bytes and these dies stand for whatever past was stood for before, with the inputs
+abbrev pub StandOnByInputs : BusView → (dies after : List Die) → ℕ → List ℕ → Type 0
+StandOnByInputs state dies after ce bytes =
+    (opened : List Entries) (past : List Item) → IsStanding state opened dies past → judged_inputs ce (length bytes) state ≡ None
+    → IsStanding (after_inputs ce (length bytes) state) opened after (with_inputs ce bytes past)
 
 -- they go on to stand, with the item
 abbrev pub GoOn : (state next : BusView) (dies after : List Die) → Item → Type 0

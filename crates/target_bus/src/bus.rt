@@ -11,19 +11,20 @@ ghost use Rattle.onfi_cycle.specs.State.{Follows};
 ghost use Rattle.onfi_cycle.specs.Look.{look_after};
 ghost use Rattle.onfi_cycle.specs.Readies.{starts_work};
 ghost use Rattle.die_model.specs.Die.{Die, page_of};
-ghost use Rattle.target_bus.specs.Bus.{Traced, channel_of, number_of, StandFor, bus_fault, RefusesDies, Refuses, IsNext, AreTaken, is_output, IsRunning};
+ghost use Rattle.target_bus.specs.Bus.{Traced, channel_of, number_of, StandFor, bus_fault, RefusesDies, Refuses, IsNext, AreTaken, ArePut, is_output, IsRunning};
 ghost use Rattle.onfi_cycle.specs.Outputs.{broken_outputs};
+ghost use Rattle.onfi_cycle.specs.Inputs.{broken_inputs};
 
 use crate::going_on::{
-    go_on, go_on_by_outputs, judge_cycle, judge_output, output, push_outputs, starting,
+    go_on, go_on_by_inputs, go_on_by_outputs, judge_cycle, judge_output, output, push_run, starting,
 };
 use crate::opening::{are_new, are_targets, copy_pages, forget_array_pages};
 use crate::refusal::{BusFault, BusRefusal, DiesRefused};
 use crate::showing::{copy_shown, shown_byte};
-use crate::working::{end_work, work};
+use crate::working::{end_work, work, work_inputs};
 use die_model::{LunDie, Pages};
 use nand_geometry::Geometry;
-use onfi_cycle::{BusState, Cycle, Item, Lun, LunState, MAX_CHANNEL_LUNS};
+use onfi_cycle::{BusState, Cycle, Item, Kind, Lun, LunState, MAX_CHANNEL_LUNS};
 use std::alloc::{AllocError, Allocator, Global};
 use std::marker::Model;
 
@@ -180,6 +181,35 @@ impl<A: Allocator + Copy> Bus<A> {
         Ok(())
     }
 
+    /// Puts a run of inputs on the bus, one for each byte of the slice, as [`put`](Bus::put) does one by one. The run is judged once,
+    /// and its bytes are copied.
+    ///
+    /// Errors, with all as it was: the first rule that the first forbidden input breaks; and where none is forbidden, want of memory.
+    pub fn put_all(&mut self, ce: u8, bytes: &[u8]) -> Result<(), BusRefusal>
+        ensures ok { IfOk result (λ _. (broken_inputs self.old.geometry self.old.targets ce bytes.now self.old.past ≡ None)
+            × ArePut self.old self.new ce bytes.now) }
+        ensures err { IfErr result (λ e. Refuses e (broken_inputs self.old.geometry self.old.targets ce bytes.now self.old.past)
+            × (self.new ≡ self.old)) }
+        ensures memory { length bytes.now ≤ self.old.room → IfErr result (λ e. e ≢ BusRefusal.OutOfMemory) }
+    {
+        let count = bytes.len();
+        if let Some(rule) = self.state.judge_inputs(ce, count) {
+            return Err(BusRefusal::Forbidden(rule));
+        }
+        let left = self.room.saturating_sub(count);
+        let Some(places) = count.checked_add(left + self.due) else {
+            return Err(BusRefusal::OutOfMemory);
+        };
+        if self.trace.reserve(places).is_err() {
+            return Err(BusRefusal::OutOfMemory);
+        }
+        work_inputs(&self.state, self.dies.as_mut_slice(), ce, bytes);
+        go_on_by_inputs(&mut self.state, ce, count);
+        push_run(&mut self.trace, ce, Kind::Din, bytes);
+        self.room = left;
+        Ok(())
+    }
+
     /// Takes the byte that the one driver of a target shows.
     ///
     /// Errors, with all as it was: the first rule that the output breaks; and where it breaks none, want of memory.
@@ -230,7 +260,7 @@ impl<A: Allocator + Copy> Bus<A> {
         copy_shown(&self.state, self.dies.as_slice(), ce, into);
         self.state.facts_fit();
         go_on_by_outputs(&mut self.state, ce, count);
-        push_outputs(&mut self.trace, ce, into);
+        push_run(&mut self.trace, ce, Kind::Dout, into);
         self.room = left;
         Ok(())
     }

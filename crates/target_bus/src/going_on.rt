@@ -10,6 +10,7 @@ ghost use Rattle.onfi_cycle.specs.Channel.{is_cycle, cycle};
 ghost use Rattle.onfi_cycle.specs.State.{Follows, judged};
 ghost use Rattle.onfi_cycle.specs.Readies.{starts_work, bus_due};
 ghost use Rattle.onfi_cycle.specs.Outputs.{with_outputs, judged_outputs, after_outputs};
+ghost use Rattle.onfi_cycle.specs.Inputs.{with_inputs, judged_inputs, after_inputs};
 ghost use Rattle.target_bus.specs.Bus.{starting};
 
 use onfi_cycle::{BusState, Cycle, Forbidden, Item, Kind, readies_are_due, starts_work};
@@ -140,14 +141,32 @@ pub fn go_on_by_outputs(state: &mut BusState, ce: u8, count: usize)
     state.apply_outputs(ce, count);
 }
 
-/// Adds the outputs of these bytes to a trace that has places for them.
-pub fn push_outputs<A: Allocator>(trace: &mut Vec<Item, A>, ce: u8, bytes: &[u8])
+/// Goes on by a run of permitted inputs, which bring no ready.
+pub fn go_on_by_inputs(state: &mut BusState, ce: u8, count: usize)
+    requires { judged_inputs ce count state.old ≡ None }
+    ensures state { state.new ≡ after_inputs ce count state.old }
+    ensures past { (g : Parts) (n : ℕ) (past : List Item) (bytes : List ℕ) → Follows g n state.old past → length bytes ≡ count
+        → Follows g n state.new (with_inputs ce bytes past) }
+    ensures due { bus_due state.new ≤ bus_due state.old }
+{
+    // Laws: what an item leaves of the readies that are due, and that the facts of the state fit.
+    readies_are_due();
+    state.facts_fit();
+    state.apply_inputs(ce, count);
+}
+
+/// Adds the data cycles of these bytes to a trace that has places for them.
+pub fn push_run<A: Allocator>(trace: &mut Vec<Item, A>, ce: u8, kind: Kind, bytes: &[u8])
     requires places { vec_len trace.old + length bytes.now ≤ vec_capacity trace.old }
-    ensures items { trace.new.items ≡ trace.old.items ++ map (λ byte. cycle ce Dout byte) bytes.now }
+    ensures items { trace.new.items ≡ trace.old.items ++ map (λ byte. cycle ce kind byte) bytes.now }
     ensures len { vec_len trace.new ≡ vec_len trace.old + length bytes.now }
     ensures capacity { vec_capacity trace.new ≡ vec_capacity trace.old }
 {
     for byte in bytes {
-        trace.push_reserved(Item::Cyc(output(ce, *byte)));
+        trace.push_reserved(Item::Cyc(Cycle {
+            ce,
+            kind,
+            byte: *byte,
+        }));
     }
 }

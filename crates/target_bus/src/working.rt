@@ -1,6 +1,8 @@
 //! What an item does to the dies of a channel.
-ghost use Rattle.std.specs.Prelude.{◌≡◌, ℕ, ◌<◌, ◌≤◌, true, false, List, Some, None, IsOk, IfOk, IfSome, OnErr, length, slice_get, slice_set};
+ghost use Rattle.std.specs.Prelude.{◌≡◌, ℕ, ◌+◌, ◌%◌, ◌<◌, ◌≤◌, true, false, List, Some, None, IsOk, IfOk, IfSome, OnErr, length, slice_get, slice_set};
 ghost use Rattle.nand_geometry.specs.declared.parts.Parts.{Parts};
+ghost use Rattle.nand_geometry.specs.Limits.{page_len, planes};
+ghost use Rattle.onfi_cycle.specs.declared.item.Kind.TheVariants.{Din};
 ghost use Rattle.onfi_cycle.specs.declared.item.Item.{Item};
 ghost use Rattle.onfi_cycle.specs.declared.item.Item.TheVariants.{Cyc};
 ghost use Rattle.onfi_cycle.specs.Lun.{effect_on};
@@ -11,12 +13,12 @@ ghost use Rattle.onfi_cycle.specs.State.{Follows};
 ghost use Rattle.onfi_cycle.specs.Working.{fills, begins};
 ghost use Rattle.onfi_cycle.specs.Readies.{starts_work};
 ghost use Rattle.onfi_cycle.specs.declared.effect.Effect.TheVariants.{BecameReady, ArrayBecameReady};
-ghost use Rattle.die_model.specs.Die.{Die, IsAfter, is_program};
+ghost use Rattle.die_model.specs.Die.{Die, IsAfter, is_program, filled_with};
 ghost use Rattle.die_model.specs.Standing.{CanWork, WorkedBy};
-ghost use Rattle.target_bus.specs.Bus.{FindsWork, Permits, StandOn, is_input, may_fill};
+ghost use Rattle.target_bus.specs.Bus.{FindsWork, FindsFilled, Permits, PermitsInputs, StandOn, StandOnByInputs, is_input, may_fill};
 
 use die_model::LunDie;
-use onfi_cycle::{BusState, Cycle, Effect, Filling, Item, Kind, Lun};
+use onfi_cycle::{BusState, Cycle, Effect, Filling, Item, Kind, Lun, PageAddress};
 use std::alloc::{AllocError, Allocator};
 
 // A page register changes.
@@ -217,6 +219,85 @@ pub fn work<A: Allocator + Copy>(
         work_input(state, dies, cycle)
     } else {
         work_found(state, dies, cycle)
+    }
+}
+
+/// The LUN of a target whose page register inputs fill: the page whose plane it is, and the column of the next input.
+#[derive(Clone, Copy, Debug, PartialEq, Eq)]
+pub struct FilledLun {
+    pub lun: u8,
+    pub page: PageAddress,
+    pub column: usize,
+}
+
+// An input; which byte it is doesn't matter for where it goes.
+fn input(ce: u8) -> Item
+    ensures { result ≡ cycle ce Din 0 }
+{
+    Item::Cyc(Cycle {
+        ce,
+        kind: Kind::Din,
+        byte: 0,
+    })
+}
+
+// Of the LUNs of a target from this number on, the one whose page register inputs fill.
+fn find_filled(state: &BusState, ce: u8, luns: u8, lun: u8) -> Option<FilledLun>
+    requires { lun ≤ luns }
+    ensures there { IfSome result (λ f. f.lun < luns) }
+    ensures past { (g : Parts) (n : ℕ) (past : List Item) → Follows g n state.now past → ce < n → g.luns ≡ luns
+        → FindsFilled g (facts_of (tail past ce)) lun result }
+{
+    if lun == luns {
+        return None;
+    }
+    match state.filling(input(ce), Lun { ce, lun }) {
+        Filling::Fills(page, column, _) => Some(FilledLun { lun, page, column }),
+        Filling::Leaves | Filling::Clears(_) => find_filled(state, ce, luns, lun + 1),
+    }
+}
+
+// Fills the register of a page's plane from a column on, in the die of a number.
+fn fill_in<A: Allocator + Copy>(
+    dies: &mut [LunDie<A>],
+    place: usize,
+    filled: FilledLun,
+    bytes: &[u8],
+)
+    requires inside { place < length dies.old }
+    requires columns { (d : Die) → slice_get dies.old place ≡ Some d → filled.column + length bytes.now ≤ page_len d.geometry }
+    ensures { (old : Die) × (slice_get dies.old place ≡ Some old)
+        × (dies.new ≡ slice_set dies.old place (filled_with (filled.page.block % planes old.geometry) filled.column bytes.now old)) }
+{
+    dies[place].fill_from(filled.page, filled.column, bytes);
+}
+
+/// Works a run of permitted inputs on the dies: on one of them at most.
+pub fn work_inputs<A: Allocator + Copy>(
+    state: &BusState,
+    dies: &mut [LunDie<A>],
+    ce: u8,
+    bytes: &[u8],
+)
+    requires few { length dies.old ≤ 16 }
+    requires permitted { PermitsInputs state.now dies.old ce (length bytes.now) }
+    ensures { StandOnByInputs state.now dies.old dies.new ce bytes.now }
+{
+    if bytes.is_empty() {
+        return;
+    }
+    // Its contract says that what is kept fits.
+    state.facts_fit();
+    let luns = state.geometry().parts().luns;
+    match find_filled(state, ce, luns, 0) {
+        None => {}
+        Some(filled) => {
+            let here = Lun {
+                ce,
+                lun: filled.lun,
+            };
+            fill_in(dies, here.place(luns), filled, bytes);
+        }
     }
 }
 

@@ -1,4 +1,4 @@
-use Rattle.std.proofs.Common.{◌≡◌, ℕ, ◌+◌, ◌-◌, ◌∙◌, ap, arith}
+use Rattle.std.proofs.Common.{ℕ, ◌∙◌, ap, arith}
 use Rattle.std.specs.List.{slice_get}
 use Rattle.onfi_cycle.specs.Readies.{due_there}
 use Rattle.target_bus.proofs.Due.{Counts, counts, there_at_most}

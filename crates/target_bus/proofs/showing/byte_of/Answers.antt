@@ -1,4 +1,4 @@
-use Rattle.std.proofs.Common.{Some, sym, ◌∙◌}
+use Rattle.std.proofs.Common.{sym, ◌∙◌}
 use Rattle.target_bus.proofs.Shown.{not_missing, shown_there}
 use Rattle.target_bus.proofs.showing.byte_of.Goals as goal
 

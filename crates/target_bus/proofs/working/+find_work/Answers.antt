@@ -1,5 +1,4 @@
-use Rattle.std.proofs.Common.{sym, ◌∙◌, ◌<◌, arith, ◌+◌}
-use Rattle.nand_geometry.specs.declared.parts.Parts.{Parts}
+use Rattle.std.proofs.Common.{sym, ◌∙◌, ◌<◌, arith}
 use Rattle.onfi_cycle.specs.declared.item.Item.TheVariants.{Cyc}
 use Rattle.target_bus.specs.Bus.{lun_at}
 use Rattle.target_bus.proofs.Standing.{finds_later, rests_by}

@@ -1,4 +1,4 @@
-use Rattle.std.proofs.Common.{◌≡◌, ◌*◌, ◌+◌, ◌<◌, ℕ, None, ◌∷◌, sym, ap, subst, ◌∙◌, length}
+use Rattle.std.proofs.Common.{◌*◌, ◌+◌, ◌<◌, ℕ, ◌∷◌, sym, ap, subst, ◌∙◌, length}
 use Rattle.nand_geometry.specs.declared.parts.Parts.{Parts}
 use Rattle.onfi_cycle.specs.declared.lun.Lun.{Lun}
 use Rattle.onfi_cycle.specs.declared.item.Item.{Item}

@@ -1,4 +1,4 @@
-use Rattle.std.proofs.Common.{◌≡◌, ℕ, ◌*◌, ◌+◌, Some, None, ◌∷◌, sym, ap, subst, ◌∙◌, length}
+use Rattle.std.proofs.Common.{ℕ, ◌*◌, ◌+◌, Some, None, ◌∷◌, sym, ap, subst, ◌∙◌, length}
 use Rattle.nand_geometry.specs.declared.parts.Parts.{Parts}
 use Rattle.onfi_cycle.specs.declared.item.Item.TheVariants.{Cyc}
 use Rattle.target_bus.specs.Bus.{channel_on, StandFor}

@@ -1,9 +1,8 @@
-use Rattle.std.proofs.Common.{◌≡◌, ℕ, ◌+◌, ◌*◌, ◌/◌, ◌≤◌, List, [], length, reverse, map, sym, ap, subst, ◌∙◌, arith}
+use Rattle.std.proofs.Common.{ℕ, ◌/◌, length, reverse, map, sym, ap, subst, ◌∙◌, arith}
 use Rattle.nand_geometry.specs.declared.parts.Parts.{Parts}
-use Rattle.onfi_cycle.specs.declared.item.Item.{Item}
 use Rattle.onfi_cycle.proofs.Following.{refilled}
 use Rattle.die_model.specs.Die.{Die}
-use Rattle.target_bus.specs.Bus.{Entries, IsStanding, are_targets, are_new, WholeDies, forgotten, opened_page}
+use Rattle.target_bus.specs.Bus.{are_targets, are_new, WholeDies, forgotten, opened_page}
 use Rattle.target_bus.proofs.Opened.{opens, opening_is, most_targets, nothing_due, targets_are, opens_on}
 use Rattle.target_bus.proofs.bus.Bus.new.Goals as goal
 

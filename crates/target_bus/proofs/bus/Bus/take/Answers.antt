@@ -7,7 +7,7 @@ use Rattle.onfi_cycle.specs.Permitted.{broken}
 use Rattle.onfi_cycle.specs.State.{Follows}
 use Rattle.onfi_cycle.specs.Readies.{starts_work}
 use Rattle.die_model.specs.Die.{Die}
-use Rattle.target_bus.specs.Bus.{Traced, channel_of, IsNext, IsStanding, StandFor}
+use Rattle.target_bus.specs.Bus.{Traced, channel_of, IsNext, IsStanding}
 use Rattle.target_bus.proofs.Standing.{runs_on, is_next, traced, ok_gives, few_lent, stands_output}
 use Rattle.target_bus.proofs.bus.Bus.take.Goals as goal
 

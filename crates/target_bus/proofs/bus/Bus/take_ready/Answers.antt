@@ -1,5 +1,4 @@
-use Rattle.std.proofs.Common.{◌≡◌, ◌∷◌, [], ◌++◌, List, ◌+◌, None, length, reverse, sym, ap, subst, ◌∙◌, arith}
-use Rattle.onfi_cycle.specs.declared.item.Item.{Item}
+use Rattle.std.proofs.Common.{◌∷◌, List, length, reverse, sym, ap, subst, ◌∙◌, arith}
 use Rattle.onfi_cycle.proofs.Following.{refilled}
 use Rattle.die_model.specs.Die.{Die}
 use Rattle.target_bus.specs.Bus.{Traced, channel_on, IsNext, IsStanding, StandFor}
