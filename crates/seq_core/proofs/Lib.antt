@@ -19,4 +19,4 @@ pub mod Played
 pub mod Steps
 pub mod Cores
 pub mod EventList
-pub mod Taken
+pub mod DataRuns

@@ -1,17 +1,15 @@
 -- Moves that are played on a bus, one after another.
-use Rattle.std.proofs.Common.{◌≡◌, ◌≢◌, ℕ, zero, suc, ◌+◌, ◌-◌, ◌<◌, ◌≤◌, List, [], ◌∷◌, ◌++◌, Option, Some, None, refl, sym, ap, ◌∙◌, subst, arith, length, take, drop, get_or, replicate, take-append-drop, ltb, false}
+use Rattle.std.proofs.Common.{◌≡◌, ◌≢◌, ℕ, zero, suc, ◌+◌, ◌<◌, ◌≤◌, List, [], ◌∷◌, ◌++◌, Option, Some, None, refl, sym, ap, ◌∙◌, subst, arith, length, take, drop, get_or, take-append-drop, ltb, false}
 use Rattle.std.proofs.lemmas.Bool.Decides.{nat_tests}
-use Rattle.std.specs.List.{slice_set}
 use Rattle.std.proofs.lemmas.List.{drop_more}
 use Rattle.onfi_cycle.specs.declared.lun.Lun.{Lun}
 use Rattle.onfi_cycle.specs.declared.item.Kind.{Kind}
-use Rattle.onfi_cycle.specs.declared.item.Kind.TheVariants.{Cmd, Adr, Din}
+use Rattle.onfi_cycle.specs.declared.item.Kind.TheVariants.{Cmd, Adr}
 use Rattle.onfi_cycle.specs.declared.item.Item.{Item}
 use Rattle.onfi_cycle.specs.Command.{command}
 use Rattle.onfi_cycle.specs.declared.forbidden.Forbidden.{Forbidden as Rule}
 use Rattle.onfi_cycle.specs.Channel.{Channel, IsOwn, cycle}
 use Rattle.micro_program.specs.Moves.{Move, Give, Take, gives}
-use Rattle.onfi_cycle.specs.Content.{written}
 use Rattle.micro_program.specs.Safe.{MovesAreOwn}
 use Rattle.target_bus.specs.declared.refusal.BusRefusal.{BusRefusal}
 use Rattle.target_bus.specs.declared.refusal.BusRefusal.TheVariants.{Forbidden, OutOfMemory}
@@ -20,7 +18,7 @@ use Rattle.seq_core.specs.Progress.{poll_at}
 use Rattle.seq_core.specs.Calls.{Plays}
 use Rattle.seq_core.specs.Playing.{IsQuiet, KeepsQuiet, HasPlayed, HasPolled}
 pub use Rattle.seq_core.proofs.Plays.{own_first}
-use Rattle.seq_core.proofs.Plays.{plays_append, own_rest, gives_append, gives_next, takes_next}
+use Rattle.seq_core.proofs.Plays.{plays_append, own_rest, gives_append, gives_next}
 
 -- what is permitted isn't refused but for want of memory
 pub never_refused : (e : BusRefusal) (r : Option Rule) → Refuses e r → r ≡ None → e ≢ OutOfMemory → ⊥
@@ -67,49 +65,7 @@ all_given a b ce kind bytes k all h =
     let whole : length bytes ≤ k = omega (arith, all) in
     subst (λ (n : ℕ). HasPlayed a b ce (gives kind bytes) [] n) all (subst (λ (bs : List ℕ). HasPlayed a b ce (gives kind bs) [] k) (take_all_of bytes k whole) h)
 
--- 2. bytes that are taken
-
-takes_split : (len k : ℕ) → k < len → replicate len Take ≡ replicate k Take ++ (Take ∷ replicate (len - k - 1) Take)
-takes_split zero k h = absurd (omega arith)
-takes_split (suc len) zero h = let same : len ≡ suc len - 0 - 1 = omega arith in ap (λ (n : ℕ). Take ∷ replicate n Take) same
-takes_split (suc len) (suc k) h =
-    let below : k < len = omega arith in
-    let same : len - k - 1 ≡ suc len - suc k - 1 = omega arith in
-    ap (λ (ms : List Move). Take ∷ ms) (takes_split len k below) ∙ ap (λ (n : ℕ). Take ∷ (replicate k Take ++ (Take ∷ replicate n Take))) same
-
--- some bytes of an output were taken into a buffer
-pub record TookSome (a b : Traced) (ce k place : ℕ) (before now : List ℕ) : Type 0 where
-  pub bytes : List ℕ
-  pub count : length bytes ≡ k
-  pub played : HasPlayed a b ce (replicate k Take) bytes k
-  pub is_now : now ≡ written bytes place before
-
-pub next_taken : (a b : Traced) (l : Lun) (len k place : ℕ) (before now : List ℕ) → k < len → MovesAreOwn (channel_of a) l (replicate len Take) a.past → TookSome a b l.ce k place before now → MovesAreOwn (channel_of b) l (Take ∷ []) b.past
-next_taken a b l len k place before now below own t =
-    let split = subst (λ (ms : List Move). MovesAreOwn (channel_of a) l ms a.past) (takes_split len k below) own in
-    own_first (channel_of b) l (Take ∷ []) (replicate (len - k - 1) Take) b.past (own_behind a b l (replicate k Take) (Take ∷ replicate (len - k - 1) Take) t.bytes k split t.played)
-
-written_next : (bytes : List ℕ) (place byte : ℕ) (buffer : List ℕ) → written (bytes ++ (byte ∷ [])) place buffer ≡ slice_set (written bytes place buffer) (place + length bytes) byte
-written_next [] place byte buffer = let same : place ≡ place + 0 = omega arith in ap (λ (n : ℕ). slice_set buffer n byte) same
-written_next (x ∷ bytes) place byte buffer =
-    let same : place + 1 + length bytes ≡ place + length (x ∷ bytes) = omega arith in
-    written_next bytes (place + 1) byte (slice_set buffer place x) ∙ ap (λ (n : ℕ). slice_set (written bytes (place + 1) (slice_set buffer place x)) n byte) same
-
-length_append_one : (bytes : List ℕ) (byte : ℕ) → length (bytes ++ (byte ∷ [])) ≡ length bytes + 1
-length_append_one [] byte = refl
-length_append_one (x ∷ bytes) byte = omega (arith, length_append_one bytes byte)
-
-pub more_taken : (a b c : Traced) (ce k place byte : ℕ) (before now later : List ℕ) → TookSome a b ce k place before now → HasPlayed b c ce (Take ∷ []) (byte ∷ []) 1 → later ≡ slice_set now (place + k) byte → TookSome a c ce (k + 1) place before later
-more_taken a b c ce k place byte before now later t one is =
-    record {
-      bytes = t.bytes ++ (byte ∷ []);
-      count = length_append_one t.bytes byte ∙ ap (λ (n : ℕ). n + 1) t.count;
-      played = subst (λ (ms : List Move). HasPlayed a c ce ms (t.bytes ++ (byte ∷ [])) (k + 1)) (sym (takes_next k)) (play_more a b c ce (replicate k Take) (Take ∷ []) t.bytes (byte ∷ []) k 1 t.played one);
-      is_now =
-          is ∙ (ap (λ (xs : List ℕ). slice_set xs (place + k) byte) t.is_now ∙ (ap (λ (n : ℕ). slice_set (written t.bytes place before) (place + n) byte) (sym t.count) ∙ sym (written_next t.bytes place byte before)));
-    }
-
--- 3. polls and addresses
+-- 2. polls and addresses
 
 pub quiet_status : (ce : ℕ) → IsQuiet ce Cmd 0x70
 unfolding command
@@ -121,9 +77,6 @@ quiet_enhanced ce = record { given = refl; starts_none = refl }
 
 pub quiet_address : (ce : ℕ) → KeepsQuiet ce Adr
 quiet_address ce byte = record { given = refl; starts_none = refl }
-
-pub quiet_input : (ce : ℕ) → KeepsQuiet ce Din
-quiet_input ce byte = record { given = refl; starts_none = refl }
 
 -- the same trace on the same channel
 pub own_same : (a b : Traced) (l : Lun) (moved : List Move) → channel_of b ≡ channel_of a → b.past ≡ a.past → MovesAreOwn (channel_of a) l moved a.past → MovesAreOwn (channel_of b) l moved b.past

@@ -87,8 +87,3 @@ gives_append kind (x ∷ xs) ys = ap (λ (ms : List Move). Give kind x ∷ ms) (
 pub gives_next : (kind : Kind) (bytes : List ℕ) (k d : ℕ) → k < length bytes → gives kind (take (k + 1) bytes) ≡ gives kind (take k bytes) ++ (Give kind (get_or bytes k d) ∷ [])
 gives_next kind bytes k d h = ap (gives kind) (take_next bytes k d h) ∙ gives_append kind (take k bytes) (get_or bytes k d ∷ [])
 
-pub takes_next : (k : ℕ) → replicate (k + 1) Take ≡ replicate k Take ++ (Take ∷ [])
-takes_next zero = refl
-takes_next (suc k) =
-    let next : suc k + 1 ≡ suc (k + 1) = omega arith in
-    ap (λ (n : ℕ). replicate n Take) next ∙ ap (λ (ms : List Move). Take ∷ ms) (takes_next k)

@@ -1,5 +1,5 @@
 -- What a call of a sequencer is: an event of the world that it keeps.
-use Rattle.std.specs.Prelude.{◌≡◌, ℕ, ◌≤◌, Bool, true, false, ◌&&◌, not, if◌then◌else◌, List, [], ◌∷◌, Option, Some, None, is_some, length, slice_get, get_or, set}
+use Rattle.std.specs.Prelude.{◌≡◌, ℕ, ◌≤◌, Bool, true, false, ◌&&◌, not, if◌then◌else◌, List, ◌∷◌, Option, Some, None, is_some, length, slice_get, get_or, set}
 use Rattle.std.specs.List.{list_all}
 use Rattle.nand_geometry.specs.declared.parts.Parts.{Parts}
 use Rattle.onfi_cycle.specs.declared.lun.Lun.{Lun}

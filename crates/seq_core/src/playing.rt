@@ -71,6 +71,18 @@ fn give_all<A: Allocator + Copy>(bus: &mut Bus<A>, lun: Lun, kind: Kind, bytes: 
     }
 }
 
+// Gives inputs, which have their places.
+fn put_all<A: Allocator + Copy>(bus: &mut Bus<A>, lun: Lun, bytes: &[u8])
+    requires room { length bytes.now ≤ bus.old.room }
+    requires own { MovesAreOwn (channel_of bus.old) lun (gives Din bytes.now) bus.old.past }
+    ensures { HasPlayed bus.old bus.new lun.ce (gives Din bytes.now) [] (length bytes.now) }
+{
+    match bus.put_all(lun.ce, bytes) {
+        Ok(()) => {}
+        Err(_) => unreachable!(),
+    }
+}
+
 // Takes one byte, which has its place.
 fn take<A: Allocator + Copy>(bus: &mut Bus<A>, lun: Lun) -> u8
     requires room { 0 < bus.old.room }
@@ -191,7 +203,7 @@ fn put<A: Allocator + Copy>(
     ensures err { OnErr result (IsUntouched bus.old bus.new) }
 {
     bus.reserve(len)?;
-    give_all(bus, lun, Kind::Din, &buffer[place..place + len]);
+    put_all(bus, lun, &buffer[place..place + len]);
     Ok(())
 }
 

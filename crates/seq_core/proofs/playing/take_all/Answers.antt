@@ -1,6 +1,7 @@
 use Rattle.std.proofs.Common.{◌≡◌, ◌++◌, List, ℕ, length, take, drop, sym, ap, ◌∙◌, arith}
 use Rattle.target_bus.specs.Bus.{channel_of}
-use Rattle.seq_core.proofs.Taken.{run_never_refused, taken_plays, written_is}
+use Rattle.onfi_cycle.proofs.Written.{written_is}
+use Rattle.seq_core.proofs.DataRuns.{run_never_refused, taken_plays}
 use Rattle.seq_core.proofs.playing.take_all.Goals as goal
 
 pub unreachable-requires : goal.unreachable-requires

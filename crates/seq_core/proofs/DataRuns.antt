@@ -1,24 +1,24 @@
--- A run of outputs that is own: the bus permits it, and it is played.
-use Rattle.std.proofs.Common.{◌≡◌, ◌≢◌, ℕ, zero, suc, ◌+◌, ◌<◌, ◌≤◌, List, [], ◌∷◌, ◌++◌, Option, Some, None, refl, sym, ap, ◌∙◌, subst, arith, length, take, drop, replicate}
-use Rattle.std.specs.List.{slice_set}
+-- A run of data that is own: the bus permits it, and it is played.
+use Rattle.std.proofs.Common.{◌≡◌, ◌≢◌, ℕ, zero, suc, List, [], ◌∷◌, Option, None, refl, sym, ap, ◌∙◌, subst, length, replicate}
 use Rattle.onfi_cycle.specs.declared.forbidden.Forbidden.{Forbidden as Rule}
 use Rattle.onfi_cycle.specs.declared.item.Item.{Item}
-use Rattle.onfi_cycle.specs.declared.item.Kind.TheVariants.{Dout}
+use Rattle.onfi_cycle.specs.declared.item.Kind.TheVariants.{Din, Dout}
 use Rattle.onfi_cycle.specs.declared.lun.Lun.{Lun}
 use Rattle.onfi_cycle.specs.Channel.{Channel, cycle}
-use Rattle.onfi_cycle.specs.Outputs.{with_outputs, broken_outputs, first_rule}
-use Rattle.micro_program.specs.Moves.{Move, Take, and_then}
-use Rattle.onfi_cycle.specs.Content.{written}
+use Rattle.onfi_cycle.specs.Runs.{first_rule}
+use Rattle.onfi_cycle.specs.Outputs.{with_outputs, broken_outputs}
+use Rattle.onfi_cycle.specs.Inputs.{with_inputs, broken_inputs}
+use Rattle.micro_program.specs.Moves.{Take, gives, and_then}
 use Rattle.micro_program.specs.Played.{Played, played, with_byte}
 use Rattle.micro_program.specs.Safe.{MovesAreOwn}
 use Rattle.target_bus.specs.declared.refusal.BusRefusal.{BusRefusal}
 use Rattle.target_bus.specs.declared.refusal.BusRefusal.TheVariants.{OutOfMemory}
-use Rattle.target_bus.specs.Bus.{Traced, channel_of, Refuses, AreShown, AreTaken}
+use Rattle.target_bus.specs.Bus.{Traced, channel_of, Refuses, AreShown, AreTaken, ArePut}
 use Rattle.seq_core.specs.Calls.{Plays}
 use Rattle.seq_core.specs.Playing.{HasPlayed}
 use Rattle.seq_core.proofs.Played.{never_refused}
 
--- 1. the bus permits it
+-- 1. the bus permits its outputs
 
 pub record IsPermittedRun (s : Channel) (ce len : ℕ) (past : List Item) : Type 0 where
   pub bytes : List ℕ
@@ -42,7 +42,7 @@ run_never_refused s l len past e own refused some =
     let run = own_run s l len past own in
     never_refused e _ (refused run.bytes run.count) run.permitted some
 
--- 2. it is played
+-- 2. they are played
 
 shown_plays : (s : Channel) (ce : ℕ) (bytes : List ℕ) (past : List Item) → AreShown s ce bytes past → Plays s ce (replicate (length bytes) Take) past (with_outputs ce bytes past) bytes
 shown_plays s ce [] past h = refl
@@ -58,3 +58,26 @@ taken_plays a b ce len bytes size t =
       plays = subst (λ (past : List Item). Plays (channel_of a) ce (replicate (length bytes) Take) a.past past bytes) (sym t.past) (shown_plays (channel_of a) ce bytes a.past t.shown);
       room = t.room;
     })
+
+-- 3. inputs
+
+own_inputs : (s : Channel) (l : Lun) (bytes : List ℕ) (past : List Item) → MovesAreOwn s l (gives Din bytes) past → broken_inputs s.geometry s.targets l.ce bytes past ≡ None
+own_inputs s l [] past own = refl
+own_inputs s l (byte ∷ bytes) past own =
+    let later = cycle l.ce Din byte ∷ past in
+    ap (λ (o : Option Rule). first_rule o (broken_inputs s.geometry s.targets l.ce bytes later)) own.0.permitted ∙ own_inputs s l bytes later own.1
+
+pub inputs_never_refused : (s : Channel) (l : Lun) (bytes : List ℕ) (past : List Item) (e : BusRefusal) → MovesAreOwn s l (gives Din bytes) past → Refuses e (broken_inputs s.geometry s.targets l.ce bytes past) → e ≢ OutOfMemory → ⊥
+inputs_never_refused s l bytes past e own refused some = never_refused e _ refused (own_inputs s l bytes past own) some
+
+inputs_play : (s : Channel) (ce : ℕ) (bytes : List ℕ) (past : List Item) → Plays s ce (gives Din bytes) past (with_inputs ce bytes past) []
+inputs_play s ce [] past = refl
+inputs_play s ce (byte ∷ bytes) past = inputs_play s ce bytes (cycle ce Din byte ∷ past)
+
+pub put_plays : (a b : Traced) (ce : ℕ) (bytes : List ℕ) → ArePut a b ce bytes → HasPlayed a b ce (gives Din bytes) [] (length bytes)
+put_plays a b ce bytes p =
+    record {
+      same = p.channel;
+      plays = subst (λ (past : List Item). Plays (channel_of a) ce (gives Din bytes) a.past past []) (sym p.past) (inputs_play (channel_of a) ce bytes a.past);
+      room = p.room;
+    }
