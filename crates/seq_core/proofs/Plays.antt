@@ -1,5 +1,5 @@
 -- Moves that are played one after another.
-use Rattle.std.proofs.Common.{◌≡◌, ℕ, zero, suc, ◌+◌, ◌<◌, List, [], ◌∷◌, ◌++◌, Option, Some, None, refl, sym, ap, ◌∙◌, subst, arith, length, take, get_or, replicate}
+use Rattle.std.proofs.Common.{◌≡◌, ℕ, zero, suc, ◌+◌, ◌<◌, List, [], ◌∷◌, ◌++◌, Option, Some, None, refl, sym, ap, ◌∙◌, subst, arith, length, take, get_or}
 use Rattle.onfi_cycle.specs.declared.item.Item.{Item}
 use Rattle.onfi_cycle.specs.declared.item.Kind.{Kind}
 use Rattle.onfi_cycle.specs.declared.item.Kind.TheVariants.{Dout}
@@ -86,4 +86,3 @@ gives_append kind (x ∷ xs) ys = ap (λ (ms : List Move). Give kind x ∷ ms) (
 
 pub gives_next : (kind : Kind) (bytes : List ℕ) (k d : ℕ) → k < length bytes → gives kind (take (k + 1) bytes) ≡ gives kind (take k bytes) ++ (Give kind (get_or bytes k d) ∷ [])
 gives_next kind bytes k d h = ap (gives kind) (take_next bytes k d h) ∙ gives_append kind (take k bytes) (get_or bytes k d ∷ [])
-
