@@ -19,14 +19,14 @@ pub(crate) const CACHED: Parts = Parts {
 };
 
 // One such LUN in two planes.
-const TWO_PLANES: Parts = Parts {
+pub(crate) const TWO_PLANES: Parts = Parts {
     plane_bits: 1,
     multi_plane: true,
     ..ONE_LUN
 };
 
 // Two LUNs, each in two planes.
-const TWO_LUNS: Parts = Parts {
+pub(crate) const TWO_LUNS: Parts = Parts {
     luns: 2,
     enhanced: true,
     ..TWO_PLANES

@@ -6,4 +6,6 @@ mod bus_tests;
 #[cfg(test)]
 mod die_tests;
 #[cfg(test)]
+mod input_tests;
+#[cfg(test)]
 mod output_tests;

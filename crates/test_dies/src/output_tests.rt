@@ -10,13 +10,13 @@ use std::test::Fail;
 use target_bus::{Bus, BusRefusal};
 
 // A bus on which these steps have come.
-fn bus_after<A: Allocator + Copy>(
+pub(crate) fn bus_after<A: Allocator + Copy>(
     alloc: Global,
     dies: A,
     parts: Parts,
     text: &str,
 ) -> Result<Bus<A>, Fail> {
-    let mut bus = channel(dies, parts, 1)?;
+    let mut bus = channel(dies, parts, parts.luns)?;
     for step in &steps_of(alloc, text)? {
         if !comes(&mut bus, *step) {
             return Err("the step comes".into());

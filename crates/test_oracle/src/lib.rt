@@ -1,4 +1,4 @@
-//! The definitions of a trace on worked examples, and beside a look back the running bus, the sequencer and runs of outputs: after each
+//! The definitions of a trace on worked examples, and beside a look back the running bus, the sequencer and runs of data: after each
 //! item of made traces, and after each event of a list, the running state is what a look back at the whole trace tells. Only tests stand
 //! here, so that nothing that is built on them needs the look-back.
 #![tactic(auto)]
@@ -10,7 +10,7 @@ mod core_tests;
 #[cfg(test)]
 mod made;
 #[cfg(test)]
-mod output_tests;
+mod run_tests;
 #[cfg(test)]
 mod state_agrees;
 #[cfg(test)]
