@@ -1,8 +1,9 @@
 -- A trace with an item that isn't permitted isn't legal.
-use Rattle.std.proofs.Common.{◌≡◌, ℕ, ◌+◌, ◌<◌, true, false, List, [], ◌∷◌, ◌++◌, Option, Some, None, sym, ap, ◌∙◌, arith, length, reverse, take, drop, get_or, is_none}
+use Rattle.std.proofs.Common.{◌≡◌, ℕ, zero, suc, ◌+◌, ◌<◌, ◌≤◌, refl, true, false, List, [], ◌∷◌, ◌++◌, Option, Some, None, sym, ap, ◌∙◌, arith, length, reverse, take, drop, get_or, is_none}
+use Rattle.std.specs.List.{slice_get}
 use Rattle.std.proofs.lemmas.Grind.{common_steps}
 use Rattle.std.proofs.lemmas.List.{reverse-append, take-append-drop}
-use Rattle.std.proofs.lemmas.Option.{slice_get_within, get_or_from_slice_get, slice_get-get_or}
+use Rattle.std.proofs.lemmas.Option.{slice_get_within, get_or_from_slice_get}
 use Rattle.std.proofs.lemmas.Bool.{false_from_ne_true, and_parts as both_true}
 use Rattle.nand_geometry.specs.declared.parts.Parts.{Parts}
 use Rattle.onfi_cycle.specs.declared.forbidden.Forbidden.{Forbidden}
@@ -32,5 +33,22 @@ broken_isn't_legal g n items k rule f = false_from_ne_true (is_legal g n (revers
     let permitted = (both_true (is_permitted g n (reverse (take k items)) f.item) (is_legal g n (reverse (take k items))) (ap (is_legal g n) first ∙ part)).0 in
     not_permitted (broken g n (reverse (take k items)) f.item) rule f.breaks permitted)
 
-pub is_first_broken : (g : Parts) (n : ℕ) (items : List Item) (k : ℕ) (d : Item) (rule : Forbidden) (told : Option Forbidden) → k < length items → is_legal g n (reverse (take k items)) ≡ true → told ≡ broken g n (reverse (take k items)) (get_or items k d) → told ≡ Some rule → IsFirstBroken g n items k rule
-is_first_broken g n items k d rule told inside legal is some = record { item = get_or items k d; there = slice_get-get_or items k d inside; legal = legal; breaks = sym is ∙ some }
+first_of : {X : Type 0} (xs : List X) (k : ℕ) → slice_get (drop k xs) 0 ≡ slice_get xs k
+first_of [] zero = refl
+first_of [] (suc k) = refl
+first_of (x ∷ xs) zero = refl
+first_of (x ∷ xs) (suc k) = first_of xs k
+
+none_beyond : {X : Type 0} (xs : List X) (k : ℕ) → slice_get xs k ≡ None → length xs ≤ k
+none_beyond [] k h = omega arith
+none_beyond (x ∷ xs) zero h = cc
+none_beyond (x ∷ xs) (suc k) h = let more = none_beyond xs k h in omega (arith, more)
+
+-- the first item of what is left is forbidden
+pub is_first_broken : (g : Parts) (n : ℕ) (items part : List Item) (k : ℕ) (rule : Forbidden) → part ≡ drop k items → k < length items → is_legal g n (reverse (take k items)) ≡ true → ((item : Item) → slice_get part 0 ≡ Some item → broken g n (reverse (take k items)) item ≡ Some rule) → IsFirstBroken g n items k rule
+is_first_broken g n items part k rule left inside legal breaks = at (slice_get items k) refl
+  where
+    at : (o : Option Item) → slice_get items k ≡ o → IsFirstBroken g n items k rule
+    at None none = let beyond = none_beyond items k none in absurd (omega (arith, inside, beyond))
+    at (Some item) there =
+        record { item = item; there = there; legal = legal; breaks = breaks item (ap (λ (xs : List Item). slice_get xs 0) left ∙ (first_of items k ∙ there)) }

@@ -5,4 +5,5 @@ pub mod Lines
 pub mod Texts
 pub mod Loop
 pub mod Printed
+pub mod Runs
 pub mod FirstBroken

@@ -4,6 +4,7 @@ ghost use Rattle.std.specs.Prelude.{◌≡◌, ◌≤◌, ◌↔◌, true, false
 ghost use Rattle.onfi_cycle.specs.Permitted.{is_legal, IsFirstBroken};
 ghost use Rattle.trace_text.specs.Checking.{TellsFirst};
 
+use crate::data_run::go_on;
 use crate::progress::{CheckProgress, NoProgress};
 use nand_geometry::Geometry;
 use onfi_cycle::{BusState, Forbidden, Item};
@@ -24,6 +25,10 @@ pub enum CheckRefusal {
 
 // After how many items a check tells how far it has come, each time.
 const MILLION: usize = 1_000_000;
+
+// How many data cycles are judged at once at most. A run that isn't permitted is tried by halves, and each time its items are counted
+// again: so this keeps them few.
+const LONGEST_RUN: usize = 65_536;
 
 // Tells how far a check has come, each time after so many items.
 fn tell_each<P: CheckProgress>(progress: &mut P, every: usize, items: usize)
@@ -51,12 +56,17 @@ pub fn first_broken<P: CheckProgress>(
     ensures illegal { IfSome result (λ found. is_legal geometry.now targets (reverse items.now) ≡ false) }
 {
     let mut state = BusState::new(*geometry, targets);
-    for (place, item) in items.iter().enumerate() {
+    let mut place = 0;
+    while place < items.len() {
         tell_each(progress, every, place);
-        if let Some(rule) = state.judge(*item) {
-            return Some((place, rule));
+        match go_on(
+            &mut state,
+            &items[place..],
+            LONGEST_RUN.min(every - place % every),
+        ) {
+            Ok(count) => place += count,
+            Err(rule) => return Some((place, rule)),
         }
-        state.apply(*item);
     }
     None
 }

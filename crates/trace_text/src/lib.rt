@@ -12,6 +12,7 @@
 #![tactic(auto)]
 
 mod checking;
+mod data_run;
 pub mod laws;
 mod line;
 mod parsing;
