@@ -1,6 +1,7 @@
 use nand_geometry::{Geometry, Parts, SMALL_CHIP};
-use onfi_cycle::Forbidden;
+use onfi_cycle::{Cycle, Forbidden, Item, Kind};
 use std::alloc::Global;
+use std::process::Abort;
 use std::test::Fail;
 use trace_text::{CheckProgress, CheckRefusal, check, check_watched, first_broken, parse};
 
@@ -198,4 +199,78 @@ fn how_far_it_has_come_is_told(rt: HostRuntime) -> Result<(), Fail> {
     assert_eq!(rt; check_watched(&geometry, 1, &erase, &mut kept), Ok(()));
     assert!(rt; kept.told.is_empty());
     Ok(())
+}
+
+// A page read up to its outputs, and a program up to its inputs.
+const READ: &str = "0 C 00\n0 A 00\n0 A 00\n0 A 00\n0 A 00\n0 A 00\n0 C 30\n0 R 0 0\n0 C 00\n";
+
+const PROGRAM: &str = "0 C 80\n0 A 00\n0 A 00\n0 A 00\n0 A 00\n0 A 00\n";
+
+// How many bytes a page has.
+const PAGE: usize = 528;
+
+// The items of a text, and so many cycles of this kind after them.
+fn with_data(alloc: Global, text: &str, kind: Kind, count: usize) -> Result<Vec<Item>, Fail> {
+    let mut items = parse(alloc, text)?;
+    for _ in 0..count {
+        items.push(Item::Cyc(Cycle {
+            ce: 0,
+            kind,
+            byte: 0xff,
+        }))?;
+    }
+    Ok(items)
+}
+
+// A check of these items tells this, however often it tells how far it has come: each time that it passes so many items.
+fn tells(
+    rt: &impl Abort,
+    alloc: Global,
+    items: &[Item],
+    wanted: Option<(usize, Forbidden)>,
+) -> Result<(), Fail> {
+    let geometry = Geometry::of(ONE_LUN)?;
+    let last = match wanted {
+        Some((place, _)) => place,
+        None => items.len().saturating_sub(1),
+    };
+    for every in [1usize, 7, 100, 1_000_000] {
+        let mut kept = Kept {
+            told: Vec::new(alloc),
+        };
+        assert_eq!(rt; first_broken(&geometry, 1, items, &mut kept, every), wanted);
+        assert_eq!(rt; kept.told.len(), last / every);
+    }
+    Ok(())
+}
+
+#[test]
+fn runs_of_data_are_checked(rt: HostRuntime) -> Result<(), Fail> {
+    for (text, kind) in [(READ, Kind::Dout), (PROGRAM, Kind::Din)] {
+        let before = parse(rt.alloc(), text)?.len();
+        for count in [0usize, 1, 2, 527, 528, 529, 530, 1_056, 2_000] {
+            let items = with_data(rt.alloc(), text, kind, count)?;
+            let wanted = if count > PAGE {
+                Some((before.saturating_add(PAGE), Forbidden::ColumnOutside))
+            } else {
+                None
+            };
+            tells(&rt, rt.alloc(), items.as_slice(), wanted)?;
+        }
+    }
+    // Data that comes where none may.
+    let items = with_data(rt.alloc(), "0 C 60\n", Kind::Din, 9)?;
+    tells(
+        &rt,
+        rt.alloc(),
+        items.as_slice(),
+        Some((1, Forbidden::InputMisplaced)),
+    )?;
+    let items = with_data(rt.alloc(), "0 C 60\n", Kind::Dout, 9)?;
+    tells(
+        &rt,
+        rt.alloc(),
+        items.as_slice(),
+        Some((1, Forbidden::NoSoleDriver)),
+    )
 }
