@@ -4,7 +4,6 @@ ghost use Rattle.onfi_cycle.specs.declared.command.Command.TheVariants.{ReadId, 
 ghost use Rattle.micro_claims.specs.Leaves.{target_after_addresses, identity_read, address_leaves};
 
 use crate::held::Held;
-use crate::known_lun::KnownLun;
 use crate::known_target::KnownTarget;
 use crate::last_closer::OTHER_CLOSER;
 use crate::output_column::OutputColumn;
@@ -38,60 +37,48 @@ impl State {
     }
 
     // After the address of Read ID.
-    fn identifier_read(self) -> State
-        ensures { result ≡ identity_read self ReadId }
+    fn read_identifier(&mut self)
+        ensures { self.new ≡ identity_read self.old ReadId }
     {
-        State {
-            registers: self.registers,
-            target: KnownTarget::closed(DATA_SHOWN),
-            lun: KnownLun {
-                register: Some(Held {
-                    page: false,
-                    parameters: false,
-                    identifier: true,
-                }),
-                column: Some(OutputColumn::first()),
-                last: OTHER_CLOSER,
-                ..self.lun
-            },
-        }
+        self.target = KnownTarget::closed(DATA_SHOWN);
+        self.lun.register = Some(Held {
+            page: false,
+            parameters: false,
+            identifier: true,
+        });
+        self.lun.column = Some(OutputColumn::first());
+        self.lun.last = OTHER_CLOSER;
     }
 
     // After the address of Read Parameter Page.
-    fn parameters_read(self) -> State
-        ensures { result ≡ identity_read self ReadParameterPage }
+    fn read_parameters(&mut self)
+        ensures { self.new ≡ identity_read self.old ReadParameterPage }
     {
-        State {
-            registers: self.registers,
-            target: KnownTarget::closed(DATA_SHOWN),
-            lun: KnownLun {
-                busy: true,
-                register: Some(Held {
-                    page: false,
-                    parameters: true,
-                    identifier: false,
-                }),
-                column: Some(OutputColumn::first()),
-                last: OTHER_CLOSER,
-                ..self.lun
-            },
-        }
+        self.target = KnownTarget::closed(DATA_SHOWN);
+        self.lun.busy = true;
+        self.lun.register = Some(Held {
+            page: false,
+            parameters: true,
+            identifier: false,
+        });
+        self.lun.column = Some(OutputColumn::first());
+        self.lun.last = OTHER_CLOSER;
     }
 
     // After so many addresses.
-    pub(crate) fn after_addresses(self, geometry: &Geometry, from: u8, count: u8) -> State
-        ensures { result ≡ address_leaves geometry.now self from count }
+    pub(crate) fn take_addresses(&mut self, geometry: &Geometry, from: u8, count: u8)
+        ensures { self.new ≡ address_leaves geometry.now self.old from count }
     {
         match self.target.tail {
             Place::After {
                 opener: Command::ReadId,
                 ..
-            } => self.identifier_read(),
+            } => self.read_identifier(),
             Place::After {
                 opener: Command::ReadParameterPage,
                 ..
-            } => self.parameters_read(),
-            _ => self.with_target(self.target_after_addresses(geometry, from, count)),
+            } => self.read_parameters(),
+            _ => self.target = self.target_after_addresses(geometry, from, count),
         }
     }
 }

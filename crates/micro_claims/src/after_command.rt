@@ -18,132 +18,108 @@ use onfi_cycle::Command;
 
 impl State {
     // After an opener that only begins.
-    fn opened(self, opener: Command) -> State
-        ensures { result ≡ opened_by opener self }
+    fn open(&mut self, opener: Command)
+        ensures { self.new ≡ opened_by opener self.old }
     {
-        State {
-            target: KnownTarget::opened(opener, self.target.shows),
-            ..self
-        }
+        self.target = KnownTarget::opened(opener, self.target.shows);
     }
 
     // After the start of work that leaves the LUN without a register.
-    fn work_started(self, queue: QueuedRows) -> State
-        ensures { result ≡ work_started queue self }
+    fn start_work(&mut self, queue: QueuedRows)
+        ensures { self.new ≡ work_started queue self.old }
     {
-        State {
-            registers: self.registers,
-            target: KnownTarget::closed(self.target.shows),
-            lun: self.lun.at_work(queue),
-        }
+        self.target = KnownTarget::closed(self.target.shows);
+        self.lun = self.lun.at_work(queue);
     }
 
     // After the start of a read.
-    fn read_started(self, geometry: &Geometry) -> State
-        ensures { result ≡ read_started geometry.now self }
+    fn start_read(&mut self, geometry: &Geometry)
+        ensures { self.new ≡ read_started geometry.now self.old }
     {
-        State {
-            registers: self.registers,
-            target: KnownTarget::closed(self.target.shows_after_read(geometry)),
-            lun: KnownLun {
-                busy: true,
-                register: PAGE_HELD,
-                column: OutputColumn::given(self.target.column),
-                queue: self.lun.queue,
-                last: LastCloser {
-                    read: true,
-                    cache: false,
-                    other: false,
-                },
-                cached: CachedPage::of(self.target.named),
+        self.lun = KnownLun {
+            busy: true,
+            register: PAGE_HELD,
+            column: OutputColumn::given(self.target.column),
+            queue: self.lun.queue,
+            last: LastCloser {
+                read: true,
+                cache: false,
+                other: false,
             },
-        }
+            cached: CachedPage::of(self.target.named),
+        };
+        self.target = KnownTarget::closed(self.target.shows_after_read(geometry));
     }
 
     // After a command that goes on with a cache read, or ends it.
-    fn cache_read(self, last: LastCloser, cached: CachedPage) -> State
-        ensures { result ≡ cache_read last cached self }
+    fn read_cache(&mut self, last: LastCloser, cached: CachedPage)
+        ensures { self.new ≡ cache_read last cached self.old }
     {
-        State {
-            registers: self.registers,
-            target: KnownTarget::closed(DATA_SHOWN),
-            lun: self.lun.caching(last, cached),
-        }
+        self.target = KnownTarget::closed(DATA_SHOWN);
+        self.lun = self.lun.caching(last, cached);
     }
 
     // After a reset.
-    fn reset(self) -> State
-        ensures { result ≡ record {
-          registers = self.registers;
+    fn reset(&mut self)
+        ensures { self.new ≡ record {
+          registers = self.old.registers;
           target = closed None;
-          lun = record { busy = true; register = None; column = None; queue = NoRows; last = other_closer; cached = self.lun.cached };
+          lun = record { busy = true; register = None; column = None; queue = NoRows; last = other_closer; cached = self.old.lun.cached };
         } }
     {
-        State {
-            registers: self.registers,
-            target: KnownTarget::closed(None),
-            lun: self.lun.at_work(QueuedRows::NoRows),
-        }
+        self.target = KnownTarget::closed(None);
+        self.lun = self.lun.at_work(QueuedRows::NoRows);
     }
 
     // After the column that 05h gave.
-    fn column_given(self) -> State
-        ensures { result ≡ record {
-          registers = self.registers;
-          target = closed self.target.shows;
-          lun = record self.lun { column = given_at self.target.column };
+    fn give_column(&mut self)
+        ensures { self.new ≡ record {
+          registers = self.old.registers;
+          target = closed self.old.target.shows;
+          lun = record self.old.lun { column = given_at self.old.target.column };
         } }
     {
-        State {
-            registers: self.registers,
-            target: KnownTarget::closed(self.target.shows),
-            lun: KnownLun {
-                column: OutputColumn::given(self.target.column),
-                ..self.lun
-            },
-        }
+        self.lun.column = OutputColumn::given(self.target.column);
+        self.target = KnownTarget::closed(self.target.shows);
     }
 
     // After a change of the write column.
-    fn column_changing(self) -> State
-        ensures { result ≡ with_target self (record self.target { tail = InColumn 0 }) }
+    fn change_column(&mut self)
+        ensures { self.new ≡ with_target self.old (record self.old.target { tail = InColumn 0 }) }
     {
-        self.with_target(KnownTarget {
-            tail: Place::InColumn { addresses: 0 },
-            ..self.target
-        })
+        self.target.tail = Place::InColumn { addresses: 0 };
     }
 
     // After a plane's erase, or program.
-    fn row_queued(self, erase: bool) -> State
-        ensures { result ≡ work_started (queued_more erase self.lun.queue self.target.named) self }
+    fn queue_row(&mut self, erase: bool)
+        ensures { self.new ≡ work_started (queued_more erase self.old.lun.queue self.old.target.named) self.old }
     {
-        self.work_started(self.lun.queue.with(erase, self.target.named))
+        self.start_work(self.lun.queue.with(erase, self.target.named));
     }
 
     // After a command.
-    pub(crate) fn after_command(self, geometry: &Geometry, command: Command) -> State
-        ensures { result ≡ command_leaves geometry.now self command }
+    pub(crate) fn take_command(&mut self, geometry: &Geometry, command: Command)
+        ensures { self.new ≡ command_leaves geometry.now self.old command }
     {
         match command {
-            Command::Read => self.with_target(KnownTarget::opened(command, self.target.resumed())),
+            Command::Read => self.target = KnownTarget::opened(command, self.target.resumed()),
             Command::ChangeReadColumn
             | Command::BlockErase
             | Command::PageProgram
             | Command::ReadId
-            | Command::ReadParameterPage => self.opened(command),
-            Command::ChangeWriteColumn => self.column_changing(),
-            Command::ReadConfirm => self.read_started(geometry),
-            Command::ChangeReadColumnConfirm => self.column_given(),
+            | Command::ReadParameterPage => self.open(command),
+            Command::ChangeWriteColumn => self.change_column(),
+            Command::ReadConfirm => self.start_read(geometry),
+            Command::ChangeReadColumnConfirm => self.give_column(),
             Command::BlockEraseConfirm | Command::ProgramConfirm => {
-                self.work_started(QueuedRows::NoRows)
+                self.start_work(QueuedRows::NoRows)
             }
-            Command::BlockErasePlane => self.row_queued(true),
-            Command::ProgramPlane => self.row_queued(false),
+            Command::BlockErasePlane => self.queue_row(true),
+            Command::ProgramPlane => self.queue_row(false),
             Command::Reset => self.reset(),
-            Command::ReadCacheSequential => self.cache_read(CACHE_CLOSER, self.lun.cached.next()),
-            Command::ReadCacheEnd => self.cache_read(OTHER_CLOSER, self.lun.cached),
-            Command::ReadStatus | Command::ReadStatusEnhanced | Command::Unknown => self,
+            Command::ReadCacheSequential => self.read_cache(CACHE_CLOSER, self.lun.cached.next()),
+            Command::ReadCacheEnd => self.read_cache(OTHER_CLOSER, self.lun.cached),
+            Command::ReadStatus | Command::ReadStatusEnhanced | Command::Unknown => {}
         }
     }
 }

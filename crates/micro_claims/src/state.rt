@@ -3,7 +3,6 @@
 ghost use Rattle.std.specs.Prelude.{◌≡◌};
 ghost use Rattle.micro_claims.specs.Against.{may_be_open};
 ghost use Rattle.micro_claims.specs.Joins.{joined};
-ghost use Rattle.micro_claims.specs.Leaves.{with_registers, with_target};
 ghost use Rattle.micro_claims.specs.Order.{is_state_within, state_at_head, state_at_heads, state_after_turns, span_in_loop, state_by};
 ghost use Rattle.micro_claims.specs.State.{first_state};
 
@@ -105,19 +104,6 @@ impl State {
         ensures { result ≡ may_be_open self.now }
     {
         self.target.tail.is_open()
-    }
-
-    pub(crate) fn with_registers(self, registers: Registers) -> State
-        ensures { result ≡ with_registers self registers }
-    {
-        State { registers, ..self }
-    }
-
-    // After a command that the target alone minds.
-    pub(crate) fn with_target(self, target: KnownTarget) -> State
-        ensures { result ≡ with_target self target }
-    {
-        State { target, ..self }
     }
 
     /// It claims at least what the other claims.

@@ -305,9 +305,21 @@ followed_on g b at known o words d h is =
     ap (followed g b known at) (drop-cons words at d h ∙ ap (λ (k : ℕ). get_or words at d ∷ drop k words) next)
     ∙ ap (λ (x : Option State). fault_or (reason_at g b x (get_or words at d)) at (followed g b (led_from g known at x (get_or words at d)) (at + 1) (drop (at + 1) words))) (sym is)
 
+-- what is known before the word at a place, as the code reads it
+pub claim_got : (known : List (Option State)) (at : ℕ) → get_or known at None ≡ claim known at
+claim_got [] zero = refl
+claim_got [] (suc at) = refl
+claim_got (o ∷ known) zero = refl
+claim_got (o ∷ known) (suc at) = claim_got known at
+
 pub follow_goes_on : (g : Parts) (b : Bounds) (at : ℕ) (known new : List (Option State)) (o : Option State) (words : List Word) (d : Word) (before : Option Fault) → at < length words → o ≡ claim known at → before ≡ followed g b known at (drop at words) → reason_at g b o (get_or words at d) ≡ None → new ≡ led_from g known at o (get_or words at d) → before ≡ followed g b new (at + 1) (drop (at + 1) words)
 follow_goes_on g b at known new o words d before h is e none led =
     e ∙ (followed_on g b at known o words d h is ∙ (ap (λ (r : Option Reason). fault_or r at (followed g b (led_from g known at o (get_or words at d)) (at + 1) (drop (at + 1) words))) none ∙ ap (λ (k : List (Option State)). followed g b k (at + 1) (drop (at + 1) words)) (sym led)))
+
+-- as the code reads what is known
+pub follow_on : (g : Parts) (b : Bounds) (at : ℕ) (known new : List (Option State)) (words : List Word) (d : Word) (before : Option Fault) → at < length words → before ≡ followed g b known at (drop at words) → reason_at g b (get_or known at None) (get_or words at d) ≡ None → new ≡ led_from g known at (claim known at) (get_or words at d) → before ≡ followed g b new (at + 1) (drop (at + 1) words)
+follow_on g b at known new words d before h e none led =
+    follow_goes_on g b at known new (get_or known at None) words d before h (claim_got known at) e none (led ∙ ap (λ (o : Option State). led_from g known at o (get_or words at d)) (sym (claim_got known at)))
 
 pub follow_stops : (g : Parts) (b : Bounds) (at : ℕ) (known : List (Option State)) (o : Option State) (words : List Word) (d : Word) (before : Option Fault) (reason : Reason) → at < length words → o ≡ claim known at → before ≡ followed g b known at (drop at words) → reason_at g b o (get_or words at d) ≡ Some reason → Some (record { word = at; reason = reason }) ≡ before
 follow_stops g b at known o words d before reason h is e some =

@@ -1,5 +1,6 @@
 //! The check of a certificate: what is claimed before each word leads to what is claimed where the word leads.
 ghost use Rattle.std.specs.Prelude.{◌≡◌, ◌+◌, ◌<◌, ◌≤◌, Some, length};
+ghost use Rattle.std.specs.Option.{option_copied};
 ghost use Rattle.micro_claims.specs.Certificate.{claim, if_there, loop_holds, word_holds, is_certified};
 ghost use Rattle.micro_claims.specs.Order.{is_state_within, machine, state_step};
 
@@ -20,10 +21,14 @@ pub(crate) fn step(geometry: &Geometry, bounds: Bounds, state: &State, word: Wor
 }
 
 // What is claimed before the word at a place.
-pub(crate) fn claim(claims: &[Option<State>], at: usize) -> Option<State>
-    ensures { result ≡ claim claims.now at }
+fn claim(claims: &[Option<State>], at: usize) -> Option<&State>
+    ensures { option_copied result ≡ claim claims.now at }
 {
-    if at < claims.len() { claims[at] } else { None }
+    if at < claims.len() {
+        claims[at].as_ref()
+    } else {
+        None
+    }
 }
 
 // The state claims at least what is claimed at a place.
@@ -32,7 +37,7 @@ fn reaches(claims: &[Option<State>], state: &State, at: usize) -> bool
 {
     match claim(claims, at) {
         None => false,
-        Some(claimed) => state.is_within(&claimed),
+        Some(claimed) => state.is_within(claimed),
     }
 }
 
@@ -55,8 +60,8 @@ fn loop_holds(
     match claim(claims, next) {
         None => true,
         Some(end) => {
-            (turns <= 1 || reaches(claims, &state.at_heads(&end, turns), head))
-                && reaches(claims, &state.after_turns(&end, turns), next + 1)
+            (turns <= 1 || reaches(claims, &state.at_heads(end, turns), head))
+                && reaches(claims, &state.after_turns(end, turns), next + 1)
         }
     }
 }
@@ -108,8 +113,8 @@ pub(crate) fn is_certified(
         return false;
     }
     for (at, word) in words.iter().enumerate() {
-        if let Some(state) = claims[at] {
-            if !word_holds(geometry, bounds, words, claims, at, &state, *word) {
+        if let Some(state) = &claims[at] {
+            if !word_holds(geometry, bounds, words, claims, at, state, *word) {
                 return false;
             }
         }

@@ -1,17 +1,18 @@
 //! Texts with branches and without loops: what all ways claim that lead to a word, and the lowest word with a reason against it.
 ghost use Rattle.std.specs.Prelude.{◌≡◌, ◌<◌, length, replicate, Option, None};
+ghost use Rattle.nand_geometry.specs.declared.parts.Parts.{Parts};
 ghost use Rattle.micro_claims.specs.declared.state.State.{State};
+ghost use Rattle.micro_claims.specs.Accepts.{state_after};
 ghost use Rattle.micro_claims.specs.Certificate.{claim};
 ghost use Rattle.micro_walk.specs.Faults.{met, reached, led, led_from, known_first, reason_at, followed};
 
-use crate::check::claim;
 use micro_claims::{Bounds, Fault, Reason, State};
 use micro_word::Word;
 use nand_geometry::Geometry;
 
 // What is claimed of a place to which one more way leads.
-fn met(before: Option<State>, state: &State) -> State
-    ensures { result ≡ met before state.now }
+fn met(before: &Option<State>, state: &State) -> State
+    ensures { result ≡ met before.now state.now }
 {
     match before {
         None => *state,
@@ -24,43 +25,41 @@ pub(crate) fn reach(known: &mut [Option<State>], at: usize, state: &State)
     ensures value { known.new ≡ reached known.old at state.now }
     ensures length { length known.new ≡ length known.old }
 {
-    let met = met(claim(known, at), state);
     if at < known.len() {
+        let met = met(&known[at], state);
         known[at] = Some(met);
     }
 }
 
-// A word leads from a state to each place where it may lead.
-fn lead(geometry: &Geometry, known: &mut [Option<State>], at: usize, state: &State, word: Word)
+// A word that leaves this leads to each place where it may lead.
+fn lead(known: &mut [Option<State>], at: usize, after: &State, word: Word)
     requires { at < length known.old }
-    ensures { known.new ≡ led geometry.now known.old at state.now word }
+    ensures value { (g : Parts) (s : State) → after.now ≡ state_after g s word → known.new ≡ led g known.old at s word }
+    ensures length { length known.new ≡ length known.old }
 {
-    let after = state.after(geometry, word);
     match word {
         Word::End { .. } => {}
         Word::BranchOnStatus { target, .. } => {
-            reach(known, at + 1, &after);
-            reach(known, usize::from(target), &after);
+            reach(known, at + 1, after);
+            reach(known, usize::from(target), after);
         }
-        Word::Jump { target } => reach(known, usize::from(target), &after),
-        _ => reach(known, at + 1, &after),
+        Word::Jump { target } => reach(known, usize::from(target), after),
+        _ => reach(known, at + 1, after),
     }
 }
 
-// Nowhere from a word that no way leads to.
-fn lead_from(
-    geometry: &Geometry,
-    known: &mut [Option<State>],
-    at: usize,
-    state: &Option<State>,
-    word: Word,
-)
+// The word at a place leads from what is known there to each place where it may lead; nowhere, where no way leads to it.
+fn lead_from(geometry: &Geometry, known: &mut [Option<State>], at: usize, word: Word)
     requires { at < length known.old }
-    ensures value { known.new ≡ led_from geometry.now known.old at state.now word }
+    ensures value { known.new ≡ led_from geometry.now known.old at (claim known.old at) word }
     ensures length { length known.new ≡ length known.old }
 {
-    if let Some(state) = state {
-        lead(geometry, known, at, state, word);
+    match &known[at] {
+        None => {}
+        Some(state) => {
+            let after = state.after(geometry, word);
+            lead(known, at, &after, word);
+        }
     }
 }
 
@@ -90,11 +89,10 @@ fn first_fault(
     ensures { result ≡ followed geometry.now bounds known.old 0 words.now }
 {
     for (at, word) in words.iter().enumerate() {
-        let state = claim(known, at);
-        if let Some(reason) = reason_at(geometry, bounds, &state, *word) {
+        if let Some(reason) = reason_at(geometry, bounds, &known[at], *word) {
             return Some(Fault { word: at, reason });
         }
-        lead_from(geometry, known, at, &state, *word);
+        lead_from(geometry, known, at, *word);
     }
     None
 }

@@ -89,8 +89,8 @@ fn first_unheld(
     ensures { result < length words.now }
 {
     for at in 0..words.len() {
-        if let Some(state) = claims[at] {
-            if !word_holds(geometry, bounds, words, claims, at, &state, words[at]) {
+        if let Some(state) = &claims[at] {
+            if !word_holds(geometry, bounds, words, claims, at, state, words[at]) {
                 return at;
             }
         }

@@ -1,5 +1,5 @@
 //! The search for a certificate. Nothing rests on what it finds: the check decides.
-ghost use Rattle.std.specs.Prelude.{◌≡◌, ◌≤◌, length};
+ghost use Rattle.std.specs.Prelude.{◌≡◌, ◌<◌, ◌≤◌, length};
 
 use crate::check::step;
 use crate::following::reach;
@@ -35,25 +35,30 @@ fn forget(claims: &mut [Option<State>], from: usize, to: usize)
     }
 }
 
-// The places to which a word leads are reached. Whether nothing is against the word.
+// The places to which the word at a place leads are reached, where something is claimed there. Whether nothing is against the word.
 fn lead(
     geometry: &Geometry,
     bounds: Bounds,
     claims: &mut [Option<State>],
     at: usize,
-    state: &State,
     word: Word,
 ) -> bool
+    requires { at < length claims.old }
     ensures { length claims.new ≡ length claims.old }
 {
+    let Some(state) = &claims[at] else {
+        return true;
+    };
     match word {
         Word::BranchOnStatus { target, .. } => {
-            reach(claims, at.saturating_add(1), state);
-            reach(claims, usize::from(target), state);
+            let state = *state;
+            reach(claims, at.saturating_add(1), &state);
+            reach(claims, usize::from(target), &state);
             state.registers.polled
         }
         Word::Jump { target } => {
-            reach(claims, usize::from(target), state);
+            let state = *state;
+            reach(claims, usize::from(target), &state);
             true
         }
         Word::End { .. } => step(geometry, bounds, state, word).is_some(),
@@ -179,11 +184,7 @@ impl Walk {
             _ => {
                 let at = self.at;
                 self.at = at.saturating_add(1);
-                at >= claims.len()
-                    || match claims[at] {
-                        None => true,
-                        Some(state) => lead(geometry, bounds, claims, at, &state, word),
-                    }
+                at >= claims.len() || lead(geometry, bounds, claims, at, word)
             }
         }
     }

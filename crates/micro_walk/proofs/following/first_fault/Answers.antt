@@ -1,5 +1,5 @@
-use Rattle.std.proofs.Common.{◌∙◌, sym, refl}
-use Rattle.micro_walk.proofs.Ahead.{follow_goes_on, follow_stops}
+use Rattle.std.proofs.Common.{◌∙◌, None, sym, refl, get_or}
+use Rattle.micro_walk.proofs.Ahead.{claim_got, follow_on, follow_stops}
 use Rattle.micro_walk.proofs.following.first_fault.Goals as goal
 
 pub loop-at-init : goal.loop-at-init
@@ -7,11 +7,11 @@ loop-at-init c = record { long = c.requires; so_far = refl }
 
 pub returns-in-Some : goal.returns-in-Some
 returns-in-Some c =
-    follow_stops c.args.geometry.now c.args.bounds c.loop-at.at c.loop-at.known c.claim-state.result c.args.words.now _ _ c.in-Some.reason c.loop-at-test.true c.claim-state.ensures c.loop-at.invariant.so_far (sym c.reason_at.ensures ∙ c.in-Some.is)
+    follow_stops c.args.geometry.now c.args.bounds c.loop-at.at c.loop-at.known (get_or c.loop-at.known c.loop-at.at None) c.args.words.now _ _ c.in-Some.reason c.loop-at-test.true (claim_got c.loop-at.known c.loop-at.at) c.loop-at.invariant.so_far (sym c.reason_at.ensures ∙ c.in-Some.is)
 
 pub loop-at-preserved : goal.loop-at-preserved
 loop-at-preserved c =
     record {
       long = c.lead_from.ensures.length ∙ c.loop-at.invariant.long;
-      so_far = follow_goes_on c.args.geometry.now c.args.bounds c.loop-at.at c.loop-at.known c.lead_from.new.known c.claim-state.result c.args.words.now _ _ c.loop-at-test.true c.claim-state.ensures c.loop-at.invariant.so_far (sym c.reason_at.ensures ∙ c.in_default.is) c.lead_from.ensures.value;
+      so_far = follow_on c.args.geometry.now c.args.bounds c.loop-at.at c.loop-at.known c.lead_from.new.known c.args.words.now _ _ c.loop-at-test.true c.loop-at.invariant.so_far (sym c.reason_at.ensures ∙ c.in_default.is) c.lead_from.ensures.value;
     }
