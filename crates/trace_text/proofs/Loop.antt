@@ -1,6 +1,5 @@
 -- Reading lines one after the other, as a loop does.
 use Rattle.std.proofs.Common.{◌≡◌, ℕ, ◌+◌, List, [], ◌∷◌, ◌++◌, Result, Ok, Err, refl, sym, ap, ◌∙◌, append_assoc}
-use Rattle.std.specs.Prelude.{IsOk, IfErr}
 use Rattle.std.proofs.lemmas.List.{append-nil}
 use Rattle.onfi_cycle.specs.declared.item.Item.{Item}
 use Rattle.trace_text.specs.declared.refusal.TraceFault.{TraceFault}
@@ -40,8 +39,3 @@ unfolding reading_from
 is_done line rest whole front empty before =
     let none : reading_from line [] rest ≡ Ok [] = ap (reading_from line []) empty in
     sym before.so_far ∙ ap (with_front front) none ∙ ap (λ (xs : List Item). Ok xs) (append-nil front)
-
--- where the whole text has no fault, its next line has none
-pub next_is_ok : {A : Type 0} (line : ℕ) (rest whole : List ℕ) (front : List Item) (first : Result A TraceFault) → IfErr first (HasFault rest) → IsOk (reading whole) → IsSoFar line rest whole front → IsOk first
-next_is_ok line rest whole front (Ok x) fault fine before = refl
-next_is_ok line rest whole front (Err code) fault fine before = let failed = ends line rest whole front code fault before in cc

@@ -1,6 +1,6 @@
 //! Reading the text of a trace.
 
-ghost use Rattle.std.specs.Prelude.{◌≡◌, [], ◌∷◌, List, Ok, IsOk, OnOk, IfOk, IfErr, IfSome, MatchOption, MatchResult};
+ghost use Rattle.std.specs.Prelude.{◌≡◌, [], ◌∷◌, ◌++◌, List, Ok, IsOk, OnOk, IfOk, IfErr, IfSome, MatchOption, MatchResult};
 ghost use Rattle.std.specs.Str.{IsUtf8};
 ghost use Rattle.onfi_cycle.specs.declared.item.Item.{Item};
 ghost use Rattle.trace_text.specs.declared.refusal.TraceRefusal.TheVariants.{OutOfMemory};
@@ -11,7 +11,10 @@ ghost use Rattle.trace_text.specs.Reading.{line_item, reading, IsRefusalOf, Begi
 use crate::line::{hex_value, line_item};
 use crate::refusal::{TraceFault, TraceRefusal};
 use onfi_cycle::{Cycle, Item, Kind};
-use std::alloc::{AllocError, Allocator};
+use std::alloc::Allocator;
+
+// How many bytes the line of a cycle has.
+const CYCLE_LINE: usize = 7;
 
 // The kind of cycle that a letter stands for.
 #[inline(always)]
@@ -106,43 +109,67 @@ fn count_items(text: &str) -> Result<usize, TraceRefusal>
     }
 }
 
-// The items of a text without a fault.
-fn items_of<A: Allocator>(alloc: A, text: &str, count: usize) -> Result<Vec<Item, A>, AllocError>
-    requires { IsOk (reading text.now) }
-    ensures { IfOk result (λ v. reading text.now ≡ Ok v.items) }
+// Why a text isn't read where memory was refused: its first fault, if it has one.
+#[cold]
+#[inline(never)]
+fn refuse_memory(text: &str) -> TraceRefusal
+    ensures { IsRefusalOf result (reading text.now) }
 {
-    let mut items = Vec::with_capacity(alloc, count)?;
-    let mut rest = text;
-    'lines: loop {
-        if let Some((item, behind)) = first_cycle(rest) {
-            items.push(item)?;
-            rest = behind;
-            continue 'lines;
-        }
-        match first_of_fields(rest).unwrap() {
-            Some((item, behind)) => {
-                items.push(item)?;
-                rest = behind;
-            }
-            None => return Ok(items),
-        }
+    match count_items(text) {
+        Ok(_) => TraceRefusal::OutOfMemory,
+        Err(refusal) => refusal,
     }
 }
 
-// The items, or the first fault.
-fn parse_items<A: Allocator>(alloc: A, text: &str) -> Result<Vec<Item, A>, TraceRefusal>
+// Keeps an item of a text.
+#[inline(always)]
+fn keep<A: Allocator>(items: &mut Vec<Item, A>, item: Item, text: &str) -> Result<(), TraceRefusal>
+    ensures ok { IfOk result (λ _. items.new.items ≡ items.old.items ++ item ∷ []) }
+    ensures err { IfErr result (λ e. IsRefusalOf e (reading text.now)) }
+{
+    match items.push(item) {
+        Ok(()) => Ok(()),
+        Err(_) => Err(refuse_memory(text)),
+    }
+}
+
+// The items, or the first fault. The memory for a text of cycles alone is asked for at once.
+fn items_of<A: Allocator>(alloc: A, text: &str) -> Result<Vec<Item, A>, TraceRefusal>
     ensures ok { IfOk result (λ v. reading text.now ≡ Ok v.items) }
     ensures err { IfErr result (λ e. IsRefusalOf e (reading text.now)) }
 {
-    let count = count_items(text)?;
-    Ok(items_of(alloc, text, count)?)
+    let Ok(mut items) = Vec::with_capacity(alloc, text.len() / CYCLE_LINE) else {
+        return Err(refuse_memory(text));
+    };
+    let mut rest = text;
+    'lines: loop {
+        if let Some((item, behind)) = first_cycle(rest) {
+            keep(&mut items, item, text)?;
+            rest = behind;
+            continue 'lines;
+        }
+        match first_of_fields(rest) {
+            Ok(Some((item, behind))) => {
+                keep(&mut items, item, text)?;
+                rest = behind;
+            }
+            Ok(None) => return Ok(items),
+            Err(fault) => {
+                return Err(TraceRefusal::Fault {
+                    fault,
+                    line: items.len() + 1,
+                });
+            }
+        }
+    }
 }
 
 /// The items of a text, which is one that [`print`](crate::print) writes. Of any other text the lowest line with
 /// a fault is told, counted from 1, and its first fault: X1 if the line isn't ended by a line feed, its second field,
 /// of those that stand between its spaces, isn't one of C, A, I, O, R and Y, or the letter wants another number of
-/// fields; then X2 if a number field isn't of its form, whatever characters it has. Memory is taken once there is no
-/// fault, and `OutOfMemory` is answered only where it was refused.
+/// fields; then X2 if a number field isn't of its form, whatever characters it has. `OutOfMemory` is answered only where
+/// memory was refused, of a text without a fault. It asks for four bytes an item at once, and for more where many lines are shorter than
+/// that of a cycle.
 pub fn parse<A: Allocator>(alloc: A, text: &str) -> Result<Vec<Item, A>, TraceRefusal>
     // What is read are items whose text this is, each chip enable and each LUN at most 3.
     ensures found { IfOk result (λ v. IsTextOf text.now v.items) }
@@ -152,5 +179,5 @@ pub fn parse<A: Allocator>(alloc: A, text: &str) -> Result<Vec<Item, A>, TraceRe
     ensures ok { IfOk result (λ v. reading text.now ≡ Ok v.items) }
     ensures err { IfErr result (λ e. IsRefusalOf e (reading text.now)) }
 {
-    parse_items(alloc, text)
+    items_of(alloc, text)
 }
