@@ -11,7 +11,7 @@ use nand_geometry::Geometry;
 
 // What is known after a word, where nothing is against it.
 #[tactic(auto, unfolding(micro_claims::specs::Order::state_step))]
-pub(crate) fn step(geometry: &Geometry, bounds: Bounds, state: &State, word: Word) -> Option<State>
+fn step(geometry: &Geometry, bounds: Bounds, state: &State, word: Word) -> Option<State>
     ensures { result ≡ state_step geometry.now bounds state.now word }
 {
     match state.reason_against(geometry, bounds, word) {

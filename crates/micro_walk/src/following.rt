@@ -1,5 +1,5 @@
 //! Texts with branches and without loops: what all ways claim that lead to a word, and the lowest word with a reason against it.
-ghost use Rattle.std.specs.Prelude.{◌≡◌, ◌<◌, length, replicate, Option, None};
+ghost use Rattle.std.specs.Prelude.{◌≡◌, ◌<◌, length, replicate, Option, Some, None};
 ghost use Rattle.nand_geometry.specs.declared.parts.Parts.{Parts};
 ghost use Rattle.micro_claims.specs.declared.state.State.{State};
 ghost use Rattle.micro_claims.specs.Accepts.{state_after};
@@ -11,12 +11,12 @@ use micro_word::Word;
 use nand_geometry::Geometry;
 
 // What is claimed of a place to which one more way leads.
-fn met(before: &Option<State>, state: &State) -> State
-    ensures { result ≡ met before.now state.now }
+fn met(before: &Option<State>, state: &State) -> Option<State>
+    ensures { result ≡ Some (met before.now state.now) }
 {
     match before {
-        None => *state,
-        Some(before) => before.join(state),
+        None => Some(*state),
+        Some(before) => Some(before.join(state)),
     }
 }
 
@@ -26,8 +26,7 @@ pub(crate) fn reach(known: &mut [Option<State>], at: usize, state: &State)
     ensures length { length known.new ≡ length known.old }
 {
     if at < known.len() {
-        let met = met(&known[at], state);
-        known[at] = Some(met);
+        known[at] = met(&known[at], state);
     }
 }
 

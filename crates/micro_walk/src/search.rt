@@ -1,7 +1,6 @@
 //! The search for a certificate. Nothing rests on what it finds: the check decides.
 ghost use Rattle.std.specs.Prelude.{◌≡◌, ◌<◌, ◌≤◌, length};
 
-use crate::check::step;
 use crate::following::reach;
 use crate::shape::MAX_DEPTH;
 use micro_claims::{Bounds, State};
@@ -61,14 +60,13 @@ fn lead(
             reach(claims, usize::from(target), &state);
             true
         }
-        Word::End { .. } => step(geometry, bounds, state, word).is_some(),
-        _ => match step(geometry, bounds, state, word) {
-            None => false,
-            Some(after) => {
-                reach(claims, at.saturating_add(1), &after);
-                true
-            }
-        },
+        _ if state.reason_against(geometry, bounds, word).is_some() => false,
+        Word::End { .. } => true,
+        _ => {
+            let after = state.after(geometry, word);
+            reach(claims, at.saturating_add(1), &after);
+            true
+        }
     }
 }
 
