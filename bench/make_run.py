@@ -1,5 +1,5 @@
-"""Makes the files of a run for run.sh: make_run.py FOLDER read|program [JOBS]. So many jobs (1,000) on 8 LUNs, each of which reads a whole page, or programs
-one from a file of its length."""
+"""Makes the files of a run for run.sh and backlog.sh: make_run.py FOLDER read|program|erase [JOBS [ORDER]]. So many jobs (1,000), each of which reads a whole page, programs
+one from a file of its length, or erases a block; on 8 LUNs in turn (in_turn), on one after the other (lun_by_lun), or all on the first (one_lun)."""
 import sys
 from pathlib import Path
 
@@ -36,25 +36,35 @@ LENGTH = PAGE_BYTES + SPARE_BYTES
 WORDS = {
     "read": f" cmd 00\n addr 0 5\n cmd 30\n wait\n cmd 00\n get {LENGTH}\n",
     "program": f" cmd 80\n addr 0 5\n put {LENGTH}\n cmd 10\n wait\n",
+    "erase": " cmd 60\n addr 2 3\n cmd d0\n wait\n",
+}
+ORDERS = {
+    "in_turn": lambda job, jobs: job % (TARGETS * LUNS),
+    "lun_by_lun": lambda job, jobs: job * TARGETS * LUNS // jobs,
+    "one_lun": lambda job, jobs: 0,
 }
 
 
 def program(work):
-    return f"rows 1\nbuffer {LENGTH}\nbudget {LENGTH + 12}\n{WORDS[work]} end 0\n"
+    length = 0 if work == "erase" else LENGTH
+    return f"rows 1\nbuffer {length}\nbudget {length + 12}\n{WORDS[work]} end 0\n"
 
 
-def run_file(folder, work, jobs):
+def run_file(folder, work, jobs, order):
     lines = [f"page {folder}/chip.page", f"targets {TARGETS}", "polls 2"]
     data = f"{folder}/data" if work == "program" else "-"
     for job in range(jobs):
-        lun = job % (TARGETS * LUNS)
-        lines.append(f"job {lun // LUNS} {lun % LUNS} {job % 4096} {folder}/words.nmp {data} -")
+        lun = ORDERS[order](job, jobs)
+        row = job % BLOCKS * PAGES if work == "erase" else job % 4096
+        lines.append(f"job {lun // LUNS} {lun % LUNS} {row} {folder}/words.nmp {data} -")
     return "\n".join(lines) + "\n"
 
 
-folder, work, jobs = Path(sys.argv[1]), sys.argv[2], int(sys.argv[3]) if len(sys.argv) > 3 else 1000
+folder, work = Path(sys.argv[1]), sys.argv[2]
+jobs = int(sys.argv[3]) if len(sys.argv) > 3 else 1000
+order = sys.argv[4] if len(sys.argv) > 4 else "in_turn"
 folder.mkdir(parents=True, exist_ok=True)
 (folder / "chip.page").write_bytes(parameter_page())
 (folder / "words.asm").write_text(program(work))
 (folder / "data").write_bytes(bytes(place % 251 for place in range(LENGTH)))
-(folder / "run").write_text(run_file(folder, work, jobs))
+(folder / "run").write_text(run_file(folder, work, jobs, order))

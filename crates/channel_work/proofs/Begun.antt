@@ -1,5 +1,5 @@
 -- What starting a job answers, from its parts.
-use Rattle.std.proofs.Common.{ℕ, zero, suc, ◌<◌, length, arith, Bool, true, false, List, ◌≡◌, ◌∙◌, ◌∷◌, ◌++◌, [], Some, None, refl, sym, ap, subst}
+use Rattle.std.proofs.Common.{ℕ, Bool, true, false, List, ◌≡◌, ◌∙◌, ◌∷◌, ◌++◌, [], refl, sym, ap, subst}
 use Rattle.std.specs.Prelude.{IsTrue, IsFalse}
 use Rattle.micro_program.specs.Program.{Job}
 use Rattle.job_queue.specs.declared.rule.QueuedJob.{QueuedJob}
@@ -10,10 +10,9 @@ use Rattle.channel_work.specs.Stored.{name_of}
 use Rattle.channel_work.specs.Channel.{HistoryView}
 use Rattle.channel_work.specs.Lawful.{IsLawful}
 use Rattle.channel_work.specs.declared.stored.Stored.{Stored}
-use Rattle.channel_work.specs.Starting.{Took, MayHaveTaken, MayStart, LoadedOne, HasStarted}
+use Rattle.channel_work.specs.declared.stored.Stored.TheVariants.{Load as WasLoaded}
+use Rattle.channel_work.specs.Starting.{Took, MayHaveTaken, MayStart, Leaves, HasLoaded, HasStarted}
 use Rattle.channel_work.proofs.Jobs.{take_keeps}
-use Rattle.channel_work.proofs.Picking.{same_job}
-use Rattle.std.specs.List.{slice_get}
 use Rattle.lun_lease.specs.Lease.{Seated, Leased}
 use Rattle.seq_core.specs.Shows.{CoreView}
 
@@ -42,30 +41,27 @@ middle v false taker taken0 taken backlog0 backlog h taken_is backlog_is was kep
     ap (λ (k : Taking Job). taken_view v k taken backlog) told.0 ∙ (ap (λ (ns : List Name). taken_view v v.taker ns backlog) (told.1 ∙ taken_is) ∙ ap (λ (b : List (QueuedJob Job)). taken_view v v.taker v.taken b) (told.2 ∙ backlog_is)) in
     (subst IsLawful (sym same) h, same)
 
-pub has_started : (v : HistoryView) (seats left : List Seated) (seat : Seated) (took : Bool) (taker : Taking Job) (taken : List Name) (backlog slice backlog' : List (QueuedJob Job)) (later : CoreView) (events0 events : List Stored) (started0 started : List Name) (k : ℕ) (lease : Leased)
-    → MayHaveTaken v took (taken_view v taker taken backlog) → seats ≡ left ++ (seat ∷ []) → slice ≡ backlog → (x : QueuedJob Job) × MayStart v.core slice seat k x lease → events0 ≡ v.events → started0 ≡ v.started
-    → (x : QueuedJob Job) × LoadedOne v.core later events0 events started0 started backlog backlog' k x
+pub has_started : (v : HistoryView) (seats left : List Seated) (seat : Seated) (took : Bool) (taker : Taking Job) (taken : List Name) (backlog backlog' : List (QueuedJob Job)) (later : CoreView) (events0 events : List Stored) (started0 started : List Name) (x : QueuedJob Job) (lease : Leased)
+    → MayHaveTaken v took (taken_view v taker taken backlog) → seats ≡ left ++ (seat ∷ []) → (k : ℕ) × MayStart v.core backlog seat k x lease × Leaves backlog x backlog' → events0 ≡ v.events → started0 ≡ v.started
+    → HasLoaded v.core later events0 events started0 started x
     → HasStarted v seats lease (record (taken_view v taker taken backlog) { core = later; events = events; started = started; backlog = backlog' }) left
-has_started v seats left seat took taker taken backlog slice backlog' later events0 events started0 started k lease taking free slice_is p events_is started_is q =
-    let may : MayStart v.core backlog seat k p.0 lease = subst (λ (b : List (QueuedJob Job)). MayStart v.core b seat k p.0 lease) slice_is p.1 in
-    let same : p.0 ≡ q.0 = same_job p.0 q.0 (sym may.oldest.here ∙ q.1.here) in
+has_started v seats left seat took taker taken backlog backlog' later events0 events started0 started x lease taking free p events_is started_is q =
     record {
       took = took;
       middle = taken_view v taker taken backlog;
       taking = taking;
       seat = seat;
       free = free;
-      k = k;
-      job = q.0;
-      may = subst (λ (x : QueuedJob Job). MayStart v.core backlog seat k x lease) same may;
-      loaded = subst (λ (es : List Stored). LoadedOne v.core later es events v.started started backlog backlog' k q.0) events_is (subst (λ (ns : List Name). LoadedOne v.core later events0 events ns started backlog backlog' k q.0) started_is q.1);
+      k = p.0;
+      job = x;
+      may = p.1;
+      loaded = record {
+        here = p.1.oldest.here;
+        leaves = p.2;
+        verified = q.verified;
+        event = q.event;
+        stored = q.stored ∙ ap (λ (es : List Stored). es ++ (WasLoaded x.job.lun (name_of x) ∷ [])) events_is;
+        names = q.names ∙ ap (λ (ns : List Name). ns ++ (name_of x ∷ [])) started_is;
+      };
       same = refl;
     }
-
-pub get_inside : {X : Type 0} (xs : List X) (k : ℕ) (x : X) → slice_get xs k ≡ Some x → k < length xs
-get_inside [] k x h = absurd (clash h)
-  where
-    clash : {X : Type 0} {x : X} → None ≡ Some x → ⊥
-    clash h = cc
-get_inside (y ∷ xs) zero x h = omega arith
-get_inside (y ∷ xs) (suc k) x h = let r = get_inside xs k x h in omega (arith, r)

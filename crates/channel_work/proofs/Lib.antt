@@ -4,6 +4,7 @@ pub mod Counting
 pub mod Turning
 pub mod Jobs
 pub mod Places
+pub mod Waiting
 pub mod Picking
 pub mod Finishing
 pub mod Begun

@@ -10,3 +10,4 @@ pub mod Turned
 pub mod Finished
 pub mod Coming
 pub mod State
+pub mod Backlog

@@ -1,5 +1,5 @@
 -- How a job is started: the oldest of its LUN that is loaded and claimed.
-use Rattle.std.specs.Prelude.{◌≡◌, ◌≢◌, ◌⊎◌, ℕ, ◌<◌, Bool, true, false, List, [], ◌∷◌, ◌++◌, Some, None, map, length, take, slice_get}
+use Rattle.std.specs.Prelude.{◌≡◌, ◌≢◌, ◌⊎◌, ℕ, ◌<◌, Bool, true, false, List, [], ◌∷◌, ◌++◌, Option, Some, None, map, length, take, slice_get}
 use Rattle.std.specs.List.{AllByRecursion, Contains}
 use Rattle.onfi_cycle.specs.declared.lun.Lun.{Lun}
 use Rattle.onfi_cycle.specs.Channel.{same_lun}
@@ -17,12 +17,15 @@ use Rattle.seq_core.specs.Reply.{ToLoad, Loaded}
 use Rattle.channel_work.specs.declared.stored.Name.{Name}
 use Rattle.channel_work.specs.declared.stored.Stored.{Stored}
 use Rattle.channel_work.specs.declared.stored.Stored.TheVariants.{Load as WasLoaded}
-use Rattle.channel_work.specs.declared.start.TriedOnce.{TriedOnce}
-use Rattle.channel_work.specs.declared.start.TriedOnce.TheVariants.{Given, Passed}
-use Rattle.channel_work.specs.declared.start.Picked.{Picked}
-use Rattle.channel_work.specs.declared.start.Picked.TheVariants.{Picks, PicksNone}
+use Rattle.channel_work.specs.declared.picks.TriedOnce.{TriedOnce}
+use Rattle.channel_work.specs.declared.picks.TriedOnce.TheVariants.{Given, Passed}
+use Rattle.channel_work.specs.declared.picks.Tried.{Tried}
+use Rattle.channel_work.specs.declared.picks.Tried.TheVariants.{GivenAt, NoneGiven}
+use Rattle.channel_work.specs.declared.picks.Picked.{Picked}
+use Rattle.channel_work.specs.declared.picks.Picked.TheVariants.{Picks, PicksNone}
 use Rattle.channel_work.specs.declared.start.Started.{Started}
 use Rattle.channel_work.specs.declared.start.Started.TheVariants.{Loaded as StartedJob, Nothing, OutOfMemory}
+use Rattle.channel_work.specs.Backlog.{IsOldestAt}
 use Rattle.channel_work.specs.Channel.{HistoryView}
 use Rattle.channel_work.specs.Stored.{name_of}
 
@@ -88,10 +91,41 @@ IsTried core x n seat (Given lease) = (load_fault_at core x.job.lun x.job ≡ No
 IsTried core x n seat (Passed back) =
     ((load_fault_at core x.job.lun x.job ≢ None) × (back ≡ seat)) ⊎ (back ≡ record { table = seat.table; calls = seat.calls ++ (WasRefused n ∷ []) })
 
--- a job that may be started, or none
-abbrev pub IsPicked : CoreView → List (QueuedJob Job) → Seated → Picked → Type 0
-IsPicked core backlog seat (Picks k lease) = (x : QueuedJob Job) × MayStart core backlog seat k x lease
-IsPicked core backlog seat (PicksNone back) = NoneMayStart core backlog seat back
+-- a job was tried with a seat
+abbrev pub IsTriedJob : CoreView → QueuedJob Job → Seated → TriedOnce → Type 0
+IsTriedJob core x seat answer = IsTried core x (number (channel_in core) x.job.lun) seat answer
+
+-- of the jobs below a place each that is the oldest of its LUN was tried with a seat, and passed over
+pub record WereTriedBelow (core : CoreView) (places : List (Option (QueuedJob Job))) (to : ℕ) (before later : List Call) : Type 0 where
+  pub refused : List ℕ
+  pub calls : later ≡ before ++ map WasRefused refused
+  pub passed : (n : ℕ) (x : QueuedJob Job) → n < to → IsOldestAt places n x → IsPassedOver core refused x
+
+-- the job at a place may be started with a lease
+pub record MayStartAt (core : CoreView) (places : List (Option (QueuedJob Job))) (seat : Seated) (n : ℕ) (x : QueuedJob Job) (lease : Leased) : Type 0 where
+  pub inside : n < length places
+  pub oldest : IsOldestAt places n x
+  pub admitted : load_fault_at core x.job.lun x.job ≡ None
+  pub calls : List Call
+  pub tried : WereTriedBelow core places n seat.calls calls
+  pub lease_is : lease ≡ record { table = seat.table; lun = number (channel_in core) x.job.lun; calls = calls ++ (WasGiven (number (channel_in core) x.job.lun) ∷ []) }
+
+-- the first place whose job may be started, or none
+abbrev pub AreTried : CoreView → List (Option (QueuedJob Job)) → Seated → Tried → Type 0
+AreTried core places seat (GivenAt n lease) = (x : QueuedJob Job) × MayStartAt core places seat n x lease
+AreTried core places seat (NoneGiven back) = (back.table ≡ seat.table) × WereTriedBelow core places (length places) seat.calls back.calls
+
+-- a job that may be started has left the backlog, or none may and the backlog is as it was
+abbrev pub IsPicked : CoreView → List (QueuedJob Job) → Seated → Picked → List (QueuedJob Job) → Type 0
+IsPicked core before seat (Picks x lease) later = (k : ℕ) × MayStart core before seat k x lease × Leaves before x later
+IsPicked core before seat (PicksNone back) later = NoneMayStart core before seat back × (later ≡ before)
+
+-- a job was loaded, under its name
+pub record HasLoaded (core later : CoreView) (events events' : List Stored) (started started' : List Name) (x : QueuedJob Job) : Type 0 where
+  pub verified : IsVerified x.job
+  pub event : IsEvent core (Load x.job.lun x.job) (ToLoad Loaded) later
+  pub stored : events' ≡ events ++ (WasLoaded x.job.lun (name_of x) ∷ [])
+  pub names : started' ≡ started ++ (name_of x ∷ [])
 
 -- a job was taken to the end of the backlog, or nothing changed
 abbrev pub MayHaveTaken : HistoryView → Bool → HistoryView → Type 0

@@ -1,11 +1,12 @@
 //! What the end of a channel hands back.
 
+use crate::backlog::Backlog;
 use crate::channel_state::ChannelState;
 use crate::park::Park;
 use crate::seats::Seats;
 use crate::stored::NamedJob;
 use crate::worker_pass::{Turns, WorkerPass};
-use job_queue::{QueuedJob, Taker};
+use job_queue::Taker;
 use seq_core::{Core, Job};
 
 /// What is left of a channel once each pass is back.
@@ -14,7 +15,7 @@ pub struct Gathered {
     pub core: Core,
     pub taker: Taker<Job>,
     pub done: Vec<NamedJob>,
-    pub backlog: Vec<QueuedJob<Job>>,
+    pub backlog: Backlog,
     pub seats: Seats,
     pub parked: Park,
     pub turns: u64,

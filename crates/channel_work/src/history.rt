@@ -18,12 +18,14 @@ ghost use Rattle.channel_work.specs.Done.{ended_of};
 ghost use Rattle.channel_work.specs.Turned.{IsBeside, TookSteps, IsTurn, TellsBusAfterTurn};
 ghost use Rattle.channel_work.specs.declared.stored.Stored.TheVariants.{Step as WasStepped, Ready as BecameReady, ArrayReady as ArrayBecameReady};
 
+use crate::backlog::Backlog;
+use crate::picks::Picked;
 use crate::refusing::{make_room_to_finish, refuse_array_ready, refuse_finish, refuse_ready};
 use crate::seats::Seats;
-use crate::start::{Picked, Started, find_last_started, load_one, make_room, pick, take_one};
+use crate::start::{Started, find_last_started, load_one, make_room, take_one};
 use crate::stored::{Name, NamedJob, Stored};
 use crate::tally::{LunCount, count_luns, find_lun};
-use job_queue::{QueuedJob, Taker};
+use job_queue::Taker;
 use nand_geometry::Geometry;
 use onfi_cycle::{Item, Lun, MAX_CHANNEL_LUNS};
 use seq_core::laws::fresh_is_lawful;
@@ -41,7 +43,7 @@ pub(crate) struct History<L: Ledger> {
     events: Vec<Stored>,
     taken: Vec<Name>,
     started: Vec<Name>,
-    backlog: Vec<QueuedJob<Job>>,
+    backlog: Backlog,
     done: Vec<NamedJob>,
     counts: [LunCount; MAX_CHANNEL_LUNS],
     turns: u64,
@@ -54,7 +56,7 @@ pub(crate) struct HistoryParts {
     pub(crate) core: Core,
     pub(crate) taker: Taker<Job>,
     pub(crate) done: Vec<NamedJob>,
-    pub(crate) backlog: Vec<QueuedJob<Job>>,
+    pub(crate) backlog: Backlog,
 }
 
 impl<L: Ledger> Model for History<L> {
@@ -206,19 +208,13 @@ impl<L: Ledger> History<L> {
         let took = take_one(rt, &mut self.taker, &mut self.taken, &mut self.backlog);
         match seats.pop() {
             None => Started::Nothing { took },
-            Some(seat) => match pick(&self.core, self.backlog.as_slice(), seat) {
+            Some(seat) => match self.backlog.pick(&self.core, seat) {
                 Picked::PicksNone(back) => {
                     seats.push(back);
                     Started::Nothing { took }
                 }
-                Picked::Picks(place, lease) => {
-                    load_one(
-                        &mut self.core,
-                        &mut self.events,
-                        &mut self.started,
-                        &mut self.backlog,
-                        place,
-                    );
+                Picked::Picks(queued, lease) => {
+                    load_one(&mut self.core, &mut self.events, &mut self.started, queued);
                     Started::Loaded(lease)
                 }
             },
@@ -305,7 +301,7 @@ impl<L: Ledger> History<L> {
             events: Vec::new(alloc),
             taken: Vec::new(alloc),
             started: Vec::new(alloc),
-            backlog: Vec::new(alloc),
+            backlog: Backlog::new(alloc),
             done: Vec::new(alloc),
             counts: [LunCount {
                 stands: 0,

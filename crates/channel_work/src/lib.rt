@@ -4,11 +4,13 @@
 //! waits. Whenever the lock is taken it is lawful (`specs/Lawful`).
 #![tactic(auto)]
 
+mod backlog;
 mod channel_state;
 mod finished;
 mod gathered;
 mod history;
 mod park;
+mod picks;
 mod readied;
 mod refusing;
 mod seats;
@@ -19,6 +21,7 @@ mod turn;
 mod worker;
 mod worker_pass;
 
+pub use backlog::Backlog;
 pub use channel_state::ChannelState;
 pub use finished::Finished;
 pub use gathered::{GatherRefused, Gathered};
