@@ -207,9 +207,9 @@ fn not_written<'p>(made: &[NewFile<'p, '_>], refused: NotWritten) -> NotRun<'p>
     ensures { RefusesNothing result }
 {
     match (refused.error, made.get(refused.file)) {
-        (FileError::Fault, Some(file)) => NotRun::FileFault(file.path),
-        (FileError::Fault, None) => NotRun::FileFault("-"),
         (FileError::OutOfMemory, _) => NotRun::OutOfMemory,
+        (_, Some(file)) => NotRun::FileFault(file.path),
+        (_, None) => NotRun::FileFault("-"),
     }
 }
 
@@ -233,6 +233,7 @@ fn print_lines<'a, W: Write>(output: &mut W, text: &str) -> Result<(), NotRun<'a
     match write_text(output, text) {
         Ok(()) => Ok(()),
         Err(FileError::Fault) => Err(NotRun::FileFault("-")),
+        Err(FileError::ReaderGone) => Err(NotRun::ReaderGone),
         Err(FileError::OutOfMemory) => Err(NotRun::OutOfMemory),
     }
 }
