@@ -3,6 +3,7 @@
 use crate::fields::{before_comment, next_field};
 use crate::names::{Counted, Name, name_of};
 use crate::refusal::{AsmFault, AsmRefusal};
+use shown_text::Shown;
 use std::fmt;
 
 /// A refusal beside the text that was refused. It displays the line, what stands there, and what is wanted:
@@ -27,7 +28,8 @@ impl fmt::Display for AsmMessage<'_> {
                 let stood = line_at(self.text, line);
                 write!(
                     f,
-                    "line {line}: `{stood}`: {} ({})",
+                    "line {line}: `{}`: {} ({})",
+                    Shown::line(stood),
                     wanted(fault, stood),
                     fault.code()
                 )

@@ -14,6 +14,7 @@ use clap::error::ErrorKind;
 use seq_commands::{Command, Exit, carry_out_watched};
 use seq_files::{FileError, Files};
 use seq_run::{NoClock, RunProgress, run_watched};
+use shown_text::{Escaped, Shown};
 use std::alloc::{Allocator, Global};
 use std::io::{self, Read, Write};
 use std::sync::Wait;
@@ -62,7 +63,7 @@ pub fn run_file<A: Allocator, R: Read, W: Write, E: Write>(
 fn tell_command<E: Write>(errors: &mut E, exit: Exit, command: Command<'_>) -> io::Result<()> {
     if let Exit::FileFault(medium) = exit {
         let path = command.path(medium);
-        writeln!(errors, "file fault {path}")?;
+        writeln!(errors, "file fault {}", Shown::path(path))?;
     }
     if exit == Exit::OutOfMemory {
         writeln!(errors, "out of memory")?;
@@ -104,7 +105,7 @@ fn show<W: Write, E: Write>(output: &mut W, errors: &mut E, error: Error) -> Exi
         return Exit::OutOfMemory;
     }
     if error.use_stderr() {
-        let _ = write!(errors, "{error}");
+        let _ = write!(errors, "{}", Escaped(&error));
         return Exit::Usage;
     }
     match write!(output, "{error}") {

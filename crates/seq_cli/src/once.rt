@@ -253,7 +253,8 @@ fn run<A: Allocator, R: Read, W: Write>(
 /// `Done`: the output has the lines of the trace (docs/TRACES.md) and then `end CODE`. `Refused`: it has the line
 /// `refused NAME at N`, and nothing was run: an M fault of the file with its word, a V reason against the text with its word, or an
 /// S fault of the job. `FileFault`: the input couldn't be read, or has no end after 1,048,576 reads, or the output
-/// couldn't be written. `OutOfMemory`: nothing of a trace is written, unless it is the output that asked for memory.
+/// couldn't be written. `ReaderGone`: nobody reads the output any more. `OutOfMemory`: nothing of a trace is written, unless it is the output
+/// that asked for memory.
 pub fn once_on<A: Allocator, R: Read, W: Write>(
     alloc: &A,
     input: &mut R,

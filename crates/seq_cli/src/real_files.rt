@@ -1,7 +1,7 @@
 //! The files of the system. A file comes whole or not at all, several of them all or none, as far as the system allows, and no file is touched that
 //! isn't asked for.
 
-use seq_files::{FileError, Files, NewFile, NotWritten, read_all};
+use seq_files::{FileError, Files, NewFile, NotWritten, read_sized};
 use std::alloc::{Allocator, Global};
 use std::fs::{self, Metadata, OpenFile, OpenOptions, Permissions};
 use std::io::{self, ErrorKind, Write};
@@ -47,6 +47,14 @@ fn is_closed_folder(kind: ErrorKind) -> bool {
         kind,
         ErrorKind::PermissionDenied | ErrorKind::ReadOnlyFilesystem
     )
+}
+
+// How long a plain file is; what is none, as a device or a pipe, has no length.
+fn length_of<F: OpenFile>(file: &F) -> usize {
+    match file.metadata() {
+        Ok(found) if found.is_file() => usize::try_from(found.len()).unwrap_or(usize::MAX),
+        _ => 0,
+    }
 }
 
 // Fills a new file, and has the system keep it.
@@ -274,7 +282,8 @@ impl<'a, R: rt::Files> RealFiles<'a, R> {
 impl<'a, R: rt::Files> Files for RealFiles<'a, R> {
     fn read<A: Allocator>(&mut self, alloc: A, path: &str) -> Result<Vec<u8, A>, FileError> {
         let mut file = fs::open(self.system, path)?;
-        read_all(alloc, &mut file)
+        let length = length_of(&file);
+        read_sized(alloc, &mut file, length)
     }
 
     fn write(&mut self, path: &str, bytes: &[u8]) -> Result<(), FileError> {

@@ -15,6 +15,8 @@ pub enum Exit {
     Refused(Refusal),
     /// A file or a stream couldn't be read or written.
     FileFault(Medium),
+    /// Nobody reads standard output any more.
+    ReaderGone,
     /// The command line couldn't be read, which standard error says.
     Usage,
     /// Memory was refused.
@@ -29,19 +31,19 @@ impl Exit {
         match self {
             Exit::Done => 0,
             Exit::Refused(_) => 1,
-            Exit::FileFault(_) => 2,
+            Exit::FileFault(_) | Exit::ReaderGone => 2,
             Exit::Usage => 3,
             Exit::OutOfMemory => 4,
         }
     }
 
     /// What standard error says of a stream or of memory, in a line of its own. The path of standard input and output
-    /// is `-`; that of a file is said beside.
+    /// is `-`; that of a file is said beside. Where the reader of standard output is gone nothing is said.
     pub fn message(self) -> Option<&'static str>
         ensures { option_map (λ text. text.now) result ≡ message self }
     {
         match self {
-            Exit::Done | Exit::Refused(_) | Exit::Usage => None,
+            Exit::Done | Exit::Refused(_) | Exit::ReaderGone | Exit::Usage => None,
             Exit::FileFault(Medium::Stream) => Some("file fault -"),
             Exit::FileFault(_) => None,
             Exit::OutOfMemory => Some("out of memory"),
@@ -56,6 +58,7 @@ impl From<FileError> for Exit {
     fn from(error: FileError) -> Exit {
         match error {
             FileError::Fault => Exit::FileFault(Medium::Stream),
+            FileError::ReaderGone => Exit::ReaderGone,
             FileError::OutOfMemory => Exit::OutOfMemory,
         }
     }

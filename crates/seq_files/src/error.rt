@@ -14,6 +14,9 @@ pub enum FileError {
     /// It can't be opened, a read or a write failed, or it has no end.
     #[error("it can't be read or written")]
     Fault,
+    /// It was written to, and nobody reads it any more.
+    #[error("nobody reads it any more")]
+    ReaderGone,
     /// Memory was refused.
     #[error("out of memory")]
     OutOfMemory,
@@ -26,6 +29,7 @@ impl FileError {
     {
         match error.kind() {
             ErrorKind::OutOfMemory => FileError::OutOfMemory,
+            ErrorKind::BrokenPipe => FileError::ReaderGone,
             _ => FileError::Fault,
         }
     }

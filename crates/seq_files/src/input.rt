@@ -9,7 +9,7 @@ use std::alloc::Allocator;
 use std::io::{Error, ErrorKind, Read};
 
 /// After so many reads without an end an input is a file fault.
-const MOST_READS: u32 = 1_048_576;
+const MOST_READS: usize = 1_048_576;
 
 /// How many bytes a read asks for: few, so that an input without an end is given up before it has taken much memory.
 const PIECE: usize = 512;
@@ -20,7 +20,8 @@ fn after_failure(error: &Error) -> Result<bool, FileError>
 {
     match error.kind() {
         ErrorKind::Interrupted => Ok(false),
-        _ => Err(FileError::of(error)),
+        ErrorKind::OutOfMemory => Err(FileError::OutOfMemory),
+        _ => Err(FileError::Fault),
     }
 }
 
@@ -47,8 +48,19 @@ fn read_piece<A: Allocator, R: Read>(
 pub fn read_all<A: Allocator, R: Read>(alloc: A, input: &mut R) -> Result<Vec<u8, A>, FileError>
     ensures { IfOk result (λ bytes. IfSome (R.remaining input.old) (λ all. bytes.items ≡ all)) }
 {
-    let mut bytes = Vec::new(alloc);
-    for _ in 0..MOST_READS {
+    read_sized(alloc, input, 0)
+}
+
+/// The same of an input that is known to have so many bytes. Their memory is asked for at once, and the input has as many reads more as they take.
+pub fn read_sized<A: Allocator, R: Read>(
+    alloc: A,
+    input: &mut R,
+    length: usize,
+) -> Result<Vec<u8, A>, FileError>
+    ensures { IfOk result (λ bytes. IfSome (R.remaining input.old) (λ all. bytes.items ≡ all)) }
+{
+    let mut bytes = Vec::with_capacity(alloc, length)?;
+    for _ in 0..MOST_READS + length / PIECE {
         if read_piece(&mut bytes, input)? {
             return Ok(bytes);
         }

@@ -14,7 +14,7 @@ mod slow_streams;
 
 pub use error::{FileError, NotWritten};
 pub use files::Files;
-pub use input::read_all;
+pub use input::{read_all, read_sized};
 pub use map_files::MapFiles;
 pub use new_file::NewFile;
 pub use output::write_text;

@@ -1,7 +1,8 @@
 ghost use Rattle.std.specs.Prelude.{◌≤◌, length};
 
 use crate::{
-    FileError, Files, MapFiles, NewFile, NotWritten, SlowReader, SlowWriter, read_all, write_text,
+    FileError, Files, MapFiles, NewFile, NotWritten, SlowReader, SlowWriter, read_all, read_sized,
+    write_text,
 };
 use std::alloc::Global;
 use std::io::{self, Read};
@@ -89,6 +90,7 @@ fn calls_that_fail(rt: HostRuntime) -> Result<(), Fail> {
 fn errors_are_told(rt: HostRuntime) -> Result<(), Fail> {
     for (error, words) in [
         (FileError::Fault, "it can't be read or written"),
+        (FileError::ReaderGone, "nobody reads it any more"),
         (FileError::OutOfMemory, "out of memory"),
     ] {
         assert_eq!(rt; format!(in rt.alloc(); "{error}")?.as_str(), words);
@@ -117,6 +119,7 @@ fn failed_reads(rt: HostRuntime) {
     for bad in 0..37 {
         for (kind, want) in [
             (io::ErrorKind::Other, FileError::Fault),
+            (io::ErrorKind::BrokenPipe, FileError::Fault),
             (io::ErrorKind::OutOfMemory, FileError::OutOfMemory),
         ] {
             let mut slow = SlowReader::new(&BYTES, bad, kind);
@@ -145,24 +148,43 @@ fn an_input_without_an_end(rt: HostRuntime) {
     let read = read_all(rt.alloc(), &mut endless);
     assert_eq!(rt; read.err(), Some(FileError::Fault));
     assert_eq!(rt; endless.calls, 1_048_576);
+    // As many reads more as the bytes take that are said to come.
+    let mut endless = Endless { calls: 0 };
+    let read = read_sized(rt.alloc(), &mut endless, 51_200);
+    assert_eq!(rt; read.err(), Some(FileError::Fault));
+    assert_eq!(rt; endless.calls, 1_048_676);
+}
+
+// What is said of its length changes nothing of what is read.
+#[test]
+fn inputs_of_a_length(rt: HostRuntime) {
+    for length in [0, 1, 36, 37, 10_000] {
+        let mut slow = SlowReader::new(&BYTES, 5, io::ErrorKind::Interrupted);
+        let read = read_sized(rt.alloc(), &mut slow, length);
+        assert!(rt; read.is_ok_and(|bytes| bytes.as_slice() == BYTES.as_slice()));
+        assert_eq!(rt; slow.calls(), 38);
+    }
+    let mut input = BYTES.as_slice();
+    let read = read_sized(rt.alloc(), &mut input, usize::MAX);
+    assert_eq!(rt; read.err(), Some(FileError::OutOfMemory));
 }
 
 #[test]
 fn failed_writes(rt: HostRuntime) {
     // Four writes and the flush.
     for bad in 0..5 {
-        let mut slow = SlowWriter::new(rt.alloc(), bad, io::ErrorKind::BrokenPipe);
-        assert_eq!(rt;
-            write_text(&mut slow, "ten bytes."),
-            Err(FileError::Fault),
-            "call {bad}"
-        );
-        let mut full = SlowWriter::new(rt.alloc(), bad, io::ErrorKind::OutOfMemory);
-        assert_eq!(rt;
-            write_text(&mut full, "ten bytes."),
-            Err(FileError::OutOfMemory),
-            "call {bad}"
-        );
+        for (kind, want) in [
+            (io::ErrorKind::Other, FileError::Fault),
+            (io::ErrorKind::BrokenPipe, FileError::ReaderGone),
+            (io::ErrorKind::OutOfMemory, FileError::OutOfMemory),
+        ] {
+            let mut slow = SlowWriter::new(rt.alloc(), bad, kind);
+            assert_eq!(rt;
+                write_text(&mut slow, "ten bytes."),
+                Err(want),
+                "call {bad}"
+            );
+        }
     }
     let mut slow = SlowWriter::new(rt.alloc(), 2, io::ErrorKind::Interrupted);
     assert_eq!(rt; write_text(&mut slow, "ten bytes."), Ok(()));

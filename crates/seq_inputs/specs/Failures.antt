@@ -1,7 +1,7 @@
 -- Why a command isn't done.
 use Rattle.std.specs.Prelude.{◌≡◌, ⊤, Option, Some, None}
 use Rattle.seq_files.specs.declared.error.FileError.{FileError}
-use Rattle.seq_files.specs.declared.error.FileError.TheVariants.{Fault, OutOfMemory}
+use Rattle.seq_files.specs.declared.error.FileError.TheVariants.{Fault, ReaderGone, OutOfMemory}
 use Rattle.seq_inputs.specs.declared.medium.Medium.{Medium}
 use Rattle.seq_inputs.specs.declared.refusal.Refusal.{Refusal}
 use Rattle.seq_inputs.specs.declared.failure.Failure.{Failure}
@@ -10,6 +10,7 @@ use Rattle.seq_inputs.specs.declared.failure.Failure.TheVariants.{Refused, FileF
 -- what an error comes to
 abbrev pub failure_at : {A : Type 0} → Medium → FileError → Failure A
 failure_at medium Fault = FileFault medium
+failure_at medium ReaderGone = FileFault medium
 failure_at medium OutOfMemory = NoMemory
 
 -- what is refused, if it is that

@@ -5,6 +5,7 @@ use micro_asm::{AsmFault, AsmMessage, AsmRefusal, disassemble};
 use micro_claims::Reason;
 use micro_word::{Text, WordFault};
 use seq_core::JobFault;
+use shown_text::Shown;
 use std::alloc::Allocator;
 use std::fmt;
 
@@ -153,11 +154,11 @@ pub struct Explained<'a> {
 impl fmt::Display for Explained<'_> {
     fn fmt<W: fmt::Write>(&self, f: &mut fmt::Formatter<W>) -> fmt::Result {
         let refusal = self.refusal;
-        write!(f, "{}: ", self.path)?;
+        write!(f, "{}: ", Shown::path(self.path))?;
         if let Some(place) = place_text(refusal) {
             write!(f, "{place} {}", refusal.number())?;
             if let Some(shown) = self.shown {
-                write!(f, ", `{shown}`")?;
+                write!(f, ", `{}`", Shown::line(shown))?;
             }
             f.write_str(": ")?;
         }
@@ -229,5 +230,5 @@ pub fn words_of_source<A: Allocator>(
     text: &str,
 ) -> Option<String<A>> {
     let message = AsmMessage::new(AsmRefusal::Fault { fault, line }, text);
-    format!(in alloc; "{path}: {message}").ok()
+    format!(in alloc; "{}: {message}", Shown::path(path)).ok()
 }

@@ -27,7 +27,7 @@ impl<A: Allocator> Failure<A> {
         ensures { result ≡ failure_at medium error }
     {
         match error {
-            FileError::Fault => Failure::FileFault(medium),
+            FileError::Fault | FileError::ReaderGone => Failure::FileFault(medium),
             FileError::OutOfMemory => Failure::OutOfMemory,
         }
     }

@@ -134,9 +134,13 @@ written_leaves request text plan files now later same is_there is (inr (o, of_pl
 pub told_refused : (May : PlanFault → ℕ → Type 0) (refusal : PlanRefusal) (r : NotRun) → Tells refusal r → Refuses May r → May refusal.fault refusal.line
 told_refused May refusal (not_run.Refused other path) same h = subst (λ (p : PlanRefusal). May p.fault p.line) (sym same) h
 told_refused May refusal (not_run.FileFault path) same h = absurd same
+told_refused May refusal not_run.ReaderGone same h = absurd same
+told_refused May refusal (not_run.BuffersTooLarge bytes line) same h = absurd same
 told_refused May refusal not_run.OutOfMemory same h = absurd same
 
 pub nothing_told : (refusal : PlanRefusal) (r : NotRun) → Tells refusal r → RefusesNothing r → ⊥
 nothing_told refusal (not_run.Refused other path) same h = h
 nothing_told refusal (not_run.FileFault path) same h = same
+nothing_told refusal not_run.ReaderGone same h = same
+nothing_told refusal (not_run.BuffersTooLarge bytes line) same h = same
 nothing_told refusal not_run.OutOfMemory same h = same

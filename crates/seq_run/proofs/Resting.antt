@@ -13,7 +13,7 @@ use Rattle.seq_run.specs.declared.failure.Failure.{Failure}
 use Rattle.seq_run.specs.declared.failure.Failure.TheVariants as failure
 use Rattle.seq_run.specs.declared.not_run.NotRun.{NotRun}
 use Rattle.seq_run.specs.declared.not_run.NotRun.TheVariants as not_run
-use Rattle.seq_run.specs.Failures.{Says, Refuses, IsAt}
+use Rattle.seq_run.specs.Failures.{most_buffer_bytes, Says, Refuses, IsAt}
 use Rattle.seq_run.specs.Planned.{image_in, images_in}
 use Rattle.seq_run.specs.Judged.{Numbered, Passes, IsRefused, IsRefusedAt, RestIsRefused, RestPasses, page_of, targets_of, AfterPageIsRefused, PageStatementIsRefused, PlanPasses, PlanIsRefused}
 use Rattle.seq_inputs.specs.Inputs.{HasPage}
@@ -38,6 +38,8 @@ goes_on files g targets last s rest whole passes leads =
 refused_more : (May More : PlanFault → ℕ → Type 0) (r : NotRun) → ((fault : PlanFault) (line : ℕ) → May fault line → More fault line) → Refuses May r → Refuses More r
 refused_more May More (not_run.Refused refusal p) more h = more refusal.fault refusal.line h
 refused_more May More (not_run.FileFault p) more h = tt
+refused_more May More not_run.ReaderGone more h = tt
+refused_more May More (not_run.BuffersTooLarge bytes line) more h = h
 refused_more May More not_run.OutOfMemory more h = tt
 
 -- the first of the statements that are left is refused
@@ -60,17 +62,29 @@ ends_refused files g targets r whole leads = leads.refused (Line r.fault) r.line
 said_at : (May : PlanFault → ℕ → Type 0) (e : Failure) (line : ℕ) (r : NotRun) → IsAt e line r → Says (λ fault. May fault line) e → Refuses May r
 said_at May (failure.Fault fault path) line (not_run.Refused refusal p) at says = subst (λ (n : ℕ). May refusal.fault n) (sym at.1) (subst (λ (f : PlanFault). May f line) (sym at.0) says)
 said_at May (failure.Fault fault path) line (not_run.FileFault p) at says = absurd at
+said_at May (failure.Fault fault path) line not_run.ReaderGone at says = absurd at
+said_at May (failure.Fault fault path) line (not_run.BuffersTooLarge told l) at says = absurd at
 said_at May (failure.Fault fault path) line not_run.OutOfMemory at says = absurd at
 said_at May (failure.FileFault path) line (not_run.Refused refusal p) at says = absurd at
 said_at May (failure.FileFault path) line (not_run.FileFault p) at says = tt
+said_at May (failure.FileFault path) line not_run.ReaderGone at says = absurd at
+said_at May (failure.FileFault path) line (not_run.BuffersTooLarge told l) at says = absurd at
 said_at May (failure.FileFault path) line not_run.OutOfMemory at says = absurd at
+said_at May (failure.BuffersTooLarge bytes) line (not_run.Refused refusal p) at says = absurd at
+said_at May (failure.BuffersTooLarge bytes) line (not_run.FileFault p) at says = absurd at
+said_at May (failure.BuffersTooLarge bytes) line not_run.ReaderGone at says = absurd at
+said_at May (failure.BuffersTooLarge bytes) line (not_run.BuffersTooLarge told l) at says = subst (λ (n : ℕ). most_buffer_bytes < n) (sym at.0) says
+said_at May (failure.BuffersTooLarge bytes) line not_run.OutOfMemory at says = absurd at
 said_at May failure.OutOfMemory line (not_run.Refused refusal p) at says = absurd at
 said_at May failure.OutOfMemory line (not_run.FileFault p) at says = absurd at
+said_at May failure.OutOfMemory line not_run.ReaderGone at says = absurd at
+said_at May failure.OutOfMemory line (not_run.BuffersTooLarge told l) at says = absurd at
 said_at May failure.OutOfMemory line not_run.OutOfMemory at says = tt
 
 said_more : (P Q : PlanFault → Type 0) (e : Failure) → ((fault : PlanFault) → P fault → Q fault) → Says P e → Says Q e
 said_more P Q (failure.Fault fault path) more says = more fault says
 said_more P Q (failure.FileFault path) more says = tt
+said_more P Q (failure.BuffersTooLarge bytes) more says = says
 said_more P Q failure.OutOfMemory more says = tt
 
 -- a statement is refused with its line

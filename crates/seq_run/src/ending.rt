@@ -12,6 +12,8 @@ pub enum RunEnd {
     Refused(PlanRefusal),
     /// A file or the output couldn't be read or written.
     FileFault,
+    /// Nobody reads the output any more.
+    ReaderGone,
     /// Memory was refused, or a thread couldn't be started.
     OutOfMemory,
 }
@@ -22,7 +24,7 @@ impl RunEnd {
         match self {
             RunEnd::Done => 0,
             RunEnd::Refused(_) => 1,
-            RunEnd::FileFault => 2,
+            RunEnd::FileFault | RunEnd::ReaderGone => 2,
             RunEnd::OutOfMemory => 4,
         }
     }

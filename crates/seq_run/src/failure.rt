@@ -20,6 +20,10 @@ pub(crate) enum Failure<'a> {
     },
     /// The file of this path can't be read.
     FileFault(&'a str),
+    /// With its job the buffers have so many bytes, more than there may be.
+    BuffersTooLarge {
+        bytes: u64,
+    },
     /// Memory was refused.
     OutOfMemory,
 }
@@ -40,7 +44,7 @@ impl<'a> Failure<'a> {
         ensures { SaysNothing result }
     {
         match error {
-            FileError::Fault => Failure::FileFault(path),
+            FileError::Fault | FileError::ReaderGone => Failure::FileFault(path),
             FileError::OutOfMemory => Failure::OutOfMemory,
         }
     }
@@ -69,6 +73,7 @@ impl<'a> Failure<'a> {
                 words,
             },
             Failure::FileFault(path) => NotRun::FileFault(path),
+            Failure::BuffersTooLarge { bytes } => NotRun::BuffersTooLarge { bytes, line },
             Failure::OutOfMemory => NotRun::OutOfMemory,
         }
     }

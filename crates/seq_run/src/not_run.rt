@@ -14,6 +14,13 @@ pub enum NotRun<'a> {
     },
     /// The file of this path can't be read.
     FileFault(&'a str),
+    /// Nobody reads the output any more.
+    ReaderGone,
+    /// With the job of this line the buffers have so many bytes, more than there may be.
+    BuffersTooLarge {
+        bytes: u64,
+        line: usize,
+    },
     /// Memory was refused.
     OutOfMemory,
 }

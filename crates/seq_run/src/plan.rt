@@ -31,6 +31,9 @@ pub struct PlannedJob<'a> {
     pub output: Option<&'a str>,
 }
 
+/// How many bytes the buffers of a run have at most, all together.
+pub(crate) const MOST_BUFFER_BYTES: u64 = 4_294_967_296;
+
 /// The jobs of a run.
 #[derive(Drop)]
 pub struct PlannedJobs<'a> {
@@ -38,6 +41,8 @@ pub struct PlannedJobs<'a> {
     pub by_target: Vec<TargetJobs>,
     /// All of them.
     pub all: Vec<PlannedJob<'a>>,
+    /// How many bytes their buffers have.
+    pub buffer_bytes: u64,
 }
 
 /// What a run file comes to.
@@ -65,7 +70,14 @@ impl<'a> PlannedJobs<'a> {
         Ok(PlannedJobs {
             by_target,
             all: Vec::new(alloc),
+            buffer_bytes: 0,
         })
+    }
+
+    /// How many bytes the buffers have with that of one job more.
+    pub(crate) fn count_buffer_bytes(&self, job: &Job) -> u64 {
+        let bytes = job.buffer().len() as u64;
+        self.buffer_bytes.saturating_add(bytes)
     }
 
     /// Adds a job after the others.
@@ -74,6 +86,7 @@ impl<'a> PlannedJobs<'a> {
             ++ (option_copied output.entry ∷ [])) }
     {
         let place = self.all.len();
+        self.buffer_bytes = self.count_buffer_bytes(&job);
         let target = usize::from(job.lun().ce);
         if let Some(of_target) = self.by_target.get_mut(target) {
             of_target.jobs.push(job)?;

@@ -12,7 +12,7 @@ use crate::failure::Failure;
 use crate::gate::Failing;
 use crate::given::{read_buffer, read_die, read_geometry, read_verified};
 use crate::not_run::NotRun;
-use crate::plan::{PlannedImage, RunPlan};
+use crate::plan::{MOST_BUFFER_BYTES, PlannedImage, RunPlan};
 use crate::refusal::{PlanFault, PlanRefusal};
 use nand_geometry::Geometry;
 use onfi_cycle::Lun;
@@ -164,6 +164,10 @@ impl<'a> RunPlan<'a> {
     {
         let (geometry, targets) = (self.dies.geometry, self.dies.targets);
         let job = read_job(alloc, files, geometry, targets, lun, base, text, input)?;
+        let bytes = self.jobs.count_buffer_bytes(&job);
+        if bytes > MOST_BUFFER_BYTES {
+            return Err(Failure::BuffersTooLarge { bytes });
+        }
         self.jobs.push(job, output)?;
         Ok(())
     }

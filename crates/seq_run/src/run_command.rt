@@ -12,7 +12,7 @@ ghost use Rattle.seq_run.specs.Planned.{outputs_of, images_in, planned_outputs, 
 ghost use Rattle.seq_run.specs.Runs.{Outcome, IsOutcomeOf, writes_of, lines_of, IsRunDone, RunIsRefused, RunMayLeave};
 
 use crate::ending::RunEnd;
-use crate::explaining::explain;
+use crate::explaining::{explain, explain_buffers};
 use crate::not_run::NotRun;
 use crate::phases::{NoClock, Phase, RunProgress, Timed};
 use crate::plan::RunPlan;
@@ -24,6 +24,7 @@ use crate::summary::{Stats, Summary};
 use crate::writing::write_run;
 use run_file::parse_run;
 use seq_files::{FileError, Files, write_text};
+use shown_text::Shown;
 use std::alloc::Global;
 use std::io::Write;
 use std::sync::Wait;
@@ -103,15 +104,16 @@ fn end_with_refusal<W: Write, E: Write>(
     }
 }
 
-// Says that the file of this path couldn't be read or written.
+// Says that the file of this path couldn't be read or written, unless nobody reads it any more.
 fn end_with_error<E: Write>(errors: &mut E, path: &str, error: FileError) -> RunEnd
     ensures { EndsUnrefused result }
 {
     match error {
         FileError::Fault => {
-            let _ = writeln!(errors, "file fault {path}");
+            let _ = writeln!(errors, "file fault {}", Shown::path(path));
             RunEnd::FileFault
         }
+        FileError::ReaderGone => RunEnd::ReaderGone,
         FileError::OutOfMemory => {
             let _ = writeln!(errors, "out of memory");
             RunEnd::OutOfMemory
@@ -136,6 +138,11 @@ fn end<W: Write, E: Write>(
             end_with_refusal(alloc, output, errors, run, refusal, words)
         }
         NotRun::FileFault(path) => end_with_error(errors, path, FileError::Fault),
+        NotRun::ReaderGone => end_with_error(errors, "-", FileError::ReaderGone),
+        NotRun::BuffersTooLarge { bytes, line } => {
+            explain_buffers(errors, run, bytes, line);
+            end_with_error(errors, run, FileError::OutOfMemory)
+        }
         NotRun::OutOfMemory => end_with_error(errors, run, FileError::OutOfMemory),
     }
 }

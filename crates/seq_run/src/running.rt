@@ -241,7 +241,7 @@ pub(crate) fn run_plan<'a, R: Threads + Wait + Sync>(
         polls,
         fails,
     } = plan;
-    let PlannedJobs { by_target, all } = jobs;
+    let PlannedJobs { by_target, all, .. } = jobs;
     let (geometry, targets) = (dies.geometry, dies.targets);
     let gate = RunGate::new(polls, fails);
     let core = dies.into_core(alloc)?;

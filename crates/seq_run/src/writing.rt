@@ -88,42 +88,74 @@ fn print_trace(alloc: Global, bus: &Bus) -> Result<String, AllocError>
     print(alloc, bus.trace())
 }
 
-// What is printed: the trace, unless it is kept quiet, and the codes of the jobs.
-fn make_lines(
+// What is printed of the trace: its text, unless it is kept quiet.
+fn print_unless_quiet(alloc: Global, is_quiet: bool, bus: &Bus) -> Result<String, AllocError>
+    ensures { IfOk result (λ lines. string_bytes lines ≡ printed_trace is_quiet (reverse bus.now.past)) }
+{
+    if is_quiet {
+        return Ok(String::new(alloc));
+    }
+    print_trace(alloc, bus)
+}
+
+// The text of the trace for a file: a copy of what is printed, unless it is kept quiet.
+fn copy_trace(
     alloc: Global,
     is_quiet: bool,
     bus: &Bus,
-    jobs: &[EndedJob<'_>],
-) -> Result<String, AllocError>
-    ensures { IfOk result (λ lines. string_bytes lines ≡ printed_trace is_quiet (reverse bus.now.past) ++ job_lines 1 (codes_of jobs.now)) }
+    printed: &str,
+) -> Result<Vec<u8>, AllocError>
+    requires { printed.now ≡ printed_trace is_quiet (reverse bus.now.past) }
+    ensures { IfOk result (λ bytes. bytes.items ≡ text (reverse bus.now.past)) }
 {
-    let mut lines = if is_quiet {
-        String::new(alloc)
-    } else {
-        print_trace(alloc, bus)?
-    };
-    push_job_lines(&mut lines, jobs)?;
-    Ok(lines)
+    if !is_quiet {
+        return printed.as_bytes().to_vec(alloc);
+    }
+    let text = print_trace(alloc, bus)?;
+    Ok(text.into_bytes())
 }
 
 // The file of the trace, if one is asked for.
 fn make_trace<'a>(
     alloc: Global,
+    request: RunRequest<'a>,
     bus: &Bus,
-    path: Option<&'a str>,
+    printed: &str,
 ) -> Result<Option<Outgoing<'a>>, AllocError>
-    ensures { IfOk result (λ made. optional_of made ≡ trace_at (option_copied path.entry) (reverse bus.now.past)) }
+    requires { printed.now ≡ printed_trace request.is_quiet (reverse bus.now.past) }
+    ensures { IfOk result (λ made. optional_of made ≡ trace_at (option_copied request.entry.trace) (reverse bus.now.past)) }
 {
-    match path {
+    match request.trace {
         Some(path) => {
-            let text = print_trace(alloc, bus)?;
-            Ok(Some(Outgoing {
-                path,
-                bytes: text.into_bytes(),
-            }))
+            let bytes = copy_trace(alloc, request.is_quiet, bus, printed)?;
+            Ok(Some(Outgoing { path, bytes }))
         }
         None => Ok(None),
     }
+}
+
+// What is printed, and the file of the trace.
+#[derive(Drop)]
+struct Texts<'a> {
+    lines: String,
+    trace: Option<Outgoing<'a>>,
+}
+
+// What is printed is the trace, unless it is kept quiet, and the codes of the jobs. The text of the trace is made once.
+fn make_texts<'a>(
+    alloc: Global,
+    request: RunRequest<'a>,
+    bus: &Bus,
+    jobs: &[EndedJob<'_>],
+) -> Result<Texts<'a>, AllocError>
+    ensures lines { IfOk result (λ texts. string_bytes texts.lines ≡ printed_trace request.entry.is_quiet (reverse bus.now.past)
+        ++ job_lines 1 (codes_of jobs.now)) }
+    ensures trace { IfOk result (λ texts. optional_of texts.trace ≡ trace_at (option_copied request.entry.trace) (reverse bus.now.past)) }
+{
+    let mut lines = print_unless_quiet(alloc, request.is_quiet, bus)?;
+    let trace = make_trace(alloc, request, bus, lines.as_str())?;
+    push_job_lines(&mut lines, jobs)?;
+    Ok(Texts { lines, trace })
 }
 
 // The images, and then the file of the trace.
@@ -207,9 +239,9 @@ fn not_written<'p>(made: &[NewFile<'p, '_>], refused: NotWritten) -> NotRun<'p>
     ensures { RefusesNothing result }
 {
     match (refused.error, made.get(refused.file)) {
-        (FileError::Fault, Some(file)) => NotRun::FileFault(file.path),
-        (FileError::Fault, None) => NotRun::FileFault("-"),
         (FileError::OutOfMemory, _) => NotRun::OutOfMemory,
+        (_, Some(file)) => NotRun::FileFault(file.path),
+        (_, None) => NotRun::FileFault("-"),
     }
 }
 
@@ -233,6 +265,7 @@ fn print_lines<'a, W: Write>(output: &mut W, text: &str) -> Result<(), NotRun<'a
     match write_text(output, text) {
         Ok(()) => Ok(()),
         Err(FileError::Fault) => Err(NotRun::FileFault("-")),
+        Err(FileError::ReaderGone) => Err(NotRun::ReaderGone),
         Err(FileError::OutOfMemory) => Err(NotRun::OutOfMemory),
     }
 }
@@ -273,8 +306,7 @@ pub(crate) fn write_run<'a, F: Files, W: Write>(
     ensures nothing { IfErr result RefusesNothing }
 {
     let Ran { bus, images, jobs } = ran;
-    let lines = make_lines(alloc, request.is_quiet, &bus, jobs.as_slice())?;
-    let trace = make_trace(alloc, &bus, request.trace)?;
+    let Texts { lines, trace } = make_texts(alloc, request, &bus, jobs.as_slice())?;
     let summary = Summary::of(jobs.len(), bus.trace());
     let dies = bus.into_dies();
     let outgoing = make_outgoing(alloc, dies.as_slice(), images.as_slice(), trace)?;

@@ -351,6 +351,15 @@ fn command_lines_that_cannot_be_read(rt: HostRuntime) -> Result<(), Fail> {
         assert_eq!(rt; got.status, 3);
         assert!(rt; got.output.is_empty() && !got.errors.is_empty());
     }
+    // Words of it are shown as a terminal may have them.
+    let words = owned(alloc, &["onfiseq", "dis", "in", "\u{1b}[2Jmore"])?;
+    let got = answer_to(&rt, Ok(words), &ERASE);
+    assert_eq!(rt; got.status, 3);
+    let errors = str::from_utf8(got.errors.as_slice())?;
+    assert!(rt;
+        errors.starts_with("error: unexpected argument '\\u{1b}[2Jmore' found\n"),
+        "{errors}"
+    );
     let other = answer_to(
         &rt,
         Err(io::Error::from(io::ErrorKind::InvalidData)),
@@ -363,6 +372,47 @@ fn command_lines_that_cannot_be_read(rt: HostRuntime) -> Result<(), Fail> {
         &ERASE,
     );
     expect(&rt, memory, 4, "", "out of memory\n");
+    Ok(())
+}
+
+// A file that can't be read is told by its path, in which a terminal finds nothing to do.
+#[test]
+fn a_path_is_told(rt: HostRuntime) -> Result<(), Fail> {
+    for (path, said) in [
+        ("no such", "file fault no such\n"),
+        ("\u{1b}[2Jä", "file fault \\u{1b}[2Jä\n"),
+    ] {
+        let words = owned(rt.alloc(), &["onfiseq", "dis", path])?;
+        expect(&rt, answer_to(&rt, Ok(words), &[]), 2, "", said);
+    }
+    Ok(())
+}
+
+// Help for which there is no room, and help that nobody reads.
+#[test]
+fn help_that_is_not_printed(rt: HostRuntime) -> Result<(), Fail> {
+    let alloc = rt.alloc();
+    for (kind, said) in [
+        (io::ErrorKind::Other, "file fault -\n"),
+        (io::ErrorKind::BrokenPipe, ""),
+    ] {
+        let words = owned(alloc, &["onfiseq", "--help"])?;
+        let mut files = MapFiles::new(alloc);
+        let mut output = SlowWriter::new(alloc, 3, kind);
+        let mut errors = Vec::new(alloc);
+        let mut input = ERASE.as_slice();
+        let status = answer(
+            &rt,
+            alloc,
+            Ok(words),
+            &mut files,
+            &mut input,
+            &mut output,
+            &mut errors,
+        );
+        assert_eq!(rt; status, 2);
+        assert_eq!(rt; errors.as_slice(), said.as_bytes());
+    }
     Ok(())
 }
 
@@ -397,11 +447,17 @@ fn streams_that_fail_are_told(rt: HostRuntime) {
     assert_eq!(rt; errors.as_slice(), b"file fault -\n".as_slice());
     assert!(rt; output.is_empty());
 
-    let mut errors = Vec::new(alloc);
-    let mut file = ERASE.as_slice();
-    let mut output = SlowWriter::new(alloc, 3, io::ErrorKind::BrokenPipe);
-    assert_eq!(rt; run_file(&alloc, 4, &mut file, &mut output, &mut errors), 2);
-    assert_eq!(rt; errors.as_slice(), b"file fault -\n".as_slice());
+    // Nothing is said where nobody reads the output any more.
+    for (kind, said) in [
+        (io::ErrorKind::Other, "file fault -\n"),
+        (io::ErrorKind::BrokenPipe, ""),
+    ] {
+        let mut errors = Vec::new(alloc);
+        let mut file = ERASE.as_slice();
+        let mut output = SlowWriter::new(alloc, 3, kind);
+        assert_eq!(rt; run_file(&alloc, 4, &mut file, &mut output, &mut errors), 2);
+        assert_eq!(rt; errors.as_slice(), said.as_bytes());
+    }
 
     // Where standard error takes nothing, the status still says it.
     for (base, status) in [(4, 0), (32, 1)] {

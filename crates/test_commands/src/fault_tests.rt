@@ -105,7 +105,8 @@ fn texts_of_other_bytes(rt: HostRuntime) -> Result<(), Fail> {
 #[test]
 fn outputs_that_fail(rt: HostRuntime) -> Result<(), Fail> {
     for (kind, exit) in [
-        (io::ErrorKind::BrokenPipe, Exit::FileFault(Medium::Stream)),
+        (io::ErrorKind::Other, Exit::FileFault(Medium::Stream)),
+        (io::ErrorKind::BrokenPipe, Exit::ReaderGone),
         (io::ErrorKind::OutOfMemory, Exit::OutOfMemory),
     ] {
         for (command, text, calls) in COMMANDS {

@@ -49,6 +49,7 @@ fn exits(rt: HostRuntime) {
         (Exit::Refused(ENDS_BUSY), 1, None),
         (Exit::FileFault(Medium::Stream), 2, Some("file fault -")),
         (Exit::FileFault(Medium::Output), 2, None),
+        (Exit::ReaderGone, 2, None),
         (Exit::Usage, 3, None),
         (Exit::OutOfMemory, 4, Some("out of memory")),
     ];
@@ -111,26 +112,44 @@ fn streams_that_fail(rt: HostRuntime) {
         );
         assert!(rt; output.is_empty());
     }
-    // `refused V14 at 3` and a line feed: six writes and the flush.
-    for bad in 0..7 {
-        let mut input = NO_WAIT.as_slice();
-        let mut slow = SlowWriter::new(rt.alloc(), bad, io::ErrorKind::BrokenPipe);
-        assert_eq!(rt;
-            once_on(&rt.alloc(), &mut input, &mut slow, 4),
-            Exit::FileFault(Medium::Stream),
-            "write {bad}"
-        );
-    }
-    // The 77 bytes of a run: 26 writes and the flush.
-    for bad in 0..27 {
-        let mut input = ERASE.as_slice();
-        let mut slow = SlowWriter::new(rt.alloc(), bad, io::ErrorKind::BrokenPipe);
-        assert_eq!(rt;
-            once_on(&rt.alloc(), &mut input, &mut slow, 4),
-            Exit::FileFault(Medium::Stream),
-            "write {bad}"
-        );
-        assert!(rt; RUN.as_bytes().starts_with(slow.bytes.as_slice()));
+}
+
+// What a failed write to standard output comes to. A pipe whose reader is gone is told apart.
+const WRITES: [(io::ErrorKind, Exit); 2] = [
+    (io::ErrorKind::Other, Exit::FileFault(Medium::Stream)),
+    (io::ErrorKind::BrokenPipe, Exit::ReaderGone),
+];
+
+// Runs a file on an output of which this write fails so, and gives what was written before.
+fn fail_write(
+    rt: &(impl Abort + AllocGlobal),
+    file: &[u8],
+    bad: usize,
+    kind: io::ErrorKind,
+    exit: Exit,
+) -> Vec<u8> {
+    let mut input = file;
+    let mut slow = SlowWriter::new(rt.alloc(), bad, kind);
+    assert_eq!(rt;
+        once_on(&rt.alloc(), &mut input, &mut slow, 4),
+        exit,
+        "write {bad}"
+    );
+    slow.bytes
+}
+
+#[test]
+fn outputs_that_fail(rt: HostRuntime) {
+    for (kind, exit) in WRITES {
+        // `refused V14 at 3` and a line feed: six writes and the flush.
+        for bad in 0..7 {
+            fail_write(&rt, &NO_WAIT, bad, kind, exit);
+        }
+        // The 77 bytes of a run: 26 writes and the flush.
+        for bad in 0..27 {
+            let written = fail_write(&rt, &ERASE, bad, kind, exit);
+            assert!(rt; RUN.as_bytes().starts_with(written.as_slice()));
+        }
     }
 }
 

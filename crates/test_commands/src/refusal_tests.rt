@@ -10,15 +10,21 @@ use seq_commands::{Command, Exit};
 use seq_core::JobFault;
 use seq_files::MapFiles;
 use seq_inputs::{Explained, Refusal};
+use std::alloc::Global;
 use std::process::Abort;
 use std::test::Fail;
 
 // The smallest texts that are refused, with the line and the words.
-const SOURCES: [(&str, &str, &str); 10] = [
+const SOURCES: [(&str, &str, &str); 11] = [
     (
         "x",
         "refused A1 at 1\n",
         "in: line 1: `x`: a word, or a label alone on its line (a letter, then letters, digits or _, 32 at most) (A1)\n",
+    ),
+    (
+        "\u{1b}[2Jö\r",
+        "refused A1 at 1\n",
+        "in: line 1: `\\u{1b}[2Jö\\r`: a word, or a label alone on its line (a letter, then letters, digits or _, 32 at most) (A1)\n",
     ),
     (
         "rows",
@@ -388,7 +394,7 @@ const NOT_A_LINE: &str = "the line hasn't the shape of an item";
 const NOT_A_NUMBER: &str = "a field isn't a number of its form";
 
 // Texts that aren't traces, with the code, the line and what stands there.
-const TRACES: [(&str, &str, usize, &str, &str); 7] = [
+const TRACES: [(&str, &str, usize, &str, &str); 8] = [
     ("x", "X1", 1, "x", NOT_A_LINE),
     ("0 C 60", "X1", 1, "0 C 60", NOT_A_LINE),
     ("0 X 60\n", "X1", 1, "0 X 60", NOT_A_LINE),
@@ -396,6 +402,7 @@ const TRACES: [(&str, &str, usize, &str, &str); 7] = [
     ("0 C D0\n", "X2", 1, "0 C D0", NOT_A_NUMBER),
     ("0 C 6g\n", "X2", 1, "0 C 6g", NOT_A_NUMBER),
     ("4 C 60\n", "X2", 1, "4 C 60", NOT_A_NUMBER),
+    ("0 C 6\t\n", "X2", 1, "0 C 6\\t", NOT_A_NUMBER),
 ];
 
 #[test]
@@ -412,6 +419,33 @@ fn traces(rt: HostRuntime) -> Result<(), Fail> {
             words.as_str(),
         )?;
     }
+    Ok(())
+}
+
+// So many times the letter `x`.
+fn repeat(alloc: Global, count: usize) -> Result<String, Fail> {
+    let mut text = String::new(alloc);
+    for _ in 0..count {
+        text.push('x')?;
+    }
+    Ok(text)
+}
+
+// Of a long line 120 characters are shown.
+#[test]
+fn long_lines(rt: HostRuntime) -> Result<(), Fail> {
+    let long = repeat(rt.alloc(), 100_000)?;
+    let shown = repeat(rt.alloc(), 120)?;
+    let words = format!(in rt.alloc(); "in: line 1, `{shown}...`: {NOT_A_LINE} (X1)\n")?;
+    let input = long.as_str().as_bytes();
+    expect(
+        &rt,
+        ONE_LUN,
+        input,
+        CHECK,
+        "refused X1 at 1\n",
+        words.as_str(),
+    )?;
     Ok(())
 }
 

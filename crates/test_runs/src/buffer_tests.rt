@@ -1,8 +1,10 @@
 // Jobs with the longest buffer, a byte short of 16 MiB.
 use crate::tests::{ask, make_files, play};
+use run_file::parse_run;
 use seq_files::MapFiles;
-use seq_run::RunEnd;
+use seq_run::{RunEnd, plan_run};
 use std::alloc::Global;
+use std::process::Abort;
 use std::test::Fail;
 
 // How many bytes the longest buffer has.
@@ -32,6 +34,17 @@ fn the_longest_buffer(rt: HostRuntime) -> Result<(), Fail> {
     assert_eq!(rt; bytes.len(), LONGEST);
     assert!(rt; bytes.starts_with(&[7, 7, 7, 7]));
     assert!(rt; bytes.ends_with(&[7, 7, 0x4f, 0x4e, 0x46, 0x49]));
+    Ok(())
+}
+
+// The buffers of all jobs are counted together, those of 4 bytes and those of none.
+#[test]
+fn buffers_are_counted(rt: HostRuntime) -> Result<(), Fail> {
+    let run = "page one\ntargets 1\njob 0 0 0 both - -\njob 0 0 4 erase - -\njob 0 0 8 both - -\n";
+    let mut files = make_files(rt.alloc())?;
+    let text = parse_run(run, rt.alloc())?;
+    let plan = plan_run(rt.alloc(), &mut files, &text);
+    assert_eq!(rt; plan.ok().map(|plan| plan.jobs.buffer_bytes), Some(8));
     Ok(())
 }
 

@@ -153,11 +153,8 @@ fn play_full<R: Threads + Wait + Sync + AllocGlobal>(
 #[test]
 fn outputs_that_are_full(rt: HostRuntime) -> Result<(), Fail> {
     for (kind, end, errors) in [
-        (
-            io::ErrorKind::BrokenPipe,
-            RunEnd::FileFault,
-            "file fault -\n",
-        ),
+        (io::ErrorKind::Other, RunEnd::FileFault, "file fault -\n"),
+        (io::ErrorKind::BrokenPipe, RunEnd::ReaderGone, ""),
         (
             io::ErrorKind::OutOfMemory,
             RunEnd::OutOfMemory,
@@ -181,5 +178,8 @@ fn refusals_that_are_not_printed(rt: HostRuntime) -> Result<(), Fail> {
     let played = play_full(&rt, &mut files, io::ErrorKind::Other);
     assert_eq!(rt; played.end, RunEnd::FileFault);
     assert_eq!(rt; played.errors.as_slice(), b"file fault -\n".as_slice());
+    let played = play_full(&rt, &mut files, io::ErrorKind::BrokenPipe);
+    assert_eq!(rt; (played.end, played.end.status()), (RunEnd::ReaderGone, 2));
+    assert!(rt; played.errors.is_empty());
     Ok(())
 }

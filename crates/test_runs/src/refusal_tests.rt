@@ -154,7 +154,7 @@ struct Told {
     errors: &'static str,
 }
 
-const TOLD: [Told; 11] = [
+const TOLD: [Told; 13] = [
     Told {
         run: "page one\nbad\n",
         errors: "run: line 2: unknown line, or a field is missing or one too many (J1)\n",
@@ -199,6 +199,15 @@ const TOLD: [Told; 11] = [
         run: "page one\ntargets 1\njob 0 0 0 nothing - -\n",
         errors: "file fault nothing\n",
     },
+    // A terminal shows what stands in a path, and does nothing of it.
+    Told {
+        run: "page \u{1b}[2J\n",
+        errors: "file fault \\u{1b}[2J\n",
+    },
+    Told {
+        run: "page one\ntargets 1\njob 0 0 0 erase \u{7}one -\n",
+        errors: "run: line 3: \\u{7}one: the input is longer than the buffer (J5)\n",
+    },
 ];
 
 #[test]
@@ -207,6 +216,7 @@ fn what_standard_error_says(rt: HostRuntime) -> Result<(), Fail> {
         let mut files = make_files(rt.alloc())?;
         files.put("unknown", &UNKNOWN)?;
         files.put("branch", &BRANCH)?;
+        files.put("\u{7}one", b"longer")?;
         files.put("run", told.run.as_bytes())?;
         let played = play(&rt, &mut files, ask(1));
         assert_eq!(rt; str::from_utf8(played.errors.as_slice())?, told.errors);

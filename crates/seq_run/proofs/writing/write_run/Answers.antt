@@ -17,13 +17,13 @@ returns-in-Ok-clause-ok g c =
     let request = c.args.request in
     let dies = c.into_dies-dies.result.items in
     let before = g.F.Files.store c.args.files.now in
-    let trace = c.in_ok-trace.trace in
+    let trace = c.in_ok-lines.field-0.trace in
     let outgoing = c.in_ok-outgoing.outgoing.items in
     let is_outgoing =
     c.in_ok-outgoing.ensures
     ∙ ap (λ (l : List Die). images_of l c.as_slice-3.result.now ++ optional_of trace) c.as_slice-2.ensures.value
     ∙ ap (λ (l : List PlannedImage). images_of dies l ++ optional_of trace) c.as_slice-3.ensures.value
-    ∙ ap (λ (l : List Written). images_of dies ran.images.items ++ l) c.in_ok-trace.ensures in
+    ∙ ap (λ (l : List Written). images_of dies ran.images.items ++ l) c.in_ok-lines.ensures.trace in
     let is_all =
     ap (λ (l : List NewFile). map written_of l) c.as_slice-6.ensures.value
     ∙ c.in_ok-made.ensures
@@ -34,7 +34,7 @@ returns-in-Ok-clause-ok g c =
     (record { legal = c.trace.ensures.legal; count = c.into_dies-dies.ensures.count; stand = c.into_dies-dies.ensures.dies }) c.requires is_outgoing
     (c.in-Ok.ensures.files ∙ ap (λ (l : List Written). with_all l before) is_all)
     (c.as_str.ensures.value
-    ∙ c.in_ok-lines.ensures
+    ∙ c.in_ok-lines.ensures.lines
     ∙ ap (λ (l : List EndedJob). printed_trace request.is_quiet (reverse ran.bus.past) ++ job_lines 1 (codes_of l)) c.as_slice.ensures.value)
     c.in-Ok.ensures.printed
 
@@ -44,13 +44,13 @@ returns-clause-err g c =
     let dies = c.into_dies-dies.result.items in
     let before = g.F.Files.store c.args.files.now in
     let later = g.F.Files.store c.write_outcome.new.files in
-    let trace = c.in_ok-trace.trace in
+    let trace = c.in_ok-lines.field-0.trace in
     let outgoing = c.in_ok-outgoing.outgoing.items in
     let is_outgoing =
     c.in_ok-outgoing.ensures
     ∙ ap (λ (l : List Die). images_of l c.as_slice-3.result.now ++ optional_of trace) c.as_slice-2.ensures.value
     ∙ ap (λ (l : List PlannedImage). images_of dies l ++ optional_of trace) c.as_slice-3.ensures.value
-    ∙ ap (λ (l : List Written). images_of dies ran.images.items ++ l) c.in_ok-trace.ensures in
+    ∙ ap (λ (l : List Written). images_of dies ran.images.items ++ l) c.in_ok-lines.ensures.trace in
     let is_all =
     ap (λ (l : List NewFile). map written_of l) c.as_slice-6.ensures.value
     ∙ c.in_ok-made.ensures
