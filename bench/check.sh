@@ -1,31 +1,50 @@
 #!/bin/sh
-# How fast a trace is checked, beside a program that does the same in plain Rust without contracts (`bench/plain`): for traces
-# of 1, 2, 5 and 10 million items a line of time of each, and, where valgrind is there, the instructions an item.
+# How fast a trace is checked, printed and read, beside a program that checks the same in plain Rust without contracts (`bench/plain`): of traces of
+# erases and of page reads, 10 million items long, three runs of each in turn; and, where valgrind is there, the instructions an item.
 set -eu
 bench=$(cd "$(dirname "$0")" && pwd)
 cd "$bench/plain"
 cargo build --release --quiet
+plain=$bench/plain/target/release/plain
 cd "$bench/../crates/bench"
 rt run > /dev/null 2>&1
+ours=$(pwd)/out/bench
+items=10000000
+
+# What a program tells of its time, behind its name.
+tell_time() {
+    name=$1
+    shift
+    "$@" "$items" 2>&1 > /dev/null | sed "s/^/$name, /"
+}
+
+for turn in 1 2 3; do
+    tell_time "erases" "$ours" trace
+    tell_time "erases, plain" "$plain" trace
+    tell_time "page reads" "$ours" reads
+    tell_time "page reads, plain by items" "$plain" reads items
+    tell_time "page reads, plain by runs" "$plain" reads runs
+    tell_time "page reads" "$ours" text
+done
 
 instructions() {
     valgrind --tool=callgrind --callgrind-out-file=/dev/null "$@" 2>&1 | sed -n 's/.*Collected : //p'
 }
 
-for items in 1000000 2000000 5000000 10000000; do
-    echo "$items items, proved:"
-    ./out/bench trace "$items"
-    echo "$items items, plain:"
-    "$bench/plain/target/release/plain" "$items"
-done
-# The instructions an item of a program, given with the words that stand before the number of items.
+# The instructions an item of a program, given with the words that stand before the number of items, the making of the trace included.
 tell_instructions() {
+    name=$1
+    shift
     few=$(instructions "$@" 100000)
     many=$(instructions "$@" 200000)
-    echo "$(basename "$1"): $(((many - few) / 100000)) instructions an item"
+    echo "$name: $(((many - few) / 100000)) instructions an item"
 }
 
 if command -v valgrind > /dev/null; then
-    tell_instructions ./out/bench trace
-    tell_instructions "$bench/plain/target/release/plain"
+    tell_instructions "erases" "$ours" trace
+    tell_instructions "erases, plain" "$plain" trace
+    tell_instructions "page reads" "$ours" reads
+    tell_instructions "page reads, plain by items" "$plain" reads items
+    tell_instructions "page reads, plain by runs" "$plain" reads runs
+    tell_instructions "page reads, printed and read" "$ours" text
 fi

@@ -71,7 +71,7 @@ pub struct Row {
     pub page: u32,
 }
 
-#[derive(Clone, Copy)]
+#[derive(Clone, Copy, PartialEq)]
 pub enum Kind {
     Command,
     Address,
@@ -724,6 +724,35 @@ pub fn check(geometry: Geometry, targets: usize, items: &[Item]) -> Result<(), (
             return Err((place, rule));
         }
         channel.apply(*item);
+    }
+    Ok(())
+}
+
+// How many of the first items are cycles of this kind on this target.
+fn run_len(items: &[Item], target: u8, wanted: Kind) -> usize {
+    items
+        .iter()
+        .take_while(|item| matches!(item, Item::Cycle { ce, kind, .. } if *ce == target && *kind == wanted))
+        .count()
+}
+
+/// The same, with the outputs of a target that stand in a row judged at once.
+pub fn check_runs(geometry: Geometry, targets: usize, items: &[Item]) -> Result<(), (usize, u8)> {
+    let mut channel = Channel::new(geometry, targets);
+    let mut place = 0;
+    while place < items.len() {
+        if let Item::Cycle { ce, kind: Kind::Output, .. } = items[place] {
+            let left = channel.outputs_left(ce).map_err(|rule| (place, rule))?;
+            let run = run_len(&items[place..], ce, Kind::Output).min(left as usize);
+            channel.apply_outputs(ce, run as u64);
+            place += run;
+        } else {
+            if let Some(rule) = channel.judge(items[place]) {
+                return Err((place, rule));
+            }
+            channel.apply(items[place]);
+            place += 1;
+        }
     }
     Ok(())
 }

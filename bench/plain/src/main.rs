@@ -1,5 +1,5 @@
-//! How fast a trace is checked, and how fast a bus is, in plain Rust: `plain [ITEMS]` makes the trace that `bench trace` makes,
-//! and checks it; `plain bus [PAGES]` does on its bus what `bench bus` does on ours; `plain run read|program items|runs [JOBS]` does
+//! How fast a trace is checked, and how fast a bus is, in plain Rust: `plain trace [ITEMS]` makes the trace that `bench trace` makes,
+//! and checks it; `plain reads items|runs [ITEMS]` does so with that of `bench reads`, its data item by item or by runs; `plain bus [PAGES]` does on its bus what `bench bus` does on ours; `plain run read|program items|runs [JOBS]` does
 //! the jobs of `bench/run.sh`, their data item by item or by runs.
 
 mod bus;
@@ -7,7 +7,7 @@ mod channel;
 mod jobs;
 mod work;
 
-use channel::{check, Geometry, Item, Kind};
+use channel::{check, check_runs, Geometry, Item, Kind};
 use jobs::{Pace, Work};
 use std::hint::black_box;
 use std::time::Instant;
@@ -34,16 +34,38 @@ fn number(argument: Option<String>, default: usize) -> usize {
     argument.map_or(default, |n| n.parse().expect("a number"))
 }
 
-fn check_trace(count: usize) {
-    let items: Vec<Item> = (0..count).map(item_at).collect();
+// The item at this place of a trace of page reads: nine items up to the data, and the 528 bytes of an erased page.
+fn read_item_at(place: usize) -> Item {
+    match place % 537 {
+        0 | 8 => cycle(Kind::Command, 0x00),
+        1..=5 => cycle(Kind::Address, 0x00),
+        6 => cycle(Kind::Command, 0x30),
+        7 => Item::Ready { ce: 0, lun: 0, fail: false },
+        _ => cycle(Kind::Output, 0xff),
+    }
+}
+
+type Check = fn(Geometry, usize, &[Item]) -> Result<(), (usize, u8)>;
+
+fn measure_check(made: fn(usize) -> Item, check: Check, count: usize) {
+    let items: Vec<Item> = (0..count).map(made).collect();
     let start = Instant::now();
     let verdict = check(Geometry::one_lun(528, 4, 8), 1, black_box(&items));
-    let millis = start.elapsed().as_millis().max(1);
+    let micros = start.elapsed().as_micros().max(1);
     match verdict {
         Ok(()) => println!("{count} items, each permitted"),
         Err((place, rule)) => println!("item {place}: F{rule}"),
     }
-    eprintln!("{millis} ms, {} items per second", count as u128 * 1000 / millis);
+    eprintln!("check: {micros} us, {} items per second", count as u128 * 1_000_000 / micros);
+}
+
+fn check_reads(mut arguments: impl Iterator<Item = String>) {
+    let check = match arguments.next().as_deref() {
+        Some("items") => check,
+        Some("runs") => check_runs,
+        other => panic!("items or runs, not {other:?}"),
+    };
+    measure_check(read_item_at, check, number(arguments.next(), 1000));
 }
 
 fn run_jobs(mut arguments: impl Iterator<Item = String>) {
@@ -66,7 +88,10 @@ fn main() {
         work::run(number(arguments.next(), 10));
     } else if arguments.next_if_eq("run").is_some() {
         run_jobs(arguments);
+    } else if arguments.next_if_eq("reads").is_some() {
+        check_reads(arguments);
     } else {
-        check_trace(number(arguments.next(), 1000));
+        arguments.next_if_eq("trace");
+        measure_check(item_at, check, number(arguments.next(), 1000));
     }
 }

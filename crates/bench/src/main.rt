@@ -1,7 +1,7 @@
 //! How fast a bus is, how fast a trace is checked, and how long the verifier takes.
 //!
-//! `bench bus [PAGES]`, `bench trace [ITEMS]` and `bench verify` measure one of them, `bench` alone each of them with the numbers that stand
-//! where none is given: 10 pages, and 1000 items.
+//! `bench bus [PAGES]`, `bench trace [ITEMS]`, `bench reads [ITEMS]`, `bench text [ITEMS]` and `bench verify` measure one of them, `bench` alone
+//! each of them with the numbers that stand where none is given: 10 pages, and 1000 items.
 #![tactic(auto)]
 
 mod bus;
@@ -9,7 +9,7 @@ mod trace;
 mod verify;
 
 use crate::bus::measure_bus;
-use crate::trace::measure_check;
+use crate::trace::{Made, measure_check, measure_text};
 use crate::verify::measure_verify;
 use anyhow::bail;
 use std::env;
@@ -22,7 +22,8 @@ const ITEMS: usize = 1000;
 #[derive(Clone, Copy)]
 enum Measure {
     Bus { pages: u32 },
-    Check { items: usize },
+    Check { made: Made, items: usize },
+    Text { items: usize },
     Verify,
 }
 
@@ -30,9 +31,18 @@ impl Measure {
     fn run(self, rt: &HostRuntime) -> anyhow::Result<()> {
         match self {
             Measure::Bus { pages } => measure_bus(rt, pages),
-            Measure::Check { items } => measure_check(rt, items),
+            Measure::Check { made, items } => measure_check(rt, made, items),
+            Measure::Text { items } => measure_text(rt, items),
             Measure::Verify => measure_verify(rt),
         }
+    }
+}
+
+// How many items a word asks for.
+fn count_items(word: Option<&String>) -> anyhow::Result<usize> {
+    match word {
+        None => Ok(ITEMS),
+        Some(items) => Ok(items.parse::<usize>()?),
     }
 }
 
@@ -48,13 +58,20 @@ fn read_measure(words: &[String]) -> anyhow::Result<Option<Measure>> {
             },
         },
         Some("trace") => Measure::Check {
-            items: match number {
-                None => ITEMS,
-                Some(items) => items.parse::<usize>()?,
-            },
+            made: Made::Erases,
+            items: count_items(number)?,
+        },
+        Some("reads") => Measure::Check {
+            made: Made::Reads,
+            items: count_items(number)?,
+        },
+        Some("text") => Measure::Text {
+            items: count_items(number)?,
         },
         Some("verify") => Measure::Verify,
-        Some(other) => bail!("{other}: there are `bus [PAGES]`, `trace [ITEMS]` and `verify`"),
+        Some(other) => bail!(
+            "{other}: there are `bus [PAGES]`, `trace [ITEMS]`, `reads [ITEMS]`, `text [ITEMS]` and `verify`"
+        ),
     };
     Ok(Some(measure))
 }
@@ -65,7 +82,9 @@ fn main(rt: HostRuntime) -> anyhow::Result<()> {
         Some(measure) => measure.run(&rt),
         None => {
             measure_bus(&rt, PAGES)?;
-            measure_check(&rt, ITEMS)?;
+            measure_check(&rt, Made::Erases, ITEMS)?;
+            measure_check(&rt, Made::Reads, ITEMS)?;
+            measure_text(&rt, ITEMS)?;
             measure_verify(&rt)
         }
     }
