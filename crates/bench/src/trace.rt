@@ -8,7 +8,7 @@ use nand_geometry::{Geometry, Parts, SMALL_CHIP};
 use onfi_cycle::{Cycle, Item, Kind};
 use std::alloc::{AllocError, Global};
 use std::time::{Duration, Instant};
-use trace_text::{check, parse, print};
+use trace_text::{check, is_printable, parse, print};
 
 // One LUN of 8 blocks of 4 pages.
 const ONE_LUN: Parts = SMALL_CHIP;
@@ -91,6 +91,9 @@ pub fn measure_check(rt: &HostRuntime, made: Made, count: usize) -> anyhow::Resu
 /// Measures how so many items of page reads are printed, and read again.
 pub fn measure_text(rt: &HostRuntime, count: usize) -> anyhow::Result<()> {
     let items = made_trace(rt.alloc(), Made::Reads, count)?;
+    if !is_printable(&items) {
+        bail!("an item is of no chip enable");
+    }
     let start = Instant::now(rt)?;
     let text = print(rt.alloc(), &items)?;
     let printed = start.elapsed(rt)?;
