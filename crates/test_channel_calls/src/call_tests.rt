@@ -5,7 +5,7 @@ ghost use Rattle.std.specs.Prelude.{◌≡◌};
 use crate::tests::TWO_ERASES;
 use channel_work::{ChannelState, Finished, Gathered, Readied, Started, Turn, Turns, WorkerPass};
 use lun_lease::{Lease, Loaded};
-use onfi_cycle::Lun;
+use onfi_cycle::{Cycle, Item, Kind, Lun};
 use std::marker::Brand;
 use std::process::Abort;
 use std::sync::Wait;
@@ -152,8 +152,46 @@ fn may_want_memory(answer: Answer) -> bool {
     !matches!(answer, Answer::NotEnded | Answer::Became(Readied::NotBusy))
 }
 
+// An item as a number.
+fn number_of(item: Item) -> u32 {
+    let [first, second, third] = match item {
+        Item::Cyc(Cycle { ce, kind, byte }) => match kind {
+            Kind::Cmd => [ce, 0, byte],
+            Kind::Adr => [ce, 1, byte],
+            Kind::Din => [ce, 2, byte],
+            Kind::Dout => [ce, 3, byte],
+        },
+        Item::Rdy { ce, lun, fail } => [ce, 4, 2 * (lun % 4) + u8::from(fail)],
+        Item::Ard { ce, lun } => [ce, 5, lun],
+    };
+    u32::from_be_bytes([0, first, second, third])
+}
+
+// The first so many items of a trace as one number, for which no memory is taken.
+fn sum_up(items: &[Item], count: usize) -> u64 {
+    let mut sum: u64 = 0;
+    for item in items.iter().take(count) {
+        sum = sum.wrapping_mul(1_000_003).wrapping_add(u64::from(number_of(*item)));
+    }
+    sum
+}
+
+// After a call that was out of memory the trace is the one before it, which was so long and had this sum; after a turn it begins with
+// that one, as the steps that were done stand.
+fn is_kept(trace: &[Item], call: Call, (count, sum): (usize, u64)) -> bool {
+    match call {
+        Call::Turn => trace.len() >= count && sum_up(trace, count) == sum,
+        Call::Start
+        | Call::Ready { .. }
+        | Call::ArrayReady { .. }
+        | Call::Park
+        | Call::Unpark
+        | Call::Finish => trace.len() == count && sum_up(trace, count) == sum,
+    }
+}
+
 // Makes the calls of a script, and tells how many there were that answered out of memory, and then what they must; or the place of the
-// first that didn't, or that answered out of memory in place of another refusal.
+// first that didn't, that answered out of memory in place of another refusal, or after whose refusal something had changed.
 fn play<L: Turns, R: Wait>(
     rt: &R,
     state: &mut ChannelState<L>,
@@ -164,8 +202,13 @@ fn play<L: Turns, R: Wait>(
     let mut refused: u64 = 0;
     for k in 0..script.len() {
         let (call, answer) = script[k];
+        let trace = state.trace();
+        let before = (trace.len(), sum_up(trace, trace.len()));
         let mut told = make_call(rt, state, pass, &mut held, call);
         if told == Answer::OutOfMemory && may_want_memory(answer) {
+            if !is_kept(state.trace(), call, before) {
+                return Err(k);
+            }
             refused = refused.saturating_add(1);
             told = make_call(rt, state, pass, &mut held, call);
         }

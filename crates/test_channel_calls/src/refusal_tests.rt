@@ -80,11 +80,12 @@ fn each_refusal_loses_nothing(rt: HostRuntime) -> Result<(), Fail> {
     Ok(())
 }
 
-// Two erases on two LUNs, by two workers, of whom the first works again after both have ended.
+// Two erases on two LUNs, by two workers, of whom the first works again after both have ended; and whether one of the two ended for
+// want of memory.
 fn erase_by_two<L: Turns + Sync, R: Threads + Wait + Sync + AllocGlobal>(
     rt: &R,
     blank: Blank,
-) -> Result<Gathered, Fail>
+) -> Result<(Gathered, bool), Fail>
     requires name { blank.name ≡ L.name }
     requires parts { (blank.parts ≡ L.parts) × (L.all ≡ L.parts) × (L.parts ≡ 9) }
 {
@@ -94,16 +95,21 @@ fn erase_by_two<L: Turns + Sync, R: Threads + Wait + Sync + AllocGlobal>(
     let passes = make_two_passes(&mut state)?;
     let channel = Channel::new(state);
     let (first, second) = work_by_two(rt, &channel, &Open, passes);
+    let is_short = first.cause == Cause::OutOfMemory || second.cause == Cause::OutOfMemory;
     let first = take_pass(first)?;
     ended_passes.push(work_again(rt, &channel, &Open, first)?)?;
     ended_passes.push(take_pass(second)?)?;
-    gather(channel.into_state(), ended_passes)
+    Ok((gather(channel.into_state(), ended_passes)?, is_short))
 }
 
+// `tools/fail_allocs.py` looks for what is printed.
 #[test]
 fn another_goes_on_after_a_refusal(rt: HostRuntime) -> Result<(), Fail> {
     let geometry = Geometry::of(TWO_LUNS)?;
-    let gathered = erase_by_two::<Brand, _>(&rt, Blank::new(9))?;
+    let (gathered, is_short) = erase_by_two::<Brand, _>(&rt, Blank::new(9))?;
     assert!(rt; is_whole(&gathered, &geometry));
+    if is_short {
+        println!(rt; "one of two workers was out of memory")?;
+    }
     Ok(())
 }

@@ -25,12 +25,12 @@ impl<B: Allocator> TestHeap<B> {
         }
     }
 
-    /// Refuses these requests from now on, and counts them from 0.
+    /// Refuses these requests from now on.
     pub fn refuse(&self, refusal: Refusal) {
         self.refuser.set(refusal);
     }
 
-    /// How many requests were refused since [`refuse`](TestHeap::refuse) was called last.
+    /// How many requests it has refused.
     pub fn refused(&self) -> u64 {
         self.refuser.count()
     }

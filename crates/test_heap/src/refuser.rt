@@ -27,13 +27,12 @@ impl Refuser {
         }
     }
 
-    /// Begins to refuse these, and to count anew.
+    /// Begins to refuse these.
     pub(crate) fn set(&self, refusal: Refusal) {
         self.refusal.set(refusal);
-        self.refused.set(0);
     }
 
-    /// How many were refused.
+    /// How many it has refused.
     pub(crate) fn count(&self) -> u64 {
         self.refused.get()
     }
