@@ -7,7 +7,7 @@ use onfi_cycle::{Cycle, Forbidden, Item, Kind, Latch, Lun, LunState, PageAddress
 use std::alloc::{AllocError, Allocator, Global};
 use std::process::Abort;
 use std::test::Fail;
-use target_bus::{Bus, BusFault, BusRefusal, DiesRefused};
+use target_bus::{Bus, BusFault, BusRefusal};
 
 // One LUN of 8 blocks of 4 pages of 512 + 16 bytes, in one plane.
 pub(crate) const ONE_LUN: Parts = SMALL_CHIP;
@@ -1036,40 +1036,6 @@ fn refused_memory(rt: HostRuntime) -> Result<(), Fail> {
     for row in &WORKS {
         assert!(rt; is_refused_in_turn(rt.alloc(), row)?, "{}", row.2);
     }
-    Ok(())
-}
-
-// A bus is made of a die where so many bytes of a heap are left. Whether they sufficed; else the die comes back, and the bus is
-// made once there is memory.
-fn is_made_with(alloc: Global, left: usize) -> Result<bool, Fail> {
-    let heap = LocalHeap::new(alloc, HEAP)?;
-    let given = dies(&heap, ONE_LUN, 1)?;
-    let taken = take_but(&heap, left)?;
-    match Bus::new(&heap, geometry(ONE_LUN)?, given) {
-        Ok(bus) => Ok(bus.is_fresh()),
-        Err(DiesRefused { fault, dies: back }) => {
-            drop(taken);
-            let whole = fault == BusFault::OutOfMemory && back.len() == 1;
-            match Bus::new(&heap, geometry(ONE_LUN)?, back) {
-                Ok(_) if whole => Ok(false),
-                _ => Err("the die comes back, and the bus is made then".into()),
-            }
-        }
-    }
-}
-
-#[test]
-fn a_new_bus_needs_memory(rt: HostRuntime) -> Result<(), Fail> {
-    let mut refused = false;
-    let mut made = false;
-    for left in (0..40usize).map(|place| place.saturating_mul(16)) {
-        if is_made_with(rt.alloc(), left)? {
-            made = true;
-        } else {
-            refused = true;
-        }
-    }
-    assert!(rt; refused && made);
     Ok(())
 }
 

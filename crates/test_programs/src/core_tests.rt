@@ -1,15 +1,14 @@
 use die_model::LunDie;
-use linked_list_allocator::LocalHeap;
 use micro_program::Verified;
 use micro_verify::verify;
 use micro_word::{Text, Word};
 use nand_geometry::{Geometry, Parts, SMALL_CHIP};
 use onfi_cycle::{BusState, Cycle, Item, Kind, Latch, Lun, LunState, Register};
 use seq_core::{
-    Core, Event, Job, JobFault, JobRefused, LoadFault, Ran, Reply, Shortage, Stepped, UnloadFault,
+    Core, Event, Job, JobFault, JobRefused, LoadFault, Ran, Reply, Stepped, UnloadFault,
     UnloadedJob, run_events,
 };
-use std::alloc::{AllocError, Allocator, Global};
+use std::alloc::{Allocator, Global};
 use std::process::Abort;
 use std::test::Fail;
 use target_bus::Bus;
@@ -25,9 +24,6 @@ const TWO_LUNS: Parts = Parts {
     multi_plane: true,
     ..ONE_LUN
 };
-
-// The bytes of a heap that holds a sequencer, a job, a trace, and a list of events with its replies.
-const HEAP: usize = 8192;
 
 // The erase of a block.
 const ERASE: [Word; 5] = [
@@ -679,115 +675,6 @@ fn what_has_not_ended(rt: HostRuntime) -> Result<(), Fail> {
     try_all(&rt, rt.alloc(), &mut core, &tries)
 }
 
-// The greatest block that a heap has left.
-fn largest(heap: &LocalHeap) -> usize {
-    for k in 0..HEAP {
-        let size = HEAP.saturating_sub(k);
-        let block: Result<Vec<u8, &LocalHeap>, AllocError> = Vec::with_capacity(heap, size);
-        if block.is_ok() {
-            return size;
-        }
-    }
-    0
-}
-
-// A step that was refused has changed nothing, and goes on once there is memory.
-fn is_made_good<'a>(
-    core: &mut Core<&'a LocalHeap>,
-    taken: &mut Option<Vec<u8, &'a LocalHeap>>,
-    before: &[Item],
-    holder: Option<Lun>,
-    answer: Stepped,
-) -> Result<bool, Fail> {
-    let same = core.trace() == before && core.holder() == holder;
-    *taken = None;
-    Ok(core.step(ZERO)? == answer && same)
-}
-
-// A step that may be refused for want of memory. The items that had come before it, None where it wasn't refused.
-fn tried<'a>(
-    rt: &impl Abort,
-    alloc: Global,
-    core: &mut Core<&'a LocalHeap>,
-    taken: &mut Option<Vec<u8, &'a LocalHeap>>,
-    answer: Stepped,
-) -> Result<Option<usize>, Fail> {
-    let before = core.trace().to_vec(alloc)?;
-    let holder = core.holder();
-    match core.step(ZERO) {
-        Ok(told) => {
-            assert!(rt; told == answer);
-            Ok(None)
-        }
-        Err(_) => {
-            assert!(rt; is_made_good(core, taken, before.as_slice(), holder, answer)?);
-            Ok(Some(before.len()))
-        }
-    }
-}
-
-// Steps an erase up to its first poll where so many bytes of the heap are left. The items that had come before the step that was
-// refused, None where the bytes sufficed.
-fn begun_with<'a>(
-    rt: &impl Abort,
-    alloc: Global,
-    heap: &'a LocalHeap,
-    core: &mut Core<&'a LocalHeap>,
-    left: usize,
-) -> Result<Option<usize>, Fail> {
-    let rest = largest(heap).saturating_sub(left);
-    let mut taken = Some(Vec::with_capacity(heap, rest)?);
-    let mut refused = None;
-    for answer in [
-        Stepped::Went,
-        Stepped::Went,
-        Stepped::Went,
-        Stepped::NotReady,
-    ] {
-        if let Some(came) = tried(rt, alloc, core, &mut taken, answer)? {
-            refused = Some(came);
-        }
-    }
-    Ok(refused)
-}
-
-// The same of a new sequencer, whose erase goes on to its end.
-fn refused_with(
-    rt: &impl Abort,
-    alloc: Global,
-    heap: &LocalHeap,
-    left: usize,
-) -> Result<Option<usize>, Fail> {
-    let mut core = core_of(heap, ONE_LUN, 1)?;
-    assert!(rt; is_loaded(heap, &mut core, ONE_LUN, ZERO, 4)?);
-    let refused = begun_with(rt, alloc, heap, &mut core, left)?;
-    let tries = [
-        Try::Ready(ZERO, false, true),
-        Try::Steps(&END),
-        Try::Items(10),
-        Try::Unload(ZERO, Ok(0)),
-    ];
-    try_all(rt, heap, &mut core, &tries)?;
-    Ok(refused)
-}
-
-#[test]
-fn refused_memory(rt: HostRuntime) -> Result<(), Fail> {
-    let mut at_first = false;
-    let mut halfway = false;
-    let mut sufficed = false;
-    for places in 0..16usize {
-        let heap = LocalHeap::new(rt.alloc(), HEAP)?;
-        match refused_with(&rt, rt.alloc(), &heap, 16 * places)? {
-            Some(0) => at_first = true,
-            Some(_) => halfway = true,
-            None => sufficed = true,
-        }
-    }
-    assert!(rt; at_first && halfway && sufficed);
-    Ok(())
-}
-
 #[test]
 fn is_fresh_until_something_happens(rt: HostRuntime) -> Result<(), Fail> {
     let mut core = core_of(rt.alloc(), TWO_LUNS, 2)?;
@@ -919,83 +806,6 @@ fn a_list_of_events_is_done(rt: HostRuntime) -> Result<(), Fail> {
         Try::Steps(&[(ZERO, Stepped::Empty)]),
     ];
     try_all(&rt, rt.alloc(), &mut core, &tries)
-}
-
-// What came of a list of events of so many: how many were done and how many not, whether nothing has happened, and whether a step
-// waits for memory.
-#[derive(Clone, Copy)]
-struct Left {
-    done: usize,
-    rest: usize,
-    fresh: bool,
-    step_waits: bool,
-}
-
-// What is left fits to what there was no memory for.
-fn is_told(shortage: Option<Shortage>, left: Left, count: usize) -> bool {
-    match shortage {
-        None => left.rest == 0 && left.done == count,
-        Some(Shortage::ForReplies) => left.done == 0 && left.rest == count && left.fresh,
-        Some(Shortage::ForStep) => left.step_waits,
-    }
-}
-
-// The first of the events is a step.
-fn begins_with_step<A: Allocator>(events: &[Event<A>]) -> bool {
-    matches!(events.first(), Some(Event::Step(_)))
-}
-
-// What is left after such a list.
-fn left_of<A: Allocator + Copy>(core: &Core<A>, told: &Ran<A>) -> Left {
-    Left {
-        done: told.replies.len(),
-        rest: told.rest.len(),
-        fresh: core.is_fresh(),
-        step_waits: begins_with_step(told.rest.as_slice()),
-    }
-}
-
-// Does the events of an erase where so many bytes of the heap are left. Those that weren't done, and what there was no memory for.
-fn done_with<'a>(
-    rt: &impl Abort,
-    heap: &'a LocalHeap,
-    core: &mut Core<&'a LocalHeap>,
-    left: usize,
-) -> Result<(Vec<Event<&'a LocalHeap>, &'a LocalHeap>, Option<Shortage>), Fail> {
-    let events = events_of_one(heap)?;
-    let count = events.len();
-    let rest = largest(heap).saturating_sub(left);
-    let _taken: Vec<u8, &LocalHeap> = Vec::with_capacity(heap, rest)?;
-    let told = run_events(core, heap, events);
-    assert!(rt; is_told(told.shortage, left_of(core, &told), count));
-    Ok((told.rest, told.shortage))
-}
-
-// The same on a new sequencer, and then, with all of the heap, the rest. What there was no memory for at first.
-fn cut_short(rt: &impl Abort, heap: &LocalHeap, left: usize) -> Result<Option<Shortage>, Fail> {
-    let mut core = core_of(heap, ONE_LUN, 1)?;
-    let (rest, shortage) = done_with(rt, heap, &mut core, left)?;
-    let again = run_events(&mut core, heap, rest);
-    assert!(rt; again.rest.is_empty());
-    assert!(rt; core.trace() == ERASE_OF_BLOCK_1.as_slice());
-    Ok(shortage)
-}
-
-#[test]
-fn events_are_cut_short(rt: HostRuntime) -> Result<(), Fail> {
-    let mut for_replies = false;
-    let mut for_step = false;
-    let mut sufficed = false;
-    for places in 0..200usize {
-        let heap = LocalHeap::new(rt.alloc(), HEAP)?;
-        match cut_short(&rt, &heap, 16 * places)? {
-            Some(Shortage::ForReplies) => for_replies = true,
-            Some(Shortage::ForStep) => for_step = true,
-            None => sufficed = true,
-        }
-    }
-    assert!(rt; for_replies && for_step && sufficed);
-    Ok(())
 }
 
 #[test]
