@@ -51,7 +51,7 @@ fn slow_header_fault(image: &[u8]) -> Option<ImageFault> {
         Some(ImageFault::Magic)
     } else if !image.starts_with(&START) {
         Some(ImageFault::Numbers)
-    } else if image.len() as u64 != 24 + 532 * count {
+    } else if image.len() as u64 != 532u64.wrapping_mul(count).wrapping_add(24) {
         Some(ImageFault::Length)
     } else {
         None
