@@ -5,6 +5,8 @@
 #[cfg(test)]
 mod answer_tests;
 #[cfg(test)]
+mod command_line_tests;
+#[cfg(test)]
 mod counter_tests;
 #[cfg(test)]
 mod fault_tests;

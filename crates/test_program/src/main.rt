@@ -40,6 +40,10 @@ const SOURCE: &str = "rows 1\nbuffer 0\nbudget 5\ncmd 60\naddr 2 3\ncmd d0\nwait
 
 const NO_WAIT: &str = "rows 1\nbuffer 0\nbudget 5\ncmd 60\naddr 2 3\ncmd d0\nend 0\n";
 
+// An erase, and another one while the LUN is busy.
+const TWICE: &str =
+    "rows 1\nbuffer 0\nbudget 10\ncmd 60\naddr 2 3\ncmd d0\ncmd 60\naddr 2 3\ncmd d0\nwait\nend 0\n";
+
 // The trace of the erase at row 4, and one whose second opener meets a busy LUN.
 const TRACE: &str =
     "0 C 60\n0 A 04\n0 A 00\n0 A 00\n0 C d0\n0 C 70\n0 O 80\n0 R 0 0\n0 C 70\n0 O e0\n";
@@ -135,6 +139,7 @@ fn files(alloc: Global) -> Result<MapFiles, AllocError> {
     files.put("die.page", &page(&PAGE))?;
     files.put("erase.asm", SOURCE.as_bytes())?;
     files.put("no_wait.asm", NO_WAIT.as_bytes())?;
+    files.put("twice.asm", TWICE.as_bytes())?;
     files.put("bad.asm", b"rows 1\nbuffer 0\nbudget 5\naddr 3 3\n")?;
     files.put("old.nmp", &ERASE)?;
     files.put("erase.trace", TRACE.as_bytes())?;
@@ -191,7 +196,7 @@ fn once<R: Print + AllocGlobal + Threads + Wait + Sync>(
 }
 
 // The command lines on the files, one after another.
-const LINES: [&str; 17] = [
+const LINES: [&str; 22] = [
     "asm erase.asm erase.nmp",
     "dis erase.nmp",
     "verify die.page erase.nmp",
@@ -201,6 +206,11 @@ const LINES: [&str; 17] = [
     "asm bad.asm bad.nmp",
     "asm no_wait.asm no_wait.nmp",
     "verify die.page no_wait.nmp",
+    "asm twice.asm twice.nmp",
+    "verify die.page twice.nmp",
+    "check die.page 1 twice.trace",
+    "verify die.page twice.nmp --counter twice.trace",
+    "check die.page 1 twice.trace",
     "verify erase.asm erase.nmp",
     "verify die.page erase.asm",
     "check die.page 1 too_soon.trace",
@@ -211,25 +221,39 @@ const LINES: [&str; 17] = [
     "--version",
 ];
 
-// What each line comes to, on the files that the lines before it left.
-fn commands<R: Print + AllocGlobal + Threads + Wait + Sync>(rt: &R) -> io::Result<()> {
-    let mut files = files(rt.alloc())?;
-    for line in LINES {
+// The runs of the example, with each of their options, and the check of a trace that one of them leaves.
+const RUNS: [&str; 8] = [
+    "run examples/two_luns.run",
+    "run examples/two_luns.run --quiet",
+    "check examples/two_luns/chip.page 1 run.trace",
+    "run examples/two_luns.run --quiet --trace run.trace",
+    "check examples/two_luns/chip.page 1 run.trace",
+    "run examples/two_luns.run --quiet --stats",
+    "run examples/two_luns.run --quiet --workers 8",
+    "run examples/two_luns.run --quiet --workers 9",
+];
+
+// What each of these lines comes to, on the files that the lines before it left.
+fn show_each<R: Print + AllocGlobal + Threads + Wait + Sync>(
+    rt: &R,
+    files: &mut MapFiles,
+    lines: &[&str],
+) -> io::Result<()> {
+    for line in lines {
         println!(rt; "onfiseq {line}")?;
         let line = format!(in rt.alloc(); "onfiseq {line}")?;
         let words = words_of(rt.alloc(), line.as_str())?;
-        show(rt, &mut files, Ok(words), &[])?;
+        show(rt, files, Ok(words), &[])?;
     }
-    let same = files.get("erase.nmp") == files.get("new.nmp");
-    println!(rt; "the assembled file and the upgraded one are the same: {same}")
+    Ok(())
 }
 
-// What the example of a run comes to.
-fn channel<R: Print + AllocGlobal + Threads + Wait + Sync>(rt: &R) -> io::Result<()> {
-    let mut files = run_files(rt.alloc())?;
-    println!(rt; "onfiseq run examples/two_luns.run")?;
-    let words = words_of(rt.alloc(), "onfiseq run examples/two_luns.run")?;
-    show(rt, &mut files, Ok(words), &[])
+// What the commands come to.
+fn commands<R: Print + AllocGlobal + Threads + Wait + Sync>(rt: &R) -> io::Result<()> {
+    let mut files = files(rt.alloc())?;
+    show_each(rt, &mut files, &LINES)?;
+    let same = files.get("erase.nmp") == files.get("new.nmp");
+    println!(rt; "the assembled file and the upgraded one are the same: {same}")
 }
 
 fn main(rt: HostRuntime) -> io::Result<()> {
@@ -245,5 +269,5 @@ fn main(rt: HostRuntime) -> io::Result<()> {
     let memory = Err(io::Error::from(io::ErrorKind::OutOfMemory));
     show(&rt, &mut files, memory, &[])?;
     commands(&rt)?;
-    channel(&rt)
+    show_each(&rt, &mut run_files(rt.alloc())?, &RUNS)
 }

@@ -1,0 +1,206 @@
+// What the words of the command line ask for: each option of a run, and each command that the help lists. And an input of `once` without an
+// end.
+use clap::error::ErrorKind as UsageKind;
+use seq_cli::{Asked, once_on, parse};
+use seq_commands::{Command, Exit};
+use seq_inputs::Medium;
+use seq_run::RunRequest;
+use std::alloc::{AllocError, Global};
+use std::io::{self, Read};
+use std::process::Abort;
+use std::test::Fail;
+
+// The words of a command line, behind the name of the program.
+fn words_of(alloc: Global, line: &str) -> Result<Vec<String>, AllocError> {
+    let mut words = Vec::new(alloc);
+    words.push(String::from_str(alloc, "onfiseq")?)?;
+    for word in line.split(' ') {
+        words.push(String::from_str(alloc, word)?)?;
+    }
+    Ok(words)
+}
+
+// ---- the options of a run
+
+const RUN: RunRequest<'static> = RunRequest {
+    path: "f",
+    workers: 1,
+    is_quiet: false,
+    trace: None,
+    has_stats: false,
+};
+
+// Words, and what they ask for.
+const REQUESTS: [(&str, RunRequest<'static>); 6] = [
+    ("run f", RUN),
+    (
+        "run f --quiet",
+        RunRequest {
+            is_quiet: true,
+            ..RUN
+        },
+    ),
+    (
+        "run f --trace out",
+        RunRequest {
+            trace: Some("out"),
+            ..RUN
+        },
+    ),
+    (
+        "run f --stats",
+        RunRequest {
+            has_stats: true,
+            ..RUN
+        },
+    ),
+    ("run --workers=8 f", RunRequest { workers: 8, ..RUN }),
+    (
+        "run --stats --trace out f --workers 6 --quiet",
+        RunRequest {
+            path: "f",
+            workers: 6,
+            is_quiet: true,
+            trace: Some("out"),
+            has_stats: true,
+        },
+    ),
+];
+
+// These words ask for this run.
+fn asks_for(alloc: Global, line: &str, request: RunRequest<'_>) -> Result<bool, AllocError> {
+    let words = words_of(alloc, line)?;
+    let asked = parse(alloc, words.as_slice());
+    Ok(asked.is_ok_and(|asked| asked == Asked::Run(request)))
+}
+
+// The number of workers is refused as a value.
+fn is_no_value(alloc: Global, line: &str) -> Result<bool, AllocError> {
+    let words = words_of(alloc, line)?;
+    let kind = parse(alloc, words.as_slice())
+        .err()
+        .map(|error| error.kind());
+    Ok(kind == Some(UsageKind::InvalidValue))
+}
+
+#[test]
+fn options_of_a_run(rt: HostRuntime) -> Result<(), Fail> {
+    for (line, request) in REQUESTS {
+        assert!(rt; asks_for(rt.alloc(), line, request)?, "{line}");
+    }
+    for workers in 1..=8u8 {
+        let line = format!(in rt.alloc(); "run f --workers {workers}")?;
+        let request = RunRequest { workers, ..RUN };
+        assert!(rt; asks_for(rt.alloc(), line.as_str(), request)?, "{workers}");
+    }
+    for line in ["run f --workers 0", "run f --workers 9"] {
+        assert!(rt; is_no_value(rt.alloc(), line)?, "{line}");
+    }
+    Ok(())
+}
+
+// ---- each command that is declared
+
+// The text that these words show: that of the help.
+fn show(alloc: Global, line: &str) -> Result<String, Fail> {
+    let words = words_of(alloc, line)?;
+    match parse(alloc, words.as_slice()) {
+        Ok(_) => Err(Fail::from("the words ask for help")),
+        Err(error) => Ok(error.to_string(alloc)?),
+    }
+}
+
+// The name in a line of the help's list of commands.
+fn first_word(line: &str) -> &str {
+    line.split_whitespace().next().unwrap_or("")
+}
+
+// The name of a command and a word for each argument that it has to be given, by its line of usage.
+fn make_call(alloc: Global, name: &str) -> Result<String, Fail> {
+    let help = show(alloc, format!(in alloc; "help {name}")?.as_str())?;
+    let mut call = String::from_str(alloc, name)?;
+    for line in help.as_str().lines() {
+        if line.starts_with("Usage:") {
+            for word in line.split(' ') {
+                if word.starts_with('<') {
+                    call.push_str(" 1")?;
+                }
+            }
+        }
+    }
+    Ok(call)
+}
+
+// The name of the command that is asked for.
+fn name_of(asked: Asked<'_>) -> &'static str {
+    match asked {
+        Asked::Once { .. } => "once",
+        Asked::Run(_) => "run",
+        Asked::Files(Command::Assemble { .. }) => "asm",
+        Asked::Files(Command::Disassemble { .. }) => "dis",
+        Asked::Files(Command::Upgrade { .. }) => "upgrade",
+        Asked::Files(Command::Verify { .. }) => "verify",
+        Asked::Files(Command::Check { .. }) => "check",
+    }
+}
+
+// The words of a command ask for that command and for no other.
+fn is_told_apart(alloc: Global, name: &str) -> Result<bool, Fail> {
+    let call = make_call(alloc, name)?;
+    let words = words_of(alloc, call.as_str())?;
+    let asked = parse(alloc, words.as_slice());
+    Ok(asked.is_ok_and(|asked| name_of(asked) == name))
+}
+
+#[test]
+fn each_command_of_the_help_is_asked_for(rt: HostRuntime) -> Result<(), Fail> {
+    let help = show(rt.alloc(), "--help")?;
+    let mut is_listed = false;
+    let mut count = 0u32;
+    for line in help.as_str().lines() {
+        if line == "Commands:" {
+            is_listed = true;
+        } else if line.is_empty() {
+            is_listed = false;
+        } else if is_listed && first_word(line) != "help" {
+            let name = first_word(line);
+            assert!(rt; is_told_apart(rt.alloc(), name)?, "{name}");
+            count = count.saturating_add(1);
+        }
+    }
+    assert_eq!(rt; count, 7);
+    Ok(())
+}
+
+// ---- an input without an end
+
+// Never at its end: each read gives one byte, or is interrupted.
+#[derive(Drop)]
+struct Endless {
+    gives: bool,
+    calls: u32,
+}
+
+impl Read for Endless {
+    fn read(&mut self, buf: &mut [u8]) -> io::Result<usize> {
+        self.calls = self.calls.saturating_add(1);
+        if self.gives && !buf.is_empty() {
+            buf[0] = b'N';
+            return Ok(1);
+        }
+        Err(io::Error::from(io::ErrorKind::Interrupted))
+    }
+}
+
+// It is read so often and no more, and nothing is written.
+#[test]
+fn an_input_without_an_end(rt: HostRuntime) {
+    for gives in [true, false] {
+        let mut endless = Endless { gives, calls: 0 };
+        let mut output = Vec::new(rt.alloc());
+        let exit = once_on(&rt.alloc(), &mut endless, &mut output, 4);
+        assert_eq!(rt; exit, Exit::FileFault(Medium::Stream));
+        assert_eq!(rt; endless.calls, 1_048_576);
+        assert!(rt; output.is_empty());
+    }
+}
