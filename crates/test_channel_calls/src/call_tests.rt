@@ -171,7 +171,9 @@ fn number_of(item: Item) -> u32 {
 fn sum_up(items: &[Item], count: usize) -> u64 {
     let mut sum: u64 = 0;
     for item in items.iter().take(count) {
-        sum = sum.wrapping_mul(1_000_003).wrapping_add(u64::from(number_of(*item)));
+        sum = sum
+            .wrapping_mul(1_000_003)
+            .wrapping_add(u64::from(number_of(*item)));
     }
     sum
 }

@@ -50,8 +50,8 @@ const TRACE: &str = "0 C 80\n0 A 00\n0 A 00\n0 A 00\n0 A 00\n0 A 00\n0 I a5\n0 I
 
 // The image of the die then: row 0 holds 05 0c and FF behind them.
 const IMAGE_START: [u8; 31] = [
-    b'N', b'D', b'I', b'1', 0, 2, 0, 0, 16, 0, 0, 0, 4, 0, 0, 0, 8, 0, 0, 0, 1, 0, 0, 0, 0, 0, 0, 0,
-    0x05, 0x0c, 0xff,
+    b'N', b'D', b'I', b'1', 0, 2, 0, 0, 16, 0, 0, 0, 4, 0, 0, 0, 8, 0, 0, 0, 1, 0, 0, 0, 0, 0, 0,
+    0, 0x05, 0x0c, 0xff,
 ];
 
 // A sequencer on one new die.
@@ -152,8 +152,14 @@ fn holds_both(core: Core<Memory<'_>>) -> Result<bool, Fail> {
         return Ok(false);
     };
     let image = die.image()?;
-    let (start, rest) = image.as_slice().split_at(IMAGE_START.len().min(image.len()));
-    Ok(start == IMAGE_START.as_slice() && rest.len() == 525 && rest.iter().all(|byte| *byte == 0xff))
+    let (start, rest) = image
+        .as_slice()
+        .split_at(IMAGE_START.len().min(image.len()));
+    Ok(
+        start == IMAGE_START.as_slice()
+            && rest.len() == 525
+            && rest.iter().all(|byte| *byte == 0xff),
+    )
 }
 
 // The trace of a sequencer is this.

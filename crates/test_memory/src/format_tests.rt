@@ -85,7 +85,11 @@ fn unexpected() -> Fail {
 
 // That memory sufficed, where the answer is the expected one.
 fn expect(is_expected: bool) -> Result<bool, Fail> {
-    if is_expected { Ok(false) } else { Err(unexpected()) }
+    if is_expected {
+        Ok(false)
+    } else {
+        Err(unexpected())
+    }
 }
 
 // The text of the erase.

@@ -107,7 +107,11 @@ fn load<'h>(
 #[test]
 fn an_erase_takes_memory_for_its_steps_alone(rt: HostRuntime) -> Result<(), Fail> {
     let heap = TestHeap::new(rt.alloc());
-    let (bus, job, second) = (new_bus(&heap, SMALL_CHIP)?, new_job(&heap)?, new_job(&heap)?);
+    let (bus, job, second) = (
+        new_bus(&heap, SMALL_CHIP)?,
+        new_job(&heap)?,
+        new_job(&heap)?,
+    );
     let missing = make_job(&heap, LUN_1)?.err().ok_or("no LUN 1")?;
     assert!(rt; missing.fault == JobFault::NoSuchLun);
     heap.refuse(Refusal::Always);

@@ -16,7 +16,11 @@ impl Call for NewTable {
     fn make(&self, heap: Memory<'_>, refusal: Refusal) -> Result<bool, Fail> {
         heap.refuse(refusal);
         match LeaseTable::new(heap) {
-            Ok(seats) => if seats.len() == 16 { Ok(false) } else { Err("sixteen seats".into()) },
+            Ok(seats) => if seats.len() == 16 {
+                Ok(false)
+            } else {
+                Err("sixteen seats".into())
+            },
             Err(_) => Ok(true),
         }
     }
@@ -31,7 +35,11 @@ impl Call for NewQueue {
         heap.refuse(refusal);
         match JobQueue::<u64, Memory<'_>>::new(heap, 2, 2) {
             Ok((_queue, passes, _taker)) => {
-                if passes.len() == 2 { Ok(false) } else { Err("two passes".into()) }
+                if passes.len() == 2 {
+                    Ok(false)
+                } else {
+                    Err("two passes".into())
+                }
             }
             Err(_) => Ok(true),
         }

@@ -25,7 +25,11 @@ pub(crate) fn refuse_in_turn<C: Call>(alloc: Global, call: &C) -> Result<u64, Fa
         let heap = TestHeap::new(alloc);
         let is_short = call.make(&heap, Refusal::Once { after })?;
         if heap.refused() == 0 {
-            return if is_short { Err("out of memory, though none was refused".into()) } else { Ok(short) };
+            return if is_short {
+                Err("out of memory, though none was refused".into())
+            } else {
+                Ok(short)
+            };
         }
         short = short.saturating_add(u64::from(is_short));
     }
