@@ -162,3 +162,29 @@ fn files_that_are_named_twice(rt: HostRuntime) -> Result<(), Fail> {
     }
     Ok(())
 }
+
+const FOUR_DIES: &str = "page two\ntargets 2\nimage 0 0 a\nimage 0 1 b\nimage 1 0 c\nimage 1 1 d\n\
+    job 1 0 0 both in out\n";
+
+// Each of four dies begins with its own image and leaves it in its own file; the one that is programmed is the third.
+#[test]
+fn each_die_has_its_own_image(rt: HostRuntime) -> Result<(), Fail> {
+    let mut files = make_files(rt.alloc())?;
+    files.put("run", FOUR_DIES.as_bytes())?;
+    files.put("in", &[0xa5, 0x3c])?;
+    for (path, byte) in [("a", 0x11), ("b", 0x22), ("c", 0x33), ("d", 0x44)] {
+        files.put(path, make_image(rt.alloc(), 0, &[byte])?.as_slice())?;
+    }
+    assert_eq!(rt; play(&rt, &mut files, ask(1)).end, RunEnd::Done);
+    expect_file(&rt, &files, "out", &[0xa5, 0x3c, 0x21, 0x3c], 4)?;
+    for (path, bytes) in [
+        ("a", &[0x11, 0xff]),
+        ("b", &[0x22, 0xff]),
+        ("c", &[0x21, 0x3c]),
+        ("d", &[0x44, 0xff]),
+    ] {
+        let image = make_image(rt.alloc(), 0, bytes.as_slice())?;
+        assert_eq!(rt; files.get(path), Some(image.as_slice()), "of {path}");
+    }
+    Ok(())
+}
