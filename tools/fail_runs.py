@@ -4,9 +4,9 @@
 
 PROGRAM is the built program (crates/onfiseq/out/onfiseq when none is given). A run of two jobs with an image, two buffers and a trace is
 made by one worker and by three. Where a request is refused, it ends with status 4 and `out of memory`, prints nothing on standard output,
-and every file is as it was before; so it does where a thread can't be started. Otherwise it ends as a run to which nothing is refused,
-with the same files: a list that is made of others asks for all its room at first, and goes on without it. Ends with status 1 at the first
-run that isn't so.
+and every file is as it was before, or all are written where only the printing was left; so it does where a thread can't be started.
+Otherwise it ends as a run to which nothing is refused, with the same files: a list that is made of others asks for all its room at first,
+and goes on without it. Ends with status 1 at the first run that isn't so.
 """
 import shutil
 import sys
@@ -70,19 +70,20 @@ def try_run(refuser, folder, workers, **refused):
     return ended, before, contents(folder)
 
 
-def is_alike(folder, after, whole, workers):
+def is_alike(after, whole, workers):
     """The files of a run are those of one to which nothing was refused; by several workers the items of a trace may stand in another order."""
     if workers > 1:
         after, whole = ({**files, "trace": len(files["trace"].splitlines())} for files in (after, whole))
     return after == whole
 
 
-def judge(what, folder, workers, ran, whole):
+def judge(what, workers, ran, whole):
     """Whether a run of which something was refused was out of memory; stops where it went wrong."""
     ended, before, after = ran
-    if ended.status == 4 and ended.output == "" and "out of memory" in ended.errors and after == before:
+    is_kept = after == before or is_alike(after, whole[2], workers)
+    if ended.status == 4 and ended.output == "" and "out of memory" in ended.errors and is_kept:
         return True
-    if ended.status == 0 and ended.output == whole[0].output and is_alike(folder, after, whole[2], workers):
+    if ended.status == 0 and ended.output == whole[0].output and is_alike(after, whole[2], workers):
         return False
     changed = sorted(name for name in {**before, **after} if before.get(name) != after.get(name))
     stop(f"{what} of {workers} workers: status {ended.status}, {ended.output!r}, {ended.errors!r}, changed: {changed}")
@@ -97,13 +98,15 @@ def refuse_each(refuser, folder, workers):
         ran = try_run(refuser, folder, workers, request=number)
         if ran[0].requests is not None and ran[0].requests < number:
             break
-        if judge(f"request {number}", folder, workers, ran, whole):
+        if judge(f"request {number}", workers, ran, whole):
             short += 1
         else:
             passed += 1
+    if short == 0:
+        stop(f"no request of {workers} workers was refused")
     for number in range(1, whole[0].threads + 1):
         ran = try_run(refuser, folder, workers, thread=number)
-        if not judge(f"thread {number}", folder, workers, ran, whole):
+        if not judge(f"thread {number}", workers, ran, whole):
             stop(f"thread {number} of {workers} workers wasn't missed")
     print(f"onfiseq run by {workers}: {short} requests refused, and out of memory; {passed} refused, and done all the same; "
           f"{whole[0].threads} threads refused, and out of memory")
