@@ -1,5 +1,5 @@
 -- What lies under the lock of a channel, with its seats, its park and its workers' passes.
-use Rattle.std.specs.Prelude.{◌≡◌, ℕ, ◌+◌, Bool, true, false, List, Option, Some, None}
+use Rattle.std.specs.Prelude.{◌≡◌, ℕ, ◌+◌, Bool, true, false, List, Option, Some, None, sum_by}
 use Rattle.onfi_cycle.specs.declared.lun.Lun.{Lun}
 use Rattle.target_bus.specs.Bus.{numbered}
 use Rattle.seq_core.specs.declared.stepped.Stepped.{Stepped}
@@ -28,6 +28,15 @@ pub record StateView : Type 0 where
   pub parked : List Leased
   pub passes : ℕ
 
+-- a worker's pass: its number among those of its channel, and how many turns it has taken
+pub record PassView : Type 0 where
+  pub number : ℕ
+  pub turns : ℕ
+
+-- how many turns passes have taken, all together
+abbrev pub turns_of : List PassView → ℕ
+turns_of passes = sum_by (λ (pass : PassView). pass.turns) passes
+
 -- the answer of a turn tells the last answer of its steps, and after a poll that says busy what is counted of the LUN
 abbrev pub Tells : LunCount → Option Stepped → Turn → Type 0
 Tells count (Some WasHandedOver) t = t ≡ HandedOver
@@ -39,11 +48,12 @@ Tells count (Some Went) t = ⊥
 Tells count None t = t ≡ OutOfMemory
 
 -- a turn of the lease's LUN, which the pass counts where it made a step
-pub record TookTurn (v : StateView) (pass : ℕ) (n : ℕ) (answer : Turn) (u : StateView) (pass' : ℕ) : Type 0 where
+pub record TookTurn (v : StateView) (pass : PassView) (n : ℕ) (answer : Turn) (u : StateView) (pass' : PassView) : Type 0 where
   pub last : Option Stepped
   pub turn : IsTurn v.history (numbered v.history.core.geometry n) last u.history
   pub tells : Tells (count_of u.history.core.geometry n u.history.core.past) last answer
-  pub counts : pass' + v.history.turns ≡ pass + u.history.turns
+  pub counts : pass'.turns + v.history.turns ≡ pass.turns + u.history.turns
+  pub number : pass'.number ≡ pass.number
   pub bus : TellsBusAfterTurn v.history.core.holder last u.history.core.holder (numbered v.history.core.geometry n)
   pub same : u ≡ record v { history = u.history }
 

@@ -1,7 +1,7 @@
 //! What lies under the lock of a channel.
-ghost use Rattle.std.specs.Prelude.{◌≡◌, ◌≢◌, ◌+◌, ◌<◌, ◌++◌, ◌∷◌, [], Some, IfSome, IfNone, IfOk, IfErr, OnOk, IsOk, length, sum, reverse, map, true};
+ghost use Rattle.std.specs.Prelude.{◌≡◌, ◌≢◌, ◌+◌, ◌<◌, ◌++◌, ◌∷◌, [], Some, IfSome, IfNone, IfOk, IfErr, OnOk, IsOk, length, reverse, map, true};
 ghost use Rattle.channel_work.specs.Counts.{count_of};
-ghost use Rattle.channel_work.specs.State.{TookTurn, IsFinished, IsReadied, IsArrayReadied};
+ghost use Rattle.channel_work.specs.State.{turns_of, TookTurn, IsFinished, IsReadied, IsArrayReadied};
 ghost use Rattle.channel_work.specs.Done.{ended_of};
 ghost use Rattle.channel_work.specs.Starting.{IsStart};
 ghost use Rattle.onfi_cycle.specs.Permitted.{is_legal};
@@ -89,10 +89,10 @@ impl<L: Turns> ChannelState<L> {
         self.history.trace()
     }
 
-    /// A new pass, at most 8.
+    /// A new pass, at most 8. Its number is how many were handed out before, so no two passes have the same.
     pub fn worker(&mut self) -> Option<WorkerPass<L>>
         requires { L.all ≡ 9 }
-        ensures some { IfSome result (λ pass. (pass ≡ 0) × (self.old.passes < 8)
+        ensures some { IfSome result (λ pass. (pass ≡ record { number = self.old.passes; turns = 0 }) × (self.old.passes < 8)
             × (self.new ≡ record self.old { passes = self.old.passes + 1 })) }
         ensures none { IfNone result ((self.old.passes ≡ 8) × (self.new ≡ self.old)) }
     {
@@ -224,7 +224,7 @@ impl<L: Turns> ChannelState<L> {
     pub fn gather(self, passes: Vec<WorkerPass<L>>) -> Result<Gathered, GatherRefused<L>>
         requires { L.all ≡ L.parts }
         ensures turns { IfOk result (λ r. (length passes.items ≡ self.passes) × (r.turns ≡ self.history.turns)
-            × (r.turns ≡ sum passes.items)) }
+            × (r.turns ≡ turns_of passes.items)) }
         ensures parts { IfOk result (λ r. (r.core ≡ self.history.core) × (r.taker ≡ self.history.taker)
             × (map ended_of r.done.items ≡ self.history.done) × (r.backlog.items ≡ self.history.backlog) × (r.seats ≡ self.seats)
             × (r.parked ≡ self.parked)) }
@@ -270,8 +270,8 @@ fn merge_passes<L: Turns>(
     mut passes: Vec<WorkerPass<L>>,
 ) -> u64
     requires { own.old.amount ≡ 0 }
-    ensures turns { result ≡ sum passes.items }
-    ensures amount { own.new.amount ≡ sum passes.items }
+    ensures turns { result ≡ turns_of passes.items }
+    ensures amount { own.new.amount ≡ turns_of passes.items }
     ensures parts { own.new.parts ≡ own.old.parts + length passes.items }
     ensures same { history.new ≡ history.old }
 {

@@ -1,4 +1,5 @@
 //! The passes of a channel's workers.
+ghost use Rattle.std.specs.Prelude.{◌≡◌};
 
 use std::marker::{Brand, Model};
 use std::sync::ledger::{Ledger, Share};
@@ -27,18 +28,21 @@ pub struct WorkerPass<L: Turns> {
 }
 
 impl<L: Turns> Model for WorkerPass<L> {
-    ghost use Rattle.std.specs.Prelude.{◌≡◌, ℕ};
+    ghost use Rattle.std.specs.Prelude.{◌≡◌};
+    ghost use Rattle.channel_work.specs.State.{PassView};
 
-    ghost Value = { ℕ };
+    ghost Value = { PassView };
 
-    ghost view = { λ p. p.turns };
+    ghost view = { λ p. record { number = p.number; turns = p.turns } };
 
     ghost invariant = { λ p. (p.share.parts ≡ 1) × (p.share.amount ≡ p.turns) };
 }
 
 impl<L: Turns> WorkerPass<L> {
     /// Its number among the workers of its channel.
-    pub fn number(&self) -> u32 {
+    pub fn number(&self) -> u32
+        ensures { result ≡ self.now.number }
+    {
         self.number
     }
 }

@@ -1,8 +1,9 @@
 //! Channels of new dies, their passes, and their parts once all passes are back.
-ghost use Rattle.std.specs.Prelude.{◌≡◌, ◌+◌, [], IfOk, length, sum};
+ghost use Rattle.std.specs.Prelude.{◌≡◌, ◌+◌, [], IfOk, length};
 ghost use Rattle.seq_core.specs.World.{fresh};
 ghost use Rattle.seq_core.specs.Shows.{IsAt, channel_in};
 ghost use Rattle.channel_work.specs.Starting.{HasStarted};
+ghost use Rattle.channel_work.specs.State.{turns_of};
 
 use crate::erases::Erase;
 use crate::queues::{make_queue, submit_erases};
@@ -76,7 +77,8 @@ pub fn make_two_passes<L: Turns>(
     state: &mut ChannelState<L>,
 ) -> Result<(WorkerPass<L>, WorkerPass<L>), Fail>
     requires { L.all ≡ 9 }
-    ensures new { IfOk result (λ passes. (passes.0 ≡ 0) × (passes.1 ≡ 0)) }
+    ensures new { IfOk result (λ passes. (passes.0.turns ≡ 0) × (passes.1.turns ≡ 0)
+        × (passes.0.number ≡ state.old.passes) × (passes.1.number ≡ state.old.passes + 1)) }
     ensures state { IfOk result (λ _. state.new ≡ record state.old { passes = state.old.passes + 2 }) }
 {
     let first = state.worker().ok_or("a pass")?;
@@ -102,7 +104,7 @@ pub fn gather<L: Turns>(
     passes: Vec<WorkerPass<L>>,
 ) -> Result<Gathered, Fail>
     requires { L.all ≡ L.parts }
-    ensures { IfOk result (λ parts. (parts.turns ≡ sum passes.items) × (length passes.items ≡ state.passes)) }
+    ensures { IfOk result (λ parts. (parts.turns ≡ turns_of passes.items) × (length passes.items ≡ state.passes)) }
 {
     match state.gather(passes) {
         Ok(gathered) => Ok(gathered),
