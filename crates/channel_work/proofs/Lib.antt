@@ -15,3 +15,4 @@ pub mod Wellness
 pub mod Bounds
 pub mod Readying
 pub mod Recounting
+pub mod Staying

@@ -1,5 +1,5 @@
 -- The steps of a turn, one after another.
-use Rattle.std.proofs.Common.{◌≡◌, ℕ, ◌+◌, List, [], ◌∷◌, ◌++◌, Some, None, refl, sym, ap, ◌∙◌, subst, map, arith}
+use Rattle.std.proofs.Common.{◌≡◌, ℕ, ◌+◌, ◌≤◌, List, [], ◌∷◌, ◌++◌, Some, None, refl, sym, ap, ◌∙◌, subst, map, arith}
 use Rattle.std.specs.List.{AllByRecursion}
 use Rattle.std.proofs.lemmas.List.{map-append, append_assoc, append-nil}
 use Rattle.onfi_cycle.specs.declared.lun.Lun.{Lun}
@@ -13,6 +13,8 @@ use Rattle.channel_work.specs.declared.stored.Stored.{Stored}
 use Rattle.channel_work.specs.declared.stored.Stored.TheVariants.{Step as WasStepped}
 use Rattle.channel_work.specs.Channel.{HistoryView}
 use Rattle.channel_work.specs.Turned.{counted, IsBeside, TookSteps, IsTurn, IsGoing}
+use Rattle.channel_work.specs.declared.turn.Turn.{Turn}
+use Rattle.channel_work.specs.State.{StateView, PassView, TookTurn, HasTurnedOn}
 use Rattle.seq_core.proofs.EventList.{none_run, one_run_more}
 
 -- the first step of a turn
@@ -70,3 +72,10 @@ turn_last v u w l answer g event events turns beside =
 
 pub turn_stopped : (v u w : HistoryView) (l : Lun) → IsGoing v l u → w ≡ u → IsTurn v l None w
 turn_stopped v u w l g same = subst (IsTurn v l None) (sym same) (record { went = g.went; all_went = g.all_went; steps = g.steps })
+
+-- a turn takes none away
+pub turns_rise : (v u : StateView) (pass pass' : PassView) (n : ℕ) (answer : Turn) → TookTurn v pass n answer u pass' → HasTurnedOn pass pass'
+turns_rise v u pass pass' n answer took =
+    let counts = took.counts in
+    let more = took.turn.steps.turns in
+    (took.number, omega (arith, counts, more))

@@ -11,3 +11,4 @@ pub mod Finished
 pub mod Coming
 pub mod State
 pub mod Backlog
+pub mod Origin

@@ -1,5 +1,5 @@
 -- What lies under the lock of a channel, with its seats, its park and its workers' passes.
-use Rattle.std.specs.Prelude.{◌≡◌, ℕ, ◌+◌, Bool, true, false, List, Option, Some, None, sum_by}
+use Rattle.std.specs.Prelude.{◌≡◌, ℕ, ◌+◌, ◌≤◌, Bool, true, false, List, Option, Some, None, sum_by}
 use Rattle.onfi_cycle.specs.declared.lun.Lun.{Lun}
 use Rattle.target_bus.specs.Bus.{numbered}
 use Rattle.seq_core.specs.declared.stepped.Stepped.{Stepped}
@@ -36,6 +36,10 @@ pub record PassView : Type 0 where
 -- how many turns passes have taken, all together
 abbrev pub turns_of : List PassView → ℕ
 turns_of passes = sum_by (λ (pass : PassView). pass.turns) passes
+
+-- the pass is the same, with more turns or as many
+abbrev pub HasTurnedOn : PassView → PassView → Type 0
+HasTurnedOn old new = (new.number ≡ old.number) × (old.turns ≤ new.turns)
 
 -- the answer of a turn tells the last answer of its steps, and after a poll that says busy what is counted of the LUN
 abbrev pub Tells : LunCount → Option Stepped → Turn → Type 0

@@ -6,6 +6,7 @@ ghost use Rattle.channel_work.specs.Done.{ended_of};
 ghost use Rattle.channel_work.specs.Starting.{IsStart};
 ghost use Rattle.onfi_cycle.specs.Permitted.{is_legal};
 ghost use Rattle.channel_work.specs.Lawful.{IsLawful, WentWell};
+ghost use Rattle.channel_work.specs.Origin.{IsFrom};
 ghost use Rattle.target_bus.specs.Bus.{numbered};
 ghost use Rattle.seq_core.specs.World.{fresh};
 ghost use Rattle.seq_core.specs.Shows.{IsAt, channel_in};
@@ -64,6 +65,7 @@ impl<L: Turns> ChannelState<L> {
         requires parts { (blank.parts ≡ L.parts) × (L.all ≡ L.parts) × (L.parts ≡ 9) }
         requires core { IsAt core (fresh (channel_in core)) }
         requires taker { taker.taken ≡ [] }
+        requires from { IsFrom L.origin core taker }
         ensures core { result.history.core ≡ core }
         ensures taker { result.history.taker ≡ taker }
         ensures seats { (result.seats ≡ seats) × (result.parked ≡ []) × (result.passes ≡ 0) }
@@ -79,10 +81,11 @@ impl<L: Turns> ChannelState<L> {
     }
 
     /// What has happened on the channel, in the order of time. Its value is lawful: the trace is legal, and each program that was
-    /// started is inside its buffer and its budget.
+    /// started is inside its buffer and its budget. It is of the channel and of the queue that it began with.
     pub fn trace(&self) -> &[Item]
         ensures lawful { IsLawful self.now.history }
         ensures well { WentWell self.now.history }
+        ensures from { IsFrom L.origin self.now.history.core self.now.history.taker }
         ensures value { result.now ≡ reverse self.now.history.core.past }
         ensures legal { is_legal self.now.history.core.geometry self.now.history.core.targets self.now.history.core.past ≡ true }
     {
@@ -228,6 +231,7 @@ impl<L: Turns> ChannelState<L> {
         ensures parts { IfOk result (λ r. (r.core ≡ self.history.core) × (r.taker ≡ self.history.taker)
             × (map ended_of r.done.items ≡ self.history.done) × (r.backlog.items ≡ self.history.backlog) × (r.seats ≡ self.seats)
             × (r.parked ≡ self.parked)) }
+        ensures from { IfOk result (λ r. IsFrom L.origin r.core r.taker) }
         ensures err { IfErr result (λ r. (length passes.items ≢ self.passes) × (r.state ≡ self) × (r.passes.items ≡ passes.items)) }
     {
         if passes.len() != self.passes as usize {

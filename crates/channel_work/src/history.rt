@@ -14,6 +14,7 @@ ghost use Rattle.seq_core.specs.World.{fresh};
 ghost use Rattle.seq_core.specs.Shows.{IsAt, channel_in};
 ghost use Rattle.onfi_cycle.specs.Permitted.{is_legal};
 ghost use Rattle.channel_work.specs.Lawful.{IsLawful, WentWell};
+ghost use Rattle.channel_work.specs.Origin.{IsFrom};
 ghost use Rattle.channel_work.specs.Done.{ended_of};
 ghost use Rattle.channel_work.specs.Turned.{IsBeside, TookSteps, IsTurn, TellsBusAfterTurn};
 ghost use Rattle.channel_work.specs.declared.stored.Stored.TheVariants.{Step as WasStepped, Ready as BecameReady, ArrayReady as ArrayBecameReady};
@@ -25,6 +26,7 @@ use crate::seats::Seats;
 use crate::start::{Started, find_last_started, load_one, make_room, take_one};
 use crate::stored::{Name, NamedJob, Stored};
 use crate::tally::{LunCount, count_luns, find_lun};
+use crate::worker_pass::Turns;
 use job_queue::Taker;
 use nand_geometry::Geometry;
 use onfi_cycle::{Item, Lun, MAX_CHANNEL_LUNS};
@@ -33,11 +35,11 @@ use seq_core::{Core, Job, Stepped};
 use std::alloc::Global;
 use std::marker::Model;
 use std::sync::Wait;
-use std::sync::ledger::{Book, Ledger, Share};
+use std::sync::ledger::{Book, Share};
 
 /// The sequencer, the events that came to it, and the jobs.
 #[derive(Drop)]
-pub(crate) struct History<L: Ledger> {
+pub(crate) struct History<L: Turns> {
     core: Core,
     taker: Taker<Job>,
     events: Vec<Stored>,
@@ -59,21 +61,22 @@ pub(crate) struct HistoryParts {
     pub(crate) backlog: Backlog,
 }
 
-impl<L: Ledger> Model for History<L> {
+impl<L: Turns> Model for History<L> {
     ghost use Rattle.std.specs.Prelude.{◌≡◌, map};
     ghost use Rattle.channel_work.specs.Channel.{HistoryView};
 
     ghost Value = { HistoryView };
 
     ghost use Rattle.channel_work.specs.Lawful.{IsLawful};
+    ghost use Rattle.channel_work.specs.Origin.{IsFrom};
     ghost use Rattle.channel_work.specs.Done.{ended_of};
 
     ghost view = { λ h. record { core = h.core; taker = h.taker; events = h.events.items; taken = h.taken.items; started = h.started.items; backlog = h.backlog.items; done = map ended_of h.done.items; counts = h.counts; turns = h.turns } };
 
-    ghost invariant = { λ h. IsLawful (record { core = h.core; taker = h.taker; events = h.events.items; taken = h.taken.items; started = h.started.items; backlog = h.backlog.items; done = map ended_of h.done.items; counts = h.counts; turns = h.turns }) × (h.book.total ≡ h.turns) };
+    ghost invariant = { λ h. IsLawful (record { core = h.core; taker = h.taker; events = h.events.items; taken = h.taken.items; started = h.started.items; backlog = h.backlog.items; done = map ended_of h.done.items; counts = h.counts; turns = h.turns }) × (h.book.total ≡ h.turns) × IsFrom L.origin h.core h.taker };
 }
 
-impl<L: Ledger> History<L> {
+impl<L: Turns> History<L> {
     /// A LUN becomes ready, with failure or without, and is stored so; false, with all as it was, where it isn't there or isn't
     /// busy. None, with all as it was, where it would become ready and there is no memory to store that.
     pub(crate) fn ready(&mut self, lun: Lun, fail: bool) -> Option<bool>
@@ -289,6 +292,7 @@ impl<L: Ledger> History<L> {
         requires core { IsAt core (fresh (channel_in core)) }
         requires taker { taker.taken ≡ [] }
         requires book { book.total ≡ 0 }
+        requires from { IsFrom L.origin core taker }
         ensures core { result.core ≡ core }
         ensures taker { result.taker ≡ taker }
         ensures none { (result.events ≡ []) × (result.taken ≡ []) × (result.started ≡ []) × (result.backlog ≡ []) × (result.done ≡ [])
@@ -315,8 +319,9 @@ impl<L: Ledger> History<L> {
 
     /// The parts that go on.
     pub(crate) fn into_parts(self) -> HistoryParts
-        ensures { (result.core ≡ self.core) × (result.taker ≡ self.taker) × (map ended_of result.done.items ≡ self.done)
+        ensures parts { (result.core ≡ self.core) × (result.taker ≡ self.taker) × (map ended_of result.done.items ≡ self.done)
             × (result.backlog.items ≡ self.backlog) }
+        ensures from { IsFrom L.origin result.core result.taker }
     {
         HistoryParts {
             core: self.core,
@@ -326,10 +331,11 @@ impl<L: Ledger> History<L> {
         }
     }
 
-    /// What has happened on the channel, in the order of time. The history is lawful, and its run goes well.
+    /// What has happened on the channel, in the order of time. The history is lawful, its run goes well, and it is where it began.
     pub(crate) fn trace(&self) -> &[Item]
         ensures lawful { IsLawful self.now }
         ensures well { WentWell self.now }
+        ensures from { IsFrom L.origin self.now.core self.now.taker }
         ensures value { result.now ≡ reverse self.now.core.past }
         ensures legal { is_legal self.now.core.geometry self.now.core.targets self.now.core.past ≡ true }
     {

@@ -1,5 +1,7 @@
 //! The channel under its lock, and the loop of a worker.
-ghost use Rattle.std.specs.Prelude.{◌<◌};
+ghost use Rattle.std.specs.Prelude.{◌≡◌, ◌<◌, ⊤, IsTrue};
+ghost use Rattle.channel_work.specs.State.{HasTurnedOn};
+ghost use Rattle.channel_work.specs.declared.worker.Cause.TheVariants.{Quiet};
 
 use crate::channel_state::ChannelState;
 use crate::finished::Finished;
@@ -48,8 +50,12 @@ pub trait Gate {
     /// Whether the array of the LUN became ready after so many readies.
     fn array_ready(&self, lun: Lun, works: u64) -> bool;
 
+    /// No more jobs come.
+    ghost has_closed: { Self → Type 0 } = { λ _. ⊤ };
+
     /// Whether no more jobs come.
-    fn closed(&self) -> bool;
+    fn closed(&self) -> bool
+        ensures { IsTrue result → has_closed self.now };
 }
 
 /// Why a worker ended.
@@ -161,14 +167,17 @@ fn ask_array_ready<L: Turns, G: Gate, R: Wait>(
     !gate.array_ready(lun, works) || channel.state.lock(rt).array_ready(lun) != Readied::OutOfMemory
 }
 
-// Goes on with a lease for one turn, if the gate gives one.
+// Goes on with a lease for one turn, if the gate gives one. The pass counts it.
+#[tactic(auto, using(crate::proofs::Turning::turns_rise))]
 fn go_on<L: Turns, G: Gate, R: Wait>(
     rt: &R,
     channel: &Channel<L>,
     gate: &G,
     pass: &mut WorkerPass<L>,
     lease: Lease<Loaded>,
-) -> WentOn {
+) -> WentOn
+    ensures { HasTurnedOn pass.old pass.new }
+{
     if !gate.may_turn(pass.number()) {
         return WentOn {
             enough_memory: true,
@@ -196,13 +205,16 @@ fn go_on<L: Turns, G: Gate, R: Wait>(
 }
 
 /// A worker: it starts jobs and goes on with those that are parked, until the gate is closed and nothing is left to do, or memory is
-/// refused.
+/// refused. Its pass comes back, with its turns.
 pub fn work<L: Turns, G: Gate, R: Wait>(
     rt: &R,
     channel: &Channel<L>,
     gate: &G,
     pass: WorkerPass<L>,
-) -> WorkEnd<L> {
+) -> WorkEnd<L>
+    ensures pass { HasTurnedOn pass result.pass }
+    ensures quiet { result.cause ≡ Quiet → G.has_closed gate.now }
+{
     let mut pass = pass;
     let mut kept: Option<Lease<Loaded>> = None;
     for _ in rt.forever() {

@@ -7,16 +7,24 @@ use std::sync::ledger::{Ledger, Share};
 /// How many passes a channel hands out.
 pub(crate) const MAX_PASSES: u32 = 8;
 
-/// The name of a channel: a ledger of the turns of its workers.
+/// The name of a channel: a ledger of the turns of its workers, and where it began.
 pub trait Turns: Ledger {
     /// Its parts: one for each pass, and one that stays.
     ghost all: { ℕ };
 
-    ghost use Rattle.std.specs.Prelude.{ℕ};
+    /// The channel and the queue that it began with, where that is told.
+    ghost origin: { Option Origin };
+
+    ghost use Rattle.std.specs.Prelude.{ℕ, Option};
+    ghost use Rattle.channel_work.specs.Origin.{Origin};
 }
 
 impl Turns for Brand {
     ghost all = { 9 };
+
+    ghost origin = { None };
+
+    ghost use Rattle.std.specs.Prelude.{None};
 }
 
 /// A worker's right to take turns, which counts them.

@@ -1,5 +1,5 @@
 //! Running what was planned: the queue of jobs, the channel, its hosts and its workers.
-ghost use Rattle.std.specs.Prelude.{◌≡◌, ◌≤◌, [], IfOk};
+ghost use Rattle.std.specs.Prelude.{◌≡◌, ◌≤◌, [], IfOk, None};
 ghost use Rattle.seq_core.specs.World.{fresh};
 ghost use Rattle.seq_core.specs.Shows.{IsAt, channel_in};
 ghost use Rattle.job_queue.specs.Passes.{OwnsAll};
@@ -158,7 +158,7 @@ fn open_channel<L: Turns>(
     taker: Taker<Job>,
 ) -> Result<ChannelState<L>, AllocError>
     requires name { blank.name ≡ L.name }
-    requires parts { (blank.parts ≡ L.parts) × (L.all ≡ L.parts) × (L.parts ≡ 9) }
+    requires parts { (blank.parts ≡ L.parts) × (L.all ≡ L.parts) × (L.parts ≡ 9) × (L.origin ≡ None) }
     requires core { IsAt core (fresh (channel_in core)) }
     requires taker { taker.taken ≡ [] }
 {
@@ -194,7 +194,7 @@ fn run_channel<L: Turns + Sync, R: Threads + Wait + Sync>(
     workers: u8,
 ) -> Result<Gathered, AllocError>
     requires name { blank.name ≡ L.name }
-    requires parts { (blank.parts ≡ L.parts) × (L.all ≡ L.parts) × (L.parts ≡ 9) }
+    requires parts { (blank.parts ≡ L.parts) × (L.all ≡ L.parts) × (L.parts ≡ 9) × (L.origin ≡ None) }
     requires core { IsAt core (fresh (channel_in core)) }
     ensures { IfOk result HasWorked }
 {

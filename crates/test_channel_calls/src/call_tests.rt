@@ -1,6 +1,6 @@
 //! One worker's calls on a channel, call by call, and what each answers. A call to which memory is refused is made again, but one that is
 //! refused for another reason never answers out of memory.
-ghost use Rattle.std.specs.Prelude.{◌≡◌};
+ghost use Rattle.std.specs.Prelude.{◌≡◌, None};
 
 use crate::tests::TWO_ERASES;
 use channel_work::{ChannelState, Finished, Gathered, Readied, Started, Turn, Turns, WorkerPass};
@@ -229,7 +229,7 @@ fn act<L: Turns, R: Wait + AllocGlobal>(
     script: &[Line],
 ) -> Result<(Gathered, u64), Fail>
     requires name { blank.name ≡ L.name }
-    requires parts { (blank.parts ≡ L.parts) × (L.all ≡ L.parts) × (L.parts ≡ 9) }
+    requires parts { (blank.parts ≡ L.parts) × (L.all ≡ L.parts) × (L.parts ≡ 9) × (L.origin ≡ None) }
 {
     let mut passes = Vec::new(rt.alloc());
     passes.reserve(1)?;

@@ -1,6 +1,6 @@
 //! Workers to whom memory may be refused. `tools/fail_allocs.py` runs these tests with each request for memory refused in turn; without it
 //! none is.
-ghost use Rattle.std.specs.Prelude.{◌≡◌};
+ghost use Rattle.std.specs.Prelude.{◌≡◌, None};
 
 use crate::tests::Open;
 use channel_work::{
@@ -48,7 +48,7 @@ fn work_again<L: Turns, G: Gate, R: Wait>(
 // Two erases on one LUN, by one worker.
 fn erase_alone<L: Turns, R: Wait + AllocGlobal>(rt: &R, blank: Blank) -> Result<Gathered, Fail>
     requires name { blank.name ≡ L.name }
-    requires parts { (blank.parts ≡ L.parts) × (L.all ≡ L.parts) × (L.parts ≡ 9) }
+    requires parts { (blank.parts ≡ L.parts) × (L.all ≡ L.parts) × (L.parts ≡ 9) × (L.origin ≡ None) }
 {
     let mut passes = Vec::new(rt.alloc());
     passes.reserve(1)?;
@@ -87,7 +87,7 @@ fn erase_by_two<L: Turns + Sync, R: Threads + Wait + Sync + AllocGlobal>(
     blank: Blank,
 ) -> Result<(Gathered, bool), Fail>
     requires name { blank.name ≡ L.name }
-    requires parts { (blank.parts ≡ L.parts) × (L.all ≡ L.parts) × (L.parts ≡ 9) }
+    requires parts { (blank.parts ≡ L.parts) × (L.all ≡ L.parts) × (L.parts ≡ 9) × (L.origin ≡ None) }
 {
     let mut ended_passes = Vec::new(rt.alloc());
     ended_passes.reserve(2)?;

@@ -1,5 +1,5 @@
 //! One worker on a channel, leases, and passes.
-ghost use Rattle.std.specs.Prelude.{◌≡◌};
+ghost use Rattle.std.specs.Prelude.{◌≡◌, None};
 
 use channel_work::{ChannelState, Gate, GatherRefused, Gathered, Turns, WorkerPass};
 use onfi_cycle::Lun;
@@ -61,7 +61,7 @@ fn erase_alone<L: Turns, R: Wait + AllocGlobal>(
     erases: &[Erase],
 ) -> Result<Gathered, Fail>
     requires name { blank.name ≡ L.name }
-    requires parts { (blank.parts ≡ L.parts) × (L.all ≡ L.parts) × (L.parts ≡ 9) }
+    requires parts { (blank.parts ≡ L.parts) × (L.all ≡ L.parts) × (L.parts ≡ 9) × (L.origin ≡ None) }
 {
     let state = make_erasing::<L, R>(rt, blank, TWO_LUNS, 1, erases)?;
     run_alone(rt, state, &Open)
@@ -169,7 +169,7 @@ fn start_and_keep<L: Turns, R: Wait>(
 // Nine jobs are started, and eight of their leases parked.
 fn park_nine<L: Turns, R: Wait + AllocGlobal>(rt: &R, blank: Blank) -> Result<(u32, u32), Fail>
     requires name { blank.name ≡ L.name }
-    requires parts { (blank.parts ≡ L.parts) × (L.all ≡ L.parts) × (L.parts ≡ 9) }
+    requires parts { (blank.parts ≡ L.parts) × (L.all ≡ L.parts) × (L.parts ≡ 9) × (L.origin ≡ None) }
 {
     let mut state = make_erasing::<L, R>(rt, blank, FOUR_LUNS, 4, &NINE)?;
     start_and_park(rt, &mut state, 8)?;
@@ -204,7 +204,7 @@ fn gather_late<L: Turns>(
 // A channel with two passes.
 fn gather_two<L: Turns, R: Wait + AllocGlobal>(rt: &R, blank: Blank) -> Result<u64, Fail>
     requires name { blank.name ≡ L.name }
-    requires parts { (blank.parts ≡ L.parts) × (L.all ≡ L.parts) × (L.parts ≡ 9) }
+    requires parts { (blank.parts ≡ L.parts) × (L.all ≡ L.parts) × (L.parts ≡ 9) × (L.origin ≡ None) }
 {
     let mut state = make_erasing::<L, R>(rt, blank, TWO_LUNS, 1, &[])?;
     let (first, second) = make_two_passes(&mut state)?;

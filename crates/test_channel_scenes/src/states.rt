@@ -1,5 +1,5 @@
 //! Channels of new dies, their passes, and their parts once all passes are back.
-ghost use Rattle.std.specs.Prelude.{◌≡◌, ◌+◌, [], IfOk, length};
+ghost use Rattle.std.specs.Prelude.{◌≡◌, ◌+◌, [], IfOk, length, None};
 ghost use Rattle.seq_core.specs.World.{fresh};
 ghost use Rattle.seq_core.specs.Shows.{IsAt, channel_in};
 ghost use Rattle.channel_work.specs.Starting.{HasStarted};
@@ -45,7 +45,7 @@ pub fn make_state<L: Turns>(
     taker: Taker<Job>,
 ) -> Result<ChannelState<L>, Fail>
     requires name { blank.name ≡ L.name }
-    requires parts { (blank.parts ≡ L.parts) × (L.all ≡ L.parts) × (L.parts ≡ 9) }
+    requires parts { (blank.parts ≡ L.parts) × (L.all ≡ L.parts) × (L.parts ≡ 9) × (L.origin ≡ None) }
     requires taker { taker.taken ≡ [] }
     ensures taker { IfOk result (λ state. state.history.taker ≡ taker) }
     ensures none { IfOk result (λ state. (state.parked ≡ []) × (state.passes ≡ 0)) }
@@ -64,7 +64,7 @@ pub fn make_erasing<L: Turns, R: Wait + AllocGlobal>(
     erases: &[Erase],
 ) -> Result<ChannelState<L>, Fail>
     requires name { blank.name ≡ L.name }
-    requires parts { (blank.parts ≡ L.parts) × (L.all ≡ L.parts) × (L.parts ≡ 9) }
+    requires parts { (blank.parts ≡ L.parts) × (L.all ≡ L.parts) × (L.parts ≡ 9) × (L.origin ≡ None) }
     ensures { IfOk result (λ state. (state.parked ≡ []) × (state.passes ≡ 0)) }
 {
     let (queue, host, _other, taker) = make_queue(rt.alloc(), 9)?;

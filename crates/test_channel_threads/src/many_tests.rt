@@ -1,5 +1,5 @@
 //! Four workers on sixteen LUNs, and four hosts that store jobs meanwhile.
-ghost use Rattle.std.specs.Prelude.{◌≡◌};
+ghost use Rattle.std.specs.Prelude.{◌≡◌, None};
 ghost use Rattle.job_queue.specs.Passes.{owns};
 
 use crate::thread_tests::Chance;
@@ -148,7 +148,7 @@ fn erase_many<L: Turns + Sync, R: Threads + Wait + Sync + AllocGlobal>(
     count: u64,
 ) -> Result<Gathered, Fail>
     requires name { blank.name ≡ L.name }
-    requires parts { (blank.parts ≡ L.parts) × (L.all ≡ L.parts) × (L.parts ≡ 9) }
+    requires parts { (blank.parts ≡ L.parts) × (L.all ≡ L.parts) × (L.parts ≡ 9) × (L.origin ≡ None) }
 {
     let (queue, hosts, others, taker) = make_wide_queue(rt.alloc(), 4)?;
     let mut state = make_state::<L>(rt.alloc(), blank, FOUR_LUNS, 4, taker)?;

@@ -1,5 +1,5 @@
 //! Workers in threads of their own.
-ghost use Rattle.std.specs.Prelude.{◌≡◌};
+ghost use Rattle.std.specs.Prelude.{◌≡◌, None};
 
 use channel_work::{Channel, ChannelState, Gate, Gathered, NamedJob, Turns, work};
 use onfi_cycle::{Cycle, Item, Kind, Lun};
@@ -68,7 +68,7 @@ fn erase_by_two<L: Turns + Sync, R: Threads + Wait + Sync + AllocGlobal>(
     gate: &Turnstile,
 ) -> Result<Gathered, Fail>
     requires name { blank.name ≡ L.name }
-    requires parts { (blank.parts ≡ L.parts) × (L.all ≡ L.parts) × (L.parts ≡ 9) }
+    requires parts { (blank.parts ≡ L.parts) × (L.all ≡ L.parts) × (L.parts ≡ 9) × (L.origin ≡ None) }
 {
     let mut state = make_erasing::<L, R>(rt, blank, TWO_LUNS, 1, &[ON_ZERO, ON_ONE])?;
     let passes = make_two_passes(&mut state)?;
@@ -173,7 +173,7 @@ fn make_contended<L: Turns, R: Wait + AllocGlobal>(
     blank: Blank,
 ) -> Result<ChannelState<L>, Fail>
     requires name { blank.name ≡ L.name }
-    requires parts { (blank.parts ≡ L.parts) × (L.all ≡ L.parts) × (L.parts ≡ 9) }
+    requires parts { (blank.parts ≡ L.parts) × (L.all ≡ L.parts) × (L.parts ≡ 9) × (L.origin ≡ None) }
 {
     let (queue, first, second, taker) = make_queue(rt.alloc(), 6)?;
     let _first = submit_erases(rt, &queue, first, &OF_FIRST)?;
@@ -188,7 +188,7 @@ fn erase_by_three<L: Turns + Sync, R: Threads + Wait + Sync + AllocGlobal>(
     gate: &Chance,
 ) -> Result<Gathered, Fail>
     requires name { blank.name ≡ L.name }
-    requires parts { (blank.parts ≡ L.parts) × (L.all ≡ L.parts) × (L.parts ≡ 9) }
+    requires parts { (blank.parts ≡ L.parts) × (L.all ≡ L.parts) × (L.parts ≡ 9) × (L.origin ≡ None) }
 {
     let mut state = make_contended::<L, R>(rt, blank)?;
     let first = state.worker().ok_or("a pass")?;

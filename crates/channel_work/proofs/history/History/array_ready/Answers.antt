@@ -9,6 +9,7 @@ use Rattle.channel_work.specs.Coming.{IsComing}
 use Rattle.channel_work.specs.Done.{ended_of}
 use Rattle.channel_work.proofs.Keeping.{plain_keeps}
 use Rattle.channel_work.proofs.Readying.{none_came, refused}
+use Rattle.channel_work.proofs.Staying.{event_stays}
 use Rattle.channel_work.proofs.history.History.array_ready.Goals as goal
 
 pub invariant_of-self-then-came : goal.invariant_of-self-then-came
@@ -21,6 +22,7 @@ invariant_of-self-then-came g c =
           (c.push_reserved.ensures.items ∙ ap (λ (xs : List Stored). xs ++ (ArrayBecameReady c.args.lun ∷ [])) c.reserve.ensures.items)
           c.count_luns-self-inside.ensures.counts c.count_luns-self-inside.ensures.size h.turns h.turn_count,
       c.self.invariant.1,
+      event_stays _ v c.array_ready-came.new.self (ArrayReady c.args.lun) (ToArrayReady true) h event c.self.invariant.2,
     )
 
 pub returns-else-came : goal.returns-else-came

@@ -10,6 +10,7 @@ use Rattle.channel_work.specs.Turned.{TookSteps}
 use Rattle.channel_work.proofs.Counting.{were_counted, few_turns}
 use Rattle.channel_work.proofs.Keeping.{step_keeps}
 use Rattle.channel_work.proofs.Turning.{one_step}
+use Rattle.channel_work.proofs.Staying.{event_stays}
 use Rattle.channel_work.proofs.history.History.begin_turn.Goals as goal
 
 pub count_luns-self-inside-requires-clause-from : goal.count_luns-self-inside-requires-clause-from
@@ -44,6 +45,7 @@ invariant_of-self-in-Ok-step g c =
           (c.push_reserved.ensures.items ∙ ap (λ (xs : List Stored). xs ++ (WasStepped c.args.lun v.turns ∷ [])) c.reserve.ensures.items)
           c.count_luns-self-inside.ensures.counts c.count_luns-self-inside.ensures.size (inl h.turn_count) refl,
       c.add.ensures.total ∙ ap (λ (n : ℕ). n + 1) c.self.invariant.1,
+      event_stays _ v c.step.new.self (Step c.args.lun) (ToStep c.in-Ok-step.answer) h c.in-Ok-step.ensures.came c.self.invariant.2,
     )
 
 pub returns-in-Ok-step-clause-some : goal.returns-in-Ok-step-clause-some

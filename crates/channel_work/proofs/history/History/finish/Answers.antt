@@ -10,6 +10,9 @@ use Rattle.channel_work.specs.Finished.{HasFinished, HasNotEnded, IsFinish}
 use Rattle.channel_work.proofs.Jobs.{unload_keeps}
 use Rattle.channel_work.proofs.Naming.{named_if_unloaded}
 use Rattle.channel_work.proofs.Finishing.{has_finished, has_not_ended, refused_finish}
+use Rattle.seq_core.specs.Event.{Unload}
+use Rattle.seq_core.specs.Reply.{ToUnload, Unloaded}
+use Rattle.channel_work.proofs.Staying.{event_stays}
 use Rattle.channel_work.proofs.history.History.finish.Goals as goal
 
 pub invariant_of-self-in-Some : goal.invariant_of-self-in-Some
@@ -23,6 +26,7 @@ invariant_of-self-in-Some g c =
           (c.push_reserved.ensures.items ∙ ap (λ (xs : List Stored). xs ++ (WasUnloaded c.args.lun ∷ [])) c.make_room_to_finish.ensures.same.0)
           (ap (map ended_of) (c.push_reserved-in-Some.ensures.items ∙ ap (λ xs. xs ++ (d ∷ [])) c.make_room_to_finish.ensures.same.1) ∙ map-append ended_of c.self.inside.done.items (d ∷ [])),
       c.self.invariant.1,
+      event_stays _ v c.unload.new.self (Unload c.args.lun) (ToUnload (Unloaded c.in-Ok.done.job c.in-Ok.done.code)) h c.in-Ok.ensures.ok c.self.invariant.2,
     )
 
 pub returns-in-Err : goal.returns-in-Err

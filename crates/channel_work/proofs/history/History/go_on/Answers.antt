@@ -8,6 +8,7 @@ use Rattle.channel_work.specs.Done.{ended_of}
 use Rattle.channel_work.specs.Turns.{IsInTurn}
 use Rattle.channel_work.proofs.Counting.{were_counted, last_turn}
 use Rattle.channel_work.proofs.Keeping.{step_keeps}
+use Rattle.channel_work.proofs.Staying.{event_stays}
 use Rattle.channel_work.proofs.history.History.go_on.Goals as goal
 
 pub count_luns-self-inside-requires-clause-from : goal.count_luns-self-inside-requires-clause-from
@@ -29,4 +30,5 @@ invariant_of-self-in-Ok-step g c =
           (c.push_reserved.ensures.items ∙ ap (λ (xs : List Stored). xs ++ (WasStepped c.args.lun c.args.turn ∷ [])) c.reserve.ensures.items)
           c.count_luns-self-inside.ensures.counts c.count_luns-self-inside.ensures.size (inr in_turn) (h.turn_count ∙ last_turn c.args.lun c.args.turn (reverse v.events) in_turn),
       c.self.invariant.1,
+      event_stays _ v c.step.new.self (Step c.args.lun) (ToStep c.in-Ok-step.answer) h c.in-Ok-step.ensures.came c.self.invariant.2,
     )

@@ -8,6 +8,9 @@ use Rattle.channel_work.specs.Done.{ended_of}
 use Rattle.channel_work.specs.Starting.{HasStarted}
 use Rattle.channel_work.proofs.Jobs.{load_keeps}
 use Rattle.channel_work.proofs.Begun.{taken_view, middle, has_started}
+use Rattle.seq_core.specs.Event.{Load}
+use Rattle.seq_core.specs.Reply.{ToLoad, Loaded}
+use Rattle.channel_work.proofs.Staying.{event_stays, taking_stays}
 use Rattle.channel_work.proofs.history.History.start.Goals as goal
 
 pub invariant_of-self-in-None : goal.invariant_of-self-in-None
@@ -16,7 +19,7 @@ invariant_of-self-in-None g c =
     let t = c.take_one-took in
     let same = c.make_room.ensures.same in
     let mid = middle v t.result t.new.taker c.make_room.new.taken.items t.new.taken.items c.make_room.new.backlog.items t.new.backlog.items c.self.invariant.0 same.2 same.3 t.ensures.yes t.ensures.no in
-    (rw (same.0, same.1) mid.0, c.self.invariant.1)
+    (rw (same.0, same.1) mid.0, c.self.invariant.1, taking_stays _ v (taken_view v t.new.taker t.new.taken.items t.new.backlog.items) t.result mid.1 c.self.invariant.2)
 
 pub push-requires : goal.push-requires
 push-requires g c = c.in-Some.ensures.room
@@ -27,7 +30,7 @@ invariant_of-self-in-PicksNone g c =
     let t = c.take_one-took in
     let same = c.make_room.ensures.same in
     let mid = middle v t.result t.new.taker c.make_room.new.taken.items t.new.taken.items c.make_room.new.backlog.items t.new.backlog.items c.self.invariant.0 same.2 same.3 t.ensures.yes t.ensures.no in
-    (rw (same.0, same.1, c.in-PicksNone.ensures.1) mid.0, c.self.invariant.1)
+    (rw (same.0, same.1, c.in-PicksNone.ensures.1) mid.0, c.self.invariant.1, taking_stays _ v (taken_view v t.new.taker t.new.taken.items t.new.backlog.items) t.result mid.1 c.self.invariant.2)
 
 pub invariant_of-self-in-Picks : goal.invariant_of-self-in-Picks
 invariant_of-self-in-Picks g c =
@@ -40,6 +43,8 @@ invariant_of-self-in-Picks g c =
       load_keeps (taken_view v t.new.taker t.new.taken.items t.new.backlog.items) c.load_one.new.core c.load_one.new.events.items c.load_one.new.started.items x c.pick.new.self.items mid.0 c.in-Picks.ensures.2 one.verified one.event
           (one.stored ∙ ap (λ (es : List Stored). es ++ (WasLoaded x.job.lun (name_of x) ∷ [])) same.0) (one.names ∙ ap (λ (ns : List Name). ns ++ (name_of x ∷ [])) same.1),
       c.self.invariant.1,
+      event_stays _ (taken_view v t.new.taker t.new.taken.items t.new.backlog.items) c.load_one.new.core (Load x.job.lun x.job) (ToLoad Loaded) mid.0 one.event
+          (taking_stays _ v (taken_view v t.new.taker t.new.taken.items t.new.backlog.items) t.result mid.1 c.self.invariant.2),
     )
 
 pub returns-in-Picks : goal.returns-in-Picks
