@@ -1,6 +1,6 @@
 //! Jobs that wait for ever, and one behind them. A `start` that takes no more jobs while some wait meets its contract: then a closed channel
 //! ends with a job in its queue, and this fails.
-ghost use Rattle.std.specs.Prelude.{◌≡◌};
+ghost use Rattle.std.specs.Prelude.{◌≡◌, None};
 
 use crate::gate_tests::Recorder;
 use channel_work::{Gathered, Turns};
@@ -26,7 +26,7 @@ fn work_past_waiting<L: Turns, R: Wait + AllocGlobal>(
     blank: Blank,
 ) -> Result<Gathered, Fail>
     requires name { blank.name ≡ L.name }
-    requires parts { (blank.parts ≡ L.parts) × (L.all ≡ L.parts) × (L.parts ≡ 9) }
+    requires parts { (blank.parts ≡ L.parts) × (L.all ≡ L.parts) × (L.parts ≡ 9) × (L.origin ≡ None) }
 {
     let (queue, host, _other, taker) = make_queue(rt.alloc(), 65)?;
     let host = submit_erases(rt, &queue, host, &WAITING)?;

@@ -1,6 +1,6 @@
 //! What a worker asks its gate. No clause says it: a `work` that asks with another LUN's polls or readies, with those of the whole channel, or
 //! with none, fails here.
-ghost use Rattle.std.specs.Prelude.{◌≡◌};
+ghost use Rattle.std.specs.Prelude.{◌≡◌, None};
 
 use channel_work::{Gate, Gathered, Turns};
 use onfi_cycle::Lun;
@@ -103,7 +103,7 @@ fn play<L: Turns, R: Wait + AllocGlobal>(
     gate: &Recorder,
 ) -> Result<Gathered, Fail>
     requires name { blank.name ≡ L.name }
-    requires parts { (blank.parts ≡ L.parts) × (L.all ≡ L.parts) × (L.parts ≡ 9) }
+    requires parts { (blank.parts ≡ L.parts) × (L.all ≡ L.parts) × (L.parts ≡ 9) × (L.origin ≡ None) }
 {
     let state = make_erasing::<L, R>(rt, blank, TWO_LUNS, 1, &ERASES)?;
     run_alone(rt, state, gate)

@@ -1,6 +1,6 @@
 //! A turn of more than a hundred thousand steps. A turn may say out of memory after any step, by its contract: one that gives up after so
 //! many steps fails here.
-ghost use Rattle.std.specs.Prelude.{◌≡◌};
+ghost use Rattle.std.specs.Prelude.{◌≡◌, None};
 
 use channel_work::{Turn, Turns};
 use micro_verify::verify;
@@ -39,7 +39,7 @@ fn make_job(alloc: Global) -> Result<Job, Fail> {
 // What two turns of this program answer.
 fn turn_twice<L: Turns, R: Wait + AllocGlobal>(rt: &R, blank: Blank) -> Result<(Turn, Turn), Fail>
     requires name { blank.name ≡ L.name }
-    requires parts { (blank.parts ≡ L.parts) × (L.all ≡ L.parts) × (L.parts ≡ 9) }
+    requires parts { (blank.parts ≡ L.parts) × (L.all ≡ L.parts) × (L.parts ≡ 9) × (L.origin ≡ None) }
 {
     let (queue, host, _other, taker) = make_queue(rt.alloc(), 1)?;
     let _host = submit(rt, &queue, host, make_job(rt.alloc())?);
