@@ -1,5 +1,7 @@
 //! Calls that take no memory: with all requests refused they answer as with ample memory, and make none. The calls of a geometry are
 //! not among them, as they have no allocator to ask.
+ghost use Rattle.std.specs.Prelude.{◌≡◌, [], false, IfOk};
+ghost use Rattle.target_bus.specs.Bus.{is_output};
 
 use crate::turns::Memory;
 use die_model::LunDie;
@@ -29,7 +31,9 @@ const ERASE: [Word; 5] = [
 ];
 
 // A bus of one new die.
-fn new_bus<'h>(heap: Memory<'h>, parts: Parts) -> Result<Bus<Memory<'h>>, Fail> {
+fn new_bus<'h>(heap: Memory<'h>, parts: Parts) -> Result<Bus<Memory<'h>>, Fail>
+    ensures { IfOk result (λ bus. bus.past ≡ []) }
+{
     let geometry = Geometry::of(parts)?;
     let mut dies = Vec::new(heap);
     dies.push(LunDie::new(heap, geometry)?)?;
@@ -132,21 +136,38 @@ fn an_erase_takes_memory_for_its_steps_alone(rt: HostRuntime) -> Result<(), Fail
     Ok(())
 }
 
-fn cycle(kind: Kind, byte: u8) -> Cycle {
-    Cycle { ce: 0, kind, byte }
+// A command, and an address byte 00.
+fn command(byte: u8) -> Cycle
+    ensures { is_output result.kind ≡ false }
+{
+    Cycle {
+        ce: 0,
+        kind: Kind::Cmd,
+        byte,
+    }
+}
+
+fn address() -> Cycle
+    ensures { is_output result.kind ≡ false }
+{
+    Cycle {
+        ce: 0,
+        kind: Kind::Adr,
+        byte: 0x00,
+    }
 }
 
 // Puts the commands of a cache read onto a bus, up to its busy array.
 fn read_into_cache(bus: &mut Bus<Memory<'_>>, heap: Memory<'_>) -> Result<bool, Fail> {
-    bus.put(cycle(Kind::Cmd, 0x00))?;
+    bus.put(command(0x00))?;
     for _ in 0..5 {
-        bus.put(cycle(Kind::Adr, 0x00))?;
+        bus.put(address())?;
     }
-    bus.put(cycle(Kind::Cmd, 0x30))?;
+    bus.put(command(0x30))?;
     heap.refuse(Refusal::Always);
     let is_ready = bus.ready(LUN_0, false) && !bus.ready(LUN_0, false);
     heap.refuse(Refusal::Never);
-    bus.put(cycle(Kind::Cmd, 0x31))?;
+    bus.put(command(0x31))?;
     heap.refuse(Refusal::Always);
     Ok(is_ready)
 }
