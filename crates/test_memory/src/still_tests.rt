@@ -111,13 +111,11 @@ fn load<'h>(
 #[test]
 fn an_erase_takes_memory_for_its_steps_alone(rt: HostRuntime) -> Result<(), Fail> {
     let heap = TestHeap::new(rt.alloc());
-    let (bus, job, second) = (
-        new_bus(&heap, SMALL_CHIP)?,
-        new_job(&heap)?,
-        new_job(&heap)?,
-    );
+    let job = new_job(&heap)?;
+    let second = new_job(&heap)?;
     let missing = make_job(&heap, LUN_1)?.err().ok_or("no LUN 1")?;
     assert!(rt; missing.fault == JobFault::NoSuchLun);
+    let bus = new_bus(&heap, SMALL_CHIP)?;
     heap.refuse(Refusal::Always);
     let mut core = Core::new(bus);
     assert_eq!(rt; (core.number(LUN_0), core.number(LUN_1)), (Some(0), None));
