@@ -1,5 +1,5 @@
 //! The dies of a channel before a run.
-ghost use Rattle.std.specs.Prelude.{◌≡◌, ◌≤◌, ◌<◌, ◌+◌, ◌*◌, IfOk, true, length};
+ghost use Rattle.std.specs.Prelude.{◌≡◌, ◌≤◌, ◌<◌, ◌+◌, ◌*◌, IfOk, true, length, set};
 ghost use Rattle.die_model.specs.Die.{is_new};
 ghost use Rattle.target_bus.specs.Bus.{are_new, is_new_of};
 ghost use Rattle.seq_core.specs.World.{fresh};
@@ -17,7 +17,7 @@ use target_bus::{Bus, BusFault};
 pub struct ChannelDies {
     pub(crate) geometry: Geometry,
     pub(crate) targets: u8,
-    dies: Vec<LunDie>,
+    pub(crate) dies: Vec<LunDie>,
     ghost few: { (1 ≤ targets) × (targets ≤ 4) },
     ghost count: { length dies.items ≡ targets * geometry.luns },
     ghost fit: { are_new geometry dies.items ≡ true },
@@ -36,11 +36,12 @@ fn make_dies(alloc: Global, geometry: Geometry, count: usize) -> Result<Vec<LunD
     Ok(dies)
 }
 
-// Puts another new die in the place of this number, if there is one.
+// Puts another new die in the place of this number, if there is one; the others stay.
 #[tactic(auto, using(crate::proofs::DiesFit::are_new_set))]
 fn put_die(geometry: &Geometry, dies: &mut Vec<LunDie>, number: usize, die: LunDie)
     requires new { are_new geometry.now dies.old.items ≡ true }
     requires die { is_new_of geometry.now die ≡ true }
+    ensures put { dies.new.items ≡ set dies.old.items number die }
     ensures count { length dies.new.items ≡ length dies.old.items }
     ensures new { are_new geometry.now dies.new.items ≡ true }
 {
@@ -75,10 +76,11 @@ impl ChannelDies {
         lun.place(self.geometry.parts().luns)
     }
 
-    /// Puts another new die in the place of this number, if there is one.
+    /// Puts another new die in the place of this number, if there is one; the others stay.
     pub(crate) fn put(&mut self, number: usize, die: LunDie)
         requires { is_new_of self.old.geometry die ≡ true }
-        ensures { (self.new.geometry ≡ self.old.geometry) × (self.new.targets ≡ self.old.targets) }
+        ensures put { self.new.dies.items ≡ set self.old.dies.items number die }
+        ensures channel { (self.new.geometry ≡ self.old.geometry) × (self.new.targets ≡ self.old.targets) }
     {
         let geometry = self.geometry;
         put_die(&geometry, &mut self.dies, number, die);
