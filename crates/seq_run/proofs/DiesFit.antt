@@ -1,6 +1,7 @@
 -- New dies, one for each LUN, are a channel's.
-use Rattle.std.proofs.Common.{◌≡◌, ℕ, zero, suc, ◌*◌, ◌==◌, ◌≤◌, Bool, true, false, cond, ◌||◌, not, List, [], ◌∷◌, ◌++◌, length, set, Option, Some, None, refl, sym, ap, ◌∙◌, subst, arith, eq-eqb}
+use Rattle.std.proofs.Common.{◌≡◌, ℕ, zero, suc, ◌+◌, ◌*◌, ◌==◌, ◌≤◌, Bool, true, false, cond, ◌||◌, not, List, [], ◌∷◌, ◌++◌, length, set, replicate, Option, Some, None, refl, sym, ap, ◌∙◌, subst, arith, eq-eqb}
 use Rattle.std.specs.Bool.{beq}
+use Rattle.std.proofs.lemmas.List.{replicate_more}
 use Rattle.std.proofs.lemmas.Bool.{and_parts, and_from}
 use Rattle.onfi_cycle.proofs.Booleans.{eqb_self}
 use Rattle.nand_geometry.specs.declared.parts.Parts.{Parts}
@@ -38,6 +39,10 @@ are_new_set g (x ∷ dies) zero d old new =
 are_new_set g (x ∷ dies) (suc n) d old new =
     let k = and_parts (is_new_of g x) (are_new g dies) old in
     and_from (is_new_of g x) (are_new g (set dies n d)) k.0 (are_new_set g dies n d k.1 new)
+
+-- one erased die more
+pub one_erased_more : (g : Parts) (n : ℕ) (dies : List Die) → dies ≡ replicate n (new_die g) → dies ++ new_die g ∷ [] ≡ replicate (n + 1) (new_die g)
+one_erased_more g n dies is = ap (λ (l : List Die). l ++ new_die g ∷ []) is ∙ replicate_more n (new_die g)
 
 first : (a b c d : Bool) → a ≡ true → (a || b || c || d) ≡ true
 first true b c d h = refl

@@ -1,5 +1,5 @@
 -- What a job line is refused for at last, and that it passes; and the lines of jobs that have ended.
-use Rattle.std.proofs.Common.{◌≡◌, ℕ, ◌+◌, ◌<◌, ◌≤◌, List, [], ◌∷◌, ◌++◌, length, drop, get_or, Option, Some, None, sym, ap, ◌∙◌, subst, inr}
+use Rattle.std.proofs.Common.{◌≡◌, ℕ, ◌+◌, ◌<◌, ◌≤◌, List, [], ◌∷◌, ◌++◌, length, drop, get_or, Option, Some, None, refl, sym, ap, ◌∙◌, subst, inr}
 use Rattle.std.proofs.lemmas.List.{append_assoc, append-nil, drop_more, drop_all}
 use Rattle.seq_run.specs.declared.job_ends.EndedJob.{EndedJob}
 use Rattle.seq_run.specs.Written.{codes_of}
@@ -8,7 +8,9 @@ use Rattle.seq_files.specs.Store.{Store}
 use Rattle.nand_geometry.specs.declared.parts.Parts.{Parts}
 use Rattle.onfi_cycle.specs.declared.lun.Lun.{Lun}
 use Rattle.micro_program.specs.Verified.{VerifiedText}
-use Rattle.seq_core.specs.Job.{job_fault}
+use Rattle.micro_program.specs.Program.{Job as TheJob}
+use Rattle.seq_core.specs.Job.{job_fault, job_of}
+use Rattle.seq_run.specs.Setup.{IsJobOf}
 use Rattle.seq_core.specs.declared.job_fault.JobFault.{JobFault}
 use Rattle.seq_run.specs.declared.refusal.PlanFault.TheVariants.{File}
 use Rattle.seq_inputs.specs.declared.refusal.Refusal.TheVariants.{Job}
@@ -42,3 +44,9 @@ line_more jobs k d old new whole inside next before =
 pub lines_done : (jobs : List EndedJob) (k : ℕ) (new whole : List ℕ) → length jobs ≤ k → new ++ job_lines (k + 1) (codes_of (drop k jobs)) ≡ whole → new ≡ whole
 unfolding job_lines
 lines_done jobs k new whole over before = sym (append-nil new) ∙ ap (λ (l : List EndedJob). new ++ job_lines (k + 1) (codes_of l)) (sym (drop_all k jobs over)) ∙ before
+
+-- the job of a line
+pub is_job : (files : Option Store) (g : Parts) (l : Lun) (base : ℕ) (text : List ℕ) (input : Option (List ℕ)) (v : VerifiedText) (buffer : List ℕ) (job : TheJob) → HasText files g text v.text → v.geometry ≡ g → HasInput files input v.text.buffer buffer → job ≡ job_of l base v buffer → IsJobOf files g l base text input job
+is_job files g l base text input v buffer job has_text same has_input is =
+    subst (λ (j : TheJob). IsJobOf files g l base text input j) (sym is)
+    (record { lun = refl; base_is = refl; has_text = has_text; geometry = same; has_input = has_input })

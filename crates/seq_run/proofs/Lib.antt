@@ -9,3 +9,5 @@ pub mod Resting
 pub mod FilesMade
 pub mod Outcomes
 pub mod OfFiles
+pub mod JobPlans
+pub mod Settings

@@ -14,22 +14,27 @@ use Rattle.die_model.specs.Die.{Die}
 use Rattle.target_bus.specs.Bus.{Traced, channel_of, StandFor}
 use Rattle.seq_run.specs.declared.running.Ran.{Ran}
 use Rattle.seq_run.specs.Lines.{job_lines}
-use Rattle.seq_run.specs.Happened.{HasHappened}
+use Rattle.seq_run.specs.declared.job_ends.EndedJob.{EndedJob}
+use Rattle.seq_run.specs.Setup.{SetsUp, erased}
 use Rattle.seq_run.specs.Written.{buffers_of, images_of, trace_at, printed_trace, codes_of}
-use Rattle.seq_run.specs.Runs.{Outcome, ShowsAll, IsOutcomeOf, IsPlanned, IsRunDone, RunMayLeave, writes_of, lines_of}
+use Rattle.seq_run.specs.Runs.{Outcome, ShowsAll, IsOutcomeOf, IsPlanned, IsRunDone, RunMayLeave, HappenedAsPlanned, IsSetUpFrom, writes_of, lines_of}
 use Rattle.seq_run.specs.declared.refusal.PlanFault.{PlanFault}
 use Rattle.seq_run.specs.declared.refusal.PlanRefusal.{PlanRefusal}
 use Rattle.seq_run.specs.declared.not_run.NotRun.{NotRun}
 use Rattle.seq_run.specs.declared.not_run.NotRun.TheVariants as not_run
 use Rattle.seq_run.specs.Failures.{Refuses, RefusesNothing, Tells}
 
-pub is_planned : (files : Option Store) (request : RunRequest) (text : List ℕ) (plan : RunPlan) (o : Outcome) → Holds files request.path.now text → PlanPasses files (told text) plan.dies.geometry plan.dies.targets → planned_outputs plan.jobs.all.items ≡ outputs_of (drop 2 (told text).statements) → planned_images plan.images.items ≡ images_in plan.dies.geometry (drop 2 (told text).statements) → IsOutcomeOf plan o → IsPlanned files request o
-is_planned files request text plan o is_there passes outputs images is = record {
+pub is_planned : (files : Option Store) (request : RunRequest) (text : List ℕ) (plan : RunPlan) (o : Outcome) → Holds files request.path.now text → PlanPasses files (told text) plan.dies.geometry plan.dies.targets → planned_outputs plan.jobs.all.items ≡ outputs_of (drop 2 (told text).statements) → planned_images plan.images.items ≡ images_in plan.dies.geometry (drop 2 (told text).statements) → IsSetUpFrom files plan.dies.geometry plan.dies.targets (drop 2 (told text).statements) plan → IsOutcomeOf plan o → IsPlanned files request o
+is_planned files request text plan o is_there passes outputs images setup is = record {
   text = text;
   is_there = is_there;
   passes = subst (λ (g : Parts). PlanPasses files (told text) g o.bus.targets) (sym is.geometry) (subst (λ (n : ℕ). PlanPasses files (told text) plan.dies.geometry n) (sym is.targets) passes);
   outputs = is.outputs ∙ outputs;
   images = ap planned_images is.images ∙ images ∙ ap (λ (g : Parts). images_in g (drop 2 (told text).statements)) (sym is.geometry);
+  setup = setup.setup;
+  sets_up = subst (λ (g : Parts). SetsUp files g (drop 2 (told text).statements) (erased g o.bus.targets) setup.setup) (sym is.geometry)
+      (subst (λ (n : ℕ). SetsUp files plan.dies.geometry (drop 2 (told text).statements) (erased plan.dies.geometry n) setup.setup) (sym is.targets) setup.sets_up);
+  happened = is.happened setup.setup setup.is;
 }
 
 -- the dies of a bus, as what happened on it left them
@@ -39,30 +44,29 @@ pub record AreLeft (bus : Traced) (dies : List Die) : Type 0 where
   pub stand : StandFor (channel_of bus) bus.past dies
 
 -- what has come of a channel: its bus, the dies as that left them, and the jobs
-abbrev pub outcome_of : (ran : Ran) (dies : List Die) → AreLeft ran.bus dies → HasHappened ran.bus ran.jobs.items → Outcome
-outcome_of ran dies left happened = record {
+abbrev pub outcome_of : (ran : Ran) (dies : List Die) → AreLeft ran.bus dies → Outcome
+outcome_of ran dies left = record {
   bus = ran.bus;
   legal = left.legal;
   dies = dies;
   count = left.count;
   stand = left.stand;
   jobs = ran.jobs.items;
-  happened = happened;
   images = ran.images.items;
 }
 
-pub is_done : (request : RunRequest) (ran : Ran) (dies : List Die) (outgoing : List Written) (files later : Option Store) (Prints : List ℕ → Type 0) (lines : List ℕ) → AreLeft ran.bus dies → HasHappened ran.bus ran.jobs.items → outgoing ≡ images_of dies ran.images.items ++ trace_at (option_copied request.trace) (reverse ran.bus.past) → later ≡ with_all (buffers_of ran.jobs.items ++ outgoing) files → lines ≡ printed_trace request.is_quiet (reverse ran.bus.past) ++ job_lines 1 (codes_of ran.jobs.items) → Prints lines → (o : Outcome) × ShowsAll ran o × (later ≡ with_all (writes_of request o) files) × Prints (lines_of request o)
-is_done request ran dies outgoing files later Prints lines dies_left happened is_outgoing left is_lines prints = (
-  outcome_of ran dies dies_left happened,
+pub is_done : (request : RunRequest) (ran : Ran) (dies : List Die) (outgoing : List Written) (files later : Option Store) (Prints : List ℕ → Type 0) (lines : List ℕ) → AreLeft ran.bus dies → outgoing ≡ images_of dies ran.images.items ++ trace_at (option_copied request.trace) (reverse ran.bus.past) → later ≡ with_all (buffers_of ran.jobs.items ++ outgoing) files → lines ≡ printed_trace request.is_quiet (reverse ran.bus.past) ++ job_lines 1 (codes_of ran.jobs.items) → Prints lines → (o : Outcome) × ShowsAll ran o × (later ≡ with_all (writes_of request o) files) × Prints (lines_of request o)
+is_done request ran dies outgoing files later Prints lines dies_left is_outgoing left is_lines prints = (
+  outcome_of ran dies dies_left,
   record { bus = refl; jobs = refl; images = refl },
   left ∙ ap (λ (l : List Written). with_all (buffers_of ran.jobs.items ++ l) files) is_outgoing,
   subst Prints is_lines prints,
 )
 
-pub is_written : (request : RunRequest) (ran : Ran) (dies : List Die) (outgoing : List Written) (files later : Option Store) → AreLeft ran.bus dies → HasHappened ran.bus ran.jobs.items → outgoing ≡ images_of dies ran.images.items ++ trace_at (option_copied request.trace) (reverse ran.bus.past) → (later ≡ files) ⊎ (later ≡ with_all (buffers_of ran.jobs.items ++ outgoing) files) → (later ≡ files) ⊎ ((o : Outcome) × ShowsAll ran o × (later ≡ with_all (writes_of request o) files))
-is_written request ran dies outgoing files later dies_left happened is_outgoing (inl same) = inl same
-is_written request ran dies outgoing files later dies_left happened is_outgoing (inr left) = inr (
-  outcome_of ran dies dies_left happened,
+pub is_written : (request : RunRequest) (ran : Ran) (dies : List Die) (outgoing : List Written) (files later : Option Store) → AreLeft ran.bus dies → outgoing ≡ images_of dies ran.images.items ++ trace_at (option_copied request.trace) (reverse ran.bus.past) → (later ≡ files) ⊎ (later ≡ with_all (buffers_of ran.jobs.items ++ outgoing) files) → (later ≡ files) ⊎ ((o : Outcome) × ShowsAll ran o × (later ≡ with_all (writes_of request o) files))
+is_written request ran dies outgoing files later dies_left is_outgoing (inl same) = inl same
+is_written request ran dies outgoing files later dies_left is_outgoing (inr left) = inr (
+  outcome_of ran dies dies_left,
   record { bus = refl; jobs = refl; images = refl },
   left ∙ ap (λ (l : List Written). with_all (buffers_of ran.jobs.items ++ l) files) is_outgoing,
 )
@@ -77,20 +81,21 @@ on_err (Err e) h f = f h
 
 -- ---- of a plan
 
-is_outcome : (plan : RunPlan) (ran : Ran) (o : Outcome) → (ran.bus.geometry ≡ plan.dies.geometry) × (ran.bus.targets ≡ plan.dies.targets) → ended_outputs ran.jobs.items ≡ planned_outputs plan.jobs.all.items → ran.images ≡ plan.images → ShowsAll ran o → IsOutcomeOf plan o
-is_outcome plan ran o channel outputs images shows = record {
+is_outcome : (plan : RunPlan) (ran : Ran) (o : Outcome) → (ran.bus.geometry ≡ plan.dies.geometry) × (ran.bus.targets ≡ plan.dies.targets) → ended_outputs ran.jobs.items ≡ planned_outputs plan.jobs.all.items → ran.images ≡ plan.images → HappenedAsPlanned plan ran.bus ran.jobs.items → ShowsAll ran o → IsOutcomeOf plan o
+is_outcome plan ran o channel outputs images happened shows = record {
   geometry = ap (λ (b : Traced). b.geometry) shows.bus ∙ channel.0;
   targets = ap (λ (b : Traced). b.targets) shows.bus ∙ channel.1;
   outputs = ap ended_outputs shows.jobs ∙ outputs;
   images = shows.images ∙ ap (λ v. v.items) images;
+  happened = subst (λ (b : Traced). HappenedAsPlanned plan b o.jobs) (sym shows.bus) (subst (λ (jobs : List EndedJob). HappenedAsPlanned plan ran.bus jobs) (sym shows.jobs) happened);
 }
 
-pub done_of_plan : (request : RunRequest) (plan : RunPlan) (ran : Ran) (files later : Option Store) (Prints : List ℕ → Type 0) → (ran.bus.geometry ≡ plan.dies.geometry) × (ran.bus.targets ≡ plan.dies.targets) → ended_outputs ran.jobs.items ≡ planned_outputs plan.jobs.all.items → ran.images ≡ plan.images → (o : Outcome) × ShowsAll ran o × (later ≡ with_all (writes_of request o) files) × Prints (lines_of request o) → (o : Outcome) × IsOutcomeOf plan o × (later ≡ with_all (writes_of request o) files) × Prints (lines_of request o)
-done_of_plan request plan ran files later Prints channel outputs images (o, shows, left, prints) = (o, is_outcome plan ran o channel outputs images shows, left, prints)
+pub done_of_plan : (request : RunRequest) (plan : RunPlan) (ran : Ran) (files later : Option Store) (Prints : List ℕ → Type 0) → (ran.bus.geometry ≡ plan.dies.geometry) × (ran.bus.targets ≡ plan.dies.targets) → ended_outputs ran.jobs.items ≡ planned_outputs plan.jobs.all.items → ran.images ≡ plan.images → HappenedAsPlanned plan ran.bus ran.jobs.items → (o : Outcome) × ShowsAll ran o × (later ≡ with_all (writes_of request o) files) × Prints (lines_of request o) → (o : Outcome) × IsOutcomeOf plan o × (later ≡ with_all (writes_of request o) files) × Prints (lines_of request o)
+done_of_plan request plan ran files later Prints channel outputs images happened (o, shows, left, prints) = (o, is_outcome plan ran o channel outputs images happened shows, left, prints)
 
-pub written_of_plan : (request : RunRequest) (plan : RunPlan) (ran : Ran) (files later : Option Store) → (ran.bus.geometry ≡ plan.dies.geometry) × (ran.bus.targets ≡ plan.dies.targets) → ended_outputs ran.jobs.items ≡ planned_outputs plan.jobs.all.items → ran.images ≡ plan.images → (later ≡ files) ⊎ ((o : Outcome) × ShowsAll ran o × (later ≡ with_all (writes_of request o) files)) → (later ≡ files) ⊎ ((o : Outcome) × IsOutcomeOf plan o × (later ≡ with_all (writes_of request o) files))
-written_of_plan request plan ran files later channel outputs images (inl same) = inl same
-written_of_plan request plan ran files later channel outputs images (inr (o, shows, left)) = inr (o, is_outcome plan ran o channel outputs images shows, left)
+pub written_of_plan : (request : RunRequest) (plan : RunPlan) (ran : Ran) (files later : Option Store) → (ran.bus.geometry ≡ plan.dies.geometry) × (ran.bus.targets ≡ plan.dies.targets) → ended_outputs ran.jobs.items ≡ planned_outputs plan.jobs.all.items → ran.images ≡ plan.images → HappenedAsPlanned plan ran.bus ran.jobs.items → (later ≡ files) ⊎ ((o : Outcome) × ShowsAll ran o × (later ≡ with_all (writes_of request o) files)) → (later ≡ files) ⊎ ((o : Outcome) × IsOutcomeOf plan o × (later ≡ with_all (writes_of request o) files))
+written_of_plan request plan ran files later channel outputs images happened (inl same) = inl same
+written_of_plan request plan ran files later channel outputs images happened (inr (o, shows, left)) = inr (o, is_outcome plan ran o channel outputs images happened shows, left)
 
 -- ---- of the text of a run file
 
@@ -99,9 +104,10 @@ pub record IsPlanOf (files : Option Store) (text : List ℕ) (plan : RunPlan) : 
   pub passes : PlanPasses files (told text) plan.dies.geometry plan.dies.targets
   pub outputs : planned_outputs plan.jobs.all.items ≡ outputs_of (drop 2 (told text).statements)
   pub images : planned_images plan.images.items ≡ images_in plan.dies.geometry (drop 2 (told text).statements)
+  pub setup : IsSetUpFrom files plan.dies.geometry plan.dies.targets (drop 2 (told text).statements) plan
 
 planned_of : (files : Option Store) (request : RunRequest) (text : List ℕ) (plan : RunPlan) (o : Outcome) → Holds files request.path.now text → IsPlanOf files text plan → IsOutcomeOf plan o → IsPlanned files request o
-planned_of files request text plan o is_there is of_plan = is_planned files request text plan o is_there is.passes is.outputs is.images of_plan
+planned_of files request text plan o is_there is of_plan = is_planned files request text plan o is_there is.passes is.outputs is.images is.setup of_plan
 
 pub run_is_done : (request : RunRequest) (text : List ℕ) (plan : RunPlan) (files now later : Option Store) (Prints : List ℕ → Type 0) → now ≡ files → Holds files request.path.now text → IsPlanOf files text plan → (o : Outcome) × IsOutcomeOf plan o × (later ≡ with_all (writes_of request o) now) × Prints (lines_of request o) → (printed : List ℕ) × IsRunDone files later request printed × Prints printed
 run_is_done request text plan files now later Prints same is_there is (o, of_plan, left, prints) = (

@@ -95,7 +95,7 @@ refused_there files g targets s e r at says =
 -- ---- a statement by its place
 
 -- what is left begins with it
-from_place : (xs : List Written) (k : ℕ) (d : Written) → k < length xs → shown_all (drop k xs) ≡ shown_numbered (get_or xs k d) ∷ shown_all (drop (k + 1) xs)
+pub from_place : (xs : List Written) (k : ℕ) (d : Written) → k < length xs → shown_all (drop k xs) ≡ shown_numbered (get_or xs k d) ∷ shown_all (drop (k + 1) xs)
 from_place xs k d inside = ap shown_all (drop_more xs k d inside)
 
 pub passes_on : (files now : Option Store) (g h : Parts) (targets n : ℕ) (last : Option RunRefusal) (xs : List Written) (k : ℕ) (d : Written) → k < length xs → now ≡ files → h ≡ g → n ≡ targets → Passes now h n (shown_statement (get_or xs k d).statement) → LeadsTo files g targets last (shown_all (drop k xs)) (shown_all xs) → LeadsTo files g targets last (shown_all (drop (k + 1) xs)) (shown_all xs)
@@ -115,7 +115,7 @@ stops_here files now g h targets n last xs k d r inside same_files same_geometry
     (subst (λ (s : Option Store). Refuses (IsRefusedAt s h n (shown_numbered (get_or xs k d))) r) same_files refused)))
 
 -- nothing is left
-none_left : (xs : List Written) (k : ℕ) → length xs ≤ k → shown_all (drop k xs) ≡ []
+pub none_left : (xs : List Written) (k : ℕ) → length xs ≤ k → shown_all (drop k xs) ≡ []
 none_left xs k over = ap shown_all (drop_all k xs over)
 
 pub all_pass : (files : Option Store) (g : Parts) (targets : ℕ) (last : Option RunRefusal) (xs : List Written) (k : ℕ) → length xs ≤ k → last ≡ None → LeadsTo files g targets last (shown_all (drop k xs)) (shown_all xs) → RestPasses files g targets (shown_all xs) last

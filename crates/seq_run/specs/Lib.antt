@@ -1,8 +1,10 @@
 pub mod Lines
 pub mod Failures
 pub mod Judged
+pub mod Setup
 pub mod Happened
 pub mod Endings
 pub mod Written
 pub mod Runs
 pub mod Planned
+pub mod Hosted

@@ -1,12 +1,15 @@
--- What a run file says of the outputs of its jobs and of its images, and what is planned of them.
+-- What a run file says of the outputs of its jobs and of its images, and what is planned of its lines.
 use Rattle.std.specs.Prelude.{ℕ, ◌+◌, ◌*◌, List, Option, Some, None, map, filter_map}
 use Rattle.std.specs.Option.{option_copied}
 use Rattle.nand_geometry.specs.declared.parts.Parts.{Parts}
+use Rattle.micro_program.specs.Program.{Job}
+use Rattle.channel_work.specs.declared.stored.Name.{Name}
 use Rattle.run_file.specs.Line.{Statement}
 use Rattle.run_file.specs.Line.{Image as ImageLine, Job as JobLine}
 use Rattle.seq_run.specs.Judged.{Numbered}
 use Rattle.seq_run.specs.declared.plan.PlannedImage.{PlannedImage}
 use Rattle.seq_run.specs.declared.plan.PlannedJob.{PlannedJob}
+use Rattle.seq_run.specs.declared.plan.TargetJobs.{TargetJobs}
 use Rattle.seq_run.specs.declared.job_ends.EndedJob.{EndedJob}
 
 -- where the buffer of a job goes after the end, if anywhere
@@ -38,3 +41,11 @@ ended_outputs jobs = map (λ (job : EndedJob). option_copied job.output) jobs
 -- the numbers and the paths of planned images
 abbrev pub planned_images : List PlannedImage → List (ℕ × List ℕ)
 planned_images images = map (λ (image : PlannedImage). (image.number, image.path.now)) images
+
+-- the names of planned jobs
+abbrev pub planned_names : List PlannedJob → List Name
+planned_names jobs = map (λ (job : PlannedJob). job.name) jobs
+
+-- the jobs of each target
+abbrev pub jobs_of : List TargetJobs → List (List Job)
+jobs_of targets = map (λ (target : TargetJobs). target.jobs.items) targets

@@ -1,10 +1,14 @@
 -- A run: what its files say, what happens on its channel, and what is written and printed of it.
-use Rattle.std.specs.Prelude.{◌≡◌, ◌⊎◌, ℕ, ◌*◌, ⊤, true, List, ◌++◌, length, reverse, drop, Option}
+use Rattle.std.specs.Prelude.{◌≡◌, ◌⊎◌, ℕ, ◌*◌, ⊤, true, List, [], ◌∷◌, ◌++◌, length, reverse, drop, Option}
 use Rattle.std.specs.Option.{option_copied}
 use Rattle.seq_files.specs.Store.{Store, Holds, Written, with_all}
+use Rattle.onfi_cycle.specs.declared.lun.Lun.{Lun}
 use Rattle.onfi_cycle.specs.Permitted.{is_legal}
+use Rattle.micro_program.specs.Program.{Job}
 use Rattle.die_model.specs.Die.{Die}
 use Rattle.target_bus.specs.Bus.{Traced, channel_of, StandFor}
+use Rattle.nand_geometry.specs.declared.parts.Parts.{Parts}
+use Rattle.run_file.specs.Line.{Statement}
 use Rattle.run_file.specs.Told.{told}
 use Rattle.seq_run.specs.declared.request.RunRequest.{RunRequest}
 use Rattle.seq_run.specs.declared.plan.PlannedImage.{PlannedImage}
@@ -13,14 +17,15 @@ use Rattle.seq_run.specs.declared.running.Ran.{Ran}
 use Rattle.seq_run.specs.declared.job_ends.EndedJob.{EndedJob}
 use Rattle.seq_run.specs.declared.refusal.PlanRefusal.{PlanRefusal}
 use Rattle.seq_run.specs.declared.ending.RunEnd.{RunEnd}
-use Rattle.seq_run.specs.Judged.{PlanPasses, PlanIsRefused}
-use Rattle.seq_run.specs.Planned.{outputs_of, images_in, planned_outputs, planned_images, ended_outputs}
+use Rattle.seq_run.specs.Judged.{Numbered, PlanPasses, PlanIsRefused}
+use Rattle.seq_run.specs.Setup.{Setup, IsJobOf, SetsOne, SetsUp, erased, ArePlanned}
+use Rattle.seq_run.specs.Planned.{outputs_of, images_in, planned_outputs, planned_images, planned_names, jobs_of, ended_outputs}
 use Rattle.seq_run.specs.Lines.{job_lines}
 use Rattle.seq_run.specs.Happened.{HasHappened}
 use Rattle.seq_run.specs.Written.{buffers_of, images_of, trace_at, printed_trace, codes_of}
 
--- what has come of a channel: what happened on its bus, which is legal, a die for each LUN as that left it, the jobs after their end, whose codes and
--- buffers come from there, and the images to be written
+-- what has come of a channel: what happened on its bus, which is legal, a die for each LUN as that left it, the jobs after their end, and the images to
+-- be written
 pub record Outcome : Type 0 where
   pub bus : Traced
   pub legal : is_legal bus.geometry bus.targets bus.past ≡ true
@@ -28,7 +33,6 @@ pub record Outcome : Type 0 where
   pub count : length dies ≡ bus.targets * bus.geometry.luns
   pub stand : StandFor (channel_of bus) bus.past dies
   pub jobs : List EndedJob
-  pub happened : HasHappened bus jobs
   pub images : List PlannedImage
 
 -- the files that are written: the buffers, the images, and the trace where a path is given for it
@@ -45,20 +49,53 @@ pub record ShowsAll (ran : Ran) (o : Outcome) : Type 0 where
   pub jobs : o.jobs ≡ ran.jobs.items
   pub images : o.images ≡ ran.images.items
 
+-- what was planned is this: its dies, the jobs of each host, and the name of each line's job
+pub record HasSetUp (plan : RunPlan) (setup : Setup) : Type 0 where
+  pub dies : plan.dies.dies.items ≡ setup.dies
+  pub jobs : ArePlanned setup.jobs (jobs_of plan.jobs.by_target.items) (planned_names plan.jobs.all.items)
+
+-- what happened on a bus is of what was planned
+abbrev pub HappenedAsPlanned : RunPlan → Traced → List EndedJob → Type 0
+HappenedAsPlanned plan bus jobs = (setup : Setup) → HasSetUp plan setup → HasHappened setup bus jobs
+
+-- a statement was planned: what it adds came to what was planned before
+abbrev pub PlansOne : Option Store → Parts → Statement → (old new : RunPlan) → Type 0
+PlansOne files g statement old new = (setup : Setup) → HasSetUp old setup → (next : Setup) × SetsOne files g statement setup next × HasSetUp new next
+
+-- the job of such a line was planned behind those that were
+abbrev pub PlansJob : Option Store → Parts → Lun → ℕ → List ℕ → Option (List ℕ) → (old new : RunPlan) → Type 0
+PlansJob files g l base text input old new =
+    (setup : Setup) → HasSetUp old setup → (job : Job) × IsJobOf files g l base text input job × HasSetUp new (record { dies = setup.dies; jobs = setup.jobs ++ job ∷ [] })
+
+-- the same of statements, in their order
+abbrev pub PlansAll : Option Store → Parts → List Numbered → (old new : RunPlan) → Type 0
+PlansAll files g statements old new = (setup : Setup) → HasSetUp old setup → (next : Setup) × SetsUp files g statements setup next × HasSetUp new next
+
+-- what these statements set up on a channel is what was planned
+pub record IsSetUpFrom (files : Option Store) (g : Parts) (targets : ℕ) (statements : List Numbered) (plan : RunPlan) : Type 0 where
+  pub setup : Setup
+  pub sets_up : SetsUp files g statements (erased g targets) setup
+  pub is : HasSetUp plan setup
+
 -- this has come of what was planned: each job has ended, and stands in its place
 pub record IsOutcomeOf (plan : RunPlan) (o : Outcome) : Type 0 where
   pub geometry : o.bus.geometry ≡ plan.dies.geometry
   pub targets : o.bus.targets ≡ plan.dies.targets
   pub outputs : ended_outputs o.jobs ≡ planned_outputs plan.jobs.all.items
   pub images : o.images ≡ plan.images.items
+  pub happened : HappenedAsPlanned plan o.bus o.jobs
 
--- the run file is there, and all that it says passes on the channel of this outcome; there are its jobs, with the outputs that it gives them, and its images
+-- the run file is there, and all that it says passes on the channel of this outcome; there are its jobs, with the outputs that it gives them, and its
+-- images; and what happened is of the dies and the jobs that it sets up
 pub record IsPlanned (files : Option Store) (request : RunRequest) (o : Outcome) : Type 0 where
   pub text : List ℕ
   pub is_there : Holds files request.path.now text
   pub passes : PlanPasses files (told text) o.bus.geometry o.bus.targets
   pub outputs : ended_outputs o.jobs ≡ outputs_of (drop 2 (told text).statements)
   pub images : planned_images o.images ≡ images_in o.bus.geometry (drop 2 (told text).statements)
+  pub setup : Setup
+  pub sets_up : SetsUp files o.bus.geometry (drop 2 (told text).statements) (erased o.bus.geometry o.bus.targets) setup
+  pub happened : HasHappened setup o.bus o.jobs
 
 -- the run is done: everything is written and printed
 pub record IsRunDone (files later : Option Store) (request : RunRequest) (printed : List ℕ) : Type 0 where

@@ -5,6 +5,7 @@ ghost use Rattle.target_bus.specs.Bus.{is_new_of};
 ghost use Rattle.seq_files.specs.Store.{Holds};
 ghost use Rattle.seq_inputs.specs.Inputs.{HasPage, PageIsRefused, HasText, FileOrTextIsRefused};
 ghost use Rattle.seq_run.specs.Failures.{Says, SaysNothing, OfFile};
+ghost use Rattle.seq_run.specs.Setup.{HasImageOf};
 ghost use Rattle.seq_run.specs.Judged.{ImageIsRefused, HasImage, HasInput, InputIsRefused};
 
 use crate::explaining::words_of;
@@ -60,6 +61,7 @@ pub(crate) fn read_die<'a, F: Files>(
     path: &'a str,
 ) -> Result<LunDie, Failure<'a>>
     ensures ok { OnOk result (HasImage (F.store files.old) geometry path.now) }
+    ensures image { IfOk result (HasImageOf (F.store files.old) geometry path.now) }
     ensures new { IfOk result (λ die. is_new_of geometry die ≡ true) }
     ensures err { IfErr result (Says (ImageIsRefused (F.store files.old) geometry path.now)) }
     ensures stays { F.store files.new ≡ F.store files.old }

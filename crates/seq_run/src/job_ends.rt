@@ -4,27 +4,29 @@ ghost use Rattle.std.specs.String.{string_bytes};
 ghost use Rattle.channel_work.specs.Done.{ended_of};
 ghost use Rattle.seq_run.specs.Lines.{job_line, job_lines};
 ghost use Rattle.seq_run.specs.Written.{codes_of};
-ghost use Rattle.seq_run.specs.Planned.{planned_outputs, ended_outputs};
-ghost use Rattle.seq_run.specs.Happened.{given_back, WereGivenBack};
-ghost use Rattle.seq_run.specs.Endings.{opened, given_as, given_of, said_of, ending_outputs, PutsGiven, PutsAllGiven};
+ghost use Rattle.seq_run.specs.Planned.{planned_outputs, planned_names, ended_outputs};
+ghost use Rattle.seq_run.specs.Happened.{WereGivenBack, ended_names};
+ghost use Rattle.seq_run.specs.Endings.{opened, given_of, told_of, ending_outputs, ending_names, PutsGiven, PutsAllGiven};
 
 use crate::plan::PlannedJob;
 use channel_work::{Name, NamedJob};
 use seq_core::UnloadedJob;
 use std::alloc::{AllocError, Global};
 
-/// A job that has ended, and where its buffer goes.
+/// A job that has ended, under its name, and where its buffer goes.
 #[derive(Drop)]
 pub(crate) struct EndedJob<'a> {
+    pub name: Name,
     pub output: Option<&'a str>,
     pub done: UnloadedJob,
 }
 
-// A job of a run, and its end, once it has ended.
+// The name of a job of a run, where its buffer goes, and what was given back, once something was.
 #[derive(Drop)]
 struct Ending<'a> {
+    name: Name,
     output: Option<&'a str>,
-    done: Option<UnloadedJob>,
+    ended: Option<NamedJob>,
 }
 
 // The place of a job among all, where each host's jobs have these places.
@@ -46,48 +48,73 @@ fn open_endings<'a>(
     planned
         .iter()
         .map(|job| Ending {
+            name: job.name,
             output: job.output,
-            done: None,
+            ended: None,
         })
         .collect(alloc)
 }
 
-// Puts its end to the job in this place, if there is one.
-#[tactic(auto, using(crate::proofs::Endings::outputs_stay, crate::proofs::Endings::one_given))]
-fn put_ending(endings: &mut Vec<Ending<'_>>, place: usize, done: UnloadedJob)
+// Puts what was given back to the job in this place, if there is one.
+#[tactic(auto, using(crate::proofs::Endings::outputs_stay, crate::proofs::Endings::names_stay, crate::proofs::Endings::one_given))]
+fn put_ending(endings: &mut Vec<Ending<'_>>, place: usize, named: NamedJob)
     ensures outputs { ending_outputs endings.new.items ≡ ending_outputs endings.old.items }
-    ensures given { PutsGiven (given_as done) endings.old.items endings.new.items }
+    ensures names { ending_names endings.new.items ≡ ending_names endings.old.items }
+    ensures given { PutsGiven (ended_of named) endings.old.items endings.new.items }
 {
     if place < endings.len() {
+        let name = endings[place].name;
         let output = endings[place].output;
         endings[place] = Ending {
+            name,
             output,
-            done: Some(done),
+            ended: Some(named),
         };
     }
 }
 
-// Puts its end to the job of this name.
+// Puts what was given back to the job in the place of its name.
 fn put_named(endings: &mut Vec<Ending<'_>>, places: &[Vec<usize>], named: NamedJob)
     ensures outputs { ending_outputs endings.new.items ≡ ending_outputs endings.old.items }
-    ensures given { PutsGiven (given_back (ended_of named)) endings.old.items endings.new.items }
+    ensures names { ending_names endings.new.items ≡ ending_names endings.old.items }
+    ensures given { PutsGiven (ended_of named) endings.old.items endings.new.items }
 {
-    let NamedJob { name, done } = named;
-    if let Some(place) = find_place(places, name) {
-        put_ending(endings, place, done);
+    if let Some(place) = find_place(places, named.name) {
+        put_ending(endings, place, named);
     }
 }
 
-// Puts their ends to the jobs.
+// Puts what was given back to the jobs.
 #[tactic(auto, using(crate::proofs::Endings::all_given, crate::proofs::Endings::puts_first))]
 fn put_all(endings: &mut Vec<Ending<'_>>, places: &[Vec<usize>], done: Vec<NamedJob>)
     ensures outputs { ending_outputs endings.new.items ≡ ending_outputs endings.old.items }
-    ensures given { PutsAllGiven (map given_back (map ended_of done.items)) endings.old.items endings.new.items }
+    ensures names { ending_names endings.new.items ≡ ending_names endings.old.items }
+    ensures given { PutsAllGiven (map ended_of done.items) endings.old.items endings.new.items }
 {
     let mut done = done;
     while let Some(named) = done.pop() {
         put_named(endings, places, named);
     }
+}
+
+// The job after its end, where something was given back under its name.
+fn close_ending(ending: Ending<'_>) -> Result<EndedJob<'_>, AllocError>
+    ensures output { IfOk result (λ job. job.output ≡ ending.entry.output) }
+    ensures name { IfOk result (λ job. job.name ≡ ending.entry.name) }
+    ensures given { IfOk result (λ job. told_of job ≡ given_of ending.entry) }
+{
+    let Ending {
+        name,
+        output,
+        ended,
+    } = ending;
+    let Some(NamedJob { name: told, done }) = ended else {
+        return Err(AllocError);
+    };
+    if told.host != name.host || told.number != name.number {
+        return Err(AllocError);
+    }
+    Ok(EndedJob { name, output, done })
 }
 
 // The jobs after their ends, where each has ended.
@@ -96,20 +123,18 @@ fn close_endings<'a>(
     endings: Vec<Ending<'a>>,
 ) -> Result<Vec<EndedJob<'a>>, AllocError>
     ensures outputs { IfOk result (λ ended. ended_outputs ended.items ≡ ending_outputs endings.entry.items) }
-    ensures given { IfOk result (λ ended. map said_of ended.items ≡ map given_of endings.entry.items) }
+    ensures names { IfOk result (λ ended. ended_names ended.items ≡ ending_names endings.entry.items) }
+    ensures given { IfOk result (λ ended. map told_of ended.items ≡ map given_of endings.entry.items) }
 {
     let mut ended = Vec::with_capacity(alloc, endings.len())?;
     for ending in endings {
-        let Ending { output, done } = ending;
-        match done {
-            Some(done) => ended.push(EndedJob { output, done })?,
-            None => return Err(AllocError),
-        }
+        ended.push(close_ending(ending)?)?;
     }
     Ok(ended)
 }
 
-/// The jobs that were planned, each after its end, where each host's jobs have these places; none where a job hasn't ended.
+/// The jobs that were planned, each with what was given back under its name, where the jobs of each host have these places; none where a job hasn't
+/// ended.
 pub(crate) fn end_jobs<'a>(
     alloc: Global,
     planned: &[PlannedJob<'a>],
@@ -117,6 +142,7 @@ pub(crate) fn end_jobs<'a>(
     done: Vec<NamedJob>,
 ) -> Result<Vec<EndedJob<'a>>, AllocError>
     ensures outputs { IfOk result (λ ended. ended_outputs ended.items ≡ planned_outputs planned.now) }
+    ensures names { IfOk result (λ ended. ended_names ended.items ≡ planned_names planned.now) }
     ensures given { IfOk result (λ ended. WereGivenBack (map ended_of done.items) ended.items) }
 {
     let mut endings = open_endings(alloc, planned)?;

@@ -19,6 +19,7 @@ mod planning;
 mod refusal;
 mod request;
 mod run_command;
+mod run_name;
 mod running;
 mod summary;
 mod workers;

@@ -2,10 +2,13 @@
 
 ghost use Rattle.std.specs.Prelude.{◌≡◌, ◌≤◌, [], ◌∷◌, ◌++◌, IfOk, OnOk};
 ghost use Rattle.std.specs.Option.{option_copied};
-ghost use Rattle.seq_run.specs.Planned.{planned_outputs};
+ghost use Rattle.seq_run.specs.Planned.{planned_outputs, planned_names, jobs_of};
+ghost use Rattle.seq_run.specs.Setup.{erased, ArePlanned, PlansMore, HaveNoJobs, IsJobPushed};
+ghost use Rattle.seq_run.specs.Runs.{HasSetUp};
 
 use crate::dies::ChannelDies;
 use crate::gate::Failing;
+use channel_work::Name;
 use nand_geometry::Geometry;
 use seq_core::Job;
 use std::alloc::{AllocError, Global};
@@ -18,16 +21,16 @@ pub struct PlannedImage<'a> {
     pub path: &'a str,
 }
 
-/// The jobs of a target in the order of the file, each with its place among all jobs.
+/// The jobs of a target in the order of the file.
 #[derive(Drop)]
 pub struct TargetJobs {
     pub jobs: Vec<Job>,
-    pub places: Vec<usize>,
 }
 
-/// A job by its place among all jobs: where its buffer goes after the end.
+/// A job by its place among all jobs: the name under which it is stored, by the host of its target, and where its buffer goes after the end.
 #[derive(Clone, Copy, Debug)]
 pub struct PlannedJob<'a> {
+    pub name: Name,
     pub output: Option<&'a str>,
 }
 
@@ -39,6 +42,8 @@ pub(crate) const MOST_BUFFER_BYTES: u64 = 4_294_967_296;
 pub struct PlannedJobs<'a> {
     /// Those of each target.
     pub by_target: Vec<TargetJobs>,
+    /// The places of each target's jobs among all of them.
+    pub places: Vec<Vec<usize>>,
     /// All of them.
     pub all: Vec<PlannedJob<'a>>,
     /// How many bytes their buffers have.
@@ -55,20 +60,63 @@ pub struct RunPlan<'a> {
     pub fails: Vec<Failing>,
 }
 
+// So many targets without jobs.
+#[tactic(auto, using(crate::proofs::JobPlans::none_more))]
+fn make_targets(alloc: Global, targets: u8) -> Result<Vec<TargetJobs>, AllocError>
+    ensures { IfOk result (λ made. HaveNoJobs (jobs_of made.items)) }
+{
+    let mut made = Vec::new(alloc);
+    for _ in 0..targets {
+        made.push(TargetJobs {
+            jobs: Vec::new(alloc),
+        })?;
+    }
+    Ok(made)
+}
+
+// So many targets without places.
+fn make_places(alloc: Global, targets: u8) -> Result<Vec<Vec<usize>>, AllocError> {
+    let mut made = Vec::new(alloc);
+    for _ in 0..targets {
+        made.push(Vec::new(alloc))?;
+    }
+    Ok(made)
+}
+
+// Adds a job to those of a target, and tells how many that has before it.
+fn push_to_target(
+    by_target: &mut Vec<TargetJobs>,
+    target: usize,
+    job: Job,
+) -> Result<u64, AllocError>
+    ensures { IfOk result (IsJobPushed target job (jobs_of by_target.old.items) (jobs_of by_target.new.items)) }
+{
+    if target >= by_target.len() {
+        return Err(AllocError);
+    }
+    let number = by_target[target].jobs.len() as u64;
+    by_target[target].jobs.push(job)?;
+    Ok(number)
+}
+
+// Adds the place of a job to those of a target.
+fn push_place(places: &mut Vec<Vec<usize>>, target: usize, place: usize) -> Result<(), AllocError> {
+    if target < places.len() {
+        places[target].push(place)?;
+    }
+    Ok(())
+}
+
 impl<'a> PlannedJobs<'a> {
     /// No jobs yet, of so many targets.
+    #[tactic(auto, using(crate::proofs::JobPlans::none_planned))]
     fn new(alloc: Global, targets: u8) -> Result<PlannedJobs<'a>, AllocError>
-        ensures { IfOk result (λ jobs. jobs.all.items ≡ []) }
+        ensures outputs { IfOk result (λ jobs. jobs.all.items ≡ []) }
+        ensures planned { IfOk result (λ jobs. ArePlanned [] (jobs_of jobs.by_target.items) (planned_names jobs.all.items)) }
     {
-        let mut by_target = Vec::new(alloc);
-        for _ in 0..targets {
-            by_target.push(TargetJobs {
-                jobs: Vec::new(alloc),
-                places: Vec::new(alloc),
-            })?;
-        }
         Ok(PlannedJobs {
-            by_target,
+            by_target: make_targets(alloc, targets)?,
+            places: make_places(alloc, targets)?,
             all: Vec::new(alloc),
             buffer_bytes: 0,
         })
@@ -80,19 +128,24 @@ impl<'a> PlannedJobs<'a> {
         self.buffer_bytes.saturating_add(bytes)
     }
 
-    /// Adds a job after the others.
+    /// Adds a job after the others. Its target is one of the channel's.
+    #[tactic(auto, using(crate::proofs::JobPlans::plan_more))]
     pub(crate) fn push(&mut self, job: Job, output: Option<&'a str>) -> Result<(), AllocError>
-        ensures { OnOk result (planned_outputs self.new.all.items ≡ planned_outputs self.old.all.items
+        ensures outputs { OnOk result (planned_outputs self.new.all.items ≡ planned_outputs self.old.all.items
             ++ (option_copied output.entry ∷ [])) }
+        ensures planned { OnOk result (PlansMore job (jobs_of self.old.by_target.items) (planned_names self.old.all.items)
+            (jobs_of self.new.by_target.items) (planned_names self.new.all.items)) }
     {
         let place = self.all.len();
         self.buffer_bytes = self.count_buffer_bytes(&job);
-        let target = usize::from(job.lun().ce);
-        if let Some(of_target) = self.by_target.get_mut(target) {
-            of_target.jobs.push(job)?;
-            of_target.places.push(place)?;
-        }
-        self.all.push(PlannedJob { output })?;
+        let target = job.lun().ce;
+        let number = push_to_target(&mut self.by_target, usize::from(target), job)?;
+        push_place(&mut self.places, usize::from(target), place)?;
+        let name = Name {
+            host: u32::from(target),
+            number,
+        };
+        self.all.push(PlannedJob { name, output })?;
         Ok(())
     }
 }
@@ -107,6 +160,7 @@ impl<'a> RunPlan<'a> {
         requires { (1 ≤ targets) × (targets ≤ 4) }
         ensures channel { IfOk result (λ plan. (plan.dies.geometry ≡ geometry) × (plan.dies.targets ≡ targets)) }
         ensures empty { IfOk result (λ plan. (plan.jobs.all.items ≡ []) × (plan.images.items ≡ [])) }
+        ensures setup { IfOk result (λ plan. HasSetUp plan (erased geometry targets)) }
     {
         Ok(RunPlan {
             dies: ChannelDies::new(alloc, geometry, targets)?,

@@ -4,6 +4,8 @@ ghost use Rattle.std.specs.Option.{option_copied, option_map};
 ghost use Rattle.run_file.specs.Line.{Image as ImageLine};
 ghost use Rattle.run_file.specs.Shown.{shown_statement, shown_numbered, shown_all, shown_text};
 ghost use Rattle.seq_run.specs.Planned.{output_in, outputs_of, image_in, images_in, planned_outputs, planned_images};
+ghost use Rattle.seq_run.specs.Setup.{IsJobOf};
+ghost use Rattle.seq_run.specs.Runs.{PlansOne, PlansJob, PlansAll, IsSetUpFrom};
 ghost use Rattle.seq_run.specs.Failures.{Says, Refuses, line_refused};
 ghost use Rattle.seq_run.specs.Judged.{has_lun, lun_at, LunIsRefused, JobPasses, JobLineIsRefused, Passes, IsRefused, IsRefusedAt, RestPasses, RestIsRefused, EndIsRefused, page_of, targets_of, PlanPasses, PlanIsRefused};
 
@@ -37,7 +39,7 @@ fn find_lun<'a>(geometry: &Geometry, targets: u8, target: u32, lun: u32) -> Resu
 }
 
 // The job of a word file, with its buffer.
-#[tactic(auto, using(crate::proofs::JobLines::job_refused, crate::proofs::JobLines::job_passes))]
+#[tactic(auto, using(crate::proofs::JobLines::job_refused, crate::proofs::JobLines::job_passes, crate::proofs::JobLines::is_job))]
 fn read_job<'a, F: Files>(
     alloc: Global,
     files: &mut F,
@@ -49,6 +51,7 @@ fn read_job<'a, F: Files>(
     input: Option<&'a str>,
 ) -> Result<Job, Failure<'a>>
     ensures ok { OnOk result (JobPasses (F.store files.old) geometry targets lun base text.now (option_copied input.entry)) }
+    ensures job { IfOk result (IsJobOf (F.store files.old) geometry lun base text.now (option_copied input.entry)) }
     ensures err { IfErr result (Says (JobLineIsRefused (F.store files.old) geometry targets lun base text.now
         (option_copied input.entry))) }
     ensures stays { F.store files.new ≡ F.store files.old }
@@ -72,6 +75,7 @@ fn read_job<'a, F: Files>(
 
 impl<'a> RunPlan<'a> {
     // Adds a statement after the page and the targets.
+    #[tactic(auto, using(crate::proofs::Settings::job_set, crate::proofs::Settings::polls_set, crate::proofs::Settings::fail_set))]
     fn add<F: Files>(
         &mut self,
         alloc: Global,
@@ -87,6 +91,7 @@ impl<'a> RunPlan<'a> {
             ++ filter_map output_in (shown_statement statement.entry ∷ [])) }
         ensures images { OnOk result (planned_images self.new.images.items ≡ planned_images self.old.images.items
             ++ filter_map (image_in self.old.dies.geometry) (shown_statement statement.entry ∷ [])) }
+        ensures setup { OnOk result (PlansOne (F.store files.old) self.old.dies.geometry (shown_statement statement.entry) self.old self.new) }
         ensures stays { F.store files.new ≡ F.store files.old }
     {
         match statement {
@@ -116,6 +121,7 @@ impl<'a> RunPlan<'a> {
     }
 
     // Adds the image of a die.
+    #[tactic(auto, using(crate::proofs::Settings::image_set))]
     fn add_image<F: Files>(
         &mut self,
         alloc: Global,
@@ -131,6 +137,7 @@ impl<'a> RunPlan<'a> {
         ensures jobs { self.new.jobs ≡ self.old.jobs }
         ensures images { OnOk result (planned_images self.new.images.items ≡ planned_images self.old.images.items
             ++ ((target * self.old.dies.geometry.luns + lun, path.now) ∷ [])) }
+        ensures setup { OnOk result (PlansOne (F.store files.old) self.old.dies.geometry (ImageLine target lun path.now) self.old self.new) }
         ensures stays { F.store files.new ≡ F.store files.old }
     {
         let lun = find_lun(&self.dies.geometry, self.dies.targets, target, lun)?;
@@ -142,6 +149,7 @@ impl<'a> RunPlan<'a> {
     }
 
     // Adds a job on a LUN of the channel.
+    #[tactic(auto, using(crate::proofs::Settings::job_planned))]
     fn add_job<F: Files>(
         &mut self,
         alloc: Global,
@@ -160,6 +168,7 @@ impl<'a> RunPlan<'a> {
         ensures jobs { OnOk result (planned_outputs self.new.jobs.all.items ≡ planned_outputs self.old.jobs.all.items
             ++ (option_copied output.entry ∷ [])) }
         ensures images { self.new.images ≡ self.old.images }
+        ensures setup { OnOk result (PlansJob (F.store files.old) self.old.dies.geometry lun base text.now (option_copied input.entry) self.old self.new) }
         ensures stays { F.store files.new ≡ F.store files.old }
     {
         let (geometry, targets) = (self.dies.geometry, self.dies.targets);
@@ -177,6 +186,7 @@ impl<'a> RunPlan<'a> {
         ensures ok { OnOk result (has_lun self.old.dies.geometry self.old.dies.targets target lun ≡ true) }
         ensures err { IfErr result (Says (LunIsRefused self.old.dies.geometry self.old.dies.targets target lun)) }
         ensures channel { (self.new.dies.geometry ≡ self.old.dies.geometry) × (self.new.dies.targets ≡ self.old.dies.targets) }
+        ensures dies { self.new.dies ≡ self.old.dies }
         ensures jobs { self.new.jobs ≡ self.old.jobs }
         ensures images { self.new.images ≡ self.old.images }
     {
@@ -206,6 +216,8 @@ impl<'a> RunPlan<'a> {
             ++ outputs_of (shown_numbered numbered.entry ∷ [])) }
         ensures images { OnOk result (planned_images self.new.images.items ≡ planned_images self.old.images.items
             ++ images_in self.old.dies.geometry (shown_numbered numbered.entry ∷ [])) }
+        ensures setup { OnOk result (PlansOne (F.store files.old) self.old.dies.geometry (shown_statement numbered.entry.statement)
+            self.old self.new) }
         ensures stays { F.store files.new ≡ F.store files.old }
     {
         let Numbered { line, statement } = numbered;
@@ -232,6 +244,7 @@ impl<'a> RunPlan<'a> {
             ++ outputs_of (shown_all rest.now)) }
         ensures images { OnOk result (planned_images self.new.images.items ≡ planned_images self.old.images.items
             ++ images_in self.old.dies.geometry (shown_all rest.now)) }
+        ensures setup { OnOk result (PlansAll (F.store files.old) self.old.dies.geometry (shown_all rest.now) self.old self.new) }
         ensures stays { F.store files.new ≡ F.store files.old }
     {
         for &numbered in rest {
@@ -296,6 +309,7 @@ fn find_targets(statements: &[Numbered<'_>]) -> Option<u8>
 }
 
 // The plan of the statements after the page and the targets, and then of the fault of the text.
+#[tactic(auto, using(crate::proofs::Settings::all_set))]
 fn plan_rest<'a, F: Files>(
     alloc: Global,
     files: &mut F,
@@ -309,6 +323,7 @@ fn plan_rest<'a, F: Files>(
     ensures ok { OnOk result (RestPasses (F.store files.old) geometry targets (shown_all rest.now) last) }
     ensures jobs { IfOk result (λ plan. planned_outputs plan.jobs.all.items ≡ outputs_of (shown_all rest.now)) }
     ensures images { IfOk result (λ plan. planned_images plan.images.items ≡ images_in geometry (shown_all rest.now)) }
+    ensures setup { IfOk result (IsSetUpFrom (F.store files.old) geometry targets (shown_all rest.now)) }
     ensures err { IfErr result (Refuses (RestIsRefused (F.store files.old) geometry targets (shown_all rest.now) last)) }
     ensures stays { F.store files.new ≡ F.store files.old }
 {
@@ -331,6 +346,8 @@ pub fn plan_run<'a, F: Files>(
     ensures jobs { IfOk result (λ plan. planned_outputs plan.jobs.all.items ≡ outputs_of (drop 2 (shown_text text.now).statements)) }
     ensures images { IfOk result (λ plan. planned_images plan.images.items
         ≡ images_in plan.dies.geometry (drop 2 (shown_text text.now).statements)) }
+    ensures setup { IfOk result (λ plan. IsSetUpFrom (F.store files.old) plan.dies.geometry plan.dies.targets
+        (drop 2 (shown_text text.now).statements) plan) }
     ensures err { IfErr result (Refuses (PlanIsRefused (F.store files.old) (shown_text text.now))) }
     ensures stays { F.store files.new ≡ F.store files.old }
 {

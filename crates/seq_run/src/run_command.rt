@@ -9,7 +9,7 @@ ghost use Rattle.seq_run.specs.Runs.{EndsUnrefused};
 ghost use Rattle.seq_run.specs.Judged.{PlanPasses, PlanIsRefused};
 ghost use Rattle.seq_run.specs.Lines.{line_of};
 ghost use Rattle.seq_run.specs.Planned.{outputs_of, images_in, planned_outputs, planned_images};
-ghost use Rattle.seq_run.specs.Runs.{Outcome, IsOutcomeOf, writes_of, lines_of, IsRunDone, RunIsRefused, RunMayLeave};
+ghost use Rattle.seq_run.specs.Runs.{Outcome, IsOutcomeOf, writes_of, lines_of, IsRunDone, RunIsRefused, RunMayLeave, IsSetUpFrom};
 
 use crate::ending::RunEnd;
 use crate::explaining::{explain, explain_buffers};
@@ -42,6 +42,8 @@ fn plan_text<'a, F: Files>(
     ensures jobs { IfOk result (λ plan. planned_outputs plan.jobs.all.items ≡ outputs_of (drop 2 (told text.entry.now).statements)) }
     ensures images { IfOk result (λ plan. planned_images plan.images.items
         ≡ images_in plan.dies.geometry (drop 2 (told text.entry.now).statements)) }
+    ensures setup { IfOk result (λ plan. IsSetUpFrom (F.store files.old) plan.dies.geometry plan.dies.targets
+        (drop 2 (told text.entry.now).statements) plan) }
     ensures err { IfErr result (Refuses (PlanIsRefused (F.store files.old) (told text.entry.now))) }
     ensures stays { F.store files.new ≡ F.store files.old }
 {
@@ -212,7 +214,7 @@ pub fn run_watched<
     progress: &mut P,
     request: RunRequest<'_>,
 ) -> RunEnd
-    // What the run file says passes, and what is printed and written is of one legal trace.
+    // What the run file says passes; its jobs ran on dies with its images; and what is printed and written is of one legal trace, and of those jobs.
     ensures done { result ≡ RunEnd.Done → (printed : List ℕ) × IsRunDone (F.store files.old) (F.store files.new) request.entry printed
         × Appends (W.contents output.old) (W.contents output.new) printed }
     ensures refused { (refusal : PlanRefusal) → result ≡ RunEnd.Refused refusal → RunIsRefused (F.store files.old) request.entry refusal
@@ -240,7 +242,7 @@ pub fn run_on<R: Threads + Wait + Sync, F: Files, W: Write, E: Write>(
     errors: &mut E,
     request: RunRequest<'_>,
 ) -> RunEnd
-    // What the run file says passes, and what is printed and written is of one legal trace.
+    // What the run file says passes; its jobs ran on dies with its images; and what is printed and written is of one legal trace, and of those jobs.
     ensures done { result ≡ RunEnd.Done → (printed : List ℕ) × IsRunDone (F.store files.old) (F.store files.new) request.entry printed
         × Appends (W.contents output.old) (W.contents output.new) printed }
     ensures refused { (refusal : PlanRefusal) → result ≡ RunEnd.Refused refusal → RunIsRefused (F.store files.old) request.entry refusal

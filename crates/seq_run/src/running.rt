@@ -1,18 +1,23 @@
 //! Running what was planned: the queue of jobs, the channel, its hosts and its workers.
-ghost use Rattle.std.specs.Prelude.{◌≡◌, ◌≤◌, [], IfOk, None};
+ghost use Rattle.std.specs.Prelude.{◌≡◌, ◌≤◌, [], Some, IfOk, OnOk, length, slice_index_or};
+ghost use Rattle.std.specs.List.{All};
 ghost use Rattle.seq_core.specs.World.{fresh};
 ghost use Rattle.seq_core.specs.Shows.{IsAt, channel_in};
-ghost use Rattle.job_queue.specs.Passes.{OwnsAll};
-ghost use Rattle.seq_run.specs.Planned.{planned_outputs, ended_outputs};
-ghost use Rattle.seq_run.specs.Happened.{IsBusOf, HasWorked, HasHappened};
+ghost use Rattle.job_queue.specs.Passes.{owns, owns_taker, AreNew};
+ghost use Rattle.channel_work.specs.Origin.{IsFrom};
+ghost use Rattle.seq_run.specs.Planned.{planned_outputs, ended_outputs, jobs_of};
+ghost use Rattle.seq_run.specs.Hosted.{IsOpen, origin_of, StoredTheirs, TookBelow};
+ghost use Rattle.seq_run.specs.Happened.{IsBusOf, HasWorked, HasRun};
+ghost use Rattle.seq_run.specs.Runs.{HappenedAsPlanned};
 
 use crate::gate::RunGate;
-use crate::hosts::{Host, run_hosts};
+use crate::hosts::{Host, StoredAll, run_hosts};
 use crate::job_ends::{EndedJob, end_jobs};
 use crate::plan::{PlannedImage, PlannedJobs, RunPlan, TargetJobs};
-use crate::workers::run_beside;
-use channel_work::{Channel, ChannelState, Gathered, Seats, Turns, WorkerPass};
-use job_queue::{HostPass, JobQueue, Taker};
+use crate::run_name::RunName;
+use crate::workers::{Back, run_beside};
+use channel_work::{Channel, ChannelState, Gathered, NamedJob, Seats, Turns, WorkerPass};
+use job_queue::{HostPass, JobQueue, Taker, Tally};
 use lun_lease::LeaseTable;
 use nand_geometry::Geometry;
 use seq_core::{Core, Job};
@@ -37,82 +42,108 @@ pub(crate) struct Ran<'a> {
     pub jobs: Vec<EndedJob<'a>>,
 }
 
-// The jobs of the hosts, and the place of each among all jobs.
+// A queue of jobs with its passes and its taker.
 #[derive(Drop)]
-struct HostJobs {
-    jobs: Vec<Vec<Job>>,
-    places: Vec<Vec<usize>>,
+struct OpenQueue {
+    queue: JobQueue<Job>,
+    passes: Vec<HostPass<Job>>,
+    taker: Taker<Job>,
 }
 
-// The hosts: one for each target that has jobs.
-fn split_jobs(alloc: Global, by_target: Vec<TargetJobs>) -> Result<HostJobs, AllocError> {
-    let mut jobs_of_hosts = Vec::new(alloc);
-    let mut places_of_hosts = Vec::new(alloc);
-    for of_target in by_target {
-        let TargetJobs { jobs, places } = of_target;
-        if !jobs.is_empty() {
-            jobs_of_hosts.push(jobs)?;
-            places_of_hosts.push(places)?;
-        }
-    }
-    Ok(HostJobs {
-        jobs: jobs_of_hosts,
-        places: places_of_hosts,
-    })
+// What workers have left of a channel, once all jobs are done.
+#[derive(Drop)]
+struct Worked {
+    core: Core,
+    done: Vec<NamedJob>,
 }
 
 // How many jobs the hosts have.
-fn count_jobs(jobs_of_hosts: &[Vec<Job>]) -> usize {
+fn count_jobs(by_target: &[TargetJobs]) -> usize {
     let mut count: usize = 0;
-    for jobs in jobs_of_hosts {
-        count = count.saturating_add(jobs.len());
+    for target in by_target {
+        count = count.saturating_add(target.jobs.len());
     }
     count
 }
 
 // How many places the queue has: one for each job where a worker alone comes after the hosts, and one at least.
-fn count_places(jobs_of_hosts: &[Vec<Job>], is_alone: bool) -> usize
+fn count_places(by_target: &[TargetJobs], is_alone: bool) -> usize
     ensures { (1 ≤ result) × (result ≤ 65536) }
 {
     if is_alone {
-        count_jobs(jobs_of_hosts).clamp(1, MOST_PLACES)
+        count_jobs(by_target).clamp(1, MOST_PLACES)
     } else {
         PLACES
     }
 }
 
-// A queue with so many places and a pass for each host, one at least.
-#[tactic(auto, using(crate::proofs::Hosting::new_owned))]
-fn open_queue(
-    alloc: Global,
-    places: usize,
-    hosts: usize,
-) -> Result<(JobQueue<Job>, Vec<HostPass<Job>>, Taker<Job>), AllocError>
-    requires { (1 ≤ places) × (places ≤ 65536) }
-    ensures passes { IfOk result (λ r. OwnsAll r.0 r.1.items) }
-    ensures taker { IfOk result (λ r. r.2.taken ≡ []) }
+// A queue with so many places and a pass for each host.
+fn open_queue(alloc: Global, places: usize, hosts: u32) -> Result<OpenQueue, AllocError>
+    requires places { (1 ≤ places) × (places ≤ 65536) }
+    requires hosts { (1 ≤ hosts) × (hosts ≤ 16) }
+    ensures { IfOk result IsOpen }
 {
-    JobQueue::<Job>::new(alloc, places, hosts.clamp(1, 16) as u32)
+    let (queue, passes, taker) = JobQueue::<Job>::new(alloc, places, hosts)?;
+    Ok(OpenQueue {
+        queue,
+        passes,
+        taker,
+    })
 }
 
-// The hosts of a queue with their passes and their jobs.
-#[tactic(auto, using(crate::proofs::Hosting::rest_owned))]
-fn make_hosts<'q>(
+// The hosts of a run: those that have jobs, and the passes of those that have none.
+#[derive(Drop)]
+struct Hosts<'q, L: RunName> {
+    busy: Vec<Host<'q, L>>,
+    idle: Vec<StoredAll<L>>,
+}
+
+// Adds the host of this pass.
+fn add_host<'q, L: RunName>(
+    hosts: &mut Hosts<'q, L>,
+    queue: &'q JobQueue<Job>,
+    pass: HostPass<Job>,
+    jobs: Vec<Job>,
+) -> Result<(), AllocError>
+    requires owned { owns queue.now pass }
+    requires table { pass.table ≡ L.table }
+    requires none { pass.stored ≡ [] }
+    requires its_jobs { jobs.items ≡ slice_index_or L.jobs pass.host [] }
+{
+    if jobs.is_empty() {
+        hosts.idle.push(StoredAll::nothing(pass))?;
+    } else {
+        hosts.busy.push(Host::new(queue, pass, jobs))?;
+    }
+    Ok(())
+}
+
+// The hosts of a queue, one for each target, with their passes and their jobs.
+fn make_hosts<'q, L: RunName>(
     alloc: Global,
     queue: &'q JobQueue<Job>,
     passes: Vec<HostPass<Job>>,
-    jobs_of_hosts: Vec<Vec<Job>>,
-) -> Result<Vec<Host<'q>>, AllocError>
-    requires { OwnsAll queue.now passes.items }
+    by_target: Vec<TargetJobs>,
+) -> Result<Hosts<'q, L>, AllocError>
+    requires passes { AreNew queue.now passes.items queue.now.hosts }
+    requires table { L.table ≡ queue.now.table }
+    requires jobs { L.jobs ≡ jobs_of by_target.items }
+    ensures { OnOk result (length L.jobs ≡ queue.now.hosts) }
 {
+    if passes.len() != by_target.len() {
+        return Err(AllocError);
+    }
     let mut passes = passes;
-    let mut jobs_of_hosts = jobs_of_hosts;
-    let mut hosts = Vec::new(alloc);
-    while let Some(jobs) = jobs_of_hosts.pop() {
+    let mut by_target = by_target;
+    let mut hosts = Hosts {
+        busy: Vec::new(alloc),
+        idle: Vec::new(alloc),
+    };
+    while let Some(target) = by_target.pop() {
         let Some(pass) = passes.pop() else {
             return Err(AllocError);
         };
-        hosts.push(Host::new(queue, pass, jobs))?;
+        add_host(&mut hosts, queue, pass, target.jobs)?;
     }
     Ok(hosts)
 }
@@ -135,19 +166,23 @@ fn make_passes<L: Turns>(
 }
 
 // Runs hosts and workers on a channel. One worker alone begins once the hosts have stored all their jobs.
-fn run_threads<L: Turns + Sync, R: Threads + Wait + Sync>(
+fn run_threads<L: RunName + Send + Sync, R: Threads + Wait + Sync>(
     rt: &R,
     alloc: Global,
     channel: &Channel<L>,
     gate: &RunGate,
-    hosts: Vec<Host<'_>>,
+    hosts: Vec<Host<'_, L>>,
     passes: Vec<WorkerPass<L>>,
-) -> Vec<WorkerPass<L>> {
+) -> Back<L> {
     if passes.len() > 1 {
         return run_beside(rt, alloc, channel, gate, hosts, passes);
     }
-    run_hosts(rt, hosts, gate);
-    run_beside(rt, alloc, channel, gate, Vec::new(alloc), passes)
+    let hosts = run_hosts(rt, alloc, hosts, gate);
+    let alone = run_beside(rt, alloc, channel, gate, Vec::new(alloc), passes);
+    Back {
+        workers: alone.workers,
+        hosts,
+    }
 }
 
 // A channel on which nothing has happened.
@@ -158,9 +193,10 @@ fn open_channel<L: Turns>(
     taker: Taker<Job>,
 ) -> Result<ChannelState<L>, AllocError>
     requires name { blank.name ≡ L.name }
-    requires parts { (blank.parts ≡ L.parts) × (L.all ≡ L.parts) × (L.parts ≡ 9) × (L.origin ≡ None) }
+    requires parts { (blank.parts ≡ L.parts) × (L.all ≡ L.parts) × (L.parts ≡ 9) }
     requires core { IsAt core (fresh (channel_in core)) }
     requires taker { taker.taken ≡ [] }
+    requires from { IsFrom L.origin core taker }
 {
     let seats = Seats::of(LeaseTable::new(alloc)?);
     Ok(ChannelState::new(alloc, blank, core, taker, seats))
@@ -173,7 +209,8 @@ fn gather_all<L: Turns>(
     passes: Vec<WorkerPass<L>>,
 ) -> Result<Gathered, AllocError>
     requires { L.all ≡ L.parts }
-    ensures { IfOk result HasWorked }
+    ensures worked { IfOk result HasWorked }
+    ensures from { IfOk result (λ left. IsFrom L.origin left.core left.taker) }
 {
     // Its contract says that the history is lawful, which what is gathered keeps.
     let _lawful = state.trace();
@@ -183,29 +220,86 @@ fn gather_all<L: Turns>(
     }
 }
 
-// Runs the jobs of hosts on a channel.
-fn run_channel<L: Turns + Sync, R: Threads + Wait + Sync>(
+// Adds the passes of hosts that have stored all their jobs.
+#[tactic(auto, using(crate::proofs::Hosting::all_more))]
+fn add_passes<L: RunName>(
+    passes: &mut Vec<HostPass<Job>>,
+    hosts: Vec<StoredAll<L>>,
+) -> Result<(), AllocError>
+    requires { All (StoredTheirs L.table L.jobs) passes.old.items }
+    ensures { OnOk result (All (StoredTheirs L.table L.jobs) passes.new.items) }
+{
+    for host in hosts {
+        passes.push(host.into_pass())?;
+    }
+    Ok(())
+}
+
+// Ends a queue whose hosts have stored all their jobs, where each of them was taken.
+fn close_queue<L: RunName>(
+    alloc: Global,
+    queue: JobQueue<Job>,
+    hosts: Vec<StoredAll<L>>,
+    idle: Vec<StoredAll<L>>,
+    taker: Taker<Job>,
+) -> Result<(), AllocError>
+    requires table { L.table ≡ queue.table }
+    requires taker { owns_taker queue taker }
+    ensures { OnOk result (TookBelow queue.hosts taker.taken L.jobs) }
+{
+    let mut passes = Vec::new(alloc);
+    add_passes(&mut passes, hosts)?;
+    add_passes(&mut passes, idle)?;
+    match queue.close(passes, taker) {
+        Err(_) => Err(AllocError),
+        Ok(Tally { put, taken }) => {
+            if put.as_slice() == taken.as_slice() {
+                Ok(())
+            } else {
+                Err(AllocError)
+            }
+        }
+    }
+}
+
+// Runs the jobs of hosts on a channel, until all of them are done.
+fn run_channel<L: RunName + Send + Sync, R: Threads + Wait + Sync>(
     rt: &R,
     alloc: Global,
     blank: Blank,
     core: Core,
     gate: &RunGate,
-    jobs_of_hosts: Vec<Vec<Job>>,
+    queue: OpenQueue,
+    by_target: Vec<TargetJobs>,
     workers: u8,
-) -> Result<Gathered, AllocError>
+) -> Result<Worked, AllocError>
     requires name { blank.name ≡ L.name }
-    requires parts { (blank.parts ≡ L.parts) × (L.all ≡ L.parts) × (L.parts ≡ 9) × (L.origin ≡ None) }
+    requires parts { (blank.parts ≡ L.parts) × (L.all ≡ L.parts) × (L.parts ≡ 9) }
     requires core { IsAt core (fresh (channel_in core)) }
-    ensures { IfOk result HasWorked }
+    requires queue { IsOpen queue }
+    requires origin { L.origin ≡ Some (origin_of core queue.queue) }
+    requires table { L.table ≡ queue.queue.table }
+    requires jobs { L.jobs ≡ jobs_of by_target.items }
+    ensures { IfOk result (HasRun (channel_in core) (jobs_of by_target.items)) }
 {
-    let places = count_places(jobs_of_hosts.as_slice(), workers <= 1);
-    let (queue, host_passes, taker) = open_queue(alloc, places, jobs_of_hosts.len())?;
-    let hosts = make_hosts(alloc, &queue, host_passes, jobs_of_hosts)?;
+    let OpenQueue {
+        queue,
+        passes,
+        taker,
+    } = queue;
+    let Hosts { busy, idle } = make_hosts::<L>(alloc, &queue, passes, by_target)?;
     let mut state = open_channel::<L>(alloc, blank, core, taker)?;
     let passes = make_passes(alloc, &mut state, workers)?;
     let channel = Channel::new(state);
-    let back = run_threads(rt, alloc, &channel, gate, hosts, passes);
-    gather_all(channel.into_state(), back)
+    let Back { workers, hosts } = run_threads(rt, alloc, &channel, gate, busy, passes);
+    let Gathered {
+        core,
+        taker,
+        done,
+        ..
+    } = gather_all(channel.into_state(), workers)?;
+    close_queue(alloc, queue, hosts, idle, taker)?;
+    Ok(Worked { core, done })
 }
 
 // The bus of a sequencer that has lain under a lock, where it is of this channel; it always is.
@@ -222,7 +316,6 @@ fn take_bus(core: Core, geometry: Geometry, targets: u8) -> Result<Bus, AllocErr
 }
 
 /// Runs what was planned. Where memory is refused or a thread can't be started, nothing comes of it.
-#[tactic(auto, using(crate::proofs::Happening::has_happened))]
 pub(crate) fn run_plan<'a, R: Threads + Wait + Sync>(
     rt: &R,
     alloc: Global,
@@ -232,7 +325,7 @@ pub(crate) fn run_plan<'a, R: Threads + Wait + Sync>(
     ensures channel { IfOk result (λ ran. (ran.bus.geometry ≡ plan.entry.dies.geometry) × (ran.bus.targets ≡ plan.entry.dies.targets)) }
     ensures jobs { IfOk result (λ ran. ended_outputs ran.jobs.items ≡ planned_outputs plan.entry.jobs.all.items) }
     ensures images { IfOk result (λ ran. ran.images ≡ plan.entry.images) }
-    ensures happened { IfOk result (λ ran. HasHappened ran.bus ran.jobs.items) }
+    ensures happened { IfOk result (λ ran. HappenedAsPlanned plan.entry ran.bus ran.jobs.items) }
 {
     let RunPlan {
         dies,
@@ -241,25 +334,31 @@ pub(crate) fn run_plan<'a, R: Threads + Wait + Sync>(
         polls,
         fails,
     } = plan;
-    let PlannedJobs { by_target, all, .. } = jobs;
+    let PlannedJobs {
+        by_target,
+        places,
+        all,
+        ..
+    } = jobs;
     let (geometry, targets) = (dies.geometry, dies.targets);
     let gate = RunGate::new(polls, fails);
     let core = dies.into_core(alloc)?;
-    let hosts = split_jobs(alloc, by_target)?;
-    let gathered = run_channel::<Brand, R>(
+    let queue_places = count_places(by_target.as_slice(), workers <= 1);
+    let queue = open_queue(alloc, queue_places, u32::from(targets))?;
+    let Worked { core, done } = run_channel::<Brand, R>(
         rt,
         alloc,
         Blank::new(9),
         core,
         &gate,
-        hosts.jobs,
+        queue,
+        by_target,
         workers,
     )?;
     if gate.is_stopped() {
         return Err(AllocError);
     }
-    let Gathered { core, done, .. } = gathered;
     let bus = take_bus(core, geometry, targets)?;
-    let jobs = end_jobs(alloc, all.as_slice(), hosts.places.as_slice(), done)?;
+    let jobs = end_jobs(alloc, all.as_slice(), places.as_slice(), done)?;
     Ok(Ran { bus, images, jobs })
 }

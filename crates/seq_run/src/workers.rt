@@ -1,7 +1,8 @@
 //! The workers of a run, in threads of their own beside the hosts.
 
 use crate::gate::RunGate;
-use crate::hosts::{Host, run_hosts};
+use crate::hosts::{Host, StoredAll, run_hosts};
+use crate::run_name::RunName;
 use channel_work::{Cause, Channel, Turns, WorkerPass, work};
 use std::alloc::Global;
 use std::sync::Wait;
@@ -22,23 +23,30 @@ fn run_worker<L: Turns, R: Wait>(
     end.pass
 }
 
-// Adds a value; where memory is refused, the run stops.
-fn keep<T: Drop>(values: &mut Vec<T>, value: T, gate: &RunGate) {
+/// Adds a value; where memory is refused, the run stops.
+pub(crate) fn keep<T: Drop>(values: &mut Vec<T>, value: T, gate: &RunGate) {
     if values.push(value).is_err() {
         gate.stop();
     }
 }
 
-/// Runs workers and hosts beside one another, closes the gate once the hosts have ended, and gives the passes of the workers back. Where a
-/// thread can't be started or memory is refused, the run stops.
-pub(crate) fn run_beside<L: Turns + Sync, R: Threads + Wait + Sync>(
+/// The passes that came back: those of the workers, and those of the hosts that have stored all their jobs.
+#[derive(Drop)]
+pub(crate) struct Back<L: RunName> {
+    pub workers: Vec<WorkerPass<L>>,
+    pub hosts: Vec<StoredAll<L>>,
+}
+
+/// Runs workers and hosts beside one another, closes the gate once the hosts have ended, and gives their passes back. Where a thread can't be started or
+/// memory is refused, the run stops.
+pub(crate) fn run_beside<L: RunName + Send + Sync, R: Threads + Wait + Sync>(
     rt: &R,
     alloc: Global,
     channel: &Channel<L>,
     gate: &RunGate,
-    hosts: Vec<Host<'_>>,
+    hosts: Vec<Host<'_, L>>,
     passes: Vec<WorkerPass<L>>,
-) -> Vec<WorkerPass<L>> {
+) -> Back<L> {
     thread::scope(thread::scope_env(), rt, move |scope| {
         let mut workers = Vec::new(alloc);
         for pass in passes {
@@ -47,12 +55,15 @@ pub(crate) fn run_beside<L: Turns + Sync, R: Threads + Wait + Sync>(
                 Err(_) => gate.stop(),
             }
         }
-        run_hosts(rt, hosts, gate);
+        let hosts = run_hosts(rt, alloc, hosts, gate);
         gate.close();
         let mut back = Vec::new(alloc);
         for worker in workers {
             keep(&mut back, worker.join(rt), gate);
         }
-        back
+        Back {
+            workers: back,
+            hosts,
+        }
     })
 }

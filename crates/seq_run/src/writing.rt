@@ -9,7 +9,6 @@ ghost use Rattle.die_model.specs.Image.{image_of};
 ghost use Rattle.trace_text.specs.Line.{text};
 ghost use Rattle.seq_run.specs.Lines.{job_lines};
 ghost use Rattle.seq_run.specs.Failures.{RefusesNothing};
-ghost use Rattle.seq_run.specs.Happened.{HasHappened};
 ghost use Rattle.seq_run.specs.Written.{buffer_of, buffers_of, image_at, images_of, trace_at, made_of, optional_of, printed_trace, codes_of};
 ghost use Rattle.seq_run.specs.Runs.{Outcome, ShowsAll, writes_of, lines_of};
 
@@ -297,7 +296,6 @@ pub(crate) fn write_run<'a, F: Files, W: Write>(
     request: RunRequest<'a>,
     ran: Ran<'a>,
 ) -> Result<Summary, NotRun<'a>>
-    requires { HasHappened ran.bus ran.jobs.items }
     ensures ok { OnOk result ((o : Outcome) × ShowsAll ran.entry o
         × (F.store files.new ≡ with_all (writes_of request.entry o) (F.store files.old))
         × Appends (W.contents output.old) (W.contents output.new) (lines_of request.entry o)) }

@@ -1,5 +1,5 @@
-use Rattle.std.proofs.Common.{◌≡◌}
+use Rattle.seq_run.specs.Hosted.{HasStored}
 use Rattle.seq_run.proofs.hosts.store_all.Given as goal
 
 abbrev pub invariant-loop-job : goal.invariant-loop-job
-invariant-loop-job g l = l.pass.table ≡ l.fn.pass.table
+invariant-loop-job g l = HasStored l.fn.pass l.yielded l.pass

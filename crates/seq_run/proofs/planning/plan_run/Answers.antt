@@ -4,6 +4,7 @@ use Rattle.run_file.specs.declared.statement.Numbered.{Numbered as Written}
 use Rattle.run_file.specs.Shown.{shown_all, shown_text}
 use Rattle.seq_run.specs.Judged.{RestPasses, page_of, targets_of}
 use Rattle.seq_run.proofs.Resting.{plan_passes_at, rest_shown}
+use Rattle.seq_run.proofs.Settings.{set_from}
 use Rattle.seq_run.proofs.planning.plan_run.Goals as goal
 
 pub returns-in-Ok-plan_rest-clause-ok : goal.returns-in-Ok-plan_rest-clause-ok
@@ -17,3 +18,11 @@ returns-in-Ok-plan_rest-clause-ok g c =
     (ap (λ (l : List Written). targets_of (shown_all l)) (sym items) ∙ sym c.in-Some-find_targets.ensures)
     (rest_shown c.args.text.now.statements.items rest (c.split_at.ensures.back ∙ ap (λ (l : List Written). drop 2 l) items))
     (subst (λ (s : Option Store). RestPasses s c.in-Ok.geometry c.in-Some-find_targets.targets (shown_all rest) c.args.text.now.fault) c.in-Ok.ensures.stays c.in-Ok-plan_rest.ensures.ok)
+
+pub returns-in-Ok-plan_rest-clause-setup : goal.returns-in-Ok-plan_rest-clause-setup
+returns-in-Ok-plan_rest-clause-setup g c =
+    let items = c.as_slice-statements.ensures.value in
+    let rest = c.split_at.result.1.now in
+    set_from (g.F.Files.store c.args.files.now) _ c.in-Ok.geometry c.in-Ok-plan_rest.plan.dies.geometry c.in-Some-find_targets.targets c.in-Ok-plan_rest.plan.dies.targets
+    (drop 2 (shown_text c.args.text.now).statements) (shown_all rest) c.in-Ok-plan_rest.plan c.in-Ok.ensures.stays c.in-Ok-plan_rest.ensures.channel.0 c.in-Ok-plan_rest.ensures.channel.1
+    (rest_shown c.args.text.now.statements.items rest (c.split_at.ensures.back ∙ ap (λ (l : List Written). drop 2 l) items)) c.in-Ok-plan_rest.ensures.setup

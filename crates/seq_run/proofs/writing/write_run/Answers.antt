@@ -31,7 +31,7 @@ returns-in-Ok-clause-ok g c =
     ∙ ap (λ (l : List Outgoing). buffers_of ran.jobs.items ++ map made_of l) c.as_slice-5.ensures.value in
     is_done request ran dies (map made_of outgoing) before (g.F.Files.store c.write_outcome.new.files)
     (λ (lines : List ℕ). Appends (g.W.Write.contents c.args.output.now) (g.W.Write.contents c.write_outcome.new.output) lines) c.as_str.result.now
-    (record { legal = c.trace.ensures.legal; count = c.into_dies-dies.ensures.count; stand = c.into_dies-dies.ensures.dies }) c.requires is_outgoing
+    (record { legal = c.trace.ensures.legal; count = c.into_dies-dies.ensures.count; stand = c.into_dies-dies.ensures.dies }) is_outgoing
     (c.in-Ok.ensures.files ∙ ap (λ (l : List Written). with_all l before) is_all)
     (c.as_str.ensures.value
     ∙ c.in_ok-lines.ensures.lines
@@ -57,5 +57,5 @@ returns-clause-err g c =
     ∙ ap (λ (l : List EndedJob). buffers_of l ++ map made_of c.as_slice-5.result.now) c.as_slice-4.ensures.value
     ∙ ap (λ (l : List Outgoing). buffers_of ran.jobs.items ++ map made_of l) c.as_slice-5.ensures.value in
     is_written c.args.request ran dies (map made_of outgoing) before later
-    (record { legal = c.trace.ensures.legal; count = c.into_dies-dies.ensures.count; stand = c.into_dies-dies.ensures.dies }) c.requires is_outgoing
+    (record { legal = c.trace.ensures.legal; count = c.into_dies-dies.ensures.count; stand = c.into_dies-dies.ensures.dies }) is_outgoing
     (subst (λ (l : List Written). (later ≡ before) ⊎ (later ≡ with_all l before)) is_all c.in-Err.ensures.err)

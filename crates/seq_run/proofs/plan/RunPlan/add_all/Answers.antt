@@ -5,6 +5,7 @@ use Rattle.seq_run.specs.Failures.{Refuses}
 use Rattle.seq_run.specs.Judged.{Numbered, RestIsRefused}
 use Rattle.seq_run.specs.Planned.{output_in}
 use Rattle.seq_run.proofs.Resting.{passes_on, stops_here, all_pass, text_stops, planned_more, images_more}
+use Rattle.seq_run.proofs.Settings.{planned_next, planned_all}
 use Rattle.seq_run.proofs.plan.RunPlan.add_all.Goals as goal
 
 pub returns-in-Err-clause-err : goal.returns-in-Err-clause-err
@@ -26,6 +27,8 @@ loop-numbered-preserved g c =
           c.loop-numbered-test.true i.0 i.1 i.2 c.in_default.ensures.ok i.3,
       planned_more (λ (s : Numbered). output_in s.1) c.args.rest.now k _ _ _ _ c.loop-numbered-test.true c.in_default.ensures.jobs i.4,
       images_more c.args.self.now.dies.geometry c.loop-numbered.self.dies.geometry c.args.rest.now k _ _ _ _ c.loop-numbered-test.true i.1 c.in_default.ensures.images i.5,
+      planned_next (g.F.Files.store c.args.files.now) (g.F.Files.store c.loop-numbered.files) c.args.self.now.dies.geometry c.loop-numbered.self.dies.geometry
+          c.args.self.now c.loop-numbered.self c.add_numbered.new.self c.args.rest.now k _ c.loop-numbered-test.true i.0 i.1 c.in_default.ensures.setup i.6,
     )
 
 pub returns-in-Some-clause-err : goal.returns-in-Some-clause-err
@@ -39,3 +42,8 @@ pub returns-in-None-clause-ok : goal.returns-in-None-clause-ok
 returns-in-None-clause-ok g c =
     all_pass (g.F.Files.store c.args.files.now) c.args.self.now.dies.geometry c.args.self.now.dies.targets c.args.last c.args.rest.now
     c.loop-numbered.numbered-index (omega (arith, c.loop-numbered-test.false)) c.in-None.is c.loop-numbered.invariant.3
+
+pub returns-in-None-clause-setup : goal.returns-in-None-clause-setup
+returns-in-None-clause-setup g c =
+    planned_all (g.F.Files.store c.args.files.now) c.args.self.now.dies.geometry c.args.self.now c.loop-numbered.self c.args.rest.now
+    c.loop-numbered.numbered-index (omega (arith, c.loop-numbered-test.false)) c.loop-numbered.invariant.6

@@ -2,6 +2,7 @@ use Rattle.std.proofs.Common.{◌≡◌, ◌++◌, drop}
 use Rattle.run_file.specs.Shown.{shown_all}
 use Rattle.seq_run.specs.Planned.{outputs_of, images_in, planned_outputs, planned_images}
 use Rattle.seq_run.proofs.Resting.{LeadsTo}
+use Rattle.seq_run.proofs.Settings.{PlansSoFar}
 use Rattle.seq_run.proofs.plan.RunPlan.add_all.Given as goal
 
 abbrev pub invariant-loop-numbered : goal.invariant-loop-numbered
@@ -12,3 +13,4 @@ invariant-loop-numbered g l =
     × LeadsTo (g.F.Files.store l.initial.files) l.initial.self.dies.geometry l.initial.self.dies.targets l.last (shown_all (drop l.numbered-index l.rest)) (shown_all l.rest)
     × (planned_outputs l.self.jobs.all.items ++ outputs_of (shown_all (drop l.numbered-index l.rest)) ≡ planned_outputs l.initial.self.jobs.all.items ++ outputs_of (shown_all l.rest))
     × (planned_images l.self.images.items ++ images_in l.initial.self.dies.geometry (shown_all (drop l.numbered-index l.rest)) ≡ planned_images l.initial.self.images.items ++ images_in l.initial.self.dies.geometry (shown_all l.rest))
+    × PlansSoFar (g.F.Files.store l.initial.files) l.initial.self.dies.geometry l.initial.self l.self (shown_all (drop l.numbered-index l.rest)) (shown_all l.rest)
