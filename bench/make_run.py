@@ -7,7 +7,7 @@ PAGE_BYTES, SPARE_BYTES, PAGES, BLOCKS, LUNS, TARGETS = 4096, 256, 64, 1024, 2, 
 
 
 def checksum(data):
-    """The checksum of a parameter page (docs/MODEL.md)."""
+    """The checksum of a parameter page (docs/model/MODEL.md)."""
     register = 0x4F4E
     for byte in data:
         register ^= byte << 8

@@ -4,7 +4,7 @@ Where a file is named, the last line goes there.
     rt ci | python3 tools/gate_minutes.py [FILE]
 
 A step is a crate's proof or tests proved, its edits begun, or a program or tests run. Processor time is read each second off the provers that
-run on this machine, so nothing else that proves should run beside the gate. docs/GATE.md says what the minutes are for.
+run on this machine, so nothing else that proves should run beside the gate. docs/develop/GATE.md says what the minutes are for.
 """
 import collections
 import glob

@@ -39,7 +39,7 @@ def number(data):
 
 
 def empty_image(page):
-    """The image of an erased die of this page (docs/MODEL.md)."""
+    """The image of an erased die of this page (docs/model/MODEL.md)."""
     sizes = (number(page[80:84]), number(page[84:86]), number(page[92:96]), number(page[96:100]), 0)
     return b"NDI1" + b"".join(size.to_bytes(4, "little") for size in sizes)
 

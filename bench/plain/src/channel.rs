@@ -1,5 +1,5 @@
 //! The running state of a channel and its rules in plain Rust, without contracts: what the proved check is measured beside.
-//! The rules are those of docs/MODEL.md, all fifteen, and so are the commands.
+//! The rules are those of docs/model/MODEL.md, all fifteen, and so are the commands.
 
 #[derive(Clone, Copy)]
 pub struct Geometry {

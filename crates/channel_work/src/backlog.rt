@@ -80,7 +80,7 @@ impl Backlog {
         self.places.reserve(1).is_ok() && self.fronts.reserve(1).is_ok()
     }
 
-    /// Puts a job behind the others, where there is room for it.
+    /// Puts a job after the others, where there is room for it.
     pub(crate) fn push_reserved(&mut self, queued: QueuedJob<Job>)
         requires { 0 < self.old.room }
         ensures { self.new.items ≡ self.old.items ++ queued ∷ [] }

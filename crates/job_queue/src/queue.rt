@@ -92,7 +92,7 @@ pub enum Submitted<J> {
 impl<J, A: Allocator> JobQueue<J, A> {
     ghost use Rattle.job_queue.specs.Submitted.{IsAnswer};
 
-    /// Stores a job behind the others, under its host's next number, the first of which is 0. A full queue gives it
+    /// Stores a job after the others, under its host's next number, the first of which is 0. A full queue gives it
     /// back and uses no number; so does a pass that has stored 2^62 jobs.
     pub fn submit<R: Wait>(&self, rt: &R, pass: HostPass<J>, job: J) -> Submitted<J>
         requires { owns self.now pass }

@@ -272,9 +272,9 @@ words_back n labels [] (w ∷ ws) same fits named = absurd cc
 words_back n labels (e ∷ es) [] same fits named = absurd cc
 words_back n labels (e ∷ es) (w ∷ ws) same fits named =
     let front : e.1 ≡ entry_of w = cc in
-    let behind : map entry_in es ≡ map entry_of ws = cc in
+    let tails : map entry_in es ≡ map entry_of ws = cc in
     let here = led_back n labels w fits.0 (λ p low is. named p low (either_first (branches_to p w) (is_target ws p) is)) in
-    let others = words_back n labels es ws behind fits.1 (λ p low is. named p low (either_second (branches_to p w) (is_target ws p) is)) in
+    let others = words_back n labels es ws tails fits.1 (λ p low is. named p low (either_second (branches_to p w) (is_target ws p) is)) in
     one_back n labels e.0 e.1 es w ws front here others
 
 -- ---- the header

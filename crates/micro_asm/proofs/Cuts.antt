@@ -38,15 +38,15 @@ before_none test hay h =
 -- ---- fields
 
 -- a field that isn't empty is the first, and one that is empty is none
-pub field_first : (text front behind : List ℕ) → slice_split is_blank text ≡ front ∷ slice_split is_blank behind → eqb (length front) 0 ≡ false → fields text ≡ front ∷ fields behind
+pub field_first : (text front after : List ℕ) → slice_split is_blank text ≡ front ∷ slice_split is_blank after → eqb (length front) 0 ≡ false → fields text ≡ front ∷ fields after
 unfolding fields
-field_first text [] behind e some = absurd cc
-field_first text (b ∷ front) behind e some = ap (filter is_some_field) e
+field_first text [] after e some = absurd cc
+field_first text (b ∷ front) after e some = ap (filter is_some_field) e
 
-pub field_empty : (text front behind : List ℕ) → slice_split is_blank text ≡ front ∷ slice_split is_blank behind → eqb (length front) 0 ≡ true → fields text ≡ fields behind
+pub field_empty : (text front after : List ℕ) → slice_split is_blank text ≡ front ∷ slice_split is_blank after → eqb (length front) 0 ≡ true → fields text ≡ fields after
 unfolding fields
-field_empty text [] behind e none = ap (filter is_some_field) e
-field_empty text (b ∷ front) behind e none = absurd (omega (arith, eqb-true (length (b ∷ front)) 0 none))
+field_empty text [] after e none = ap (filter is_some_field) e
+field_empty text (b ∷ front) after e none = absurd (omega (arith, eqb-true (length (b ∷ front)) 0 none))
 
 pub field_last : (text : List ℕ) → slice_split is_blank text ≡ text ∷ [] → eqb (length text) 0 ≡ false → fields text ≡ text ∷ fields []
 unfolding fields

@@ -96,37 +96,37 @@ not_taken last seen (Header s) next is = refl
 not_taken last seen (Label name) next is = chain_taken (progress seen) next (is_heading seen.heading) (is_some (seen.labels name)) (ltb seen.line last) is
 not_taken last seen (Entered entry) next is = refl
 
--- how far reading has come behind a line
-pub record IsBehind (seen : Seen) (l : Line) (next : Progress) : Type 0 where
+-- how far reading has come after a line
+pub record IsAfter (seen : Seen) (l : Line) (next : Progress) : Type 0 where
   pub line : next.line ≡ seen.line + 1
   pub words : next.words ≡ length (kept_entries seen l)
 
-behind : (seen : Seen) (l : Line) (h : Heading) (words : ℕ) (next : Progress) → verdict (Ok (further (progress seen) h words)) ≡ Ok next → words ≡ length (kept_entries seen l) → IsBehind seen l next
-behind seen l h words next is count =
+after_line : (seen : Seen) (l : Line) (h : Heading) (words : ℕ) (next : Progress) → verdict (Ok (further (progress seen) h words)) ≡ Ok next → words ≡ length (kept_entries seen l) → IsAfter seen l next
+after_line seen l h words next is count =
     let same : further (progress seen) h words ≡ next = cc in
     record { line = sym (ap (λ (p : Progress). p.line) same); words = sym (ap (λ (p : Progress). p.words) same) ∙ count }
 
-setting_behind : (seen : Seen) (s : Setting) (o : Option Heading) (next : Progress) → judged_setting (progress seen) o ≡ Ok next → IsBehind seen (Header s) next
-setting_behind seen s (Some h) next is = behind seen (Header s) h (length seen.entries) next is refl
-setting_behind seen s None next is = absurd cc
+setting_after : (seen : Seen) (s : Setting) (o : Option Heading) (next : Progress) → judged_setting (progress seen) o ≡ Ok next → IsAfter seen (Header s) next
+setting_after seen s (Some h) next is = after_line seen (Header s) h (length seen.entries) next is refl
+setting_after seen s None next is = absurd cc
 
-label_behind : (seen : Seen) (name : List ℕ) (next : Progress) (a b c : Bool) → label_chain (progress seen) a b c ≡ Ok next → IsBehind seen (Label name) next
-label_behind seen name next true b c is = absurd cc
-label_behind seen name next false true c is = absurd cc
-label_behind seen name next false false true is = behind seen (Label name) seen.heading (length seen.entries) next is refl
-label_behind seen name next false false false is = absurd cc
+label_after : (seen : Seen) (name : List ℕ) (next : Progress) (a b c : Bool) → label_chain (progress seen) a b c ≡ Ok next → IsAfter seen (Label name) next
+label_after seen name next true b c is = absurd cc
+label_after seen name next false true c is = absurd cc
+label_after seen name next false false true is = after_line seen (Label name) seen.heading (length seen.entries) next is refl
+label_after seen name next false false false is = absurd cc
 
-word_behind : (seen : Seen) (entry : Entry) (next : Progress) (a b : Bool) → word_chain (progress seen) a b ≡ Ok next → IsBehind seen (Entered entry) next
-word_behind seen entry next true b is = absurd cc
-word_behind seen entry next false true is = behind seen (Entered entry) seen.heading (length seen.entries + 1) next is (omega (arith, length-append seen.entries ((seen.line, entry) ∷ [])))
-word_behind seen entry next false false is = absurd cc
+word_after : (seen : Seen) (entry : Entry) (next : Progress) (a b : Bool) → word_chain (progress seen) a b ≡ Ok next → IsAfter seen (Entered entry) next
+word_after seen entry next true b is = absurd cc
+word_after seen entry next false true is = after_line seen (Entered entry) seen.heading (length seen.entries + 1) next is (omega (arith, length-append seen.entries ((seen.line, entry) ∷ [])))
+word_after seen entry next false false is = absurd cc
 
-pub comes_behind : (last : ℕ) (seen : Seen) (taken : Bool) (l : Line) (next : Progress) → judged last (progress seen) taken l ≡ Ok next → IsBehind seen l next
+pub comes_after : (last : ℕ) (seen : Seen) (taken : Bool) (l : Line) (next : Progress) → judged last (progress seen) taken l ≡ Ok next → IsAfter seen l next
 unfolding judged
-comes_behind last seen taken Nothing next is = behind seen Nothing seen.heading (length seen.entries) next is refl
-comes_behind last seen taken (Header s) next is = setting_behind seen s (with_setting seen.heading s) next is
-comes_behind last seen taken (Label name) next is = label_behind seen name next (is_heading seen.heading) taken (ltb seen.line last) is
-comes_behind last seen taken (Entered entry) next is = word_behind seen entry next (is_heading seen.heading) (ltb (length seen.entries) 1024) is
+comes_after last seen taken Nothing next is = after_line seen Nothing seen.heading (length seen.entries) next is refl
+comes_after last seen taken (Header s) next is = setting_after seen s (with_setting seen.heading s) next is
+comes_after last seen taken (Label name) next is = label_after seen name next (is_heading seen.heading) taken (ltb seen.line last) is
+comes_after last seen taken (Entered entry) next is = word_after seen entry next (is_heading seen.heading) (ltb (length seen.entries) 1024) is
 
-pub progress_is : (seen : Seen) (l : Line) (next : Progress) → IsBehind seen l next → next ≡ progress (moved (kept seen l) next)
+pub progress_is : (seen : Seen) (l : Line) (next : Progress) → IsAfter seen l next → next ≡ progress (moved (kept seen l) next)
 progress_is seen l next b = ap (λ (words : ℕ). as_progress (record { line = next.line; heading = next.heading; words = words })) b.words

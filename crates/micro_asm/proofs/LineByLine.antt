@@ -18,10 +18,10 @@ some_part test (b ∷ bs) = at (test b) (slice_split test bs)
     at false [] = (b ∷ [], [], refl)
     at false (f ∷ fs) = (b ∷ f, fs, refl)
 
-pub line_first : (text front behind : List ℕ) → slice_split is_feed text ≡ front ∷ slice_split is_feed behind → lines text ≡ front ∷ lines behind
+pub line_first : (text front after : List ℕ) → slice_split is_feed text ≡ front ∷ slice_split is_feed after → lines text ≡ front ∷ lines after
 unfolding lines
-line_first text front behind e =
-    let part = some_part is_feed behind in
+line_first text front after e =
+    let part = some_part is_feed after in
     ap lines_of (e ∙ ap (λ (ls : List (List ℕ)). front ∷ ls) part.2) ∙ ap (λ (ls : List (List ℕ)). front ∷ lines_of ls) (sym part.2)
 
 pub line_last : (text : List ℕ) → slice_split is_feed text ≡ text ∷ [] → eqb (length text) 0 ≡ false → lines text ≡ text ∷ lines []

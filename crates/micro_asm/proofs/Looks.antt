@@ -20,8 +20,8 @@ use Rattle.micro_asm.specs.declared.progress.Progress.{Progress}
 use Rattle.micro_asm.specs.Line.{◌>>=◌, and_then, Entry, Line, Nothing, Header, Label, Entered, spelled}
 use Rattle.micro_asm.specs.Reading.{Seen, nothing_seen, last_word, at_line, is_heading, numbers_of, placed, with_line, with_lines, led, words_of, program, given, lines, seen_in, reading, IsRefusalOf}
 use Rattle.micro_asm.specs.Judged.{at_start, judged, progress, is_taken, kept_entries, kept_labels, kept, moved}
-use Rattle.micro_asm.specs.Looked.{stepped_as, stepped, is_label_line, looked, is_taken_in, walked_as, walked_line, walked, leads, lost, labels_in, fault_at_end, fault_behind, fault_in}
-use Rattle.micro_asm.proofs.Judgements.{placed_by, placed_as, judged_free, not_taken, comes_behind, progress_is}
+use Rattle.micro_asm.specs.Looked.{stepped_as, stepped, is_label_line, looked, is_taken_in, walked_as, walked_line, walked, leads, lost, labels_in, fault_at_end, fault_after, fault_in}
+use Rattle.micro_asm.proofs.Judgements.{placed_by, placed_as, judged_free, not_taken, comes_after, progress_is}
 
 abbrev or_else : {A : Type 0} → Option A → Option A → Option A
 or_else (Some x) y = Some x
@@ -47,11 +47,11 @@ irreflexive n h = omega arith
 
 -- ---- labels
 
--- The labels that have been read are those that a look finds in front; `ls` are the lines behind.
+-- The labels that have been read are those that a look finds in front; `ls` are the lines after.
 abbrev Follows : ℕ → List (List ℕ) → Seen → List (List ℕ) → Type 0
 Follows last whole seen ls = (name : List ℕ) (until : ℕ) → seen.line ≤ until → looked last name until at_start whole ≡ or_else (seen.labels name) (looked last name until (progress seen) ls)
 
--- the same, with the first of the lines behind as it is spelled
+-- the same, with the first of the lines after as it is spelled
 abbrev looked_as : ℕ → List ℕ → ℕ → Progress → Result Line AsmFault → List (List ℕ) → Option ℕ
 looked_as last name until at read ls = if ltb at.line until then and_then (stepped_as last at read) (λ x. if is_label_line name x.0 then Some at.words else looked last name until x.1 ls) else None
 
@@ -96,14 +96,14 @@ kept_label seen (Entered e) name x free = refl
 follows_on : (last : ℕ) (whole : List (List ℕ)) (seen : Seen) (l : Line) (next : Progress) (ls : List (List ℕ)) → judged last (progress seen) (is_taken seen l) l ≡ Ok next
     → FollowsAs last whole seen (Ok l) ls → Follows last whole (moved (kept seen l) next) ls
 follows_on last whole seen l next ls is f name until low =
-    let behind = comes_behind last seen (is_taken seen l) l next is in
-    let test : ltb seen.line until ≡ true = lt-ltb seen.line until (omega (arith, low, behind.line)) in
+    let comes = comes_after last seen (is_taken seen l) l next is in
+    let test : ltb seen.line until ≡ true = lt-ltb seen.line until (omega (arith, low, comes.line)) in
     let free : judged last (progress seen) false l ≡ Ok next = judged_free last (progress seen) (is_taken seen l) l next is in
     let step : looked_as last name until (progress seen) (Ok l) ls ≡ (if is_label_line name l then Some (length seen.entries) else looked last name until next ls) = rw (test, free) refl in
-    f name until (omega (arith, low, behind.line))
+    f name until (omega (arith, low, comes.line))
     ∙ (ap (or_else (seen.labels name)) step
     ∙ (kept_label seen l name (looked last name until next ls) (not_taken last seen l next is)
-    ∙ ap (λ (p : Progress). or_else (kept_labels seen l name) (looked last name until p ls)) (progress_is seen l next behind)))
+    ∙ ap (λ (p : Progress). or_else (kept_labels seen l name) (looked last name until p ls)) (progress_is seen l next comes)))
 
 -- ---- branches
 
@@ -150,7 +150,7 @@ words_faults n labels (e ∷ es) = first_faults (led n labels e.1) NoSuchLabel e
 
 -- ---- line by line
 
--- Behind some lines stands what reading them has seen, and no fault is among them.
+-- After some lines stands what reading them has seen, and no fault is among them.
 record Reached (last : ℕ) (whole : List (List ℕ)) (entries : List (ℕ × Entry)) (read : Result Seen AsmRefusal) (branches : ℕ → (List ℕ → Option ℕ) → Option AsmRefusal) (end : Progress) : Type 0 where
   pub final : Seen
   pub read_is : read ≡ Ok final
@@ -192,8 +192,8 @@ by_judgement : (last : ℕ) (whole ls : List (List ℕ)) (seen : Seen) (l : Line
 by_judgement last whole ls seen l (Err code) is p is_p f onward = record { read_is = ap (λ (r : Result Seen AsmRefusal). r >>= λ next. with_lines last next ls) is_p; fault = tt }
 by_judgement last whole ls seen l (Ok next) is p is_p f onward =
     let after = moved (kept seen l) next in
-    let behind = comes_behind last seen (is_taken seen l) l next is in
-    let is_next : next ≡ progress after = progress_is seen l next behind in
+    let comes = comes_after last seen (is_taken seen l) l next is in
+    let is_next : next ≡ progress after = progress_is seen l next comes in
     let free : judged last (progress seen) false l ≡ Ok next = judged_free last (progress seen) (is_taken seen l) l next is in
     let later = onward after (follows_on last whole seen l next ls is f) in
     subst (λ (at : Progress). Walks last whole seen.entries (p >>= λ next. with_lines last next ls) (lost_as last ls (progress seen) (Ok l)) (walked last whole at ls)) (sym is_next)
@@ -249,7 +249,7 @@ at_end last whole final f lost_is read is =
     by_heading final.heading final.line (words_of n final.labels final.entries) (words_faults n final.labels final.entries) (lost last n (labels_in last whole (progress final)) at_start whole) o_is read is
 
 by_walk : (last : ℕ) (whole : List (List ℕ)) (w : Result Progress AsmRefusal) → Walks last whole [] (with_lines last nothing_seen whole) (λ n labels. lost last n labels at_start whole) w
-    → (read : Result Microprogram AsmRefusal) → read ≡ (with_lines last nothing_seen whole >>= given) → Tells (fault_behind last whole w) read
+    → (read : Result Microprogram AsmRefusal) → read ≡ (with_lines last nothing_seen whole >>= given) → Tells (fault_after last whole w) read
 unfolding words_of
 by_walk last whole (Err e) h read is = told e h.fault read (is ∙ ap (λ (r : Result Seen AsmRefusal). r >>= given) h.read_is)
 by_walk last whole (Ok end) h read is =

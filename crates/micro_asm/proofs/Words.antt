@@ -31,16 +31,16 @@ regroup front word (Err e) = refl
 pub starts : (n : ℕ) (labels : List ℕ → Option ℕ) (whole : List (ℕ × Entry)) → IsSoFar n labels whole whole []
 starts n labels whole = record { so_far = no_front (words_of n labels whole) }
 
-pub goes_on : (n : ℕ) (labels : List ℕ → Option ℕ) (rest behind whole : List (ℕ × Entry)) (front : List Word) (e : ℕ × Entry) (word : Word) → rest ≡ e ∷ behind → led n labels e.1 ≡ Some word → IsSoFar n labels rest whole front → IsSoFar n labels behind whole (front ++ word ∷ [])
+pub goes_on : (n : ℕ) (labels : List ℕ → Option ℕ) (rest after whole : List (ℕ × Entry)) (front : List Word) (e : ℕ × Entry) (word : Word) → rest ≡ e ∷ after → led n labels e.1 ≡ Some word → IsSoFar n labels rest whole front → IsSoFar n labels after whole (front ++ word ∷ [])
 unfolding words_of
-goes_on n labels rest behind whole front e word next is before =
-    let step : words_of n labels rest ≡ (words_of n labels behind >>= λ words. Ok (word ∷ words)) = ap (words_of n labels) next ∙ ap (λ (o : Option Word). ok_or o (Fault NoSuchLabel e.0) >>= λ w. words_of n labels behind >>= λ words. Ok (w ∷ words)) is in
-    record { so_far = sym (ap (with_words front) step ∙ regroup front word (words_of n labels behind)) ∙ before.so_far }
+goes_on n labels rest after whole front e word next is before =
+    let step : words_of n labels rest ≡ (words_of n labels after >>= λ words. Ok (word ∷ words)) = ap (words_of n labels) next ∙ ap (λ (o : Option Word). ok_or o (Fault NoSuchLabel e.0) >>= λ w. words_of n labels after >>= λ words. Ok (w ∷ words)) is in
+    record { so_far = sym (ap (with_words front) step ∙ regroup front word (words_of n labels after)) ∙ before.so_far }
 
-pub fails : (n : ℕ) (labels : List ℕ → Option ℕ) (rest behind whole : List (ℕ × Entry)) (front : List Word) (e : ℕ × Entry) → rest ≡ e ∷ behind → led n labels e.1 ≡ None → IsSoFar n labels rest whole front → words_of n labels whole ≡ Err (Fault NoSuchLabel e.0)
+pub fails : (n : ℕ) (labels : List ℕ → Option ℕ) (rest after whole : List (ℕ × Entry)) (front : List Word) (e : ℕ × Entry) → rest ≡ e ∷ after → led n labels e.1 ≡ None → IsSoFar n labels rest whole front → words_of n labels whole ≡ Err (Fault NoSuchLabel e.0)
 unfolding words_of
-fails n labels rest behind whole front e next is before =
-    let step : words_of n labels rest ≡ Err (Fault NoSuchLabel e.0) = ap (words_of n labels) next ∙ ap (λ (o : Option Word). ok_or o (Fault NoSuchLabel e.0) >>= λ w. words_of n labels behind >>= λ words. Ok (w ∷ words)) is in
+fails n labels rest after whole front e next is before =
+    let step : words_of n labels rest ≡ Err (Fault NoSuchLabel e.0) = ap (words_of n labels) next ∙ ap (λ (o : Option Word). ok_or o (Fault NoSuchLabel e.0) >>= λ w. words_of n labels after >>= λ words. Ok (w ∷ words)) is in
     sym before.so_far ∙ ap (with_words front) step
 
 pub is_done : (n : ℕ) (labels : List ℕ → Option ℕ) (rest whole : List (ℕ × Entry)) (front : List Word) → rest ≡ [] → IsSoFar n labels rest whole front → words_of n labels whole ≡ Ok front

@@ -33,7 +33,7 @@ judged_word at =
     if is_heading at.heading then Err HeaderOutOfOrder else (
     if nat_lt at.words 1024 then Ok (further at at.heading (at.words + 1)) else Err TooManyWords)
 
--- a line in its place: how far reading has come behind it, or its fault
+-- a line in its place: how far reading has come after it, or its fault
 unfoldable pub judged : ℕ → Progress → Bool → Line → Result Progress AsmFault
 judged last at taken Nothing = Ok (further at at.heading at.words)
 judged last at taken (Header setting) = judged_setting at (with_setting at.heading setting)

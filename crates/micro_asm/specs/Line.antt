@@ -140,7 +140,7 @@ name_of heads field = if heads then name_or (header_of field) (word_name field) 
 
 -- ---- lines
 
--- the least and the greatest number that may stand behind a name
+-- the least and the greatest number that may stand after a name
 abbrev pub least : Counted → ℕ
 least counted.Rows = 1
 least counted.Get = 1
@@ -222,7 +222,7 @@ address_line operands = do
   count ← ok_or (number_of pair.1) BadOperand
   if nat_le 1 count && nat_le (from + count) 5 then Ok (plain_line (Address from count)) else Err OperandOutOfRange
 
--- a label that has the form of one, and nothing behind it
+-- a label that has the form of one, and nothing after it
 unfoldable pub target_of : List (List ℕ) → Result (List ℕ) AsmFault
 target_of [] = Err BadOperand
 target_of (to ∷ []) = if is_label to then Ok to else Err UnknownWord

@@ -20,7 +20,7 @@ abbrev pub stepped_as : ℕ → Progress → Result Line AsmFault → Option (Li
 stepped_as last at (Ok s) = with_next s (judged last at false s)
 stepped_as last at (Err e) = None
 
--- what the line says and how far reading has come behind it; None where it has a fault
+-- what the line says and how far reading has come after it; None where it has a fault
 unfoldable pub stepped : ℕ → Progress → List ℕ → Option (Line × Progress)
 stepped last at line = stepped_as last at (spelled (is_heading at.heading) line)
 
@@ -81,10 +81,10 @@ abbrev pub fault_at_end : ℕ → List (List ℕ) → Progress → Option AsmRef
 fault_at_end last whole end =
     if is_heading end.heading then Some (Fault HeaderOutOfOrder end.line) else lost last end.words (labels_in last whole end) at_start whole
 
-abbrev pub fault_behind : ℕ → List (List ℕ) → Result Progress AsmRefusal → Option AsmRefusal
-fault_behind last whole (Ok end) = fault_at_end last whole end
-fault_behind last whole (Err e) = Some e
+abbrev pub fault_after : ℕ → List (List ℕ) → Result Progress AsmRefusal → Option AsmRefusal
+fault_after last whole (Ok end) = fault_at_end last whole end
+fault_after last whole (Err e) = Some e
 
 -- the first fault of the text
 unfoldable pub fault_in : ℕ → List (List ℕ) → Option AsmRefusal
-fault_in last whole = fault_behind last whole (walked last whole at_start whole)
+fault_in last whole = fault_after last whole (walked last whole at_start whole)

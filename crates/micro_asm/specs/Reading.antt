@@ -20,7 +20,7 @@ use Rattle.micro_asm.specs.Line as line
 
 -- ---- lines
 
--- A line feed (10) ends a line, and so does the end of the text; behind the last feed there is a line only if something stands there.
+-- A line feed (10) ends a line, and so does the end of the text; after the last feed there is a line only if something stands there.
 abbrev pub last_line : List ℕ → List (List ℕ)
 last_line [] = []
 last_line (b ∷ bs) = (b ∷ bs) ∷ []
@@ -137,7 +137,7 @@ words_of words labels (e ∷ es) = do
 abbrev pub program : Numbers → List Word → Microprogram
 program numbers words = record { rows = numbers.rows; buffer = numbers.buffer; budget = numbers.budget; words = words }
 
--- what the lines give once all are read: a header line that is missing at the end is told of the line behind the last
+-- what the lines give once all are read: a header line that is missing at the end is told of the line after the last
 unfoldable pub given : Seen → Result Microprogram AsmRefusal
 given seen = do
   numbers ← ok_or (numbers_of seen.heading) (Fault HeaderOutOfOrder seen.line)
@@ -162,7 +162,7 @@ abbrev pub IsRefusalOf : {A : Type 0} → AsmRefusal → Result A AsmRefusal →
 IsRefusalOf (Fault code line) read = read ≡ Err (Fault code line)
 IsRefusalOf OutOfMemory read = IsOk read
 
--- The same where only the lines in front of the refused memory are read: it says nothing of those behind.
+-- The same where only the lines in front of the refused memory are read: it says nothing of those after.
 abbrev pub MayRefuse : {A : Type 0} → AsmRefusal → Result A AsmRefusal → Type 0
 MayRefuse (Fault code line) read = read ≡ Err (Fault code line)
 MayRefuse OutOfMemory read = Unit {0}

@@ -97,7 +97,7 @@ fn given<A: Allocator>(alloc: A, survey: &Survey<'_, A>) -> Result<Text<A>, AsmR
     }
 }
 
-/// The microprogram of an assembly text (docs/ASSEMBLY.md). Of any other text the lowest line with a fault is told, counted
+/// The microprogram of an assembly text (docs/use/ASSEMBLY.md). Of any other text the lowest line with a fault is told, counted
 /// from 1, and its first fault in the order of [`AsmFault`]; A4 is told only where there is no other fault.
 /// `OutOfMemory` is answered only where memory was refused and the text has no fault. To tell that, the text is looked
 /// through again without memory, in a time that grows with the square of its lines.

@@ -15,8 +15,8 @@ fn cut_at_blank(text: &[u8]) -> Option<(&[u8], &[u8])>
     ensures none { IfNone result (slice_split is_blank text.entry.now ≡ text.entry.now ∷ []) }
 {
     let at = memchr2(b' ', b'\t', text)?;
-    let (_, behind) = text.split_at(at + 1);
-    Some((&text[..at], behind))
+    let (_, after) = text.split_at(at + 1);
+    Some((&text[..at], after))
 }
 
 /// The line without its comment.
@@ -35,11 +35,11 @@ pub fn next_field(text: &[u8]) -> Option<(&[u8], &[u8])>
     ensures none { IfNone result (fields text.entry.now ≡ []) }
 {
     let mut rest = text;
-    'blanks: while let Some((front, behind)) = cut_at_blank(rest) {
+    'blanks: while let Some((front, after)) = cut_at_blank(rest) {
         if !front.is_empty() {
-            return Some((front, behind));
+            return Some((front, after));
         }
-        rest = behind;
+        rest = after;
     }
     if rest.is_empty() {
         None
@@ -52,8 +52,8 @@ pub fn next_field(text: &[u8]) -> Option<(&[u8], &[u8])>
 pub fn one_field(text: &[u8]) -> Option<&[u8]>
     ensures { option_copied result ≡ one (fields text.entry.now) }
 {
-    let (field, behind) = next_field(text)?;
-    match next_field(behind) {
+    let (field, after) = next_field(text)?;
+    match next_field(after) {
         Some(_) => None,
         None => Some(field),
     }
@@ -64,7 +64,7 @@ pub(crate) fn two_fields(text: &[u8]) -> Option<(&[u8], &[u8])>
     ensures some { IfSome result (λ x. two (fields text.entry.now) ≡ Some (x.0.now, x.1.now)) }
     ensures none { IfNone result (two (fields text.entry.now) ≡ None) }
 {
-    let (field, behind) = next_field(text)?;
-    let second = one_field(behind)?;
+    let (field, after) = next_field(text)?;
+    let second = one_field(after)?;
     Some((field, second))
 }

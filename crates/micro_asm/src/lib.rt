@@ -1,8 +1,12 @@
-//! Microprograms as assembly text (docs/ASSEMBLY.md), read and written.
+//! Microprograms as assembly text (docs/use/ASSEMBLY.md), read and written.
 #![tactic(auto)]
 
+mod advice;
 mod assembling;
+mod bad_operands;
+mod bad_place;
 mod fields;
+mod header_line;
 mod heading;
 mod labels;
 pub mod laws;
@@ -16,6 +20,8 @@ mod refusal;
 mod second_look;
 mod statement;
 mod survey;
+mod takes;
+mod unknown_line;
 mod writing;
 
 pub use assembling::assemble;

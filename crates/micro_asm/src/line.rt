@@ -121,11 +121,11 @@ fn target_of(operands: &[u8]) -> Result<&[u8], AsmFault>
     ensures ok { IfOk result (λ to. target_of (fields operands.entry.now) ≡ Ok to.now) }
     ensures err { IfErr result (λ e. target_of (fields operands.entry.now) ≡ Err e) }
 {
-    let (to, behind) = next_field(operands).ok_or(AsmFault::BadOperand)?;
+    let (to, after) = next_field(operands).ok_or(AsmFault::BadOperand)?;
     if !is_label(to) {
         return Err(AsmFault::UnknownWord);
     }
-    match next_field(behind) {
+    match next_field(after) {
         None => Ok(to),
         Some(_) => Err(AsmFault::BadOperand),
     }
@@ -137,8 +137,8 @@ fn branch_line(operands: &[u8]) -> Result<Statement<'_>, AsmFault>
     ensures value { IsLine result (branch_line (fields operands.entry.now)) }
     ensures fits { IfOk result (λ s. LineFits (shown_line s)) }
 {
-    let (field, behind) = next_field(operands).ok_or(AsmFault::BadOperand)?;
-    let to = target_of(behind)?;
+    let (field, after) = next_field(operands).ok_or(AsmFault::BadOperand)?;
+    let to = target_of(after)?;
     let mask = byte_of(field).ok_or(AsmFault::BadOperand)?;
     if mask == 0 {
         return Err(AsmFault::OperandOutOfRange);

@@ -14,8 +14,8 @@ pub fn next_line(text: &[u8]) -> Option<(&[u8], &[u8])>
 {
     match memchr(b'\n', text) {
         Some(at) => {
-            let (_, behind) = text.split_at(at + 1);
-            Some((&text[..at], behind))
+            let (_, after) = text.split_at(at + 1);
+            Some((&text[..at], after))
         }
         None if text.is_empty() => None,
         None => Some((text, &[])),
@@ -29,12 +29,12 @@ pub(crate) fn last_word(text: &[u8]) -> usize
     let mut found = 0;
     let mut line = 1;
     let mut rest = text;
-    'lines: while let Some((front, behind)) = next_line(rest) {
+    'lines: while let Some((front, after)) = next_line(rest) {
         if begins_word(front) {
             found = line;
         }
         line += 1;
-        rest = behind;
+        rest = after;
     }
     found
 }

@@ -44,7 +44,7 @@ impl Progress {
         }
     }
 
-    // Behind a header line, which must be the next.
+    // After a header line, which must be the next.
     fn after_setting(self, setting: Setting) -> Result<Progress, AsmFault>
         requires room { self.line < 2 ^ 63 }
         ensures value { result ≡ judged_setting self (with_setting self.heading setting) }
@@ -56,7 +56,7 @@ impl Progress {
         }
     }
 
-    // Behind a label, which names the next word.
+    // After a label, which names the next word.
     fn after_label(self, last: usize, is_taken: bool) -> Result<Progress, AsmFault>
         requires room { self.line < 2 ^ 63 }
         ensures value { result ≡ judged_label last self is_taken }
@@ -74,7 +74,7 @@ impl Progress {
         Ok(self.further(self.heading, self.words))
     }
 
-    // Behind a word.
+    // After a word.
     fn after_word(self) -> Result<Progress, AsmFault>
         requires room { self.line < 2 ^ 63 }
         ensures value { result ≡ judged_word self }
@@ -89,7 +89,7 @@ impl Progress {
         Ok(self.further(self.heading, self.words + 1))
     }
 
-    // Behind a line, whose label may stand in front already; `last` is the number of the last line with a word.
+    // After a line, whose label may stand in front already; `last` is the number of the last line with a word.
     #[tactic(auto, unfolding(crate::specs::Judged::judged))]
     pub(crate) fn after(
         self,
@@ -109,7 +109,7 @@ impl Progress {
         }
     }
 
-    // What a line says, and how far reading has come behind it, unless it has a fault. Its label isn't looked up.
+    // What a line says, and how far reading has come after it, unless it has a fault. Its label isn't looked up.
     #[tactic(auto, unfolding(crate::specs::Looked::stepped))]
     pub(crate) fn read(self, last: usize, line: &[u8]) -> Option<(Statement<'_>, Progress)>
         requires room { self.line < 2 ^ 63 }

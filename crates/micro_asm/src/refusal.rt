@@ -11,25 +11,25 @@ use thiserror::Error;
 #[derive(Clone, Copy, Debug, PartialEq, Eq, Error)]
 pub enum AsmFault {
     /// The line begins with no word's name, and is no label either; or a label hasn't the form of one.
-    #[error("unknown word or bad label")]
+    #[error("no word has this name, or a label hasn't the form of one")]
     UnknownWord,
     /// An operand is missing, is one too many, or is no number of its form.
-    #[error("an operand is missing, one too many or not a number")]
+    #[error("an operand is missing, is one too many or isn't a number of its form")]
     BadOperand,
     /// An operand is out of its range.
     #[error("an operand is out of range")]
     OperandOutOfRange,
     /// No label has the name to which a branch leads.
-    #[error("no such label")]
+    #[error("no label has this name")]
     NoSuchLabel,
     /// A line before has the same label.
-    #[error("the label stands twice")]
+    #[error("a line before has the same label")]
     LabelTwice,
     /// No word stands after the label.
-    #[error("the label stands behind the last word")]
+    #[error("no word stands after the label")]
     LabelAfterLastWord,
     /// The word is the 1,025th.
-    #[error("more than 1,024 words")]
+    #[error("the text has more than 1,024 words")]
     TooManyWords,
     /// A header line is missing here, or another one is to stand here.
     #[error("a header line is missing or out of order")]

@@ -32,7 +32,7 @@ fn place_before(text: &[u8], last: usize, until: usize, name: &[u8]) -> Option<u
 {
     let mut at = Progress::at_start();
     let mut rest = text;
-    'lines: while let Some((line, behind)) = next_line(rest) {
+    'lines: while let Some((line, after)) = next_line(rest) {
         if at.line >= until {
             return None;
         }
@@ -41,7 +41,7 @@ fn place_before(text: &[u8], last: usize, until: usize, name: &[u8]) -> Option<u
             Some((_, next)) => at = next,
             None => return None,
         }
-        rest = behind;
+        rest = after;
     }
     None
 }
@@ -56,7 +56,7 @@ fn is_taken(text: &[u8], last: usize, at: Progress, statement: Statement<'_>) ->
     }
 }
 
-// Behind one more line.
+// After one more line.
 #[tactic(auto, unfolding(crate::specs::Looked::walked_line))]
 fn walk_line(text: &[u8], last: usize, at: Progress, line: &[u8]) -> Result<Progress, AsmFault>
     requires room { at.line < 2 ^ 63 }
@@ -67,19 +67,19 @@ fn walk_line(text: &[u8], last: usize, at: Progress, line: &[u8]) -> Result<Prog
     at.after(last, is_taken(text, last, at, statement), statement)
 }
 
-// Behind all lines, or the first fault of a line.
+// After all lines, or the first fault of a line.
 #[tactic(auto, unfolding(crate::specs::Looked::walked))]
 fn walk(text: &[u8], last: usize) -> Result<Progress, AsmRefusal>
     ensures { result ≡ walked last (lines text.now) at_start (lines text.now) }
 {
     let mut at = Progress::at_start();
     let mut rest = text;
-    'lines: while let Some((line, behind)) = next_line(rest) {
+    'lines: while let Some((line, after)) = next_line(rest) {
         match walk_line(text, last, at, line) {
             Ok(next) => at = next,
             Err(code) => return Err(fault(code, at.line)),
         }
-        rest = behind;
+        rest = after;
     }
     Ok(at)
 }
@@ -106,13 +106,13 @@ fn find_lost_branch(text: &[u8], last: usize, end: Progress) -> Option<AsmRefusa
 {
     let mut at = Progress::at_start();
     let mut rest = text;
-    'lines: while let Some((line, behind)) = next_line(rest) {
+    'lines: while let Some((line, after)) = next_line(rest) {
         match at.read(last, line) {
             Some((statement, next)) if leads(text, last, end, statement) => at = next,
             Some(_) => return Some(fault(AsmFault::NoSuchLabel, at.line)),
             None => return None,
         }
-        rest = behind;
+        rest = after;
     }
     None
 }

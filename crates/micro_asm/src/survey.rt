@@ -153,11 +153,11 @@ pub(crate) fn survey_of<'a, A: Allocator + Clone>(
 {
     let mut survey = nothing_seen(alloc)?;
     let mut rest = text;
-    'lines: while let Some((line, behind)) = next_line(rest) {
+    'lines: while let Some((line, after)) = next_line(rest) {
         if let Err(refusal) = survey.add_line(last, line) {
             return Err(refusal);
         }
-        rest = behind;
+        rest = after;
     }
     Ok(survey)
 }

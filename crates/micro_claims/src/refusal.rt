@@ -7,35 +7,35 @@ use thiserror::Error;
 /// A reason against a text. V1 to V5 are of the text as a whole; the others are of a word, in every way that leads to it.
 #[derive(Clone, Copy, Debug, PartialEq, Eq, Error)]
 pub enum Reason {
-    #[error("the text has no words")]
+    #[error("the program has no words")]
     NoWords,
-    #[error("a loop or a next has no partner")]
+    #[error("a `loop` or a `next` has no partner")]
     LoopUnpaired,
     #[error("loops are nested deeper than four")]
     LoopsTooDeep,
-    #[error("a branch leads back, or into or out of a loop")]
+    #[error("the branch leads back, or into or out of a loop")]
     BranchMisplaced,
-    #[error("the last word isn't an end")]
+    #[error("the last word isn't `end`")]
     LastWordNotEnd,
-    #[error("a cycle may come where its sequence, its target or its LUN doesn't permit it")]
+    #[error("this cycle isn't permitted here")]
     CycleForbidden,
-    #[error("an address doesn't begin where it is wanted, or a register changes inside one")]
+    #[error("an address doesn't begin at the byte that is wanted next, or a register changes inside one")]
     AddressUnaligned,
-    #[error("the bus may be let go while a sequence is open")]
+    #[error("the bus would be let go in the middle of a command sequence")]
     HandoverInSequence,
-    #[error("the buffer may be passed")]
+    #[error("the program may go past the end of its buffer")]
     BufferPassed,
-    #[error("a row or a plane may be outside")]
+    #[error("a row or a plane may be outside the header's rows or the die")]
     RowOrPlaneOutside,
-    #[error("a column may be past the page or the register")]
+    #[error("a column may be past the end of the page or of the register")]
     ColumnTooLarge,
-    #[error("no status may have been asked for yet")]
+    #[error("no status may have been read before this branch")]
     NoStatus,
-    #[error("the program may end while its LUN is busy, a sequence is open or a row is queued")]
+    #[error("the program may end while its LUN is busy, has a row queued or reads a cache, or in the middle of a command sequence")]
     EndsTooSoon,
-    #[error("the cost may pass the budget")]
+    #[error("the bus cycles up to here are more than the budget in the header")]
     OverBudget,
-    #[error("the command isn't one that programs may use here")]
+    #[error("programs may not use this command here")]
     CommandNotAllowed,
 }
 

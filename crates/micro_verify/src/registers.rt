@@ -4,7 +4,7 @@ ghost use Rattle.micro_verify.specs.Playing.{fresh_registers, registers_after};
 
 use micro_word::Word;
 
-/// What the words done have set (docs/WORDS.md), the row index counted from the job's base.
+/// What the words done have set (docs/use/WORDS.md), the row index counted from the job's base.
 #[derive(Clone, Copy, Debug, PartialEq, Eq)]
 pub(crate) struct Registers {
     pub column: u16,

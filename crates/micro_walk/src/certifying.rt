@@ -17,7 +17,7 @@ use std::alloc::Allocator;
 use std::marker::Model;
 
 // How many words the search walks at most: 65,536 for each of 1,024 words.
-const MOST_WALKED: u32 = 67_108_864;
+pub(crate) const MOST_WALKED: u32 = 67_108_864;
 
 /// What is claimed before each word of a text; nothing where no way leads. It stands where it is put, and takes no memory.
 #[derive(Drop)]
@@ -73,7 +73,7 @@ fn shown_by<A: Allocator>(text: Text<A>, geometry: Geometry, claims: &Claims) ->
 }
 
 /// Verifies a text with branches and loops for a geometry, by claims for its places: exactly when its loops pair, four deep at most, its
-/// branches lead on inside their loop, and the claims are a certificate (docs/PROOF.md). Else the text is handed back. Takes no
+/// branches lead on inside their loop, and the claims are a certificate (docs/model/PROOF.md). Else the text is handed back. Takes no
 /// memory. What is verified so is safe like all that the verifier accepts, whoever made the claims.
 pub fn certify<A: Allocator>(
     text: Text<A>,

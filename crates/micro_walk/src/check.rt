@@ -21,7 +21,7 @@ fn step(geometry: &Geometry, bounds: Bounds, state: &State, word: Word) -> Optio
 }
 
 // What is claimed before the word at a place.
-fn claim(claims: &[Option<State>], at: usize) -> Option<&State>
+pub(crate) fn claim(claims: &[Option<State>], at: usize) -> Option<&State>
     ensures { option_copied result ≡ claim claims.now at }
 {
     if at < claims.len() {

@@ -167,7 +167,7 @@ fn examine_many<A: Allocator>(text: &Text<A>, geometry: &Geometry) -> Result<u64
 /// a text without loops, the lowest word with something against it, in any way that leads to it, and its lowest reason; of a text with
 /// loops, a word at which a fault can't be ruled out. Words that no way reaches are looked at for their shape alone.
 ///
-/// It takes no memory: of a text with branches or loops it keeps what is known before each word on the stack (docs/SPEED.md says how much
+/// It takes no memory: of a text with branches or loops it keeps what is known before each word on the stack (docs/use/SPEED.md says how much
 /// that is).
 pub fn examine<A: Allocator>(text: &Text<A>, geometry: &Geometry) -> Result<u64, Fault>
     ensures verified { IfOk result (λ walked. IsVerified text.now geometry.now walked) }

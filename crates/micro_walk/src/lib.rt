@@ -1,7 +1,8 @@
 //! Walking a text: whether each way through it is safe, found by what is known before each word.
 //!
 //! The definitions stand in `specs/`: the shape of a text (`Shape`), its fault (`Faults`), what may be found against it (`Verdicts`), and texts
-//! with a certificate (`Certified`). [`examine`] looks at a whole text, [`certify`] goes by claims that somebody else has found. Neither takes memory:
+//! with a certificate (`Certified`). [`examine`] looks at a whole text, [`certify`] goes by claims that somebody else has found, and [`known_before`]
+//! tells what is known before one word, [`fill_known`] before each. None takes memory:
 //! what is known before each word stands in a table on the stack, with a place for each of the 1,024 words that a text may have.
 #![tactic(auto)]
 
@@ -10,6 +11,7 @@ mod check;
 mod claim_table;
 mod examining;
 mod following;
+mod known;
 pub mod laws;
 mod looping;
 mod proved;
@@ -18,4 +20,5 @@ mod shape;
 
 pub use certifying::{Claims, certify};
 pub use examining::examine;
+pub use known::{fill_known, known_before};
 pub use proved::faultless;

@@ -11,19 +11,19 @@ use thiserror::Error;
 /// header; after that M4, M5 and M6 at each word in turn; and M7 when all words have passed.
 #[derive(Clone, Copy, Debug, PartialEq, Eq, Error)]
 pub enum WordFault {
-    #[error("the file is too short for a header of 16 bytes")]
+    #[error("the file is shorter than its header of 16 bytes")]
     TooShort,
-    #[error("the file is neither NMP1 nor NMP2")]
+    #[error("the file begins with neither NMP1 nor NMP2")]
     UnknownFormat,
-    #[error("the header tells of more words than 1024 or than the file has")]
+    #[error("the header names more than 1024 words, or more than the file has")]
     TooManyWords,
     #[error("no word has this code")]
     UnknownCode,
-    #[error("a field without a meaning for this word is set")]
+    #[error("a byte that this word doesn't use isn't 0")]
     UnusedFieldSet,
     #[error("a number is out of its range")]
     OutOfRange,
-    #[error("the file goes on behind its words")]
+    #[error("the file goes on after its last word")]
     TrailingBytes,
 }
 

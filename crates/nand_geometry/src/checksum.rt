@@ -3,7 +3,7 @@
 ghost use Rattle.std.specs.Prelude.{◌≡◌};
 ghost use Rattle.nand_geometry.specs.Page.{crc_bits, crc};
 
-/// The register behind a byte, for a register that was zero: entry k belongs to byte k.
+/// The register after a byte, for a register that was zero: entry k belongs to byte k.
 const TABLE: [u16; 256] = [
     0x0000, 0x8005, 0x800f, 0x000a, 0x801b, 0x001e, 0x0014, 0x8011, 0x8033, 0x0036, 0x003c, 0x8039,
     0x0028, 0x802d, 0x8027, 0x0022, 0x8063, 0x0066, 0x006c, 0x8069, 0x0078, 0x807d, 0x8077, 0x0072,
@@ -29,7 +29,7 @@ const TABLE: [u16; 256] = [
     0x0208, 0x820d, 0x8207, 0x0202,
 ];
 
-/// The register behind one more byte.
+/// The register after one more byte.
 fn next(register: u16, byte: u8) -> u16
     ensures { result ≡ crc_bits 8 byte register }
 {

@@ -42,7 +42,7 @@ pub fn fields_decide()
     ensures { FieldsDecide }
 {}
 
-/// The page of a geometry is read as that geometry, whatever comes behind it, and whatever whole copies stand before it
+/// The page of a geometry is read as that geometry, whatever comes after it, and whatever whole copies stand before it
 /// that have no signature or another checksum.
 pub fn read_of_page()
     ensures { PagesReadBack }

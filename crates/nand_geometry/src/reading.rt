@@ -10,7 +10,7 @@ use byteorder::{ByteOrder, LittleEndian};
 /// How many bytes a copy of the parameter page has.
 pub const COPY_LEN: usize = 256;
 
-/// Where the checksum stands, behind the bytes that it is of.
+/// Where the checksum stands, after the bytes that it is of.
 pub const CHECKSUM_PLACE: usize = 254;
 
 /// The bit is set, counted from the least significant.

@@ -26,3 +26,4 @@ pub mod Outputs
 pub mod Inputs
 pub mod Written
 pub mod Booleans
+pub mod Dropped

@@ -88,3 +88,11 @@ bus g targets = record { geometry = g; targets = targets }
 -- a target with this tail and these LUNs
 abbrev pub target : TailFacts → List LunView → TargetView
 target tail luns = record { tail = tail; luns = luns }
+
+-- a target without the sequence that it is in: its tail is empty, and its LUNs are as they are
+abbrev pub without_sequence : TargetView → TargetView
+without_sequence s = target (facts_of []) s.luns
+
+-- the target of this number without the sequence that it is in, the others as they are
+abbrev pub bus_without : ℕ → BusView → BusView
+bus_without ce state = bus state.geometry (changed_at without_sequence ce state.targets)

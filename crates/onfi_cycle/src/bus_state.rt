@@ -9,7 +9,7 @@ ghost use Rattle.onfi_cycle.specs.Working.{FactsFit};
 ghost use Rattle.onfi_cycle.specs.Readies.{due_there};
 ghost use Rattle.onfi_cycle.specs.Lun.{effect_on};
 ghost use Rattle.onfi_cycle.specs.Permitted.{broken};
-ghost use Rattle.onfi_cycle.specs.State.{BusView, Follows, judged, bus_after, bus};
+ghost use Rattle.onfi_cycle.specs.State.{BusView, Follows, judged, bus_after, bus, changed_at, without_sequence, bus_without};
 ghost use Rattle.onfi_cycle.specs.Look.{looked, look_after};
 ghost use Rattle.onfi_cycle.specs.Bounds.{BusFits};
 ghost use Rattle.onfi_cycle.specs.Channel.{cycle};
@@ -78,6 +78,16 @@ fn apply_on(geometry: &Geometry, targets: &mut [TargetState], item: Item)
 {
     let target = &mut targets[usize::from(item.target())];
     target.apply(geometry, item);
+}
+
+// Drops the sequence that a target of this number is in, if it is there.
+fn drop_on(targets: &mut [TargetState], ce: u8)
+    ensures { targets.new ≡ changed_at without_sequence ce targets.old }
+{
+    let place = usize::from(ce);
+    if place < targets.len() {
+        targets[place].drop_sequence();
+    }
 }
 
 // A data cycle on a target; which byte it is isn't judged.
@@ -185,7 +195,7 @@ impl BusState {
     }
 
     /// The first rule that an item breaks, None where it is permitted: what the definition says of it after the past
-    /// that this state follows (docs/MODEL.md, "Rules").
+    /// that this state follows (docs/model/MODEL.md, "Rules").
     #[inline(always)]
     pub fn judge(&self, item: Item) -> Option<Forbidden>
         ensures state { result ≡ judged self.now item }
@@ -203,6 +213,16 @@ impl BusState {
     {
         let geometry = self.geometry;
         apply_on(&geometry, self.targets.as_mut_slice(), item);
+    }
+
+    /// Drops the sequence that a target is in, as if the cycles of that hadn't been: the next opener is none too early then. The LUNs stay
+    /// as they are. It is for who goes on after an item that isn't permitted; a target that isn't there is no fault.
+    pub fn drop_sequence(&mut self, ce: u8)
+        ensures { self.new ≡ bus_without ce self.old }
+    {
+        // The field is read once before the other is lent, so that the proof knows how both stand to the value.
+        let _ = &self.geometry;
+        drop_on(self.targets.as_mut_slice(), ce);
     }
 
     /// The first rule that the first forbidden one of so many outputs in a row on a target breaks, None where all are permitted.

@@ -4,7 +4,7 @@ ghost use Rattle.onfi_cycle.specs.Command.{command, opcode, is_known, is_opener,
 ghost use Rattle.onfi_cycle.specs.Sequence.{is_proper_beginning};
 
 /// The commands of the profile. Each name is the one of ONFI 4.x; the section that defines it
-/// bears that name, and stands in the table of docs/MODEL.md. [`Command::of`] and [`Command::opcode`] lead from
+/// bears that name, and stands in the table of docs/model/MODEL.md. [`Command::of`] and [`Command::opcode`] lead from
 /// bytes to commands and back.
 #[derive(Clone, Copy, Debug, PartialEq, Eq)]
 pub enum Command {
@@ -49,7 +49,7 @@ pub enum Command {
 }
 
 impl Command {
-    /// The command of a byte, `Unknown` for a byte that the profile doesn't have (docs/MODEL.md, "Commands").
+    /// The command of a byte, `Unknown` for a byte that the profile doesn't have (docs/model/MODEL.md, "Commands").
     #[tactic(auto, unfolding(crate::specs::Command::command))]
     pub fn of(byte: u8) -> Command
         ensures { result ≡ command byte }

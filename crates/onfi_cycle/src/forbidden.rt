@@ -4,7 +4,7 @@ ghost use Rattle.onfi_cycle.specs.Codes.{forbidden_code};
 
 use thiserror::Error;
 
-/// The rules of permitted items, in the order in which they are tried. docs/MODEL.md states each in full.
+/// The rules of permitted items, in the order in which they are tried. docs/model/MODEL.md states each in full.
 #[derive(Clone, Copy, Debug, PartialEq, Eq, Error)]
 pub enum Forbidden {
     #[error("the chip enable or the LUN isn't there, or what becomes ready isn't busy")]

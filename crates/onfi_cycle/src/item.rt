@@ -31,7 +31,7 @@ pub enum Item {
     Cyc(Cycle),
     /// A busy LUN becomes ready (RDY), with failure or without.
     Rdy { ce: u8, lun: u8, fail: bool },
-    /// The array of a LUN becomes ready (ARDY) behind a cache read.
+    /// The array of a LUN becomes ready (ARDY) after a cache read.
     Ard { ce: u8, lun: u8 },
 }
 

@@ -19,19 +19,19 @@ pub fn luns_keep_apart()
 {}
 
 /// A tail wants a cycle exactly where the tail with it is a beginning of a sequence of the table, and is open
-/// exactly where it is a proper beginning of one and not the command 00h alone (docs/MODEL.md, "Sequences").
+/// exactly where it is a proper beginning of one and not the command 00h alone (docs/model/MODEL.md, "Sequences").
 pub fn tails_follow_the_table()
     ensures { TailsFollowTheTable }
 {}
 
 /// The row that a tail names is that of its last three row cycles, and its column that of its last two column
-/// cycles (docs/MODEL.md, "Addresses").
+/// cycles (docs/model/MODEL.md, "Addresses").
 pub fn tails_name_rows_and_columns()
     ensures { TailsName }
 {}
 
 /// Each fact of a LUN is what the newest item says that says something of it: busy, last closer, array, register,
-/// read column and queue after every past, the latch after every legal one (docs/MODEL.md, "What a LUN is").
+/// read column and queue after every past, the latch after every legal one (docs/model/MODEL.md, "What a LUN is").
 pub fn facts_are_decided()
     ensures { FactsAreDecided }
 {}

@@ -7,8 +7,8 @@
 //! - the facts of a tail: [`Opening`], [`DataPhase`], [`RowBytes`]; those of a LUN: [`Latch`], [`Register`], [`ReadColumn`], [`Queued`];
 //! - the rules: [`judge`] tells the first that an item breaks, a [`Forbidden`];
 //! - what an item does to a LUN, an [`Effect`] ([`item_effect`]), and to its page registers, a [`Filling`];
-//! - the running state of a channel: [`BusState`], which judges an item and goes on by it. Its parts are one `TargetState` a target
-//!   and one `LunFacts` a LUN; [`LunState`] is a look at one from outside.
+//! - the running state of a channel: [`BusState`], which judges an item and goes on by it. Its parts are one [`TargetState`] a target
+//!   and one [`LunFacts`] a LUN; [`LunState`] is a look at one from outside.
 #![tactic(auto)]
 
 mod bus_state;
@@ -61,3 +61,4 @@ pub use rules::{driver, is_undeclared, judge, judge_cycle, judge_known_cycle};
 pub use status::Status;
 pub use tail_facts::TailFacts;
 pub use target_cycle::TargetCycle;
+pub use target_state::TargetState;

@@ -19,7 +19,7 @@ pub struct LunState {
     pub queued: usize,
     /// A cache read goes on.
     pub caching: bool,
-    /// The array works on behind a cache read.
+    /// The array works on after a cache read.
     pub array_busy: bool,
 }
 

@@ -5,7 +5,7 @@ ghost use Rattle.onfi_cycle.specs.Sequence.{is_proper_beginning};
 
 use crate::Command;
 
-/// An opener with its address cycles, and nothing else behind it.
+/// An opener with its address cycles, and nothing else after it.
 #[derive(Clone, Copy, Debug, PartialEq, Eq)]
 pub struct Opening {
     pub opener: Command,

@@ -178,7 +178,7 @@ impl TailFacts {
         }
     }
 
-    /// The tail with this cycle is a beginning of a sequence (docs/MODEL.md, "Sequences").
+    /// The tail with this cycle is a beginning of a sequence (docs/model/MODEL.md, "Sequences").
     pub fn wants(self, cycle: TargetCycle) -> bool
         ensures { result ≡ wants self cycle }
     {

@@ -10,7 +10,7 @@ ghost use Rattle.onfi_cycle.specs.Applied.{luns_after_cycle, asks_driver, one_af
 ghost use Rattle.onfi_cycle.specs.Sequence.{facts_after};
 ghost use Rattle.onfi_cycle.specs.Filling.{filling};
 ghost use Rattle.onfi_cycle.specs.Readies.{target_due};
-ghost use Rattle.onfi_cycle.specs.State.{TargetView, target_view, effect_alone, has_driver, target_after};
+ghost use Rattle.onfi_cycle.specs.State.{TargetView, target_view, effect_alone, has_driver, target_after, without_sequence};
 ghost use Rattle.onfi_cycle.specs.Look.{look_at_some};
 ghost use Rattle.onfi_cycle.specs.Bounds.{LunsFit, TargetFits};
 ghost use Rattle.onfi_cycle.specs.Outputs.{AreFew, given_on, given_target, against_rest};
@@ -27,9 +27,11 @@ use std::marker::Model;
 
 /// What is kept of a target.
 #[derive(Drop)]
-pub(crate) struct TargetState {
-    pub(crate) tail: TailFacts,
-    pub(crate) luns: ArrayVec<LunFacts<RowQueue>, MAX_LUNS>,
+pub struct TargetState {
+    /// The facts of its tail.
+    pub tail: TailFacts,
+    /// Those of each of its LUNs, by their numbers.
+    pub luns: ArrayVec<LunFacts<RowQueue>, MAX_LUNS>,
 }
 
 impl Model for TargetState {
@@ -192,7 +194,7 @@ fn lun_at(luns: &[LunFacts<RowQueue>], number: u8) -> Option<&LunFacts<RowQueue>
 
 impl TargetState {
     /// A target with so many LUNs to which nothing has happened.
-    pub(crate) fn new(count: u8) -> TargetState
+    pub fn new(count: u8) -> TargetState
         requires { count ≤ 4 }
         ensures { (g : Parts) (ce : ℕ) → g.luns ≡ count → result ≡ target_view g [] ce }
     {
@@ -225,9 +227,9 @@ impl TargetState {
         self.tail.extend(cycle);
     }
 
-    // What an item leaves of its target.
+    /// What an item leaves of its target.
     #[inline(always)]
-    pub(crate) fn apply(&mut self, geometry: &Geometry, item: Item)
+    pub fn apply(&mut self, geometry: &Geometry, item: Item)
         requires limits { InLimits geometry.now }
         requires fits { TargetFits geometry.now self.old }
         ensures value { self.new ≡ target_after geometry.now item self.old }
@@ -238,6 +240,13 @@ impl TargetState {
             Item::Rdy { lun, fail, .. } => end_work(self.luns.as_mut_slice(), lun, fail),
             Item::Ard { lun, .. } => end_array_work(self.luns.as_mut_slice(), lun),
         }
+    }
+
+    /// Drops the sequence that it is in, as if the cycles of that hadn't been.
+    pub fn drop_sequence(&mut self)
+        ensures { self.new ≡ without_sequence self.old }
+    {
+        self.tail = TailFacts::none();
     }
 
     /// Its one driver gives so many bytes more, one at least.

@@ -2,6 +2,7 @@
 #![tactic(auto)]
 
 use seq_cli::{RealFiles, TerminalProgress, answer_watched};
+use seq_inputs::Console;
 use std::env;
 use std::io::{self, Input};
 use std::process::ExitCode;
@@ -12,15 +13,19 @@ fn words_given(rt: &HostRuntime) -> io::Result<Vec<String>> {
 }
 
 fn main(rt: HostRuntime) -> ExitCode {
-    ExitCode::from(answer_watched(
+    let mut console = Console {
+        output: rt.stdout(),
+        errors: rt.stderr(),
+        progress: TerminalProgress::new(rt.stderr()),
+    };
+    let exit = answer_watched(
         &rt,
         &rt,
         rt.alloc(),
         words_given(&rt),
         &mut RealFiles::new(&rt, rt.alloc()),
         &mut rt.reader(),
-        &mut rt.stdout(),
-        &mut rt.stderr(),
-        &mut TerminalProgress::new(rt.stderr()),
-    ))
+        &mut console,
+    );
+    ExitCode::from(exit.status())
 }

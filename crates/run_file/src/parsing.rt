@@ -106,7 +106,7 @@ impl<'a, A: Allocator> Survey<'a, A> {
     }
 }
 
-/// The statements of a run file (docs/RUNFILES.md) up to its first faulty line, and the fault of that line; only J1, J2 and J3 are
+/// The statements of a run file (docs/use/RUNFILES.md) up to its first faulty line, and the fault of that line; only J1, J2 and J3 are
 /// told. `AllocError` is answered only where memory was refused.
 #[tactic(auto, using(crate::proofs::Run::text_is_run))]
 pub fn parse_run<'a, A: Allocator>(text: &'a str, alloc: A) -> Result<RunText<'a, A>, AllocError>

@@ -9,13 +9,13 @@ use thiserror::Error;
 #[derive(Clone, Copy, Debug, PartialEq, Eq, Error)]
 pub enum RunFault {
     /// J1: the line begins with no statement's name, has a field too few or too many, or has a path that isn't ASCII.
-    #[error("unknown line, or a field is missing or one too many")]
+    #[error("no statement has this name, a field is missing or one too many, or a path isn't ASCII")]
     UnknownLine,
     /// J2: a field isn't a decimal number in its range, or the job is the 65,537th.
-    #[error("not a number or out of range, or more than 65,536 jobs")]
+    #[error("a field isn't a decimal number in its range, or the job is the 65,537th")]
     BadNumber,
     /// J3: `page` or `targets` is missing here, or something that stands once stands here again.
-    #[error("page or targets is missing or out of order, or the line repeats another")]
+    #[error("`page` or `targets` is missing here, or what stands once stands here again")]
     OutOfOrder,
     /// J4: the channel has no such LUN.
     #[error("no such LUN")]

@@ -1,5 +1,6 @@
 pub mod Ends
-pub mod Statuses
+pub mod Given
+pub mod Refusing
 pub mod Told
 pub mod Turns
 pub mod Unknown

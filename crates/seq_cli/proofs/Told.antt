@@ -1,5 +1,5 @@
 -- The trace of a job that ran can be printed.
-use Rattle.std.proofs.Common.{◌≡◌, ◌≤◌, ℕ, List, reverse, sym, ap, ◌∙◌, subst, arith}
+use Rattle.std.proofs.Common.{◌≡◌, ℕ, List, reverse, sym, ap, ◌∙◌, subst, arith}
 use Rattle.std.specs.List.{All}
 use Rattle.onfi_cycle.specs.declared.item.Item.{Item}
 use Rattle.micro_program.specs.Program.{Job}

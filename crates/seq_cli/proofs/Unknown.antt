@@ -1,5 +1,5 @@
 -- What paths have stays unknown where it was.
-use Rattle.std.proofs.Common.{◌≡◌, List, [], ◌∷◌, Option, None, Result, Ok, Err, OnOk, refl}
+use Rattle.std.proofs.Common.{◌≡◌, List, [], ◌∷◌, None, Result, Ok, Err, OnOk, refl}
 use Rattle.seq_files.specs.Store.{Written, with_all}
 
 pub unknown : (ws : List Written) → None ≡ with_all ws None

@@ -1,5 +1,5 @@
 -- What running a word file once comes to: the line of its refusal, or the text of its run.
-use Rattle.std.specs.Prelude.{◌≡◌, ℕ, true, false, List, [], ◌∷◌, ◌++◌, ◌⊎◌, ⊤, Option, Some, None, Result, Ok, Err, replicate, reverse}
+use Rattle.std.specs.Prelude.{◌≡◌, ℕ, Bool, true, false, List, [], ◌∷◌, ◌++◌, ◌⊎◌, Option, Some, None, Result, Ok, Err, replicate, reverse}
 use Rattle.nand_geometry.specs.declared.parts.Parts.{Parts}
 use Rattle.onfi_cycle.specs.declared.lun.Lun.{Lun}
 use Rattle.onfi_cycle.specs.Permitted.{is_legal}
@@ -22,11 +22,11 @@ use Rattle.seq_core.specs.Job.{job_of, job_fault}
 use Rattle.target_bus.specs.Bus.{channel_on}
 use Rattle.seq_core.specs.Alone.{alone_on}
 use Rattle.trace_text.specs.Line.{text}
-use Rattle.seq_inputs.specs.declared.refusal.Refusal.{Refusal}
-use Rattle.seq_inputs.specs.declared.refusal.Refusal.TheVariants.{Text}
-use Rattle.seq_cli.specs.declared.not_run.NotRun.{NotRun}
-use Rattle.seq_cli.specs.declared.not_run.NotRun.TheVariants.{Refused, OutOfMemory as NoMemory}
-use Rattle.seq_inputs.specs.Refusals.{line_of}
+use Rattle.seq_inputs.specs.declared.fault.Fault.{Fault as InputFault}
+use Rattle.seq_inputs.specs.declared.fault.Fault.TheVariants.{Text}
+use Rattle.seq_inputs.specs.Inputs.{is_source, RefusesSource}
+use Rattle.seq_inputs.specs.Refusals.{line_of, refusal_of}
+use Rattle.seq_commands.specs.Commands.{SpellsFile}
 use Rattle.micro_word.specs.Codes.{word_fault_code}
 use Rattle.micro_claims.specs.Codes.{reason_code}
 use Rattle.seq_core.specs.Codes.{job_fault_code}
@@ -68,18 +68,13 @@ abbrev pub refused : ℕ → List ℕ → Option (List ℕ)
 refused base bytes = refused_file base (reading bytes)
 
 -- a text with loops whose shape is right may also be refused at some word of it, for a reason against a word
-abbrev pub IsOfLoopsIn : List ℕ → Refusal → Type 0
+abbrev pub IsOfLoopsIn : List ℕ → InputFault → Type 0
 IsOfLoopsIn bytes (Text reason word) = (x : Microprogram) × (reading bytes ≡ Ok x) × IsOfLoops one_lun x (record { word = word; reason = reason })
 IsOfLoopsIn bytes _ = ⊥
 
 -- what a file at a base may be refused for
-abbrev pub MayBeRefused : ℕ → List ℕ → Refusal → Type 0
-MayBeRefused base bytes refusal = (refused base bytes ≡ Some (line_of refusal)) ⊎ IsOfLoopsIn bytes refusal
-
--- why it isn't run: a refusal that it may have, or want of memory
-abbrev pub Tells : NotRun → ℕ → List ℕ → Type 0
-Tells (Refused refusal) base bytes = MayBeRefused base bytes refusal
-Tells NoMemory base bytes = ⊤
+abbrev pub MayBeRefused : ℕ → List ℕ → InputFault → Type 0
+MayBeRefused base bytes fault = (refused base bytes ≡ Some (line_of (refusal_of fault))) ⊎ IsOfLoopsIn bytes fault
 
 -- the job of a text, its buffer all 00
 abbrev pub the_job : ℕ → Microprogram → Job
@@ -107,3 +102,27 @@ pub record IsRun (base : ℕ) (bytes written : List ℕ) : Type 0 where
   pub code : ℕ
   pub is_code : slot.code ≡ Some code
   pub lines : written ≡ text (reverse end.past) ++ end_line code
+
+-- ---- an assembly text, or a word file
+
+-- it is written of an assembly text what is of the word file that it spells
+abbrev pub IsSourceRun : ℕ → List ℕ → List ℕ → Type 0
+IsSourceRun base text written = (file : List ℕ) × SpellsFile text file × IsRun base file written
+
+abbrev pub SourceMayBeRefused : ℕ → List ℕ → InputFault → Type 0
+SourceMayBeRefused base text fault = RefusesSource text fault ⊎ ((file : List ℕ) × SpellsFile text file × MayBeRefused base file fault)
+
+abbrev pub IsProgramRunAs : (is_text : Bool) → ℕ → List ℕ → List ℕ → Type 0
+IsProgramRunAs true base bytes written = IsSourceRun base bytes written
+IsProgramRunAs false base bytes written = IsRun base bytes written
+
+-- it is written of an input, which is an assembly text or a word file
+abbrev pub IsProgramRun : ℕ → List ℕ → List ℕ → Type 0
+IsProgramRun base bytes written = IsProgramRunAs (is_source bytes) base bytes written
+
+abbrev pub ProgramMayBeRefusedAs : (is_text : Bool) → ℕ → List ℕ → InputFault → Type 0
+ProgramMayBeRefusedAs true base bytes fault = SourceMayBeRefused base bytes fault
+ProgramMayBeRefusedAs false base bytes fault = MayBeRefused base bytes fault
+
+abbrev pub ProgramMayBeRefused : ℕ → List ℕ → InputFault → Type 0
+ProgramMayBeRefused base bytes fault = ProgramMayBeRefusedAs (is_source bytes) base bytes fault

@@ -1,23 +1,118 @@
 //! The command line.
 
+use crate::command::Command;
+use crate::mistake::{Mistake, PathMistake};
 use clap::{Arg, ArgAction, ArgMatches, Error};
-use seq_commands::{Command, Targets};
+use seq_commands::{CheckRequest, DrawForm, DrawRequest, LintOutput, Targets};
 use seq_run::RunRequest;
 use std::alloc::Global;
+use trace_faults::Readies;
 
-/// What the program is asked to do.
+/// The commands by their words, in the order in which an author uses them. One that is declared here is declared to the parser, and read, or
+/// nothing of it compiles.
 #[derive(Clone, Copy, Debug, PartialEq, Eq)]
-pub enum Asked<'a> {
-    /// To run the word file on standard input, its rows from this index on.
-    Once { base: u32 },
-    /// To do a command on files.
-    Files(Command<'a>),
-    /// To run a channel as a run file says.
-    Run(RunRequest<'a>),
+enum Verb {
+    Assemble,
+    Verify,
+    Lint,
+    Once,
+    Run,
+    Check,
+    Wave,
+    Draw,
+    Disassemble,
+    Upgrade,
+}
+
+// All of them.
+const VERBS: [Verb; 10] = [
+    Verb::Assemble,
+    Verb::Verify,
+    Verb::Lint,
+    Verb::Once,
+    Verb::Run,
+    Verb::Check,
+    Verb::Wave,
+    Verb::Draw,
+    Verb::Disassemble,
+    Verb::Upgrade,
+];
+
+impl Verb {
+    // Its word.
+    fn word<'a>(self) -> &'a str {
+        match self {
+            Verb::Assemble => "asm",
+            Verb::Verify => "verify",
+            Verb::Lint => "lint",
+            Verb::Once => "once",
+            Verb::Run => "run",
+            Verb::Check => "check",
+            Verb::Wave => "wave",
+            Verb::Draw => "draw",
+            Verb::Disassemble => "dis",
+            Verb::Upgrade => "upgrade",
+        }
+    }
+
+    // The verb of a word.
+    fn find(word: &str) -> Option<Verb> {
+        VERBS
+            .as_slice()
+            .iter()
+            .copied()
+            .find(|verb| verb.word() == word)
+    }
+
+    // Its declaration.
+    fn declare<'a>(self, alloc: Global) -> Result<clap::Command<'a>, Error> {
+        match self {
+            Verb::Assemble => assemble(alloc),
+            Verb::Verify => verify(alloc),
+            Verb::Lint => lint(alloc),
+            Verb::Once => once(alloc),
+            Verb::Run => run(alloc),
+            Verb::Check => check(alloc),
+            Verb::Wave => wave(alloc),
+            Verb::Draw => draw(alloc),
+            Verb::Disassemble => disassemble(alloc),
+            Verb::Upgrade => upgrade(alloc),
+        }
+    }
+
+    // The command that it and its arguments ask for.
+    fn read<'a>(self, matches: &ArgMatches<'a>) -> Result<Command<'a>, Mistake<'a>> {
+        let input = find_word(matches, "IN");
+        let page = find_word(matches, "PAGE");
+        let target = find_word(matches, "OUT");
+        Ok(match self {
+            Verb::Assemble => Command::Assemble { input, target },
+            Verb::Verify => Command::Verify {
+                page,
+                input,
+                counter: matches.get_str("counter"),
+                is_quiet: matches.get_flag("quiet"),
+            },
+            Verb::Lint => Command::Lint {
+                page,
+                input,
+                output: read_lint_output(matches),
+            },
+            Verb::Once => Command::Once {
+                base: read_base(find_word(matches, "base"))?,
+            },
+            Verb::Run => Command::Run(read_run(matches)),
+            Verb::Check => Command::Check(read_check(matches)),
+            Verb::Wave => Command::Draw(read_draw(matches, DrawForm::Waveform)),
+            Verb::Draw => Command::Draw(read_draw(matches, form_of(target))),
+            Verb::Disassemble => Command::Disassemble { input },
+            Verb::Upgrade => Command::Upgrade { input, target },
+        })
+    }
 }
 
 const ONCE: &str =
-    "Runs the word file on standard input once, and prints the trace. It runs on an erased die: 1 LUN, 1 plane, 8 blocks of 4 pages of 512 + 16 bytes";
+    "Runs the microprogram on standard input once, a word file or an assembly text, and prints the trace. It runs on an erased die: 1 LUN, 1 plane, 8 blocks of 4 pages of 512 + 16 bytes";
 
 // An argument that has to be given.
 fn require<'a>(alloc: Global, id: &'a str, help: &'a str) -> Arg<'a> {
@@ -25,10 +120,14 @@ fn require<'a>(alloc: Global, id: &'a str, help: &'a str) -> Arg<'a> {
 }
 
 fn assemble<'a>(alloc: Global) -> Result<clap::Command<'a>, Error> {
-    let command = clap::Command::new(alloc, "asm")
+    let command = clap::Command::new(alloc, Verb::Assemble.word())
         .about("Assembles a text into a word file, and prints `ok`")
         .after_help("Example: onfiseq asm erase.asm erase.nmp")
-        .arg(require(alloc, "IN", "The assembly text, as docs/ASSEMBLY.md has it"))?
+        .arg(require(
+            alloc,
+            "IN",
+            "The assembly text, as docs/use/ASSEMBLY.md has it",
+        ))?
         .arg(require(alloc, "OUT", "The word file to write, in format 2"))?;
     Ok(command)
 }
@@ -40,12 +139,39 @@ fn verify<'a>(alloc: Global) -> Result<clap::Command<'a>, Error> {
         .help(
             "Where a refusal has its run (V7): the file to write its trace to, with the cycle that isn't permitted last",
         );
-    let command = clap::Command::new(alloc, "verify")
-        .about("Verifies a word file for a die, and prints `accepted`")
-        .after_help("Example: onfiseq verify die.page erase.nmp --counter wrong.trace")
+    let quiet = Arg::new(alloc, "quiet")
+        .long("quiet")
+        .action(ArgAction::SetTrue)
+        .help("Says no notes on standard error, as `lint` prints them");
+    let command = clap::Command::new(alloc, Verb::Verify.word())
+        .about("Verifies a microprogram for a die, and prints `accepted`")
+        .after_help("Example: onfiseq verify die.page erase.asm --counter wrong.trace")
         .arg(require(alloc, "PAGE", "The parameter page of the die"))?
-        .arg(require(alloc, "IN", "The word file, of either format"))?
-        .arg(counter)?;
+        .arg(require(
+            alloc,
+            "IN",
+            "The assembly text, or a word file of either format",
+        ))?
+        .arg(counter)?
+        .arg(quiet)?;
+    Ok(command)
+}
+
+fn lint<'a>(alloc: Global) -> Result<clap::Command<'a>, Error> {
+    let fix = Arg::new(alloc, "fix")
+        .long("fix")
+        .action(ArgAction::SetTrue)
+        .help("Prints the header lines with the least numbers that are enough, and nothing else");
+    let command = clap::Command::new(alloc, Verb::Lint.word())
+        .about("Verifies a microprogram for a die, and prints what its author surely didn't mean")
+        .after_help("Example: onfiseq lint die.page read.asm")
+        .arg(require(alloc, "PAGE", "The parameter page of the die"))?
+        .arg(require(
+            alloc,
+            "IN",
+            "The assembly text, or a word file of either format",
+        ))?
+        .arg(fix)?;
     Ok(command)
 }
 
@@ -54,9 +180,10 @@ fn once<'a>(alloc: Global) -> Result<clap::Command<'a>, Error> {
         .long("base")
         .value_name("n")
         .default_value("0")
-        .value_parser(clap::value_parser!(u32))
-        .help("The row of the die that row 0 of the program stands for, 0 to 31");
-    let command = clap::Command::new(alloc, "once")
+        .help(
+            "The index within a plane that row 0 of the program stands for, 0 to 31, or 0x0 to 0x1f",
+        );
+    let command = clap::Command::new(alloc, Verb::Once.word())
         .about(ONCE)
         .after_help("Example: onfiseq once --base 4 < erase.nmp")
         .arg(base)?;
@@ -90,10 +217,14 @@ fn run<'a>(alloc: Global) -> Result<clap::Command<'a>, Error> {
         .help(
             "Says on standard error how many jobs, cycles, polls and bytes there were, the seconds that the jobs took, and the cycles a second",
         );
-    let command = clap::Command::new(alloc, "run")
+    let command = clap::Command::new(alloc, Verb::Run.word())
         .about("Runs a channel as a run file says, and prints the trace and each job's code")
         .after_help("Example: onfiseq run examples/two_luns.run --workers 2")
-        .arg(require(alloc, "FILE", "The run file, as docs/RUNFILES.md has it"))?
+        .arg(require(
+            alloc,
+            "FILE",
+            "The run file, as docs/use/RUNFILES.md has it",
+        ))?
         .arg(workers(alloc))?
         .arg(quiet)?
         .arg(trace)?
@@ -101,25 +232,79 @@ fn run<'a>(alloc: Global) -> Result<clap::Command<'a>, Error> {
     Ok(command)
 }
 
-fn check<'a>(alloc: Global) -> Result<clap::Command<'a>, Error> {
-    let targets = require(alloc, "TARGETS", "How many targets the channel has").value_parser([
+// How many targets there are.
+fn targets<'a>(alloc: Global) -> Arg<'a> {
+    require(alloc, "TARGETS", "How many targets the channel has").value_parser([
         "1", "2", "3", "4",
-    ].as_slice());
-    let command = clap::Command::new(alloc, "check")
+    ].as_slice())
+}
+
+// The trace.
+fn trace<'a>(alloc: Global) -> Arg<'a> {
+    require(
+        alloc,
+        "TRACE",
+        "The text of the trace, as docs/use/TRACES.md has it",
+    )
+}
+
+fn check<'a>(alloc: Global) -> Result<clap::Command<'a>, Error> {
+    let all = Arg::new(alloc, "all")
+        .long("all")
+        .action(ArgAction::SetTrue)
+        .help("Goes on after a fault, and prints a line for each");
+    let readies = Arg::new(alloc, "readies-from-status")
+        .long("readies-from-status")
+        .action(ArgAction::SetTrue)
+        .help(
+            "For a trace that was recorded on a bus: a status output that shows RDY or ARDY has the ready before it that it shows",
+        );
+    let copy = Arg::new(alloc, "write")
+        .long("write")
+        .value_name("OUT")
+        .help(
+            "Writes the trace that is judged to this file, with the readies that status outputs show",
+        );
+    let command = clap::Command::new(alloc, Verb::Check.word())
         .about("Checks whether a trace is legal on a channel, and prints `legal`")
-        .after_help("Example: onfiseq check die.page 1 erase.trace")
+        .after_help("Example: onfiseq check die.page 1 bus.trace --all --readies-from-status")
         .arg(require(alloc, "PAGE", "The parameter page of each die"))?
-        .arg(targets)?
+        .arg(targets(alloc))?
+        .arg(trace(alloc))?
+        .arg(all)?
+        .arg(readies)?
+        .arg(copy)?;
+    Ok(command)
+}
+
+fn wave<'a>(alloc: Global) -> Result<clap::Command<'a>, Error> {
+    let command = clap::Command::new(alloc, Verb::Wave.word())
+        .about("Draws a trace as a waveform for GTKWave or PulseView, and prints `ok`")
+        .after_help("Example: onfiseq wave die.page 1 bus.trace bus.vcd")
+        .arg(require(alloc, "PAGE", "The parameter page of each die"))?
+        .arg(targets(alloc))?
+        .arg(trace(alloc))?
+        .arg(require(alloc, "OUT", "The value change dump to write"))?;
+    Ok(command)
+}
+
+fn draw<'a>(alloc: Global) -> Result<clap::Command<'a>, Error> {
+    let command = clap::Command::new(alloc, Verb::Draw.word())
+        .about("Draws a trace as one picture, and prints `ok`")
+        .after_help("Example: onfiseq draw die.page 1 bus.trace bus.svg")
+        .arg(require(alloc, "PAGE", "The parameter page of each die"))?
+        .arg(targets(alloc))?
+        .arg(trace(alloc))?
         .arg(require(
             alloc,
-            "TRACE",
-            "The text of the trace, as docs/TRACES.md has it",
+            "OUT",
+            "The SVG to write; with a name that ends in .html a page, with the trace beside the picture",
         ))?;
     Ok(command)
 }
 
 fn disassemble<'a>(alloc: Global) -> Result<clap::Command<'a>, Error> {
-    let command = clap::Command::new(alloc, "dis")
+    let command = clap::Command::new(alloc, Verb::Disassemble.word())
         .about("Prints the assembly text of a word file")
         .after_help("Example: onfiseq dis erase.nmp > erase.asm")
         .arg(require(alloc, "IN", "The word file, of either format"))?;
@@ -127,7 +312,7 @@ fn disassemble<'a>(alloc: Global) -> Result<clap::Command<'a>, Error> {
 }
 
 fn upgrade<'a>(alloc: Global) -> Result<clap::Command<'a>, Error> {
-    let command = clap::Command::new(alloc, "upgrade")
+    let command = clap::Command::new(alloc, Verb::Upgrade.word())
         .about("Writes a word file of either format as one of format 2, and prints `ok`")
         .after_help("Example: onfiseq upgrade old.nmp new.nmp")
         .arg(require(alloc, "IN", "The word file to read"))?
@@ -135,21 +320,19 @@ fn upgrade<'a>(alloc: Global) -> Result<clap::Command<'a>, Error> {
     Ok(command)
 }
 
-// The command line, as it is declared: the commands in the order in which an author uses them. It has its name in usage, however
-// the program was called.
+// The command line, as it is declared. It has its name in usage, however the program was called.
 fn declare<'a>(alloc: Global) -> Result<clap::Command<'a>, Error> {
-    let command = clap::Command::new(alloc, "onfiseq")
+    let mut command = clap::Command::new(alloc, "onfiseq")
         .bin_name("onfiseq")?
         .version("0.1.0")
         .about("Verifies microprograms of NAND flash, and runs them on a modelled channel")
-        .subcommand_required(true)
-        .subcommand(assemble(alloc)?)?
-        .subcommand(verify(alloc)?)?
-        .subcommand(once(alloc)?)?
-        .subcommand(run(alloc)?)?
-        .subcommand(check(alloc)?)?
-        .subcommand(disassemble(alloc)?)?
-        .subcommand(upgrade(alloc)?)?;
+        .after_help(
+            "Examples: onfiseq verify die.page erase.asm; onfiseq check die.page 1 bus.trace; onfiseq run channel.run",
+        )
+        .subcommand_required(true);
+    for verb in VERBS {
+        command = command.subcommand(verb.declare(alloc)?)?;
+    }
     Ok(command)
 }
 
@@ -165,6 +348,56 @@ fn read_targets(word: &str) -> Targets {
         "2" => Targets::Two,
         "3" => Targets::Three,
         _ => Targets::Four,
+    }
+}
+
+// What a lint prints.
+fn read_lint_output(matches: &ArgMatches<'_>) -> LintOutput {
+    if matches.get_flag("fix") {
+        LintOutput::Header
+    } else {
+        LintOutput::Notes
+    }
+}
+
+// Where the readies of a trace are.
+fn read_readies(matches: &ArgMatches<'_>) -> Readies {
+    if matches.get_flag("readies-from-status") {
+        Readies::Shown
+    } else {
+        Readies::Written
+    }
+}
+
+// What a check is asked for.
+fn read_check<'a>(matches: &ArgMatches<'a>) -> CheckRequest<'a> {
+    CheckRequest {
+        page: find_word(matches, "PAGE"),
+        targets: read_targets(find_word(matches, "TARGETS")),
+        input: find_word(matches, "TRACE"),
+        tells_all: matches.get_flag("all"),
+        readies: read_readies(matches),
+        copy: matches.get_str("write"),
+    }
+}
+
+// As what a trace is drawn into a file of this name.
+fn form_of(target: &str) -> DrawForm {
+    if target.ends_with(".html") {
+        DrawForm::Page
+    } else {
+        DrawForm::Picture
+    }
+}
+
+// What a drawing is asked for.
+fn read_draw<'a>(matches: &ArgMatches<'a>, form: DrawForm) -> DrawRequest<'a> {
+    DrawRequest {
+        form,
+        page: find_word(matches, "PAGE"),
+        targets: read_targets(find_word(matches, "TARGETS")),
+        input: find_word(matches, "TRACE"),
+        target: find_word(matches, "OUT"),
     }
 }
 
@@ -187,38 +420,29 @@ fn read_run<'a>(matches: &ArgMatches<'a>) -> RunRequest<'a> {
     }
 }
 
-// What a command and its arguments ask for.
-fn read_command<'a>(name: &str, matches: &ArgMatches<'a>) -> Asked<'a> {
-    let input = find_word(matches, "IN");
-    let page = find_word(matches, "PAGE");
-    let target = find_word(matches, "OUT");
-    match name {
-        "run" => Asked::Run(read_run(matches)),
-        "asm" => Asked::Files(Command::Assemble { input, target }),
-        "dis" => Asked::Files(Command::Disassemble { input }),
-        "upgrade" => Asked::Files(Command::Upgrade { input, target }),
-        "verify" => Asked::Files(Command::Verify {
-            page,
-            input,
-            counter: matches.get_str("counter"),
-        }),
-        "check" => Asked::Files(Command::Check {
-            page,
-            targets: read_targets(find_word(matches, "TARGETS")),
-            input: find_word(matches, "TRACE"),
-        }),
-        _ => Asked::Once {
-            base: matches.get_one::<u32>("base").unwrap_or(0),
-        },
-    }
+// A row: decimal digits, or 0x and hexadecimal ones.
+fn read_base<'a>(word: &'a str) -> Result<u32, Mistake<'a>> {
+    let number = match word.strip_prefix("0x") {
+        Some(digits) => u32::from_str_radix(digits, 16),
+        None => u32::from_str_radix(word, 10),
+    };
+    number.map_err(|_| Mistake::Base(word))
 }
 
-/// What these words ask for; the first is the name of the program. An error has the text for the user, and so have the
-/// words that ask for help.
-pub fn parse<'a>(alloc: Global, words: &'a [String]) -> Result<Asked<'a>, Error> {
-    let matches = declare(alloc)?.try_get_matches_from(words)?;
-    match matches.subcommand() {
-        Some((name, given)) => Ok(read_command(name, given)),
-        None => Ok(Asked::Once { base: 0 }),
+/// The command that these words ask for; the first is the name of the program.
+pub fn parse<'a>(alloc: Global, words: &'a [String]) -> Result<Command<'a>, Mistake<'a>> {
+    let declared = declare(alloc)?;
+    let matches = declared.try_get_matches_from(words)?;
+    // The parser takes no word that isn't declared, and asks for one.
+    let Some((word, given)) = matches.subcommand() else {
+        return Err(Mistake::NoCommand);
+    };
+    let Some(verb) = Verb::find(word) else {
+        return Err(Mistake::NoCommand);
+    };
+    let command = verb.read(given)?;
+    match PathMistake::find(command) {
+        Some(mistake) => Err(Mistake::Paths(mistake)),
+        None => Ok(command),
     }
 }

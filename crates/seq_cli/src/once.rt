@@ -14,22 +14,26 @@ ghost use Rattle.seq_core.specs.Calls.{IsEvent};
 ghost use Rattle.seq_core.specs.Event.{Ready};
 ghost use Rattle.seq_core.specs.Reply.{ToReady};
 ghost use Rattle.seq_core.specs.Shows.{IsAt, channel_in};
-ghost use Rattle.seq_cli.specs.Once.{one_lun, the_lun, refused, MayBeRefused, Tells, the_channel, IsJobOf, IsRun};
+ghost use Rattle.seq_inputs.specs.Inputs.{is_source, RefusesSource};
+ghost use Rattle.seq_inputs.specs.Stops.{Says, Tells};
+ghost use Rattle.seq_commands.specs.Commands.{SpellsFile};
+ghost use Rattle.seq_cli.specs.Once.{one_lun, the_lun, refused, MayBeRefused, the_channel, IsJobOf, IsRun, IsSourceRun, SourceMayBeRefused, IsProgramRun, ProgramMayBeRefused};
 ghost use Rattle.seq_inputs.specs.Lines.{end_line};
 ghost use Rattle.seq_cli.specs.Runs.{EndsWithin, HasRun, IsForTheLun, IsLoaded, RanAlone, TellsRun, TookTurn};
 ghost use Rattle.trace_text.specs.Line.{text, IsPrintable};
 
-use crate::not_run::NotRun;
 use die_model::LunDie;
 use micro_program::Verified;
-use micro_verify::{VerifyRefusal, verify};
-use micro_word::{WordRefusal, read};
+use micro_verify::{TextRefused, VerifyRefusal, verify};
+use micro_word::write;
 use nand_geometry::{Geometry, Parts, SMALL_CHIP};
 use onfi_cycle::{Item, Lun};
-use seq_commands::{Exit, refuse};
 use seq_core::{Core, Job, Stepped, UnloadedJob};
-use seq_files::{FileError, read_all, write_text};
-use seq_inputs::{Refusal, push_end_line};
+use seq_files::read_all;
+use seq_inputs::{
+    Console, Exit, Fault, Stop, fail, finish, is_source, push_end_line, read_source, read_words,
+    words_of_job, words_of_reason,
+};
 use std::alloc::{AllocError, Allocator};
 use std::io::{Read, Write};
 use target_bus::{Bus, BusFault};
@@ -40,6 +44,9 @@ const ONE_LUN: Parts = SMALL_CHIP;
 
 // How often a word comes at most: 4,096 times in each of four loops.
 const MOST_PASSES: usize = 4096 * 4096 * 4096 * 4096;
+
+// What messages call the input.
+const STREAM: &str = "-";
 
 // Its LUN.
 const THE_LUN: Lun = Lun { ce: 0, lun: 0 };
@@ -54,46 +61,59 @@ fn geometry() -> Geometry
     }
 }
 
-// The text of a file, verified.
-fn read_text<A: Allocator + Copy>(alloc: A, bytes: &[u8]) -> Result<Verified<A>, NotRun>
-    ensures text { IfOk result (λ v. reading bytes.now ≡ Ok v.text) }
-    ensures file { IfOk result (λ v. IsFileOf bytes.now v.text) }
+// The microprogram of a word file, verified. Messages show it as it was given.
+#[tactic(auto, using(micro_word::proofs::Files::reading_of, crate::proofs::Refusing::file_said, crate::proofs::Refusing::reason_said))]
+fn verify_words<A: Allocator + Copy>(
+    alloc: A,
+    file: &[u8],
+    given: &[u8],
+) -> Result<Verified<A>, Stop<'static, A>>
+    ensures text { IfOk result (λ v. reading file.now ≡ Ok v.text) }
+    ensures file { IfOk result (λ v. IsFileOf file.now v.text) }
     ensures faultless { IfOk result (λ v. fault_of one_lun v.text ≡ None) }
     ensures geometry { IfOk result (λ v. v.geometry ≡ one_lun) }
-    ensures refused { (base : ℕ) → IfErr result (λ e. Tells e base bytes.now) }
+    ensures refused { (base : ℕ) → IfErr result (Says (MayBeRefused base file.now)) }
 {
-    let text = match read(alloc, bytes) {
-        Ok(text) => text,
-        Err(WordRefusal::Fault { fault, word }) => {
-            return Err(NotRun::Refused(Refusal::File { fault, word }));
-        }
-        Err(WordRefusal::OutOfMemory) => return Err(NotRun::OutOfMemory),
+    let text = read_words(alloc, STREAM, file)?;
+    let TextRefused { refusal, text } = match verify(text, geometry()) {
+        Ok(verified) => return Ok(verified),
+        Err(refused) => refused,
     };
-    match verify(text, geometry()) {
-        Ok(verified) => Ok(verified),
-        Err(refused) => match refused.refusal {
-            VerifyRefusal::Refusal { word, reason, .. } => {
-                Err(NotRun::Refused(Refusal::Text { reason, word }))
-            }
-            VerifyRefusal::OutOfMemory => Err(NotRun::OutOfMemory),
-        },
+    match refusal {
+        VerifyRefusal::Refusal { word, reason, .. } => {
+            let words = words_of_reason(alloc, STREAM, given, &text, &geometry(), word, reason);
+            Err(Stop::refused(Fault::Text { reason, word }, words))
+        }
+        VerifyRefusal::OutOfMemory => Err(Stop::OutOfMemory),
     }
 }
 
-// The job of a file: its text at this base, its buffer all 00.
-fn make_job<A: Allocator + Copy>(alloc: A, bytes: &[u8], base: u32) -> Result<Job<A>, NotRun>
-    ensures job { IfOk result (λ j. IsJobOf base bytes.now j) }
+// The job of a word file: its microprogram at this base, its buffer all 00.
+#[tactic(auto, using(crate::proofs::Refusing::job_said))]
+fn make_job<A: Allocator + Copy>(
+    alloc: A,
+    file: &[u8],
+    given: &[u8],
+    base: u32,
+) -> Result<Job<A>, Stop<'static, A>>
+    ensures job { IfOk result (λ j. IsJobOf base file.now j) }
     ensures alone { IfOk result (λ j. IsForTheLun j) }
-    ensures accepted { IfOk result (λ j. refused base bytes.now ≡ None) }
-    ensures refused { IfErr result (λ e. Tells e base bytes.now) }
+    ensures accepted { IfOk result (λ j. refused base file.now ≡ None) }
+    ensures refused { IfErr result (Says (MayBeRefused base file.now)) }
 {
-    let verified = read_text(alloc, bytes)?;
+    let verified = match verify_words(alloc, file, given) {
+        Ok(verified) => verified,
+        Err(stop) => return Err(stop),
+    };
     let buffer = vec![in alloc; 0; verified.text().buffer() as usize]?;
     match Job::new(geometry(), 1, THE_LUN, base, verified, buffer) {
         Ok(job) => Ok(job),
-        Err(refused) => Err(NotRun::Refused(Refusal::Job {
-            fault: refused.fault,
-        })),
+        Err(refused) => {
+            let fault = refused.fault;
+            let rows = refused.verified.text().rows();
+            let words = words_of_job(alloc, STREAM, fault, &geometry(), base, rows);
+            Err(Stop::refused(Fault::Job { fault }, words))
+        }
     }
 }
 
@@ -219,30 +239,36 @@ fn tell_run<'a, A: Allocator>(alloc: &'a A, job: Job<&'a A>) -> Result<String<&'
     lines_of(alloc, core.trace(), code)
 }
 
-// Reads a file, runs it and writes what becomes of it.
-fn run<A: Allocator, R: Read, W: Write>(
-    alloc: &A,
-    input: &mut R,
-    output: &mut W,
+// What is written of the run of a word file.
+fn run_words<'a, A: Allocator>(
+    alloc: &'a A,
+    file: &[u8],
+    given: &[u8],
     base: u32,
-) -> Result<Exit, FileError>
-    ensures done { result ≡ Ok Exit.Done → IfSome (R.remaining input.old) (λ bytes. (written : List ℕ) × IsRun base bytes written
-        × Appends (W.contents output.old) (W.contents output.new) written) }
-    ensures refused { (refusal : Refusal) → result ≡ Ok (Exit.Refused refusal) → IfSome (R.remaining input.old) (λ bytes.
-        MayBeRefused base bytes refusal × Appends (W.contents output.old) (W.contents output.new) (line_of refusal)) }
+) -> Result<String<&'a A>, Stop<'static, &'a A>>
+    ensures ok { IfOk result (λ lines. IsRun base file.now (string_bytes lines)) }
+    ensures err { IfErr result (Says (MayBeRefused base file.now)) }
 {
-    let bytes = read_all(alloc, input)?;
-    match make_job(alloc, bytes.as_slice(), base) {
-        Ok(job) => {
-            let lines = tell_run(alloc, job)?;
-            write_text(output, lines.as_str())?;
-            Ok(Exit::Done)
-        }
-        Err(NotRun::Refused(refusal)) => {
-            refuse(alloc, output, refusal)?;
-            Ok(Exit::Refused(refusal))
-        }
-        Err(NotRun::OutOfMemory) => Err(FileError::OutOfMemory),
+    let job = make_job(alloc, file, given, base)?;
+    Ok(tell_run(alloc, job)?)
+}
+
+// Runs a word file and writes what becomes of it.
+fn print_run<A: Allocator, W: Write, E: Write, P>(
+    alloc: &A,
+    console: &mut Console<W, E, P>,
+    file: &[u8],
+    given: &[u8],
+    base: u32,
+) -> Exit
+    ensures done { result ≡ Exit.Done → (written : List ℕ) × IsRun base file.now written
+        × Appends (W.contents console.old.output) (W.contents console.new.output) written }
+    ensures refused { (refusal : Refusal) → result ≡ Exit.Refused refusal → Tells (MayBeRefused base file.now) refusal
+        × Appends (W.contents console.old.output) (W.contents console.new.output) (line_of refusal) }
+{
+    match run_words(alloc, file, given, base) {
+        Ok(lines) => finish(console, lines.as_str()),
+        Err(stop) => fail(alloc, console, None, stop),
     }
 }
 
@@ -250,24 +276,80 @@ fn run<A: Allocator, R: Read, W: Write>(
 /// whose pages are all FF. Its rows are counted from the index `base`; its buffer is all 00. The LUN becomes ready without failure after
 /// each poll that says busy.
 ///
-/// `Done`: the output has the lines of the trace (docs/TRACES.md) and then `end CODE`. `Refused`: it has the line
+/// `Done`: the output has the lines of the trace (docs/use/TRACES.md) and then `end CODE`. `Refused`: it has the line
 /// `refused NAME at N`, and nothing was run: an M fault of the file with its word, a V reason against the text with its word, or an
 /// S fault of the job. `FileFault`: the input couldn't be read, or has no end after 1,048,576 reads, or the output
 /// couldn't be written. `ReaderGone`: nobody reads the output any more. `OutOfMemory`: nothing of a trace is written, unless it is the output
 /// that asked for memory.
-pub fn once_on<A: Allocator, R: Read, W: Write>(
+pub fn once_on<A: Allocator, R: Read, W: Write, E: Write, P>(
     alloc: &A,
     input: &mut R,
-    output: &mut W,
+    console: &mut Console<W, E, P>,
     base: u32,
 ) -> Exit
     ensures done { result ≡ Exit.Done → IfSome (R.remaining input.old) (λ bytes. (written : List ℕ) × IsRun base bytes written
-        × Appends (W.contents output.old) (W.contents output.new) written) }
+        × Appends (W.contents console.old.output) (W.contents console.new.output) written) }
     ensures refused { (refusal : Refusal) → result ≡ Exit.Refused refusal → IfSome (R.remaining input.old) (λ bytes.
-        MayBeRefused base bytes refusal × Appends (W.contents output.old) (W.contents output.new) (line_of refusal)) }
+        Tells (MayBeRefused base bytes) refusal × Appends (W.contents console.old.output) (W.contents console.new.output) (line_of refusal)) }
 {
-    match run(alloc, input, output, base) {
-        Ok(exit) => exit,
-        Err(fault) => Exit::from(fault),
+    match read_all(alloc, input) {
+        Ok(bytes) => print_run(alloc, console, bytes.as_slice(), bytes.as_slice(), base),
+        Err(error) => fail(alloc, console, None, Stop::<&A>::of_file(STREAM, error)),
+    }
+}
+
+// The word file that an assembly text spells.
+fn spell_words<'a, A: Allocator>(
+    alloc: &'a A,
+    text: &[u8],
+) -> Result<Vec<u8, &'a A>, Stop<'static, &'a A>>
+    ensures ok { IfOk result (λ file. SpellsFile text.now file.items) }
+    ensures err { IfErr result (Says (RefusesSource text.now)) }
+{
+    let program = read_source(alloc, STREAM, text)?;
+    Ok(write(alloc, &program)?)
+}
+
+// Runs an assembly text and writes what becomes of it.
+fn print_source<A: Allocator, W: Write, E: Write, P>(
+    alloc: &A,
+    console: &mut Console<W, E, P>,
+    text: &[u8],
+    base: u32,
+) -> Exit
+    ensures done { result ≡ Exit.Done → (written : List ℕ) × IsSourceRun base text.now written
+        × Appends (W.contents console.old.output) (W.contents console.new.output) written }
+    ensures refused { (refusal : Refusal) → result ≡ Exit.Refused refusal → Tells (SourceMayBeRefused base text.now) refusal
+        × Appends (W.contents console.old.output) (W.contents console.new.output) (line_of refusal) }
+{
+    match spell_words(alloc, text) {
+        Ok(file) => print_run(alloc, console, file.as_slice(), text, base),
+        Err(stop) => fail(alloc, console, None, stop),
+    }
+}
+
+/// The same of a word file or an assembly text, whichever the input is. Of a text an A fault is told with its line, and else it is run as the word
+/// file that it spells.
+pub fn run_program<A: Allocator, R: Read, W: Write, E: Write, P>(
+    alloc: &A,
+    input: &mut R,
+    console: &mut Console<W, E, P>,
+    base: u32,
+) -> Exit
+    ensures done { result ≡ Exit.Done → (written : List ℕ) × IfSome (R.remaining input.old) (λ bytes. IsProgramRun base bytes written)
+        × Appends (W.contents console.old.output) (W.contents console.new.output) written }
+    ensures refused { (refusal : Refusal) → result ≡ Exit.Refused refusal
+        → IfSome (R.remaining input.old) (λ bytes. Tells (ProgramMayBeRefused base bytes) refusal)
+        × Appends (W.contents console.old.output) (W.contents console.new.output) (line_of refusal) }
+{
+    let bytes = match read_all(alloc, input) {
+        Ok(bytes) => bytes,
+        Err(error) => return fail(alloc, console, None, Stop::<&A>::of_file(STREAM, error)),
+    };
+    let given = bytes.as_slice();
+    if is_source(given) {
+        print_source(alloc, console, given, base)
+    } else {
+        print_run(alloc, console, given, given, base)
     }
 }

@@ -12,6 +12,9 @@ use std::rt;
 // How many names are tried for a file in the making: killed runs may have left some.
 const MOST_NAMES: usize = 1_000;
 
+// What has the path `-`: standard input.
+const STDIN: &str = "/dev/stdin";
+
 /// The files of the system.
 #[derive(Clone, Copy)]
 pub struct RealFiles<'a, R: rt::Files> {
@@ -141,8 +144,8 @@ impl<'a, R: rt::Files> RealFiles<'a, R> {
         file.write_all(bytes)
     }
 
-    // The path of a file itself, behind all links to it.
-    fn behind_links(&self, path: &str) -> io::Result<PathBuf> {
+    // The path of a file itself, all links to it followed.
+    fn resolve_links(&self, path: &str) -> io::Result<PathBuf> {
         self.system.canonicalize(self.alloc, path)
     }
 
@@ -156,7 +159,7 @@ impl<'a, R: rt::Files> RealFiles<'a, R> {
         if self.is_output(old) {
             return Err(io::Error::from(ErrorKind::InvalidInput));
         }
-        let behind = self.behind_links(file.path)?;
+        let behind = self.resolve_links(file.path)?;
         match self.begin_part(behind.as_str(), place) {
             Ok((part, empty)) => {
                 let part = self.fill_part(part, empty, Some(old.permissions()), file.bytes)?;
@@ -281,6 +284,7 @@ impl<'a, R: rt::Files> RealFiles<'a, R> {
 
 impl<'a, R: rt::Files> Files for RealFiles<'a, R> {
     fn read<A: Allocator>(&mut self, alloc: A, path: &str) -> Result<Vec<u8, A>, FileError> {
+        let path = if path == "-" { STDIN } else { path };
         let mut file = fs::open(self.system, path)?;
         let length = length_of(&file);
         read_sized(alloc, &mut file, length)

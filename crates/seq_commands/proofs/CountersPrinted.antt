@@ -1,5 +1,5 @@
 -- The run of a refusal can be printed: all that happens in it is on target 0, whose only LUN is 0.
-use Rattle.std.proofs.Common.{◌≡◌, ℕ, Bool, true, false, cond, ◌&&◌, ◌≤◌, List, [], ◌∷◌, ◌++◌, reverse, take, slice_get, Option, Some, None, is_none, sym, subst, arith}
+use Rattle.std.proofs.Common.{◌≡◌, ℕ, Bool, true, false, cond, ◌&&◌, List, [], ◌∷◌, reverse, take, slice_get, Option, Some, None, is_none, sym, subst, arith}
 use Rattle.std.specs.Prelude.{IfSome}
 use Rattle.std.specs.List.{All, AllByRecursion}
 use Rattle.std.proofs.lemmas.List.{reverse-append}

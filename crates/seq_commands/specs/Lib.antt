@@ -1,2 +1,3 @@
 pub mod Commands
-pub mod Exits
+pub mod Checks
+pub mod Draws

@@ -1,113 +1,183 @@
 //! The command that checks a trace.
-ghost use Rattle.std.specs.Prelude.{◌≡◌, ◌≤◌, true, codes, reverse, List, IfOk, IfErr, OnOk};
+ghost use Rattle.std.specs.Prelude.{◌≡◌, ℕ, List, take, IfOk, IfErr, OnOk, OnErr, codes};
+ghost use Rattle.std.specs.List.{All};
+ghost use Rattle.std.specs.Option.{option_map};
 ghost use Rattle.std.specs.Io.KnownBytes.{Appends};
-ghost use Rattle.onfi_cycle.specs.declared.item.Item.{Item};
-ghost use Rattle.onfi_cycle.specs.Permitted.{is_legal};
-ghost use Rattle.trace_text.specs.Trace.{IsTextOf};
+ghost use Rattle.trace_text.specs.Line.{IsPrintable};
+ghost use Rattle.trace_faults.specs.Faults.{faults_of};
 ghost use Rattle.seq_inputs.specs.declared.refusal.Refusal.{Refusal};
-ghost use Rattle.seq_commands.specs.Commands.{IsLegalTrace, CheckRefuses, RefusesTrace, IsLegalText, count_of};
-ghost use Rattle.seq_inputs.specs.Failures.{Says};
-ghost use Rattle.seq_inputs.specs.Refusals.{line_of};
+ghost use Rattle.seq_inputs.specs.Stops.{Says, RefusesNothing};
+ghost use Rattle.seq_commands.specs.Commands.{count_of};
+ghost use Rattle.seq_commands.specs.Checks.{told_faults, judged_trace, with_copy, IsJudgedText, IsJudged, RefusesTrace, ReadingRefuses, IsLegalTrace, CheckRefuses, CheckLeaves};
 
-use crate::command::Targets;
-use crate::ending::{fail, finish};
-use crate::exit::Exit;
+use crate::check_request::CheckRequest;
+use crate::targets::Targets;
+use crate::telling::{say_summary, tell_faults};
+use crate::traces::{items_of, put_items};
 use nand_geometry::Geometry;
+use onfi_cycle::Item;
 use seq_files::Files;
-use seq_inputs::{Failure, Medium, Refusal, file_of, geometry_at, line_at, str_of, words_of};
-use std::alloc::Allocator;
+use seq_inputs::{
+    Console, Exit, Stop, end_without_memory, fail, finish, geometry_at, read_file, text_of,
+};
+use std::alloc::{AllocError, Allocator};
 use std::io::Write;
-use trace_text::{CheckProgress, CheckRefusal, TraceRefusal, check_watched, parse};
+use trace_faults::{BrokenRule, Readies, complete, find_faults};
+use trace_text::{CheckProgress, CheckRefusal, check_watched};
 
-// Whether the trace of a text is legal.
-fn check_text<A: Allocator + Clone, P: CheckProgress>(
+// The first fault of a trace, alone; none where it is legal.
+fn find_first<A: Allocator, P: CheckProgress>(
     alloc: A,
     progress: &mut P,
-    path: &str,
     geometry: &Geometry,
     targets: Targets,
-    text: &str,
-) -> Result<(), Failure<A>>
-    ensures ok { OnOk result (IsLegalText geometry.now (count_of targets) text.now) }
-    ensures err { IfErr result (Says (RefusesTrace geometry.now (count_of targets) text.now)) }
+    items: &[Item],
+) -> Result<Vec<BrokenRule, A>, AllocError>
+    ensures { IfOk result (λ told. told.items ≡ take 1 (faults_of Readies.Written geometry.now (count_of targets) items.now)) }
 {
-    let items = match parse(alloc.clone()?, text) {
-        Ok(items) => items,
-        Err(TraceRefusal::Fault { fault, line }) => {
-            let refusal = Refusal::Trace { fault, line };
-            return Err(Failure::Refused {
-                refusal,
-                words: words_of(alloc, path, refusal, Some(line_at(text, line))),
-            });
-        }
-        Err(TraceRefusal::OutOfMemory) => return Err(Failure::OutOfMemory),
-    };
-    match check_watched(geometry, targets.count(), items.as_slice(), progress) {
-        Ok(()) => Ok(()),
+    match check_watched(geometry, targets.count(), items, progress) {
+        Ok(()) => Ok(Vec::new(alloc)),
         Err(CheckRefusal::At(item, rule)) => {
-            let refusal = Refusal::Item { rule, item };
-            Err(Failure::Refused {
-                refusal,
-                words: words_of(
-                    alloc,
-                    path,
-                    refusal,
-                    Some(line_at(text, item.saturating_add(1))),
-                ),
-            })
+            let mut told = Vec::new(alloc);
+            told.push(BrokenRule { item, rule })?;
+            Ok(told)
         }
-        Err(CheckRefusal::OutOfMemory) => Err(Failure::OutOfMemory),
+        Err(CheckRefusal::OutOfMemory) => Err(AllocError),
     }
 }
 
-// Reads a page and the text of a trace, and checks.
-fn check_at<A: Allocator + Clone, F: Files, P: CheckProgress>(
+// The faults of a trace that are told.
+fn find_told<A: Allocator, P: CheckProgress>(
+    alloc: A,
+    progress: &mut P,
+    request: CheckRequest<'_>,
+    geometry: &Geometry,
+    items: &[Item],
+) -> Result<Vec<BrokenRule, A>, AllocError>
+    ensures { IfOk result (λ told. told.items ≡ told_faults request.entry geometry.now items.now) }
+{
+    let targets = request.targets;
+    match (request.tells_all, request.readies) {
+        (false, Readies::Written) => find_first(alloc, progress, geometry, targets, items),
+        (false, Readies::Shown) => {
+            let mut faults = find_faults(alloc, geometry, targets.count(), items, Readies::Shown)?;
+            faults.truncate(1);
+            Ok(faults)
+        }
+        (true, readies) => find_faults(alloc, geometry, targets.count(), items, readies),
+    }
+}
+
+// Writes the trace that is judged, where a path is given for it.
+fn copy_trace<'p, A: Allocator + Clone, F: Files>(
+    alloc: A,
+    files: &mut F,
+    request: CheckRequest<'p>,
+    geometry: &Geometry,
+    items: &[Item],
+) -> Result<(), Stop<'p, A>>
+    requires { All IsPrintable items.now }
+    ensures ok { OnOk result (F.store files.new ≡ with_copy (option_map (λ path. path.now) request.entry.copy)
+        (judged_trace request.entry.readies geometry.now (count_of request.entry.targets) items.now) (F.store files.old)) }
+    ensures nothing { IfErr result (λ e. RefusesNothing e) }
+    ensures stays { OnErr result (F.store files.new ≡ F.store files.old) }
+{
+    let Some(path) = request.copy else {
+        return Ok(());
+    };
+    match request.readies {
+        Readies::Written => put_items(alloc, files, path, items),
+        Readies::Shown => {
+            let whole = complete(alloc.clone()?, geometry, request.targets.count(), items)?;
+            put_items(alloc, files, path, whole.as_slice())
+        }
+    }
+}
+
+// Judges the trace of a text, and copies it: the faults that are told.
+fn judge_text<'p, A: Allocator + Clone, F: Files, P: CheckProgress>(
     alloc: A,
     files: &mut F,
     progress: &mut P,
-    page: &str,
-    targets: Targets,
-    input: &str,
-) -> Result<(), Failure<A>>
-    ensures ok { OnOk result (IsLegalTrace (F.store files.old) page.now (count_of targets) input.now) }
-    ensures err { IfErr result (Says (CheckRefuses (F.store files.old) page.now (count_of targets) input.now)) }
-    ensures stays { F.store files.new ≡ F.store files.old }
+    request: CheckRequest<'p>,
+    geometry: &Geometry,
+    text: &str,
+) -> Result<Vec<BrokenRule, A>, Stop<'p, A>>
+    ensures ok { IfOk result (λ told. IsJudgedText (F.store files.old) (F.store files.new) request.entry geometry.now text.now told.items) }
+    ensures err { IfErr result (Says (RefusesTrace text.now)) }
+    ensures stays { OnErr result (F.store files.new ≡ F.store files.old) }
 {
-    let geometry = geometry_at(alloc.clone()?, files, page)?;
-    let bytes = file_of(alloc.clone()?, files, Medium::Input, input)?;
-    let text = str_of(bytes.as_slice())?;
-    check_text(alloc, progress, input, &geometry, targets, text)
+    let items = items_of(alloc.clone()?, request.input, text)?;
+    let told = find_told(
+        alloc.clone()?,
+        progress,
+        request,
+        geometry,
+        items.as_slice(),
+    )?;
+    copy_trace(alloc, files, request, geometry, items.as_slice())?;
+    Ok(told)
+}
+
+// Reads a page and the text of a trace, and judges that: what was read, and the faults that are told.
+fn check_at<'p, A: Allocator + Clone, F: Files, P: CheckProgress>(
+    alloc: A,
+    files: &mut F,
+    progress: &mut P,
+    request: CheckRequest<'p>,
+) -> Result<(Vec<u8, A>, Vec<BrokenRule, A>), Stop<'p, A>>
+    ensures ok { IfOk result (λ found. IsJudged (F.store files.old) (F.store files.new) request.entry found.1.items) }
+    ensures err { IfErr result (Says (ReadingRefuses (F.store files.old) request.entry.page.now request.entry.input.now)) }
+    ensures stays { OnErr result (F.store files.new ≡ F.store files.old) }
+{
+    let geometry = geometry_at(alloc.clone()?, files, request.page)?;
+    let bytes = read_file(alloc.clone()?, files, request.input)?;
+    let text = text_of(request.input, bytes.as_slice())?;
+    let told = judge_text(alloc, files, progress, request, &geometry, text)?;
+    Ok((bytes, told))
 }
 
 /// Checks whether the trace of a text is legal on a channel of so many targets of the geometry of a parameter page.
 ///
 /// `Done`: it is, and `legal` is printed. `Refused`: the line `refused NAME at N` is printed: a P fault of the page; or an X fault of the
-/// text with its line; or the first item that isn't permitted after those before it, with the first rule that it breaks. The text is read
-/// after the page, if that has no fault. `FileFault`: a file couldn't be read, the text isn't UTF-8, or the output couldn't be
-/// written. No file is written. `progress` is told at each million of items that are permitted.
+/// text with its line; or the first item that isn't permitted after those before it, with the first rule that it breaks, and where all faults are
+/// asked for the line of each other one after it. The text is read after the page, if that has no fault. `FileFault`: a file couldn't be read or
+/// written, the text isn't UTF-8, or the output couldn't be written. Where a path is given for it, the trace that is judged is written there before
+/// anything is printed, and no other file is. The console's progress is told at each million of items that are permitted, where the first fault
+/// ends the check of a trace that has its readies.
 pub fn check_trace<A: Allocator + Clone, F: Files, W: Write, E: Write, P: CheckProgress>(
     alloc: A,
     files: &mut F,
-    output: &mut W,
-    errors: &mut E,
-    progress: &mut P,
-    page: &str,
-    targets: Targets,
-    input: &str,
+    console: &mut Console<W, E, P>,
+    request: CheckRequest<'_>,
 ) -> Exit
-    ensures done { result ≡ Exit.Done → IsLegalTrace (F.store files.old) page.now (count_of targets) input.now
-        × Appends (W.contents output.old) (W.contents output.new) (codes "legal\n") }
-    ensures refused { (refusal : Refusal) → result ≡ Exit.Refused refusal
-        → CheckRefuses (F.store files.old) page.now (count_of targets) input.now refusal
-        × Appends (W.contents output.old) (W.contents output.new) (line_of refusal) }
-    ensures stays { F.store files.new ≡ F.store files.old }
+    ensures done { result ≡ Exit.Done → IsLegalTrace (F.store files.old) (F.store files.new) request.entry
+        × Appends (W.contents console.old.output) (W.contents console.new.output) (codes "legal\n") }
+    ensures refused { (refusal : Refusal) → result ≡ Exit.Refused refusal → (printed : List ℕ)
+        × CheckRefuses (F.store files.old) (F.store files.new) request.entry refusal printed
+        × Appends (W.contents console.old.output) (W.contents console.new.output) printed }
+    ensures files { CheckLeaves (F.store files.old) (F.store files.new) request.entry }
 {
-    let alloc_of_lines = match alloc.clone() {
-        Ok(alloc) => alloc,
-        Err(_) => return Exit::OutOfMemory,
+    let copy = match alloc.clone() {
+        Ok(copy) => copy,
+        Err(_) => return end_without_memory(console),
     };
-    match check_at(alloc, files, progress, page, targets, input) {
-        Ok(()) => finish(output, "legal\n"),
-        Err(failure) => fail(alloc_of_lines, output, errors, failure),
+    match check_at(copy, files, &mut console.progress, request) {
+        Ok((text, told)) => match told.as_slice() {
+            [] => {
+                say_summary(&mut console.errors, request.tells_all, text.as_slice(), 0);
+                finish(console, "legal\n")
+            }
+            [first, ..] => tell_faults(
+                alloc,
+                console,
+                request.input,
+                text.as_slice(),
+                *first,
+                told.as_slice(),
+                request.tells_all,
+            ),
+        },
+        Err(stop) => fail(alloc, console, None, stop),
     }
 }

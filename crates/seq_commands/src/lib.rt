@@ -1,25 +1,31 @@
 //! The commands of the program that work on files: what each does to files, what it prints, and how it ends.
 //!
-//! [`carry_out`] does a command; it reads and writes files by [`Files`](seq_files::Files) alone. Each command has a function of its own as well.
-//! What it may be refused for stands in `seq_inputs`; [`Exit`] is that of the whole program.
+//! Each command is a function; it reads and writes files by [`Files`](seq_files::Files) alone, and writes on a [`Console`](seq_inputs::Console). What a
+//! command may be refused for, and how it ends, stands in `seq_inputs`.
 #![tactic(auto)]
 
 mod assembling;
+mod check_request;
 mod checking;
-mod command;
-mod commanding;
 mod disassembling;
-mod ending;
-mod exit;
+mod draw_request;
+mod drawing;
+mod linting;
+mod noting;
+mod tally;
+mod targets;
+mod telling;
+mod traces;
 mod upgrading;
 mod verifying;
 
 pub use assembling::assemble_file;
+pub use check_request::CheckRequest;
 pub use checking::check_trace;
-pub use command::{Command, Targets};
-pub use commanding::{carry_out, carry_out_watched};
 pub use disassembling::disassemble_file;
-pub use ending::refuse;
-pub use exit::Exit;
+pub use draw_request::{DrawForm, DrawRequest};
+pub use drawing::draw_trace;
+pub use linting::{LintOutput, lint_file};
+pub use targets::Targets;
 pub use upgrading::upgrade_file;
 pub use verifying::verify_file;

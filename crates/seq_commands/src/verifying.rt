@@ -1,5 +1,5 @@
-//! The command that verifies a word file.
-ghost use Rattle.std.specs.Prelude.{◌≡◌, ◌++◌, ◌∷◌, [], Some, codes, IfErr, OnOk, OnErr, Option};
+//! The command that verifies a microprogram.
+ghost use Rattle.std.specs.Prelude.{◌≡◌, ◌++◌, ◌∷◌, [], Some, codes, IfOk, IfErr, OnOk, OnErr, Option};
 ghost use Rattle.std.specs.List.{All};
 ghost use Rattle.std.specs.Option.{option_map};
 ghost use Rattle.std.specs.Io.KnownBytes.{Appends};
@@ -12,44 +12,31 @@ ghost use Rattle.seq_inputs.specs.declared.refusal.Refusal.{Refusal};
 ghost use Rattle.micro_verify.specs.Lazy.{Counter as RunValue};
 ghost use Rattle.micro_verify.specs.Playing.{Shown};
 ghost use Rattle.seq_commands.specs.Commands.{IsAccepted, VerifyRefuses, VerifyLeaves, RefusesText, CanBePrinted, with_run};
-ghost use Rattle.seq_inputs.specs.Failures.{SaysElse, RefusesNothing};
+ghost use Rattle.seq_inputs.specs.Stops.{SaysElse, RefusesNothing, Tells};
 ghost use Rattle.seq_inputs.specs.Refusals.{line_of};
 
-use crate::ending::{fail, finish};
-use crate::exit::Exit;
+use crate::noting::say_notes;
+use crate::traces::put_items;
+use micro_program::Verified;
 use micro_verify::{Counter, TextRefused, VerifyRefusal, verify};
 use micro_word::Text;
 use nand_geometry::Geometry;
 use onfi_cycle::Item;
 use seq_files::Files;
-use seq_inputs::{Failure, Refusal, geometry_at, put_file, text_at, words_of_word};
+use seq_inputs::{
+    Console, Exit, Fault, Stop, end_without_memory, fail, finish, geometry_at, read_file,
+    read_program, words_of_reason,
+};
 use std::alloc::Allocator;
 use std::io::Write;
-use trace_text::print;
-
-// Writes items as the text of a trace.
-fn put_items<A: Allocator, F: Files>(
-    alloc: A,
-    files: &mut F,
-    path: &str,
-    items: &[Item],
-) -> Result<(), Failure<A>>
-    requires { All IsPrintable items.now }
-    ensures ok { OnOk result (F.store files.new ≡ with_file (F.store files.old) path.now (text items.now)) }
-    ensures nothing { IfErr result (λ e. RefusesNothing e) }
-    ensures stays { OnErr result (F.store files.new ≡ F.store files.old) }
-{
-    let text = print(alloc, items)?;
-    put_file(files, path, text.as_str().as_bytes())
-}
 
 // Writes a run, with the cycle that isn't permitted after it.
-fn write_run<A: Allocator, F: Files>(
+fn write_run<'p, A: Allocator, F: Files>(
     alloc: A,
     files: &mut F,
-    path: &str,
+    path: &'p str,
     run: Counter<A>,
-) -> Result<(), Failure<A>>
+) -> Result<(), Stop<'p, A>>
     requires { All IsPrintable (run.items.items ++ (Cyc run.cycle ∷ [])) }
     ensures ok { OnOk result (F.store files.new ≡ with_file (F.store files.old) path.now (text (run.items.items ++ (Cyc run.cycle ∷ [])))) }
     ensures nothing { IfErr result (λ e. RefusesNothing e) }
@@ -62,17 +49,17 @@ fn write_run<A: Allocator, F: Files>(
     } = run;
     match items.push(Item::Cyc(cycle)) {
         Ok(()) => put_items(alloc, files, path, items.as_slice()),
-        Err(_) => Err(Failure::OutOfMemory),
+        Err(_) => Err(Stop::OutOfMemory),
     }
 }
 
 // Writes the run of a refusal, if there is one and a path for it.
-fn leave_run<A: Allocator, F: Files>(
+fn leave_run<'p, A: Allocator, F: Files>(
     alloc: A,
     files: &mut F,
-    path: Option<&str>,
+    path: Option<&'p str>,
     run: Option<Counter<A>>,
-) -> Result<(), Failure<A>>
+) -> Result<(), Stop<'p, A>>
     requires { CanBePrinted run }
     ensures ok { OnOk result ((c : Option RunValue) → Shown run c
         → F.store files.new ≡ with_run (option_map (λ path. path.now) path.entry) c (F.store files.old)) }
@@ -86,17 +73,18 @@ fn leave_run<A: Allocator, F: Files>(
 }
 
 // Whether a text is safe for a geometry; the run of its refusal is left at a path.
-fn accept<A: Allocator + Clone, F: Files>(
+fn accept<'p, A: Allocator + Clone, F: Files>(
     alloc: A,
     files: &mut F,
-    path: &str,
+    path: &'p str,
+    bytes: &[u8],
     text: Text<A>,
     geometry: Geometry,
-    counter: Option<&str>,
-) -> Result<(), Failure<A>>
-    ensures safe { OnOk result (IsSafe text geometry) }
-    ensures faultless { OnOk result (fault_of geometry text ≡ None) }
-    ensures stays { OnOk result (F.store files.new ≡ F.store files.old) }
+    counter: Option<&'p str>,
+) -> Result<Verified<A>, Stop<'p, A>>
+    ensures safe { IfOk result (λ v. IsSafe text geometry) }
+    ensures faultless { IfOk result (λ v. fault_of geometry text ≡ None) }
+    ensures stays { IfOk result (λ v. F.store files.new ≡ F.store files.old) }
     ensures err { IfErr result (SaysElse (RefusesText geometry text (option_map
         (λ path. path.now) counter.entry) (F.store files.old) (F.store files.new)) (F.store files.new ≡ F.store files.old)) }
 {
@@ -104,7 +92,7 @@ fn accept<A: Allocator + Clone, F: Files>(
         Ok(verified) => {
             // The call hands out that the text is safe.
             let _ = verified.text();
-            return Ok(());
+            return Ok(verified);
         }
         Err(refused) => refused,
     };
@@ -115,64 +103,83 @@ fn accept<A: Allocator + Clone, F: Files>(
             counter: run,
         } => {
             leave_run(alloc.clone()?, files, counter, run)?;
-            let refusal = Refusal::Text { reason, word };
-            Err(Failure::Refused {
-                refusal,
-                words: words_of_word(alloc, path, refusal, &text),
-            })
+            let words = words_of_reason(alloc, path, bytes, &text, &geometry, word, reason);
+            Err(Stop::refused(Fault::Text { reason, word }, words))
         }
-        VerifyRefusal::OutOfMemory => Err(Failure::OutOfMemory),
+        VerifyRefusal::OutOfMemory => Err(Stop::OutOfMemory),
     }
 }
 
-// Reads a page and a word file, and verifies; the run of a refusal is left at a path.
-fn verify_at<A: Allocator + Clone, F: Files>(
+/// Reads a page and a microprogram, and verifies: what was read, and what is verified. The run of a refusal is left at a path.
+pub(crate) fn verify_at<'p, A: Allocator + Clone, F: Files>(
     alloc: A,
     files: &mut F,
-    page: &str,
-    input: &str,
-    counter: Option<&str>,
-) -> Result<(), Failure<A>>
-    ensures ok { OnOk result (IsAccepted (F.store files.old) page.now input.now) }
-    ensures stays { OnOk result (F.store files.new ≡ F.store files.old) }
+    page: &'p str,
+    input: &'p str,
+    counter: Option<&'p str>,
+) -> Result<(Vec<u8, A>, Verified<A>), Stop<'p, A>>
+    ensures ok { IfOk result (λ found. IsAccepted (F.store files.old) page.now input.now) }
+    ensures stays { IfOk result (λ found. F.store files.new ≡ F.store files.old) }
     ensures err { IfErr result (SaysElse (VerifyRefuses (F.store files.old) (F.store files.new) page.now input.now (option_map
         (λ path. path.now) counter.entry)) (F.store files.new ≡ F.store files.old)) }
 {
     let geometry = geometry_at(alloc.clone()?, files, page)?;
-    let text = text_at(alloc.clone()?, files, input)?;
-    accept(alloc, files, input, text, geometry, counter)
+    let bytes = read_file(alloc.clone()?, files, input)?;
+    let text = read_program(alloc.clone()?, input, bytes.as_slice())?;
+    let verified = accept(
+        alloc,
+        files,
+        input,
+        bytes.as_slice(),
+        text,
+        geometry,
+        counter,
+    )?;
+    Ok((bytes, verified))
 }
 
-/// Verifies a word file for the geometry of a parameter page.
+/// Verifies a microprogram, as a word file or an assembly text, for the geometry of a parameter page.
 ///
 /// `Done`: the page declares a geometry, the file is that of a microprogram which is safe for it, and `accepted` is printed. `Refused`: the
-/// line `refused CODE at N` is printed: a P fault of the page; or an M fault of the file with its word; or a V reason against
-/// the text with its word. The file is read after the page, if that has no fault. Where the refusal has its run (docs/PROOF.md) and a path
+/// line `refused CODE at N` is printed: a P fault of the page; or an M fault of a word file with its word, or an A fault of a text with its line; or a V reason against
+/// the text with its word. The file is read after the page, if that has no fault. Where the refusal has its run (docs/model/PROOF.md) and a path
 /// is given for it, the text of the run stands there before the line is printed: what happens up to the refused word, and the cycle that
 /// isn't permitted then, so that `check` of it names the rule. `FileFault`: a file couldn't be read or written, or the output couldn't be
-/// written. No other file is written.
-pub fn verify_file<A: Allocator + Clone, F: Files, W: Write, E: Write>(
+/// written. No other file is written. After `accepted` the notes to it, if there are some, are said on the console's errors, unless it is to be quiet.
+pub fn verify_file<A: Allocator + Clone, F: Files, W: Write, E: Write, P>(
     alloc: A,
     files: &mut F,
-    output: &mut W,
-    errors: &mut E,
+    console: &mut Console<W, E, P>,
     page: &str,
     input: &str,
     counter: Option<&str>,
+    is_quiet: bool,
 ) -> Exit
     ensures done { result ≡ Exit.Done → IsAccepted (F.store files.old) page.now input.now × (F.store files.new ≡ F.store files.old)
-        × Appends (W.contents output.old) (W.contents output.new) (codes "accepted\n") }
+        × Appends (W.contents console.old.output) (W.contents console.new.output) (codes "accepted\n") }
     ensures refused { (refusal : Refusal) → result ≡ Exit.Refused refusal
-        → VerifyRefuses (F.store files.old) (F.store files.new) page.now input.now (option_map (λ path. path.now) counter.entry) refusal
-        × Appends (W.contents output.old) (W.contents output.new) (line_of refusal) }
+        → Tells (VerifyRefuses (F.store files.old) (F.store files.new) page.now input.now (option_map (λ path. path.now) counter.entry)) refusal
+        × Appends (W.contents console.old.output) (W.contents console.new.output) (line_of refusal) }
     ensures files { VerifyLeaves (F.store files.old) (F.store files.new) page.now input.now (option_map (λ path. path.now) counter.entry) }
 {
-    let alloc_of_lines = match alloc.clone() {
-        Ok(alloc) => alloc,
-        Err(_) => return Exit::OutOfMemory,
+    let copy = match alloc.clone() {
+        Ok(copy) => copy,
+        Err(_) => return end_without_memory(console),
     };
-    match verify_at(alloc, files, page, input, counter) {
-        Ok(()) => finish(output, "accepted\n"),
-        Err(failure) => fail(alloc_of_lines, output, errors, failure),
+    match verify_at(copy, files, page, input, counter) {
+        Ok((bytes, verified)) => {
+            let exit = finish(console, "accepted\n");
+            if !is_quiet && matches!(exit, Exit::Done) {
+                say_notes(
+                    alloc,
+                    &mut console.errors,
+                    input,
+                    bytes.as_slice(),
+                    &verified,
+                );
+            }
+            exit
+        }
+        Err(stop) => fail(alloc, console, None, stop),
     }
 }

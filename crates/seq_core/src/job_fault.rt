@@ -8,19 +8,19 @@ use thiserror::Error;
 #[derive(Clone, Copy, Debug, PartialEq, Eq, Error)]
 pub enum JobFault {
     /// The channel has no such LUN.
-    #[error("the LUN isn't there")]
+    #[error("there is no such LUN")]
     NoSuchLun,
     /// A row of the job is outside the geometry.
-    #[error("a row of the job is outside the geometry")]
+    #[error("the rows are outside the die: the base and the rows in the header come to more than the rows of a plane")]
     RowsOutside,
     /// The buffer hasn't the length that the text names.
-    #[error("the buffer hasn't the length that the text names")]
+    #[error("the buffer isn't as long as the header says")]
     BufferLength,
     /// The text was verified for another geometry.
-    #[error("the text was verified for another geometry")]
+    #[error("the program was verified for another die")]
     OtherGeometry,
     /// The text continues a cache read, and the job doesn't begin with a block.
-    #[error("the text continues a cache read, and the job doesn't begin with a block")]
+    #[error("the program continues a cache read, and its base isn't the first row of a block")]
     NotAtBlock,
 }
 

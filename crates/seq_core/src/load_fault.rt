@@ -14,7 +14,7 @@ pub enum LoadFault {
     #[error("the LUN isn't there, or isn't the job's")]
     OtherLun,
     /// The text was verified for another geometry.
-    #[error("the text was verified for another geometry")]
+    #[error("the program was verified for another die")]
     OtherGeometry,
 }
 

@@ -5,7 +5,7 @@ ghost use Rattle.seq_core.specs.Progress.{five_bytes, registers_after, fresh_reg
 use micro_word::Word;
 use nand_geometry::Geometry;
 
-/// What the words done have set (docs/WORDS.md). The index stops at its greatest number, which no geometry has.
+/// What the words done have set (docs/use/WORDS.md). The index stops at its greatest number, which no geometry has.
 #[derive(Clone, Copy, Debug, PartialEq, Eq)]
 pub(crate) struct Registers {
     pub column: u16,

@@ -4,7 +4,7 @@ ghost use Rattle.std.specs.Io.KnownBytes.{Consumes, IsAtEnd};
 ghost use Rattle.std.specs.IoError.{error_kind};
 ghost use Rattle.seq_files.specs.Errors.{after_failure};
 
-use crate::error::FileError;
+use crate::error::{FileError, FileFault};
 use std::alloc::Allocator;
 use std::io::{Error, ErrorKind, Read};
 
@@ -21,7 +21,7 @@ fn after_failure(error: &Error) -> Result<bool, FileError>
     match error.kind() {
         ErrorKind::Interrupted => Ok(false),
         ErrorKind::OutOfMemory => Err(FileError::OutOfMemory),
-        _ => Err(FileError::Fault),
+        kind => Err(FileError::Fault(FileFault::of(kind))),
     }
 }
 
@@ -65,5 +65,5 @@ pub fn read_sized<A: Allocator, R: Read>(
             return Ok(bytes);
         }
     }
-    Err(FileError::Fault)
+    Err(FileError::Fault(FileFault::NoEnd))
 }

@@ -12,7 +12,7 @@ mod new_file;
 mod output;
 mod slow_streams;
 
-pub use error::{FileError, NotWritten};
+pub use error::{FileError, FileFault, NotWritten};
 pub use files::Files;
 pub use input::{read_all, read_sized};
 pub use map_files::MapFiles;

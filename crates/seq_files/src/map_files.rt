@@ -4,7 +4,7 @@ ghost use Rattle.seq_files.specs.declared.map_files.KeptFile.{KeptFile};
 ghost use Rattle.seq_files.specs.Store.{Holds, with_file, with_all, written_of};
 ghost use Rattle.seq_files.specs.Kept.{files_in};
 
-use crate::error::{FileError, NotWritten};
+use crate::error::{FileError, FileFault, NotWritten};
 use crate::files::Files;
 use crate::new_file::NewFile;
 use std::alloc::{AllocError, Allocator, Global};
@@ -127,7 +127,7 @@ impl Files for MapFiles {
         self.call()?;
         match self.get(path) {
             Some(bytes) => Ok(bytes.to_vec(alloc)?),
-            None => Err(FileError::Fault),
+            None => Err(FileError::Fault(FileFault::NotFound)),
         }
     }
 

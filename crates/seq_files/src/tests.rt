@@ -1,8 +1,8 @@
 ghost use Rattle.std.specs.Prelude.{◌≤◌, length};
 
 use crate::{
-    FileError, Files, MapFiles, NewFile, NotWritten, SlowReader, SlowWriter, read_all, read_sized,
-    write_text,
+    FileError, FileFault, Files, MapFiles, NewFile, NotWritten, SlowReader, SlowWriter, read_all,
+    read_sized, write_text,
 };
 use std::alloc::Global;
 use std::io::{self, Read};
@@ -24,7 +24,12 @@ fn expect(
 #[test]
 fn files_in_memory(rt: HostRuntime) -> Result<(), Fail> {
     let mut files = MapFiles::new(rt.alloc());
-    expect(&rt, &mut files, "a", Err(FileError::Fault));
+    expect(
+        &rt,
+        &mut files,
+        "a",
+        Err(FileError::Fault(FileFault::NotFound)),
+    );
     files.put("a", b"one")?;
     assert_eq!(rt; files.write("b", b"two"), Ok(()));
     assert_eq!(rt; files.write("a", b"three"), Ok(()));
@@ -59,7 +64,7 @@ fn write_twice(
 fn several_files_at_once(rt: HostRuntime) -> Result<(), Fail> {
     let mut files = MapFiles::new(rt.alloc());
     files.put("a", b"one")?;
-    let error = FileError::Fault;
+    let error = FileError::Fault(FileFault::StorageFull);
     files.fail_at(1, error);
     let refused = write_twice(&mut files, "a", b"twothree", 3);
     assert_eq!(rt; refused, Err(NotWritten { file: 1, error }));
@@ -79,8 +84,11 @@ fn calls_that_fail(rt: HostRuntime) -> Result<(), Fail> {
     expect(&rt, &mut files, "a", Ok(b"one".as_slice()));
     assert_eq!(rt; files.write("a", b"two"), Err(FileError::OutOfMemory));
     expect(&rt, &mut files, "a", Ok(b"one".as_slice()));
-    files.fail_at(0, FileError::Fault);
-    assert_eq!(rt; files.write("b", b"two"), Err(FileError::Fault));
+    files.fail_at(0, FileError::Fault(FileFault::PermissionDenied));
+    assert_eq!(rt;
+        files.write("b", b"two"),
+        Err(FileError::Fault(FileFault::PermissionDenied))
+    );
     assert_eq!(rt; files.write("b", b"two"), Ok(()));
     assert_eq!(rt; files.calls(), 2);
     Ok(())
@@ -89,7 +97,18 @@ fn calls_that_fail(rt: HostRuntime) -> Result<(), Fail> {
 #[test]
 fn errors_are_told(rt: HostRuntime) -> Result<(), Fail> {
     for (error, words) in [
-        (FileError::Fault, "it can't be read or written"),
+        (
+            FileError::Fault(FileFault::Unknown),
+            "it can't be read or written",
+        ),
+        (
+            FileError::Fault(FileFault::NotText { at: 17 }),
+            "it isn't UTF-8 text: the byte at offset 17 begins no character",
+        ),
+        (
+            FileError::Fault(FileFault::NoEnd),
+            "it has no end, or is a stream of more than 512 MiB",
+        ),
         (FileError::ReaderGone, "nobody reads it any more"),
         (FileError::OutOfMemory, "out of memory"),
     ] {
@@ -118,8 +137,11 @@ fn inputs_are_read_whole(rt: HostRuntime) -> Result<(), Fail> {
 fn failed_reads(rt: HostRuntime) {
     for bad in 0..37 {
         for (kind, want) in [
-            (io::ErrorKind::Other, FileError::Fault),
-            (io::ErrorKind::BrokenPipe, FileError::Fault),
+            (io::ErrorKind::Other, FileError::Fault(FileFault::Unknown)),
+            (
+                io::ErrorKind::BrokenPipe,
+                FileError::Fault(FileFault::Unknown),
+            ),
             (io::ErrorKind::OutOfMemory, FileError::OutOfMemory),
         ] {
             let mut slow = SlowReader::new(&BYTES, bad, kind);
@@ -146,12 +168,12 @@ impl Read for Endless {
 fn an_input_without_an_end(rt: HostRuntime) {
     let mut endless = Endless { calls: 0 };
     let read = read_all(rt.alloc(), &mut endless);
-    assert_eq!(rt; read.err(), Some(FileError::Fault));
+    assert_eq!(rt; read.err(), Some(FileError::Fault(FileFault::NoEnd)));
     assert_eq!(rt; endless.calls, 1_048_576);
     // As many reads more as the bytes take that are said to come.
     let mut endless = Endless { calls: 0 };
     let read = read_sized(rt.alloc(), &mut endless, 51_200);
-    assert_eq!(rt; read.err(), Some(FileError::Fault));
+    assert_eq!(rt; read.err(), Some(FileError::Fault(FileFault::NoEnd)));
     assert_eq!(rt; endless.calls, 1_048_676);
 }
 
@@ -174,7 +196,7 @@ fn failed_writes(rt: HostRuntime) {
     // Four writes and the flush.
     for bad in 0..5 {
         for (kind, want) in [
-            (io::ErrorKind::Other, FileError::Fault),
+            (io::ErrorKind::Other, FileError::Fault(FileFault::Unknown)),
             (io::ErrorKind::BrokenPipe, FileError::ReaderGone),
             (io::ErrorKind::OutOfMemory, FileError::OutOfMemory),
         ] {

@@ -1,4 +1,5 @@
-pub mod Failures
+pub mod Exits
 pub mod Inputs
 pub mod Lines
 pub mod Refusals
+pub mod Stops

@@ -1,234 +1,268 @@
-//! What is wrong with a file, in words for whoever wrote it.
+//! What is wrong with a file, in words for whoever wrote it: `FILE:LINE: word N, `WORD`: what is wrong (CODE)`, as far as there is a line and a word.
 
-use crate::refusal::Refusal;
+use crate::fault::Fault;
+use crate::reading::is_source;
 use micro_asm::{AsmFault, AsmMessage, AsmRefusal, disassemble};
-use micro_claims::Reason;
+use micro_claims::{Fault as TextFault, Reason};
+use micro_explain::{Cause, explain};
 use micro_word::{Text, WordFault};
+use nand_geometry::Geometry;
+use onfi_cycle::Forbidden;
 use seq_core::JobFault;
-use shown_text::Shown;
+use shown_text::{Shown, line_at};
 use std::alloc::Allocator;
 use std::fmt;
+use trace_text::{TraceFault, TraceMessage, TraceRefusal};
 
-// What is wrong with a word file.
-fn word_fault_text(fault: WordFault) -> &'static str {
+impl fmt::Display for Fault {
+    fn fmt<W: fmt::Write>(&self, f: &mut fmt::Formatter<W>) -> fmt::Result {
+        match self {
+            Fault::Page { fault } => write!(f, "{fault}"),
+            Fault::Source { fault, .. } => write!(f, "{fault}"),
+            Fault::File { fault, .. } => write!(f, "{fault}"),
+            Fault::Text { reason, .. } => write!(f, "{reason}"),
+            Fault::Job { fault } => write!(f, "{fault}"),
+            Fault::Trace { fault, .. } => write!(f, "{fault}"),
+            Fault::Item { rule, .. } => write!(f, "{rule}"),
+            Fault::Image { fault } => write!(f, "{fault}"),
+            Fault::Statement { fault } => write!(f, "{fault}"),
+        }
+    }
+}
+
+/// What is wrong with the file of this path as a whole, in words, unless there is no memory for them.
+pub fn words_of<A: Allocator>(alloc: A, path: &str, fault: Fault) -> Option<String<A>> {
+    format!(in alloc; "{}: {fault} ({})", Shown::path(path), fault.code()).ok()
+}
+
+// What the number of a word file's fault is of, if it is of something.
+fn place_of(fault: WordFault, word: usize) -> Option<&'static str> {
     match fault {
-        WordFault::TooShort => "the file is shorter than its header of 16 bytes",
-        WordFault::UnknownFormat => "the file begins with neither NMP1 nor NMP2",
-        WordFault::TooManyWords =>
-            "the header names more than 1024 words, or more than the file has",
-        WordFault::UnknownCode => "no word has this code",
-        WordFault::UnusedFieldSet => "a byte that this word doesn't use isn't 0",
-        WordFault::OutOfRange => "a number is out of its range",
-        WordFault::TrailingBytes => "the file goes on after its last word",
-    }
-}
-
-// What is against a text.
-fn reason_text(reason: Reason) -> &'static str {
-    match reason {
-        Reason::NoWords => "the program has no words",
-        Reason::LoopUnpaired => "a `loop` or a `next` has no partner",
-        Reason::LoopsTooDeep => "loops are nested deeper than four",
-        Reason::BranchMisplaced => "the branch leads back, or into or out of a loop",
-        Reason::LastWordNotEnd => "the last word isn't `end`",
-        Reason::CycleForbidden => {
-            "this cycle isn't permitted here: the open command doesn't want it, or the LUN may be busy"
-        }
-        Reason::AddressUnaligned =>
-            "these aren't the address bytes that the open command wants next",
-        Reason::HandoverInSequence => "the bus would be let go in the middle of a command sequence",
-        Reason::BufferPassed => "the program may go past the end of its buffer",
-        Reason::RowOrPlaneOutside => "a row or a plane may be outside the die",
-        Reason::ColumnTooLarge => "a column may be past the end of the page or of the register",
-        Reason::NoStatus => "no status may have been read before this branch",
-        Reason::EndsTooSoon => {
-            "the program may end while its LUN is busy, has a row queued or reads a cache, or in the middle of a command sequence"
-        }
-        Reason::OverBudget => "the bus cycles up to here are more than the budget in the header",
-        Reason::CommandNotAllowed => "programs may not use this command on this die",
-    }
-}
-
-/// Who gives the row from which a job is counted: an option of `once`, on a die of 32 rows, or a line of a run file.
-#[derive(Clone, Copy, Debug, PartialEq, Eq)]
-pub enum BaseGiver {
-    CommandLine,
-    RunFile,
-}
-
-// What is wrong with a job.
-fn job_fault_text(fault: JobFault, giver: BaseGiver) -> &'static str {
-    match fault {
-        JobFault::NoSuchLun => "there is no such LUN",
-        JobFault::RowsOutside if giver == BaseGiver::RunFile => {
-            "the rows are outside the die: BASE and the rows in the header come to more than the rows of a plane"
-        }
-        JobFault::RowsOutside => {
-            "the rows are outside the die: --base and the rows in the header come to more than 32"
-        }
-        JobFault::BufferLength => "the buffer isn't as long as the header says",
-        JobFault::OtherGeometry => "the program was checked for another die",
-        JobFault::NotAtBlock if giver == BaseGiver::RunFile => {
-            "the program continues a cache read, and BASE isn't the first row of a block"
-        }
-        JobFault::NotAtBlock =>
-            "the program continues a cache read, and --base isn't the first row of a block",
-    }
-}
-
-// What stands in front of the number that a refusal names, if it names one.
-fn place_text(refusal: Refusal) -> Option<&'static str> {
-    match refusal {
         // The header's numbers are told as word 0's.
-        Refusal::File {
-            fault: WordFault::OutOfRange,
-            word: 0,
-        } => Some("the header or word"),
-        Refusal::File {
-            fault: WordFault::UnknownCode | WordFault::UnusedFieldSet | WordFault::OutOfRange,
-            ..
-        } => Some("word"),
-        Refusal::Text {
-            reason: Reason::NoWords,
-            ..
-        } => None,
-        Refusal::Text { .. } => Some("word"),
-        Refusal::Source { .. } | Refusal::Trace { .. } => Some("line"),
-        Refusal::Item { .. } => Some("item"),
-        Refusal::Page { .. } | Refusal::File { .. } | Refusal::Job { .. } => None,
+        WordFault::OutOfRange if word == 0 => Some("the header or word"),
+        WordFault::UnknownCode | WordFault::UnusedFieldSet | WordFault::OutOfRange => Some("word"),
+        WordFault::TooShort
+        | WordFault::UnknownFormat
+        | WordFault::TooManyWords
+        | WordFault::TrailingBytes => None,
     }
 }
 
-// Writes what a refusal means.
-fn write_meaning<W: fmt::Write>(
-    f: &mut fmt::Formatter<W>,
-    refusal: Refusal,
-    giver: BaseGiver,
-) -> fmt::Result {
-    match refusal {
-        Refusal::Page { fault } => write!(f, "{fault}"),
-        Refusal::Source { fault, .. } => write!(f, "{fault}"),
-        Refusal::File { fault, .. } => f.write_str(word_fault_text(fault)),
-        Refusal::Text { reason, .. } => f.write_str(reason_text(reason)),
-        Refusal::Job { fault } => f.write_str(job_fault_text(fault, giver)),
-        Refusal::Trace { fault, .. } => write!(f, "{fault}"),
-        Refusal::Item { rule, .. } => write!(f, "{rule}"),
-    }
-}
-
-/// What a refusal means, with the number that it names, if it names one.
-#[derive(Clone, Copy)]
-pub struct Meaning {
-    pub refusal: Refusal,
-    pub giver: BaseGiver,
-}
-
-impl fmt::Display for Meaning {
-    fn fmt<W: fmt::Write>(&self, f: &mut fmt::Formatter<W>) -> fmt::Result {
-        let Meaning { refusal, giver } = *self;
-        if let Some(place) = place_text(refusal) {
-            write!(f, "{place} {}: ", refusal.number())?;
-        }
-        write_meaning(f, refusal, giver)
-    }
-}
-
-impl fmt::Display for Refusal {
-    fn fmt<W: fmt::Write>(&self, f: &mut fmt::Formatter<W>) -> fmt::Result {
-        let meaning = Meaning {
-            refusal: *self,
-            giver: BaseGiver::CommandLine,
-        };
-        write!(f, "{meaning}")
-    }
-}
-
-/// A refusal for whoever wrote the file: its path, what the code is told of, what stands there if it is known, and what the code means.
-#[derive(Clone, Copy)]
-pub struct Explained<'a> {
-    pub path: &'a str,
-    pub refusal: Refusal,
-    pub shown: Option<&'a str>,
-}
-
-impl fmt::Display for Explained<'_> {
-    fn fmt<W: fmt::Write>(&self, f: &mut fmt::Formatter<W>) -> fmt::Result {
-        let refusal = self.refusal;
-        write!(f, "{}: ", Shown::path(self.path))?;
-        if let Some(place) = place_text(refusal) {
-            write!(f, "{place} {}", refusal.number())?;
-            if let Some(shown) = self.shown {
-                write!(f, ", `{}`", Shown::line(shown))?;
-            }
-            f.write_str(": ")?;
-        }
-        write_meaning(f, refusal, BaseGiver::CommandLine)?;
-        write!(f, " ({})", refusal.code())
-    }
-}
-
-/// A refusal in words, unless there is no memory for them.
-pub fn words_of<A: Allocator>(
+/// What is wrong with a word file.
+pub fn words_of_file<A: Allocator>(
     alloc: A,
     path: &str,
-    refusal: Refusal,
-    shown: Option<&str>,
+    bytes: &[u8],
+    fault: WordFault,
+    word: usize,
 ) -> Option<String<A>> {
-    let explained = Explained {
-        path,
-        refusal,
-        shown,
-    };
-    format!(in alloc; "{explained}").ok()
-}
-
-/// A line of a text, counted from 1; empty if there is none.
-pub fn line_at(text: &str, line: usize) -> &str {
-    let mut left = line;
-    for piece in text.split('\n') {
-        if left <= 1 {
-            return piece;
-        }
-        left -= 1;
+    let path = Shown::path(path);
+    let code = fault.code();
+    if is_source(bytes) {
+        return format!(in alloc;
+            "{path}: it is an assembly text, where a word file is wanted: `onfiseq asm` makes one ({code})"
+        ).ok();
     }
-    ""
+    match place_of(fault, word) {
+        Some(place) => format!(in alloc; "{path}: {place} {word}: {fault} ({code})").ok(),
+        None => format!(in alloc; "{path}: {fault} ({code})").ok(),
+    }
 }
 
-// The line of a word in the assembly of a text: three lines are the header's, and labels end with a colon.
-fn word_line(assembly: &str, word: usize) -> Option<&str> {
-    let mut left = word;
-    for line in assembly.split('\n').skip(3) {
-        if line.ends_with(':') {
+/// What is wrong with a line of an assembly text.
+pub fn words_of_source<A: Allocator>(
+    alloc: A,
+    path: &str,
+    text: &str,
+    fault: AsmFault,
+    line: usize,
+) -> Option<String<A>> {
+    let message = AsmMessage::new(AsmRefusal::Fault { fault, line }, text);
+    format!(in alloc; "{}:{line}: {message}", Shown::path(path)).ok()
+}
+
+/// What is wrong with a line of the text of a trace.
+pub fn words_of_trace<A: Allocator>(
+    alloc: A,
+    path: &str,
+    text: &str,
+    fault: TraceFault,
+    line: usize,
+) -> Option<String<A>> {
+    let message = TraceMessage::new(TraceRefusal::Fault { fault, line }, text);
+    format!(in alloc; "{}:{line}: {message}", Shown::path(path)).ok()
+}
+
+/// Which rule an item of a trace breaks, whose text has an item a line.
+pub fn words_of_item<A: Allocator>(
+    alloc: A,
+    path: &str,
+    text: &str,
+    rule: Forbidden,
+    item: usize,
+) -> Option<String<A>> {
+    let path = Shown::path(path);
+    let line = item.saturating_add(1);
+    let shown = Shown::line(line_at(text, line));
+    format!(in alloc;
+        "{path}:{line}: item {item}, `{shown}`: {rule} ({})",
+        rule.code()
+    )
+    .ok()
+}
+
+// What a line of an assembly text says, its comment left out.
+fn statement_of(line: &str) -> &str {
+    match line.split_once(';') {
+        Some((statement, _)) => statement.trim(),
+        None => line.trim(),
+    }
+}
+
+// Whether a statement is a header line or a word, and no label.
+fn is_word(statement: &str) -> bool {
+    !statement.is_empty() && !statement.ends_with(':')
+}
+
+// The line of a word in an assembly text, counted from 1, and what stands there. The three lines of the header come first.
+fn find_word(assembly: &str, word: usize) -> Option<(usize, &str)> {
+    let mut left = word.saturating_add(3);
+    for (place, line) in assembly.split('\n').enumerate() {
+        let statement = statement_of(line);
+        if !is_word(statement) {
             continue;
         }
         if left == 0 {
-            return Some(line);
+            return Some((place.saturating_add(1), statement));
         }
         left -= 1;
     }
     None
 }
 
-/// A refusal of a word in words, with the word as assembly.
-pub fn words_of_word<A: Allocator + Clone>(
-    alloc: A,
-    path: &str,
-    refusal: Refusal,
-    text: &Text<A>,
-) -> Option<String<A>> {
-    let assembly = disassemble(alloc.clone().ok()?, text).ok()?;
-    let shown = word_line(assembly.as_str(), refusal.number());
-    words_of(alloc, path, refusal, shown)
+// A word of a microprogram: its file and the line there, its number, and what stands there, as far as that is known.
+#[derive(Clone, Copy)]
+struct Named<'a> {
+    path: &'a str,
+    line: Option<usize>,
+    word: usize,
+    shown: Option<&'a str>,
 }
 
-/// A refusal of an assembly text in words.
-pub fn words_of_source<A: Allocator>(
+impl fmt::Display for Named<'_> {
+    fn fmt<W: fmt::Write>(&self, f: &mut fmt::Formatter<W>) -> fmt::Result {
+        write!(f, "{}", Shown::path(self.path))?;
+        if let Some(line) = self.line {
+            write!(f, ":{line}")?;
+        }
+        write!(f, ": word {}", self.word)?;
+        match self.shown {
+            Some(shown) => write!(f, ", `{}`", Shown::line(shown)),
+            None => Ok(()),
+        }
+    }
+}
+
+// What is against a word that is named so, and what stands behind it, if that is known; of V7 with the rule that the cycle would break.
+fn say_reason<A: Allocator>(
+    alloc: A,
+    named: Named<'_>,
+    reason: Reason,
+    cause: Option<Cause>,
+) -> Option<String<A>> {
+    let code = reason.code();
+    let Some(cause) = cause else {
+        return format!(in alloc; "{named}: {reason} ({code})").ok();
+    };
+    match cause.rule() {
+        None => format!(in alloc; "{named}: {reason}: {cause} ({code})").ok(),
+        Some(rule) => {
+            format!(in alloc; "{named}: {reason}: {cause} ({code}, {})", rule.code()).ok()
+        }
+    }
+}
+
+/// What is against a word of a microprogram that was read from these bytes: an assembly text, or a word file, whose word is shown as assembly.
+pub fn words_of_reason<A: Allocator + Clone>(
     alloc: A,
     path: &str,
-    fault: AsmFault,
-    line: usize,
-    text: &str,
+    bytes: &[u8],
+    text: &Text<A>,
+    geometry: &Geometry,
+    word: usize,
+    reason: Reason,
 ) -> Option<String<A>> {
-    let message = AsmMessage::new(AsmRefusal::Fault { fault, line }, text);
-    format!(in alloc; "{}: {message}", Shown::path(path)).ok()
+    if reason == Reason::NoWords {
+        return words_of(alloc, path, Fault::Text { reason, word });
+    }
+    let alloc_of_words = alloc.clone().ok()?;
+    let assembly = disassemble(alloc, text).ok()?;
+    let named = name_word(path, bytes, assembly.as_str(), word);
+    let cause = explain(text, geometry, TextFault { word, reason });
+    say_reason(alloc_of_words, named, reason, cause)
+}
+
+/// A note to a microprogram that was read from these bytes and has this text as assembly: to one of its words, or to its header.
+pub fn words_of_note<A: Allocator, M: fmt::Display + Drop>(
+    alloc: A,
+    path: &str,
+    bytes: &[u8],
+    assembly: &str,
+    word: Option<usize>,
+    note: M,
+    code: &'static str,
+) -> Option<String<A>> {
+    match word {
+        Some(word) => {
+            let named = name_word(path, bytes, assembly, word);
+            format!(in alloc; "{named}: {note} ({code})").ok()
+        }
+        None => format!(in alloc; "{}: {note} ({code})", Shown::path(path)).ok(),
+    }
+}
+
+// A word of a microprogram that has these bytes, and this text as assembly.
+fn name_word<'a>(path: &'a str, bytes: &'a [u8], assembly: &'a str, word: usize) -> Named<'a> {
+    let source = match str::from_utf8(bytes) {
+        Ok(source) if is_source(bytes) => Some(source),
+        Ok(_) | Err(_) => None,
+    };
+    let (line, shown) = match source {
+        Some(source) => find_word(source, word).unzip(),
+        None => (None, find_word(assembly, word).map(|found| found.1)),
+    };
+    Named {
+        path,
+        line,
+        word,
+        shown,
+    }
+}
+
+/// What is wrong with the job of a program of so many rows, counted from this index, on a die of this geometry.
+pub fn words_of_job<A: Allocator>(
+    alloc: A,
+    path: &str,
+    fault: JobFault,
+    geometry: &Geometry,
+    base: u32,
+    rows: u16,
+) -> Option<String<A>> {
+    let path = Shown::path(path);
+    let code = fault.code();
+    match fault {
+        JobFault::RowsOutside => format!(in alloc;
+            "{path}: {fault}: {base} and {rows}, where a plane has {} ({code})",
+            geometry.indices()
+        )
+        .ok(),
+        JobFault::NotAtBlock => format!(in alloc;
+            "{path}: {fault}: {base}, where a block has {} rows ({code})",
+            geometry.parts().pages
+        )
+        .ok(),
+        JobFault::NoSuchLun | JobFault::BufferLength | JobFault::OtherGeometry => {
+            format!(in alloc; "{path}: {fault} ({code})").ok()
+        }
+    }
 }

@@ -1,21 +1,31 @@
-//! What the program reads: parameter pages, word files and their microprograms, and what is wrong with one that is refused.
+//! What every command of the program stands on: what it reads and what is wrong with that, where it writes, and how it ends.
 //!
-//! Files are read by [`Files`](seq_files::Files) alone. A [`Refusal`] has its code and its number, and the line that says them; a [`Failure`]
-//! explains it in words ([`Explained`]).
+//! Files are read by [`Files`](seq_files::Files) alone: parameter pages, word files, and microprograms as an assembly text or a word file. A
+//! [`Fault`] has its code and its number; a [`Refusal`] is one that a command tells, and has the line that says it; a [`Stop`] is why a command isn't done,
+//! with words for people. [`fail`] and [`finish`] end a command on its [`Console`], and an [`Exit`] has the status.
 #![tactic(auto)]
 
+mod console;
+mod ending;
+mod exit;
 mod explaining;
-mod failure;
-mod given;
+mod fault;
 mod lines;
-mod medium;
+mod reading;
 mod refusal;
+mod stop;
 
+pub use console::Console;
+pub use ending::{end_without_memory, fail, finish, finish_refused, say_words};
+pub use exit::Exit;
 pub use explaining::{
-    BaseGiver, Explained, Meaning, line_at, words_of, words_of_source, words_of_word,
+    words_of, words_of_item, words_of_job, words_of_note, words_of_reason, words_of_trace,
 };
-pub use failure::Failure;
-pub use given::{file_of, geometry_at, put_file, str_of, text_at, verified_at};
+pub use fault::Fault;
 pub use lines::push_end_line;
-pub use medium::Medium;
+pub use reading::{
+    geometry_at, is_source, read_file, read_program, read_source, read_words, text_of, verified_at,
+    words_at, write_file,
+};
 pub use refusal::Refusal;
+pub use stop::{MOST_BUFFER_BYTES, Stop};

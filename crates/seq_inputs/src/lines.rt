@@ -1,21 +1,19 @@
 //! The lines that the program writes.
-ghost use Rattle.std.specs.Prelude.{◌≡◌, ◌++◌, OnOk, IfOk};
+ghost use Rattle.std.specs.Prelude.{◌≡◌, ◌++◌, OnOk};
 ghost use Rattle.std.specs.String.{string_bytes};
 ghost use Rattle.seq_inputs.specs.Lines.{refusal_line, end_line};
 
 use std::alloc::{AllocError, Allocator};
 
-/// The line of a refusal.
-pub fn refusal_line<A: Allocator>(
-    alloc: A,
+/// Adds the line of a refusal.
+pub fn push_refusal_line<A: Allocator>(
+    text: &mut String<A>,
     code: &str,
     number: usize,
-) -> Result<String<A>, AllocError>
-    ensures { IfOk result (λ line. string_bytes line ≡ refusal_line code.now number) }
+) -> Result<(), AllocError>
+    ensures { OnOk result (string_bytes text.new ≡ string_bytes text.old ++ refusal_line code.now number) }
 {
-    let mut line = String::new(alloc);
-    writeln!(&mut line, "refused {code} at {number}")?;
-    Ok(line)
+    writeln!(text, "refused {code} at {number}")
 }
 
 /// Adds the line of the code with which a program ended.

@@ -1,69 +1,43 @@
-//! What is wrong with a file.
-ghost use Rattle.std.specs.Prelude.{IfOk, ◌≡◌};
+//! What a command refuses.
+ghost use Rattle.std.specs.Prelude.{◌≡◌, ◌++◌, IfOk, OnOk};
 ghost use Rattle.std.specs.String.{string_bytes};
-ghost use Rattle.seq_inputs.specs.Refusals.{line_of, code_of, number_of};
+ghost use Rattle.seq_inputs.specs.Refusals.{line_of, number_of};
 
-use crate::lines::refusal_line;
-use micro_asm::AsmFault;
-use micro_claims::Reason;
-use micro_word::WordFault;
-use nand_geometry::PageFault;
-use onfi_cycle::Forbidden;
-use seq_core::JobFault;
+use crate::fault::Fault;
+use crate::lines::push_refusal_line;
 use std::alloc::{AllocError, Allocator};
-use trace_text::TraceFault;
 
-/// What is wrong with a file.
+/// What a command refuses: what is wrong with a file, and the line of the run file that names it, counted from 1, if one does.
 #[derive(Clone, Copy, Debug, PartialEq, Eq)]
-pub enum Refusal {
-    /// It isn't a parameter page.
-    Page { fault: PageFault },
-    /// It isn't the assembly text of a microprogram, at this line, counted from 1.
-    Source { fault: AsmFault, line: usize },
-    /// It isn't the file of a microprogram.
-    File { fault: WordFault, word: usize },
-    /// Its text isn't one that is run.
-    Text { reason: Reason, word: usize },
-    /// Its job isn't one of the channel.
-    Job { fault: JobFault },
-    /// It isn't the text of a trace, at this line, counted from 1.
-    Trace { fault: TraceFault, line: usize },
-    /// Its trace isn't legal, by this rule first, at this item, counted from 0.
-    Item { rule: Forbidden, item: usize },
+pub struct Refusal {
+    pub fault: Fault,
+    pub line: Option<usize>,
 }
 
 impl Refusal {
-    /// The code that says what is wrong.
-    pub fn code(self) -> &'static str
-        ensures { result.now ≡ code_of self }
-    {
-        match self {
-            Refusal::Page { fault } => fault.code(),
-            Refusal::Source { fault, .. } => fault.code(),
-            Refusal::File { fault, .. } => fault.code(),
-            Refusal::Text { reason, .. } => reason.code(),
-            Refusal::Job { fault } => fault.code(),
-            Refusal::Trace { fault, .. } => fault.code(),
-            Refusal::Item { rule, .. } => rule.code(),
-        }
-    }
-
-    /// The number of the line, the word or the item; 0 where there is none.
+    /// The number that is told: the line of the run file, or else that of the line, the word or the item in the file.
     pub fn number(self) -> usize
         ensures { result ≡ number_of self }
     {
-        match self {
-            Refusal::Page { .. } | Refusal::Job { .. } => 0,
-            Refusal::Source { line, .. } | Refusal::Trace { line, .. } => line,
-            Refusal::File { word, .. } | Refusal::Text { word, .. } => word,
-            Refusal::Item { item, .. } => item,
+        match self.line {
+            Some(line) => line,
+            None => self.fault.number(),
         }
     }
 
+    /// Adds the line that says it.
+    pub fn push_line<A: Allocator>(self, lines: &mut String<A>) -> Result<(), AllocError>
+        ensures { OnOk result (string_bytes lines.new ≡ string_bytes lines.old ++ line_of self) }
+    {
+        push_refusal_line(lines, self.fault.code(), self.number())
+    }
+
     /// The line that says it.
-    pub fn line<A: Allocator>(self, alloc: A) -> Result<String<A>, AllocError>
+    pub fn text<A: Allocator>(self, alloc: A) -> Result<String<A>, AllocError>
         ensures { IfOk result (λ line. string_bytes line ≡ line_of self) }
     {
-        refusal_line(alloc, self.code(), self.number())
+        let mut line = String::new(alloc);
+        self.push_line(&mut line)?;
+        Ok(line)
     }
 }

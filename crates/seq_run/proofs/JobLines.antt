@@ -12,8 +12,7 @@ use Rattle.micro_program.specs.Program.{Job as TheJob}
 use Rattle.seq_core.specs.Job.{job_fault, job_of}
 use Rattle.seq_run.specs.Setup.{IsJobOf}
 use Rattle.seq_core.specs.declared.job_fault.JobFault.{JobFault}
-use Rattle.seq_run.specs.declared.refusal.PlanFault.TheVariants.{File}
-use Rattle.seq_inputs.specs.declared.refusal.Refusal.TheVariants.{Job}
+use Rattle.seq_inputs.specs.declared.fault.Fault.TheVariants.{Job}
 use Rattle.seq_inputs.specs.Inputs.{HasText}
 use Rattle.seq_run.specs.Judged.{HasInput, JobPasses, JobLineIsRefused, fault_of_job}
 
@@ -22,7 +21,7 @@ same_fault g targets l base v n o same fits is =
     subst (λ (h : Parts). job_fault g targets l base (record { text = v.text; geometry = h }) v.text.buffer ≡ o) same
     (subst (λ (m : ℕ). job_fault g targets l base v m ≡ o) fits is)
 
-pub job_refused : (files : Option Store) (g : Parts) (targets : ℕ) (l : Lun) (base : ℕ) (text : List ℕ) (input : Option (List ℕ)) (v : VerifiedText) (n : ℕ) (buffer : List ℕ) (fault : JobFault) → HasText files g text v.text → v.geometry ≡ g → HasInput files input v.text.buffer buffer → n ≡ v.text.buffer → job_fault g targets l base v n ≡ Some fault → JobLineIsRefused files g targets l base text input (File (Job fault))
+pub job_refused : (files : Option Store) (g : Parts) (targets : ℕ) (l : Lun) (base : ℕ) (text : List ℕ) (input : Option (List ℕ)) (v : VerifiedText) (n : ℕ) (buffer : List ℕ) (fault : JobFault) → HasText files g text v.text → v.geometry ≡ g → HasInput files input v.text.buffer buffer → n ≡ v.text.buffer → job_fault g targets l base v n ≡ Some fault → JobLineIsRefused files g targets l base text input (Job fault)
 job_refused files g targets l base text input v n buffer fault has_text same has_input fits is =
     inr (inr (v.text, has_text, (buffer, has_input), same_fault g targets l base v n (Some fault) same fits is))
 

@@ -5,9 +5,9 @@ pub mod JobLines
 pub mod Endings
 pub mod Happening
 pub mod Printing
+pub mod Refusing
 pub mod Resting
 pub mod FilesMade
 pub mod Outcomes
-pub mod OfFiles
 pub mod JobPlans
 pub mod Settings

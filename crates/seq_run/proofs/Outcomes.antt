@@ -1,5 +1,5 @@
 -- What has come of a plan has come of the run file that was planned.
-use Rattle.std.proofs.Common.{◌≡◌, ◌⊎◌, List, [], ◌++◌, ℕ, ◌*◌, true, length, drop, reverse, Option, Result, Ok, Err, OnOk, OnErr, refl, sym, ap, ◌∙◌, subst, inl, inr}
+use Rattle.std.proofs.Common.{◌≡◌, ◌⊎◌, List, [], ◌++◌, ℕ, ◌*◌, true, length, drop, reverse, Option, Some, None, Result, Ok, Err, OnOk, OnErr, refl, sym, ap, ◌∙◌, subst, inl, inr}
 use Rattle.std.proofs.lemmas.List.{append-nil}
 use Rattle.std.specs.Option.{option_copied}
 use Rattle.seq_files.specs.Store.{Store, Holds, Written, with_all}
@@ -18,11 +18,11 @@ use Rattle.seq_run.specs.declared.job_ends.EndedJob.{EndedJob}
 use Rattle.seq_run.specs.Setup.{SetsUp, erased}
 use Rattle.seq_run.specs.Written.{buffers_of, images_of, trace_at, printed_trace, codes_of}
 use Rattle.seq_run.specs.Runs.{Outcome, ShowsAll, IsOutcomeOf, IsPlanned, IsRunDone, RunMayLeave, HappenedAsPlanned, IsSetUpFrom, writes_of, lines_of}
-use Rattle.seq_run.specs.declared.refusal.PlanFault.{PlanFault}
-use Rattle.seq_run.specs.declared.refusal.PlanRefusal.{PlanRefusal}
-use Rattle.seq_run.specs.declared.not_run.NotRun.{NotRun}
-use Rattle.seq_run.specs.declared.not_run.NotRun.TheVariants as not_run
-use Rattle.seq_run.specs.Failures.{Refuses, RefusesNothing, Tells}
+use Rattle.seq_inputs.specs.declared.fault.Fault.{Fault}
+use Rattle.seq_inputs.specs.declared.refusal.Refusal.{Refusal}
+use Rattle.seq_inputs.specs.declared.stop.Stop.{Stop}
+use Rattle.seq_inputs.specs.declared.stop.Stop.TheVariants.{Refused, FileFault, ReaderGone, BuffersTooLarge, OutOfMemory}
+use Rattle.seq_inputs.specs.Stops.{refusal_in, SaysAt, TellsAt, RefusesNothing}
 
 pub is_planned : (files : Option Store) (request : RunRequest) (text : List ℕ) (plan : RunPlan) (o : Outcome) → Holds files request.path.now text → PlanPasses files (told text) plan.dies.geometry plan.dies.targets → planned_outputs plan.jobs.all.items ≡ outputs_of (drop 2 (told text).statements) → planned_images plan.images.items ≡ images_in plan.dies.geometry (drop 2 (told text).statements) → IsSetUpFrom files plan.dies.geometry plan.dies.targets (drop 2 (told text).statements) plan → IsOutcomeOf plan o → IsPlanned files request o
 is_planned files request text plan o is_there passes outputs images setup is = record {
@@ -137,16 +137,26 @@ written_leaves request text plan files now later same is_there is (inr (o, of_pl
 })
 
 -- what is told is refused
-pub told_refused : (May : PlanFault → ℕ → Type 0) (refusal : PlanRefusal) (r : NotRun) → Tells refusal r → Refuses May r → May refusal.fault refusal.line
-told_refused May refusal (not_run.Refused other path) same h = subst (λ (p : PlanRefusal). May p.fault p.line) (sym same) h
-told_refused May refusal (not_run.FileFault path) same h = absurd same
-told_refused May refusal not_run.ReaderGone same h = absurd same
-told_refused May refusal (not_run.BuffersTooLarge bytes line) same h = absurd same
-told_refused May refusal not_run.OutOfMemory same h = absurd same
+some_same : (r s : Refusal) → Some r ≡ Some s → r ≡ s
+some_same r s h = cc
 
-pub nothing_told : (refusal : PlanRefusal) (r : NotRun) → Tells refusal r → RefusesNothing r → ⊥
-nothing_told refusal (not_run.Refused other path) same h = h
-nothing_told refusal (not_run.FileFault path) same h = same
-nothing_told refusal not_run.ReaderGone same h = same
-nothing_told refusal (not_run.BuffersTooLarge bytes line) same h = same
-nothing_told refusal not_run.OutOfMemory same h = same
+no_refusal : (r : Refusal) → None ≡ Some r → ⊥
+no_refusal r h = cc
+
+told_here : {A : Type 0} (May : Fault → ℕ → Type 0) (refusal : Refusal) (r : Stop A) → refusal_in r ≡ Some refusal → SaysAt May r → TellsAt May refusal
+told_here May refusal (Refused other words) same h = subst (TellsAt May) (some_same other refusal same) h
+told_here May refusal (FileFault path fault line) same h = absurd (no_refusal refusal same)
+told_here May refusal ReaderGone same h = absurd (no_refusal refusal same)
+told_here May refusal (BuffersTooLarge bytes line) same h = absurd (no_refusal refusal same)
+told_here May refusal OutOfMemory same h = absurd (no_refusal refusal same)
+
+-- the same where its words are others
+pub told_refused : {A : Type 0} (May : Fault → ℕ → Type 0) (refusal : Refusal) (r s : Stop A) → refusal_in s ≡ refusal_in r → refusal_in s ≡ Some refusal → SaysAt May r → TellsAt May refusal
+told_refused May refusal r s same is h = told_here May refusal r (sym same ∙ is) h
+
+pub nothing_told : {A : Type 0} (refusal : Refusal) (r : Stop A) → refusal_in r ≡ Some refusal → RefusesNothing r → ⊥
+nothing_told refusal (Refused other words) same h = h
+nothing_told refusal (FileFault path fault line) same h = no_refusal refusal same
+nothing_told refusal ReaderGone same h = no_refusal refusal same
+nothing_told refusal (BuffersTooLarge bytes line) same h = no_refusal refusal same
+nothing_told refusal OutOfMemory same h = no_refusal refusal same

@@ -7,22 +7,20 @@ use Rattle.nand_geometry.specs.declared.parts.Parts.{Parts}
 use Rattle.run_file.specs.declared.refusal.RunRefusal.{RunRefusal}
 use Rattle.run_file.specs.declared.statement.Numbered.{Numbered as Written}
 use Rattle.run_file.specs.Shown.{shown_statement, shown_numbered, shown_all}
-use Rattle.seq_run.specs.declared.refusal.PlanFault.{PlanFault}
-use Rattle.seq_run.specs.declared.refusal.PlanFault.TheVariants.{Line}
-use Rattle.seq_run.specs.declared.failure.Failure.{Failure}
-use Rattle.seq_run.specs.declared.failure.Failure.TheVariants as failure
-use Rattle.seq_run.specs.declared.not_run.NotRun.{NotRun}
-use Rattle.seq_run.specs.declared.not_run.NotRun.TheVariants as not_run
-use Rattle.seq_run.specs.Failures.{most_buffer_bytes, Says, Refuses, IsAt}
+use Rattle.seq_inputs.specs.declared.fault.Fault.{Fault}
+use Rattle.seq_inputs.specs.declared.fault.Fault.TheVariants.{Statement as Line}
+use Rattle.seq_inputs.specs.declared.stop.Stop.{Stop}
+use Rattle.seq_inputs.specs.declared.stop.Stop.TheVariants.{Refused, FileFault, ReaderGone, BuffersTooLarge, OutOfMemory}
+use Rattle.seq_inputs.specs.Stops.{Says, SaysAt, stop_at}
 use Rattle.seq_run.specs.Planned.{image_in, images_in}
 use Rattle.seq_run.specs.Judged.{Numbered, Passes, IsRefused, IsRefusedAt, RestIsRefused, RestPasses, page_of, targets_of, AfterPageIsRefused, PageStatementIsRefused, PlanPasses, PlanIsRefused}
-use Rattle.seq_inputs.specs.Inputs.{HasPage}
+use Rattle.seq_inputs.specs.Inputs.{HasPage, PageIsRefused}
 use Rattle.seq_run.proofs.Lists.{front_more}
 use Rattle.run_file.specs.Told.{Told}
 
 -- where the statements that are left are refused or pass, so do all
 pub record LeadsTo (files : Option Store) (g : Parts) (targets : ℕ) (last : Option RunRefusal) (left whole : List Numbered) : Type 0 where
-  pub refused : (fault : PlanFault) (line : ℕ) → RestIsRefused files g targets left last fault line → RestIsRefused files g targets whole last fault line
+  pub refused : (fault : Fault) (line : ℕ) → RestIsRefused files g targets left last fault line → RestIsRefused files g targets whole last fault line
   pub passes : RestPasses files g targets left last → RestPasses files g targets whole last
 
 pub begins : (files : Option Store) (g : Parts) (targets : ℕ) (last : Option RunRefusal) (whole : List Numbered) → LeadsTo files g targets last whole whole
@@ -35,15 +33,15 @@ goes_on files g targets last s rest whole passes leads =
     record { refused = λ fault line h. leads.refused fault line (inr (passes, h)); passes = λ h. leads.passes (passes, h) }
 
 -- a refusal of what is left is one of the whole
-refused_more : (May More : PlanFault → ℕ → Type 0) (r : NotRun) → ((fault : PlanFault) (line : ℕ) → May fault line → More fault line) → Refuses May r → Refuses More r
-refused_more May More (not_run.Refused refusal p) more h = more refusal.fault refusal.line h
-refused_more May More (not_run.FileFault p) more h = tt
-refused_more May More not_run.ReaderGone more h = tt
-refused_more May More (not_run.BuffersTooLarge bytes line) more h = h
-refused_more May More not_run.OutOfMemory more h = tt
+refused_more : {A : Type 0} (May More : Fault → ℕ → Type 0) (r : Stop A) → ((fault : Fault) (line : ℕ) → May fault line → More fault line) → SaysAt May r → SaysAt More r
+refused_more May More (Refused refusal words) more (line, h, at) = (line, more refusal.fault line h, at)
+refused_more May More (FileFault path fault line) more h = tt
+refused_more May More ReaderGone more h = tt
+refused_more May More (BuffersTooLarge bytes line) more h = h
+refused_more May More OutOfMemory more h = tt
 
 -- the first of the statements that are left is refused
-pub stops : (files : Option Store) (g : Parts) (targets : ℕ) (last : Option RunRefusal) (s : Numbered) (rest whole : List Numbered) (r : NotRun) → LeadsTo files g targets last (s ∷ rest) whole → Refuses (IsRefusedAt files g targets s) r → Refuses (RestIsRefused files g targets whole last) r
+pub stops : {A : Type 0} (files : Option Store) (g : Parts) (targets : ℕ) (last : Option RunRefusal) (s : Numbered) (rest whole : List Numbered) (r : Stop A) → LeadsTo files g targets last (s ∷ rest) whole → SaysAt (IsRefusedAt files g targets s) r → SaysAt (RestIsRefused files g targets whole last) r
 unfolding RestIsRefused
 stops files g targets last s rest whole r leads h =
     refused_more (IsRefusedAt files g targets s) (RestIsRefused files g targets whole last) r (λ fault line is. leads.refused fault line (inl is)) h
@@ -59,38 +57,24 @@ unfolding RestIsRefused
 ends_refused files g targets r whole leads = leads.refused (Line r.fault) r.line (refl, refl)
 
 -- what is said of a statement is said of its line
-said_at : (May : PlanFault → ℕ → Type 0) (e : Failure) (line : ℕ) (r : NotRun) → IsAt e line r → Says (λ fault. May fault line) e → Refuses May r
-said_at May (failure.Fault fault path) line (not_run.Refused refusal p) at says = subst (λ (n : ℕ). May refusal.fault n) (sym at.1) (subst (λ (f : PlanFault). May f line) (sym at.0) says)
-said_at May (failure.Fault fault path) line (not_run.FileFault p) at says = absurd at
-said_at May (failure.Fault fault path) line not_run.ReaderGone at says = absurd at
-said_at May (failure.Fault fault path) line (not_run.BuffersTooLarge told l) at says = absurd at
-said_at May (failure.Fault fault path) line not_run.OutOfMemory at says = absurd at
-said_at May (failure.FileFault path) line (not_run.Refused refusal p) at says = absurd at
-said_at May (failure.FileFault path) line (not_run.FileFault p) at says = tt
-said_at May (failure.FileFault path) line not_run.ReaderGone at says = absurd at
-said_at May (failure.FileFault path) line (not_run.BuffersTooLarge told l) at says = absurd at
-said_at May (failure.FileFault path) line not_run.OutOfMemory at says = absurd at
-said_at May (failure.BuffersTooLarge bytes) line (not_run.Refused refusal p) at says = absurd at
-said_at May (failure.BuffersTooLarge bytes) line (not_run.FileFault p) at says = absurd at
-said_at May (failure.BuffersTooLarge bytes) line not_run.ReaderGone at says = absurd at
-said_at May (failure.BuffersTooLarge bytes) line (not_run.BuffersTooLarge told l) at says = subst (λ (n : ℕ). most_buffer_bytes < n) (sym at.0) says
-said_at May (failure.BuffersTooLarge bytes) line not_run.OutOfMemory at says = absurd at
-said_at May failure.OutOfMemory line (not_run.Refused refusal p) at says = absurd at
-said_at May failure.OutOfMemory line (not_run.FileFault p) at says = absurd at
-said_at May failure.OutOfMemory line not_run.ReaderGone at says = absurd at
-said_at May failure.OutOfMemory line (not_run.BuffersTooLarge told l) at says = absurd at
-said_at May failure.OutOfMemory line not_run.OutOfMemory at says = tt
-
-said_more : (P Q : PlanFault → Type 0) (e : Failure) → ((fault : PlanFault) → P fault → Q fault) → Says P e → Says Q e
-said_more P Q (failure.Fault fault path) more says = more fault says
-said_more P Q (failure.FileFault path) more says = tt
-said_more P Q (failure.BuffersTooLarge bytes) more says = says
-said_more P Q failure.OutOfMemory more says = tt
+said_at : {A : Type 0} (P : Fault → Type 0) (Q : Fault → ℕ → Type 0) (e : Stop A) (line : ℕ) → ((fault : Fault) → P fault → Q fault line) → Says P e → SaysAt Q (stop_at e line)
+said_at P Q (Refused refusal words) line more says = (line, more refusal.fault says.0, refl)
+said_at P Q (FileFault path fault at) line more says = tt
+said_at P Q ReaderGone line more says = tt
+said_at P Q (BuffersTooLarge bytes at) line more says = says
+said_at P Q OutOfMemory line more says = tt
 
 -- a statement is refused with its line
-pub refused_there : (files : Option Store) (g : Parts) (targets : ℕ) (s : Numbered) (e : Failure) (r : NotRun) → IsAt e s.0 r → Says (IsRefused files g targets s.1) e → Refuses (IsRefusedAt files g targets s) r
+pub refused_there : {A : Type 0} (files : Option Store) (g : Parts) (targets : ℕ) (s : Numbered) (e r : Stop A) → r ≡ stop_at e s.0 → Says (IsRefused files g targets s.1) e → SaysAt (IsRefusedAt files g targets s) r
 refused_there files g targets s e r at says =
-    said_at (IsRefusedAt files g targets s) e s.0 r at (said_more (IsRefused files g targets s.1) (λ fault. IsRefusedAt files g targets s fault s.0) e (λ fault is. (is, refl)) says)
+    subst (λ t. SaysAt (IsRefusedAt files g targets s) t) (sym at) (said_at (IsRefused files g targets s.1) (IsRefusedAt files g targets s) e s.0 (λ fault is. (is, refl)) says)
+
+-- the page is refused with its line
+pub page_there : {A : Type 0} (files : Option Store) (told : Told) (page : ℕ × List ℕ) (e r : Stop A) → page_of told.statements ≡ Some page → r ≡ stop_at e page.0 → Says (PageIsRefused files page.1) e → SaysAt (PlanIsRefused files told) r
+page_there files told page e r first at says =
+    subst (λ t. SaysAt (PlanIsRefused files told) t) (sym at)
+    (said_at (PageIsRefused files page.1) (PlanIsRefused files told) e page.0
+    (λ fault is. subst (λ (o : Option (ℕ × List ℕ)). PageStatementIsRefused files o told fault page.0) (sym first) (inl (is, refl))) says)
 
 -- ---- a statement by its place
 
@@ -106,13 +90,13 @@ passes_on files now g h targets n last xs k d inside same_files same_geometry sa
     (subst (λ (s : Option Store). Passes s h n (shown_statement (get_or xs k d).statement)) same_files passes)))
     (subst (λ (l : List Numbered). LeadsTo files g targets last l (shown_all xs)) (from_place xs k d inside) leads)
 
-pub stops_here : (files now : Option Store) (g h : Parts) (targets n : ℕ) (last : Option RunRefusal) (xs : List Written) (k : ℕ) (d : Written) (r : NotRun) → k < length xs → now ≡ files → h ≡ g → n ≡ targets → Refuses (IsRefusedAt now h n (shown_numbered (get_or xs k d))) r → LeadsTo files g targets last (shown_all (drop k xs)) (shown_all xs) → Refuses (RestIsRefused files g targets (shown_all xs) last) r
+pub stops_here : {A : Type 0} (files now : Option Store) (g h : Parts) (targets n : ℕ) (last : Option RunRefusal) (xs : List Written) (k : ℕ) (d : Written) (r : Stop A) → k < length xs → now ≡ files → h ≡ g → n ≡ targets → SaysAt (IsRefusedAt now h n (shown_numbered (get_or xs k d))) r → LeadsTo files g targets last (shown_all (drop k xs)) (shown_all xs) → SaysAt (RestIsRefused files g targets (shown_all xs) last) r
 stops_here files now g h targets n last xs k d r inside same_files same_geometry same_targets refused leads =
     stops files g targets last (shown_numbered (get_or xs k d)) (shown_all (drop (k + 1) xs)) (shown_all xs) r
     (subst (λ (l : List Numbered). LeadsTo files g targets last l (shown_all xs)) (from_place xs k d inside) leads)
-    (subst (λ (m : ℕ). Refuses (IsRefusedAt files g m (shown_numbered (get_or xs k d))) r) same_targets
-    (subst (λ (p : Parts). Refuses (IsRefusedAt files p n (shown_numbered (get_or xs k d))) r) same_geometry
-    (subst (λ (s : Option Store). Refuses (IsRefusedAt s h n (shown_numbered (get_or xs k d))) r) same_files refused)))
+    (subst (λ (m : ℕ). SaysAt (IsRefusedAt files g m (shown_numbered (get_or xs k d))) r) same_targets
+    (subst (λ (p : Parts). SaysAt (IsRefusedAt files p n (shown_numbered (get_or xs k d))) r) same_geometry
+    (subst (λ (s : Option Store). SaysAt (IsRefusedAt s h n (shown_numbered (get_or xs k d))) r) same_files refused)))
 
 -- nothing is left
 pub none_left : (xs : List Written) (k : ℕ) → length xs ≤ k → shown_all (drop k xs) ≡ []
@@ -166,7 +150,7 @@ plan_passes_at files told page g h targets n rest same_geometry same_targets fir
     subst (λ (p : Parts). PlanPasses files told p n) (sym same_geometry)
     (subst (λ (m : ℕ). PlanPasses files told g m) (sym same_targets) (plan_passes files told page g targets rest first has_page second is passes))
 
-pub plan_refused : (files : Option Store) (told : Told) (page : ℕ × List ℕ) (g : Parts) (targets : ℕ) (rest : List Numbered) (r : NotRun) → page_of told.statements ≡ Some page → HasPage files page.1 g → targets_of told.statements ≡ Some targets → rest ≡ drop 2 told.statements → Refuses (RestIsRefused files g targets rest told.fault) r → Refuses (PlanIsRefused files told) r
+pub plan_refused : {A : Type 0} (files : Option Store) (told : Told) (page : ℕ × List ℕ) (g : Parts) (targets : ℕ) (rest : List Numbered) (r : Stop A) → page_of told.statements ≡ Some page → HasPage files page.1 g → targets_of told.statements ≡ Some targets → rest ≡ drop 2 told.statements → SaysAt (RestIsRefused files g targets rest told.fault) r → SaysAt (PlanIsRefused files told) r
 plan_refused files told page g targets rest r first has_page second is refused =
     refused_more (RestIsRefused files g targets rest told.fault) (PlanIsRefused files told) r
     (λ fault line h.

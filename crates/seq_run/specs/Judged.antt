@@ -7,16 +7,14 @@ use Rattle.die_model.specs.Loading.{image_fault}
 use Rattle.micro_word.specs.Text.{Microprogram}
 use Rattle.seq_core.specs.Job.{job_fault}
 use Rattle.seq_core.specs.declared.job_fault.JobFault.{JobFault}
-use Rattle.seq_inputs.specs.declared.refusal.Refusal.TheVariants.{Job as JobRefusal}
 use Rattle.seq_inputs.specs.Inputs.{HasPage, PageIsRefused, HasText, FileOrTextIsRefused}
 use Rattle.run_file.specs.declared.refusal.RunFault.TheVariants.{OutOfOrder, NoSuchLun, InputTooLong}
 use Rattle.run_file.specs.declared.refusal.RunRefusal.{RunRefusal}
 use Rattle.run_file.specs.Line.{Statement}
 use Rattle.run_file.specs.Line.{Page as PageLine, Targets as TargetsLine, Image as ImageLine, Job as JobLine, Polls as PollsLine, Fail as FailLine}
 use Rattle.run_file.specs.Told.{Told}
-use Rattle.seq_run.specs.declared.refusal.PlanFault.{PlanFault}
-use Rattle.seq_run.specs.declared.refusal.PlanFault.TheVariants.{Line, Image, File}
-use Rattle.seq_run.specs.Failures.{OfFile}
+use Rattle.seq_inputs.specs.declared.fault.Fault.{Fault}
+use Rattle.seq_inputs.specs.declared.fault.Fault.TheVariants.{Statement as Line, Image, Job as JobFaultOf}
 
 -- ---- the files
 
@@ -25,7 +23,7 @@ abbrev pub HasImage : Option Store → Parts → List ℕ → Type 0
 HasImage files g path = (bytes : List ℕ) × Holds files path bytes × (image_fault g bytes ≡ None)
 
 -- the image at a path has this fault
-abbrev pub ImageIsRefused : Option Store → Parts → List ℕ → PlanFault → Type 0
+abbrev pub ImageIsRefused : Option Store → Parts → List ℕ → Fault → Type 0
 ImageIsRefused files g path (Image fault) = (bytes : List ℕ) × Holds files path bytes × (image_fault g bytes ≡ Some fault)
 ImageIsRefused files g path _ = ⊥
 
@@ -35,7 +33,7 @@ HasInput files None n buffer = buffer ≡ replicate n 0
 HasInput files (Some path) n buffer = (bytes : List ℕ) × Holds files path bytes × (length bytes ≤ n) × (buffer ≡ bytes ++ replicate (n - length bytes) 0)
 
 -- the input is longer than the buffer
-abbrev pub InputIsRefused : Option Store → Option (List ℕ) → ℕ → PlanFault → Type 0
+abbrev pub InputIsRefused : Option Store → Option (List ℕ) → ℕ → Fault → Type 0
 InputIsRefused files (Some path) n (Line InputTooLong) = (bytes : List ℕ) × Holds files path bytes × (n < length bytes)
 InputIsRefused files input n _ = ⊥
 
@@ -49,7 +47,7 @@ abbrev pub lun_at : ℕ → ℕ → Lun
 lun_at target lun = record { ce = target; lun = lun }
 
 -- the channel hasn't
-abbrev pub LunIsRefused : Parts → ℕ → ℕ → ℕ → PlanFault → Type 0
+abbrev pub LunIsRefused : Parts → ℕ → ℕ → ℕ → Fault → Type 0
 LunIsRefused g targets target lun (Line NoSuchLun) = has_lun g targets target lun ≡ false
 LunIsRefused g targets target lun _ = ⊥
 
@@ -58,8 +56,8 @@ abbrev pub fault_of_job : Parts → ℕ → Lun → ℕ → Microprogram → ℕ
 fault_of_job g targets l base x n = job_fault g targets l base (record { text = x; geometry = g }) n
 
 -- the job of a microprogram has this fault
-abbrev pub JobIsRefused : Parts → ℕ → Lun → ℕ → Microprogram → ℕ → PlanFault → Type 0
-JobIsRefused g targets l base x n (File (JobRefusal fault)) = fault_of_job g targets l base x n ≡ Some fault
+abbrev pub JobIsRefused : Parts → ℕ → Lun → ℕ → Microprogram → ℕ → Fault → Type 0
+JobIsRefused g targets l base x n (JobFaultOf fault) = fault_of_job g targets l base x n ≡ Some fault
 JobIsRefused g targets l base x n _ = ⊥
 
 -- what a job line names stands, and the job can be loaded
@@ -71,16 +69,16 @@ pub record JobPasses (files : Option Store) (g : Parts) (targets : ℕ) (l : Lun
   pub faultless : fault_of_job g targets l base x x.buffer ≡ None
 
 -- its word file is judged first, then its input, and then the job
-abbrev pub InputRefuses : Option Store → Parts → List ℕ → Option (List ℕ) → PlanFault → Type 0
+abbrev pub InputRefuses : Option Store → Parts → List ℕ → Option (List ℕ) → Fault → Type 0
 InputRefuses files g text input fault = (x : Microprogram) × HasText files g text x × InputIsRefused files input x.buffer fault
 
-abbrev pub JobRefuses : Option Store → Parts → ℕ → Lun → ℕ → List ℕ → Option (List ℕ) → PlanFault → Type 0
+abbrev pub JobRefuses : Option Store → Parts → ℕ → Lun → ℕ → List ℕ → Option (List ℕ) → Fault → Type 0
 JobRefuses files g targets l base text input fault =
     (x : Microprogram) × HasText files g text x × ((buffer : List ℕ) × HasInput files input x.buffer buffer) × JobIsRefused g targets l base x x.buffer fault
 
-abbrev pub JobLineIsRefused : Option Store → Parts → ℕ → Lun → ℕ → List ℕ → Option (List ℕ) → PlanFault → Type 0
+abbrev pub JobLineIsRefused : Option Store → Parts → ℕ → Lun → ℕ → List ℕ → Option (List ℕ) → Fault → Type 0
 JobLineIsRefused files g targets l base text input fault =
-    OfFile (FileOrTextIsRefused files g text) fault ⊎ (InputRefuses files g text input fault ⊎ JobRefuses files g targets l base text input fault)
+    FileOrTextIsRefused files g text fault ⊎ (InputRefuses files g text input fault ⊎ JobRefuses files g targets l base text input fault)
 
 -- the statement has no fault, and the files that it names have none; page and targets stand before all others
 abbrev pub Passes : Option Store → Parts → ℕ → Statement → Type 0
@@ -91,7 +89,7 @@ Passes files g targets (FailLine target lun ready) = has_lun g targets target lu
 Passes files g targets _ = ⊥
 
 -- the statement's first fault; the LUN is judged before a file is read
-abbrev pub IsRefused : Option Store → Parts → ℕ → Statement → PlanFault → Type 0
+abbrev pub IsRefused : Option Store → Parts → ℕ → Statement → Fault → Type 0
 IsRefused files g targets (ImageLine target lun path) fault =
     LunIsRefused g targets target lun fault ⊎ ((has_lun g targets target lun ≡ true) × ImageIsRefused files g path fault)
 IsRefused files g targets (JobLine target lun base text input output) fault =
@@ -106,11 +104,11 @@ abbrev pub Numbered : Type 0
 Numbered = ℕ × Statement
 
 -- the statement of this line has this fault, which is told with its line
-abbrev pub IsRefusedAt : Option Store → Parts → ℕ → Numbered → PlanFault → ℕ → Type 0
+abbrev pub IsRefusedAt : Option Store → Parts → ℕ → Numbered → Fault → ℕ → Type 0
 IsRefusedAt files g targets s fault line = IsRefused files g targets s.1 fault × (line ≡ s.0)
 
 -- the statements from here on are refused with this fault at this line
-unfoldable pub RestIsRefused : Option Store → Parts → ℕ → List Numbered → Option RunRefusal → PlanFault → ℕ → Type 0
+unfoldable pub RestIsRefused : Option Store → Parts → ℕ → List Numbered → Option RunRefusal → Fault → ℕ → Type 0
 RestIsRefused files g targets [] None fault line = ⊥
 RestIsRefused files g targets [] (Some r) fault line = (fault ≡ Line r.fault) × (line ≡ r.line)
 RestIsRefused files g targets (s ∷ rest) last fault line =
@@ -122,7 +120,7 @@ RestPasses files g targets [] last = last ≡ None
 RestPasses files g targets (s ∷ rest) last = Passes files g targets s.1 × RestPasses files g targets rest last
 
 -- the text ends before its page or its targets, with its fault
-abbrev pub EndIsRefused : Option RunRefusal → PlanFault → ℕ → Type 0
+abbrev pub EndIsRefused : Option RunRefusal → Fault → ℕ → Type 0
 EndIsRefused None fault line = (fault ≡ Line OutOfOrder) × (line ≡ 1)
 EndIsRefused (Some r) fault line = (fault ≡ Line r.fault) × (line ≡ r.line)
 
@@ -137,18 +135,18 @@ targets_of (first ∷ (line, TargetsLine count) ∷ rest) = if nat_le 1 count &&
 targets_of _ = None
 
 -- after the page: the targets and the rest
-abbrev pub AfterPageIsRefused : Option Store → Parts → Option ℕ → Told → PlanFault → ℕ → Type 0
+abbrev pub AfterPageIsRefused : Option Store → Parts → Option ℕ → Told → Fault → ℕ → Type 0
 AfterPageIsRefused files g None told fault line = EndIsRefused told.fault fault line
 AfterPageIsRefused files g (Some targets) told fault line = RestIsRefused files g targets (drop 2 told.statements) told.fault fault line
 
-abbrev pub PageStatementIsRefused : Option Store → Option (ℕ × List ℕ) → Told → PlanFault → ℕ → Type 0
+abbrev pub PageStatementIsRefused : Option Store → Option (ℕ × List ℕ) → Told → Fault → ℕ → Type 0
 PageStatementIsRefused files None told fault line = EndIsRefused told.fault fault line
 PageStatementIsRefused files (Some page) told fault line =
-    (OfFile (PageIsRefused files page.1) fault × (line ≡ page.0))
+    (PageIsRefused files page.1 fault × (line ≡ page.0))
     ⊎ ((g : Parts) × HasPage files page.1 g × AfterPageIsRefused files g (targets_of told.statements) told fault line)
 
 -- a run file that tells this is refused with this fault at this line: the first, in the order of the lines
-abbrev pub PlanIsRefused : Option Store → Told → PlanFault → ℕ → Type 0
+abbrev pub PlanIsRefused : Option Store → Told → Fault → ℕ → Type 0
 PlanIsRefused files told fault line = PageStatementIsRefused files (page_of told.statements) told fault line
 
 -- all that a run file tells passes, on a channel of so many targets of this geometry

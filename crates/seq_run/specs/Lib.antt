@@ -1,5 +1,4 @@
 pub mod Lines
-pub mod Failures
 pub mod Judged
 pub mod Setup
 pub mod Happened

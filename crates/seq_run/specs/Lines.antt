@@ -1,23 +1,14 @@
--- The lines that a run writes.
-use Rattle.std.specs.Prelude.{ℕ, ◌+◌, List, [], ◌∷◌, ◌++◌, codes}
+-- The lines that a run writes, and the refusal of one that it reads.
+use Rattle.std.specs.Prelude.{ℕ, ◌+◌, List, [], ◌∷◌, ◌++◌, Some, None, codes}
 use Rattle.std.specs.Fmt.{decimal}
-use Rattle.die_model.specs.Loading.{code as image_fault_code}
-use Rattle.run_file.specs.Line.{code as line_fault_code}
-use Rattle.seq_inputs.specs.Lines.{refusal_line}
-use Rattle.seq_inputs.specs.Refusals.{code_of as file_code}
-use Rattle.seq_run.specs.declared.refusal.PlanFault.{PlanFault}
-use Rattle.seq_run.specs.declared.refusal.PlanFault.TheVariants.{Line, Image, File}
-use Rattle.seq_run.specs.declared.refusal.PlanRefusal.{PlanRefusal}
+use Rattle.run_file.specs.declared.refusal.RunFault.{RunFault}
+use Rattle.seq_inputs.specs.declared.fault.Fault.TheVariants.{Statement}
+use Rattle.seq_inputs.specs.declared.stop.Stop.{Stop}
+use Rattle.seq_inputs.specs.declared.stop.Stop.TheVariants.{Refused}
 
--- the code of what is wrong
-abbrev pub code_of : PlanFault → List ℕ
-code_of (Line fault) = line_fault_code fault
-code_of (Image fault) = image_fault_code fault
-code_of (File refusal) = file_code refusal
-
--- `refused CODE at LINE`, and a line feed
-abbrev pub line_of : PlanRefusal → List ℕ
-line_of refusal = refusal_line (code_of refusal.fault) refusal.line
+-- the run file itself is refused, at this line
+abbrev pub line_refused : {A : Type 0} → RunFault → ℕ → Stop A
+line_refused fault line = Refused (record { fault = Statement fault; line = Some line }) None
 
 -- `job K end CODE`, and a line feed
 abbrev pub job_line : ℕ → ℕ → List ℕ

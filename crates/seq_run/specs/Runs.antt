@@ -15,8 +15,8 @@ use Rattle.seq_run.specs.declared.plan.PlannedImage.{PlannedImage}
 use Rattle.seq_run.specs.declared.plan.RunPlan.{RunPlan}
 use Rattle.seq_run.specs.declared.running.Ran.{Ran}
 use Rattle.seq_run.specs.declared.job_ends.EndedJob.{EndedJob}
-use Rattle.seq_run.specs.declared.refusal.PlanRefusal.{PlanRefusal}
-use Rattle.seq_run.specs.declared.ending.RunEnd.{RunEnd}
+use Rattle.seq_inputs.specs.declared.refusal.Refusal.{Refusal}
+use Rattle.seq_inputs.specs.Stops.{TellsAt}
 use Rattle.seq_run.specs.Judged.{Numbered, PlanPasses, PlanIsRefused}
 use Rattle.seq_run.specs.Setup.{Setup, IsJobOf, SetsOne, SetsUp, erased, ArePlanned}
 use Rattle.seq_run.specs.Planned.{outputs_of, images_in, planned_outputs, planned_images, planned_names, jobs_of, ended_outputs}
@@ -105,10 +105,10 @@ pub record IsRunDone (files later : Option Store) (request : RunRequest) (printe
   pub is_printed : printed ≡ lines_of request o
 
 -- the run file is there, and it is refused with this fault at this line
-pub record RunIsRefused (files : Option Store) (request : RunRequest) (refusal : PlanRefusal) : Type 0 where
+pub record RunIsRefused (files : Option Store) (request : RunRequest) (refusal : Refusal) : Type 0 where
   pub text : List ℕ
   pub is_there : Holds files request.path.now text
-  pub refused : PlanIsRefused files (told text) refusal.fault refusal.line
+  pub refused : TellsAt (PlanIsRefused files (told text)) refusal
 
 -- all files of the run are written, though it isn't done: what is to be printed couldn't be
 pub record IsRunWritten (files later : Option Store) (request : RunRequest) : Type 0 where
@@ -119,9 +119,3 @@ pub record IsRunWritten (files later : Option Store) (request : RunRequest) : Ty
 -- what a run may leave, however it ends: all its files or none
 abbrev pub RunMayLeave : (files later : Option Store) → RunRequest → Type 0
 RunMayLeave files later request = (later ≡ files) ⊎ IsRunWritten files later request
-
--- the run is neither done nor refused
-abbrev pub EndsUnrefused : RunEnd → Type 0
-EndsUnrefused RunEnd.Done = ⊥
-EndsUnrefused (RunEnd.Refused refusal) = ⊥
-EndsUnrefused _ = ⊤

@@ -5,18 +5,13 @@
 #![tactic(auto)]
 
 mod dies;
-mod ending;
-mod explaining;
-mod failure;
 mod gate;
-mod given;
 mod hosts;
 mod job_ends;
-mod not_run;
 mod phases;
 mod plan;
 mod planning;
-mod refusal;
+mod reading;
 mod request;
 mod run_command;
 mod run_name;
@@ -26,12 +21,9 @@ mod workers;
 mod writing;
 
 pub use dies::ChannelDies;
-pub use ending::RunEnd;
 pub use gate::{Failing, RunGate};
-pub use not_run::NotRun;
 pub use phases::{NoClock, Phase, RunProgress};
 pub use plan::{PlannedImage, PlannedJob, PlannedJobs, RunPlan, TargetJobs};
 pub use planning::plan_run;
-pub use refusal::{PlanFault, PlanRefusal};
 pub use request::RunRequest;
 pub use run_command::{run_on, run_watched};

@@ -39,42 +39,39 @@ impl Clock for NoClock {
     }
 }
 
-/// Tells on what a run does, and takes the time from the first job to the last.
+/// When the first job began and the last one ended.
 #[derive(Drop)]
-pub(crate) struct Timed<'a, C: Clock, P: RunProgress> {
+pub(crate) struct Times<'a, C: Clock> {
     clock: &'a C,
-    progress: &'a mut P,
     first: Option<Instant>,
     last: Option<Instant>,
 }
 
-impl<'a, C: Clock, P: RunProgress> Timed<'a, C, P> {
+impl<'a, C: Clock> Times<'a, C> {
     /// No job has run.
-    pub(crate) fn new(clock: &'a C, progress: &'a mut P) -> Timed<'a, C, P> {
-        Timed {
+    pub(crate) fn new(clock: &'a C) -> Times<'a, C> {
+        Times {
             clock,
-            progress,
             first: None,
             last: None,
         }
     }
 
+    /// The first job begins.
+    pub(crate) fn begin(&mut self) {
+        self.first = Instant::now(self.clock).ok();
+    }
+
+    /// The last job has ended.
+    pub(crate) fn end(&mut self) {
+        self.last = Instant::now(self.clock).ok();
+    }
+
     /// How long the jobs took, if they have run and the clock tells it.
-    pub(crate) fn time(&self) -> Option<Duration> {
+    pub(crate) fn between(&self) -> Option<Duration> {
         match (self.first, self.last) {
             (Some(first), Some(last)) => Some(last.duration_since(first)),
-            _ => None,
+            (None, _) | (_, None) => None,
         }
-    }
-}
-
-impl<C: Clock, P: RunProgress> RunProgress for Timed<'_, C, P> {
-    fn begin(&mut self, phase: Phase) {
-        match phase {
-            Phase::Reading => {}
-            Phase::Running { .. } => self.first = Instant::now(self.clock).ok(),
-            Phase::Writing => self.last = Instant::now(self.clock).ok(),
-        }
-        self.progress.begin(phase);
     }
 }

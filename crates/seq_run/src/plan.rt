@@ -34,9 +34,6 @@ pub struct PlannedJob<'a> {
     pub output: Option<&'a str>,
 }
 
-/// How many bytes the buffers of a run have at most, all together.
-pub(crate) const MOST_BUFFER_BYTES: u64 = 4_294_967_296;
-
 /// The jobs of a run.
 #[derive(Drop)]
 pub struct PlannedJobs<'a> {

@@ -6,31 +6,64 @@ ghost use Rattle.run_file.specs.Shown.{shown_statement, shown_numbered, shown_al
 ghost use Rattle.seq_run.specs.Planned.{output_in, outputs_of, image_in, images_in, planned_outputs, planned_images};
 ghost use Rattle.seq_run.specs.Setup.{IsJobOf};
 ghost use Rattle.seq_run.specs.Runs.{PlansOne, PlansJob, PlansAll, IsSetUpFrom};
-ghost use Rattle.seq_run.specs.Failures.{Says, Refuses, line_refused};
+ghost use Rattle.seq_inputs.specs.Stops.{IsRefusal, Says, SaysAt};
+ghost use Rattle.seq_inputs.specs.declared.fault.Fault.TheVariants.{Statement as StatementFault};
+ghost use Rattle.run_file.specs.declared.refusal.RunFault.TheVariants.{NoSuchLun};
+ghost use Rattle.seq_run.specs.Lines.{line_refused};
 ghost use Rattle.seq_run.specs.Judged.{has_lun, lun_at, LunIsRefused, JobPasses, JobLineIsRefused, Passes, IsRefused, IsRefusedAt, RestPasses, RestIsRefused, EndIsRefused, page_of, targets_of, PlanPasses, PlanIsRefused};
 
-use crate::explaining::words_of;
-use crate::failure::Failure;
 use crate::gate::Failing;
-use crate::given::{read_buffer, read_die, read_geometry, read_verified};
-use crate::not_run::NotRun;
-use crate::plan::{MOST_BUFFER_BYTES, PlannedImage, RunPlan};
-use crate::refusal::{PlanFault, PlanRefusal};
+use crate::plan::{PlannedImage, RunPlan};
+use crate::reading::{read_buffer, read_die};
 use nand_geometry::Geometry;
 use onfi_cycle::Lun;
 use run_file::{Numbered, RunFault, RunRefusal, RunText, Statement};
 use seq_core::Job;
 use seq_files::Files;
-use seq_inputs::Refusal;
+use seq_inputs::{Fault, MOST_BUFFER_BYTES, Refusal, Stop, geometry_at, verified_at, words_of_job};
 use std::alloc::Global;
 
+// A line doesn't stand where it is.
+fn refuse_statement<'a>(fault: RunFault) -> Stop<'a>
+    ensures { IsRefusal (StatementFault fault) result }
+{
+    Stop::refused(Fault::Statement { fault }, None)
+}
+
+// The channel hasn't this LUN.
+fn refuse_lun<'a>(
+    alloc: Global,
+    geometry: &Geometry,
+    targets: u8,
+    target: u32,
+    lun: u32,
+) -> Stop<'a>
+    ensures { IsRefusal (StatementFault NoSuchLun) result }
+{
+    let fault = RunFault::NoSuchLun;
+    let luns = geometry.parts().luns;
+    let words = format!(in alloc;
+        "{fault}: target {target}, LUN {lun}, where targets go from 0 to {}, and LUNs from 0 to {} ({})",
+        targets.saturating_sub(1),
+        luns.saturating_sub(1),
+        fault.code()
+    );
+    Stop::refused(Fault::Statement { fault }, words.ok())
+}
+
 // The LUN of a channel that has these numbers.
-fn find_lun<'a>(geometry: &Geometry, targets: u8, target: u32, lun: u32) -> Result<Lun, Failure<'a>>
+fn find_lun<'a>(
+    alloc: Global,
+    geometry: &Geometry,
+    targets: u8,
+    target: u32,
+    lun: u32,
+) -> Result<Lun, Stop<'a>>
     ensures ok { IfOk result (λ found. (has_lun geometry.now targets target lun ≡ true) × (found ≡ lun_at target lun)) }
     ensures err { IfErr result (Says (LunIsRefused geometry.now targets target lun)) }
 {
     if target >= u32::from(targets) || lun >= u32::from(geometry.parts().luns) {
-        return Err(Failure::of_line(RunFault::NoSuchLun));
+        return Err(refuse_lun(alloc, geometry, targets, target, lun));
     }
     Ok(Lun {
         ce: target as u8,
@@ -49,26 +82,23 @@ fn read_job<'a, F: Files>(
     base: u32,
     text: &'a str,
     input: Option<&'a str>,
-) -> Result<Job, Failure<'a>>
+) -> Result<Job, Stop<'a>>
     ensures ok { OnOk result (JobPasses (F.store files.old) geometry targets lun base text.now (option_copied input.entry)) }
     ensures job { IfOk result (IsJobOf (F.store files.old) geometry lun base text.now (option_copied input.entry)) }
     ensures err { IfErr result (Says (JobLineIsRefused (F.store files.old) geometry targets lun base text.now
         (option_copied input.entry))) }
     ensures stays { F.store files.new ≡ F.store files.old }
 {
-    let verified = read_verified(alloc, files, geometry, text)?;
+    let verified = verified_at(alloc, files, text, geometry)?;
     let length = verified.text().buffer() as usize;
     let buffer = read_buffer(alloc, files, input, length)?;
     match Job::new(geometry, targets, lun, base, verified, buffer) {
         Ok(job) => Ok(job),
         Err(refused) => {
-            let fault = PlanFault::File(Refusal::Job {
-                fault: refused.fault,
-            });
-            Err(Failure::Fault {
-                fault,
-                words: words_of(alloc, text, fault),
-            })
+            let fault = refused.fault;
+            let rows = refused.verified.text().rows();
+            let words = words_of_job(alloc, text, fault, &geometry, base, rows);
+            Err(Stop::refused(Fault::Job { fault }, words))
         }
     }
 }
@@ -81,7 +111,7 @@ impl<'a> RunPlan<'a> {
         alloc: Global,
         files: &mut F,
         statement: Statement<'a>,
-    ) -> Result<(), Failure<'a>>
+    ) -> Result<(), Stop<'a>>
         ensures ok { OnOk result (Passes (F.store files.old) self.old.dies.geometry self.old.dies.targets
             (shown_statement statement.entry)) }
         ensures err { IfErr result (Says (IsRefused (F.store files.old) self.old.dies.geometry self.old.dies.targets
@@ -96,7 +126,7 @@ impl<'a> RunPlan<'a> {
     {
         match statement {
             Statement::Page { .. } | Statement::Targets { .. } => {
-                Err(Failure::of_line(RunFault::OutOfOrder))
+                Err(refuse_statement(RunFault::OutOfOrder))
             }
             Statement::Image { target, lun, path } => {
                 self.add_image(alloc, files, target, lun, path)
@@ -109,14 +139,14 @@ impl<'a> RunPlan<'a> {
                 input,
                 output,
             } => {
-                let lun = find_lun(&self.dies.geometry, self.dies.targets, target, lun)?;
+                let lun = find_lun(alloc, &self.dies.geometry, self.dies.targets, target, lun)?;
                 self.add_job(alloc, files, lun, base, text, input, output)
             }
             Statement::Polls { count } => {
                 self.polls = u64::from(count);
                 Ok(())
             }
-            Statement::Fail { target, lun, ready } => self.add_failing(target, lun, ready),
+            Statement::Fail { target, lun, ready } => self.add_failing(alloc, target, lun, ready),
         }
     }
 
@@ -129,7 +159,7 @@ impl<'a> RunPlan<'a> {
         target: u32,
         lun: u32,
         path: &'a str,
-    ) -> Result<(), Failure<'a>>
+    ) -> Result<(), Stop<'a>>
         ensures ok { OnOk result (Passes (F.store files.old) self.old.dies.geometry self.old.dies.targets (ImageLine target lun path.now)) }
         ensures err { IfErr result (Says (IsRefused (F.store files.old) self.old.dies.geometry self.old.dies.targets
             (ImageLine target lun path.now))) }
@@ -140,7 +170,7 @@ impl<'a> RunPlan<'a> {
         ensures setup { OnOk result (PlansOne (F.store files.old) self.old.dies.geometry (ImageLine target lun path.now) self.old self.new) }
         ensures stays { F.store files.new ≡ F.store files.old }
     {
-        let lun = find_lun(&self.dies.geometry, self.dies.targets, target, lun)?;
+        let lun = find_lun(alloc, &self.dies.geometry, self.dies.targets, target, lun)?;
         let die = read_die(alloc, files, self.dies.geometry, path)?;
         let number = self.dies.number(lun);
         self.dies.put(number, die);
@@ -159,7 +189,7 @@ impl<'a> RunPlan<'a> {
         text: &'a str,
         input: Option<&'a str>,
         output: Option<&'a str>,
-    ) -> Result<(), Failure<'a>>
+    ) -> Result<(), Stop<'a>>
         ensures ok { OnOk result (JobPasses (F.store files.old) self.old.dies.geometry self.old.dies.targets lun base text.now
             (option_copied input.entry)) }
         ensures err { IfErr result (Says (JobLineIsRefused (F.store files.old) self.old.dies.geometry self.old.dies.targets lun base
@@ -175,14 +205,20 @@ impl<'a> RunPlan<'a> {
         let job = read_job(alloc, files, geometry, targets, lun, base, text, input)?;
         let bytes = self.jobs.count_buffer_bytes(&job);
         if bytes > MOST_BUFFER_BYTES {
-            return Err(Failure::BuffersTooLarge { bytes });
+            return Err(Stop::BuffersTooLarge { bytes, line: None });
         }
         self.jobs.push(job, output)?;
         Ok(())
     }
 
     // Adds a ready that is with failure.
-    fn add_failing(&mut self, target: u32, lun: u32, ready: u32) -> Result<(), Failure<'a>>
+    fn add_failing(
+        &mut self,
+        alloc: Global,
+        target: u32,
+        lun: u32,
+        ready: u32,
+    ) -> Result<(), Stop<'a>>
         ensures ok { OnOk result (has_lun self.old.dies.geometry self.old.dies.targets target lun ≡ true) }
         ensures err { IfErr result (Says (LunIsRefused self.old.dies.geometry self.old.dies.targets target lun)) }
         ensures channel { (self.new.dies.geometry ≡ self.old.dies.geometry) × (self.new.dies.targets ≡ self.old.dies.targets) }
@@ -190,7 +226,7 @@ impl<'a> RunPlan<'a> {
         ensures jobs { self.new.jobs ≡ self.old.jobs }
         ensures images { self.new.images ≡ self.old.images }
     {
-        let lun = find_lun(&self.dies.geometry, self.dies.targets, target, lun)?;
+        let lun = find_lun(alloc, &self.dies.geometry, self.dies.targets, target, lun)?;
         self.fails.push(Failing {
             target: lun.ce,
             lun: lun.lun,
@@ -206,10 +242,10 @@ impl<'a> RunPlan<'a> {
         alloc: Global,
         files: &mut F,
         numbered: Numbered<'a>,
-    ) -> Result<(), NotRun<'a>>
+    ) -> Result<(), Stop<'a>>
         ensures ok { OnOk result (Passes (F.store files.old) self.old.dies.geometry self.old.dies.targets
             (shown_statement numbered.entry.statement)) }
-        ensures err { IfErr result (Refuses (IsRefusedAt (F.store files.old) self.old.dies.geometry self.old.dies.targets
+        ensures err { IfErr result (SaysAt (IsRefusedAt (F.store files.old) self.old.dies.geometry self.old.dies.targets
             (shown_numbered numbered.entry))) }
         ensures channel { (self.new.dies.geometry ≡ self.old.dies.geometry) × (self.new.dies.targets ≡ self.old.dies.targets) }
         ensures jobs { OnOk result (planned_outputs self.new.jobs.all.items ≡ planned_outputs self.old.jobs.all.items
@@ -223,7 +259,7 @@ impl<'a> RunPlan<'a> {
         let Numbered { line, statement } = numbered;
         match self.add(alloc, files, statement) {
             Ok(()) => Ok(()),
-            Err(failure) => Err(failure.at(line)),
+            Err(stop) => Err(stop.at(line)),
         }
     }
 
@@ -235,9 +271,9 @@ impl<'a> RunPlan<'a> {
         files: &mut F,
         rest: &[Numbered<'a>],
         last: Option<RunRefusal>,
-    ) -> Result<(), NotRun<'a>>
+    ) -> Result<(), Stop<'a>>
         ensures ok { OnOk result (RestPasses (F.store files.old) self.old.dies.geometry self.old.dies.targets (shown_all rest.now) last) }
-        ensures err { IfErr result (Refuses (RestIsRefused (F.store files.old) self.old.dies.geometry self.old.dies.targets
+        ensures err { IfErr result (SaysAt (RestIsRefused (F.store files.old) self.old.dies.geometry self.old.dies.targets
             (shown_all rest.now) last)) }
         ensures channel { (self.new.dies.geometry ≡ self.old.dies.geometry) × (self.new.dies.targets ≡ self.old.dies.targets) }
         ensures jobs { OnOk result (planned_outputs self.new.jobs.all.items ≡ planned_outputs self.old.jobs.all.items
@@ -248,8 +284,8 @@ impl<'a> RunPlan<'a> {
         ensures stays { F.store files.new ≡ F.store files.old }
     {
         for &numbered in rest {
-            if let Err(not_run) = self.add_numbered(alloc, files, numbered) {
-                return Err(not_run);
+            if let Err(stop) = self.add_numbered(alloc, files, numbered) {
+                return Err(stop);
             }
         }
         match last {
@@ -260,21 +296,21 @@ impl<'a> RunPlan<'a> {
 }
 
 // A line is refused.
-fn refuse_line<'a>(fault: RunFault, line: usize) -> NotRun<'a>
+fn refuse_line<'a>(fault: RunFault, line: usize) -> Stop<'a>
     ensures { result ≡ line_refused fault line }
 {
-    NotRun::Refused {
-        refusal: PlanRefusal {
-            fault: PlanFault::Line(fault),
-            line,
+    Stop::Refused {
+        refusal: Refusal {
+            fault: Fault::Statement { fault },
+            line: Some(line),
         },
         words: None,
     }
 }
 
 // A text ends before its page or its targets.
-fn refuse_end<'a>(last: Option<RunRefusal>) -> NotRun<'a>
-    ensures { Refuses (EndIsRefused last) result }
+fn refuse_end<'a>(last: Option<RunRefusal>) -> Stop<'a>
+    ensures { SaysAt (EndIsRefused last) result }
 {
     match last {
         Some(RunRefusal { fault, line }) => refuse_line(fault, line),
@@ -317,20 +353,20 @@ fn plan_rest<'a, F: Files>(
     targets: u8,
     rest: &[Numbered<'a>],
     last: Option<RunRefusal>,
-) -> Result<RunPlan<'a>, NotRun<'a>>
+) -> Result<RunPlan<'a>, Stop<'a>>
     requires { (1 ≤ targets) × (targets ≤ 4) }
     ensures channel { IfOk result (λ plan. (plan.dies.geometry ≡ geometry) × (plan.dies.targets ≡ targets)) }
     ensures ok { OnOk result (RestPasses (F.store files.old) geometry targets (shown_all rest.now) last) }
     ensures jobs { IfOk result (λ plan. planned_outputs plan.jobs.all.items ≡ outputs_of (shown_all rest.now)) }
     ensures images { IfOk result (λ plan. planned_images plan.images.items ≡ images_in geometry (shown_all rest.now)) }
     ensures setup { IfOk result (IsSetUpFrom (F.store files.old) geometry targets (shown_all rest.now)) }
-    ensures err { IfErr result (Refuses (RestIsRefused (F.store files.old) geometry targets (shown_all rest.now) last)) }
+    ensures err { IfErr result (SaysAt (RestIsRefused (F.store files.old) geometry targets (shown_all rest.now) last)) }
     ensures stays { F.store files.new ≡ F.store files.old }
 {
     let mut plan = RunPlan::new(alloc, geometry, targets)?;
     match plan.add_all(alloc, files, rest, last) {
         Ok(()) => Ok(plan),
-        Err(not_run) => Err(not_run),
+        Err(stop) => Err(stop),
     }
 }
 
@@ -341,23 +377,23 @@ pub fn plan_run<'a, F: Files>(
     alloc: Global,
     files: &mut F,
     text: &RunText<'a, Global>,
-) -> Result<RunPlan<'a>, NotRun<'a>>
+) -> Result<RunPlan<'a>, Stop<'a>>
     ensures ok { IfOk result (λ plan. PlanPasses (F.store files.old) (shown_text text.now) plan.dies.geometry plan.dies.targets) }
     ensures jobs { IfOk result (λ plan. planned_outputs plan.jobs.all.items ≡ outputs_of (drop 2 (shown_text text.now).statements)) }
     ensures images { IfOk result (λ plan. planned_images plan.images.items
         ≡ images_in plan.dies.geometry (drop 2 (shown_text text.now).statements)) }
     ensures setup { IfOk result (λ plan. IsSetUpFrom (F.store files.old) plan.dies.geometry plan.dies.targets
         (drop 2 (shown_text text.now).statements) plan) }
-    ensures err { IfErr result (Refuses (PlanIsRefused (F.store files.old) (shown_text text.now))) }
+    ensures err { IfErr result (SaysAt (PlanIsRefused (F.store files.old) (shown_text text.now))) }
     ensures stays { F.store files.new ≡ F.store files.old }
 {
     let statements = text.statements.as_slice();
     let Some((line, path)) = find_page(statements) else {
         return Err(refuse_end(text.fault));
     };
-    let geometry = match read_geometry(alloc, files, path) {
+    let geometry = match geometry_at(alloc, files, path) {
         Ok(geometry) => geometry,
-        Err(failure) => return Err(failure.at(line)),
+        Err(stop) => return Err(stop.at(line)),
     };
     let Some(targets) = find_targets(statements) else {
         return Err(refuse_end(text.fault));
@@ -365,6 +401,6 @@ pub fn plan_run<'a, F: Files>(
     let rest = statements.split_at(2).1;
     match plan_rest(alloc, files, geometry, targets, rest, text.fault) {
         Ok(plan) => Ok(plan),
-        Err(not_run) => Err(not_run),
+        Err(stop) => Err(stop),
     }
 }

@@ -8,18 +8,18 @@ ghost use Rattle.seq_files.specs.Store.{with_all, written_of};
 ghost use Rattle.die_model.specs.Image.{image_of};
 ghost use Rattle.trace_text.specs.Line.{text};
 ghost use Rattle.seq_run.specs.Lines.{job_lines};
-ghost use Rattle.seq_run.specs.Failures.{RefusesNothing};
+ghost use Rattle.seq_inputs.specs.Stops.{RefusesNothing};
 ghost use Rattle.seq_run.specs.Written.{buffer_of, buffers_of, image_at, images_of, trace_at, made_of, optional_of, printed_trace, codes_of};
 ghost use Rattle.seq_run.specs.Runs.{Outcome, ShowsAll, writes_of, lines_of};
 
 use crate::job_ends::{EndedJob, push_job_lines};
-use crate::not_run::NotRun;
 use crate::plan::PlannedImage;
 use crate::request::RunRequest;
 use crate::running::Ran;
 use crate::summary::Summary;
 use die_model::LunDie;
-use seq_files::{FileError, Files, NewFile, NotWritten, write_text};
+use seq_files::{Files, NewFile, NotWritten, write_text};
+use seq_inputs::Stop;
 use std::alloc::{AllocError, Global};
 use std::io::Write;
 use target_bus::Bus;
@@ -234,18 +234,18 @@ fn list_files<'p, 'b>(
 }
 
 // Why a run isn't done of whose files this one couldn't be written.
-fn not_written<'p>(made: &[NewFile<'p, '_>], refused: NotWritten) -> NotRun<'p>
+fn not_written<'p>(made: &[NewFile<'p, '_>], refused: NotWritten) -> Stop<'p>
     ensures { RefusesNothing result }
 {
-    match (refused.error, made.get(refused.file)) {
-        (FileError::OutOfMemory, _) => NotRun::OutOfMemory,
-        (_, Some(file)) => NotRun::FileFault(file.path),
-        (_, None) => NotRun::FileFault("-"),
-    }
+    let path = match made.get(refused.file) {
+        Some(file) => file.path,
+        None => "-",
+    };
+    Stop::of_file(path, refused.error)
 }
 
 // Writes the files, all or none.
-fn write_files<'p, F: Files>(files: &mut F, made: &[NewFile<'p, '_>]) -> Result<(), NotRun<'p>>
+fn write_files<'p, F: Files>(files: &mut F, made: &[NewFile<'p, '_>]) -> Result<(), Stop<'p>>
     ensures ok { OnOk result (F.store files.new ≡ with_all (map written_of made.now) (F.store files.old)) }
     ensures err { OnErr result (F.store files.new ≡ F.store files.old) }
     ensures nothing { IfErr result RefusesNothing }
@@ -257,15 +257,13 @@ fn write_files<'p, F: Files>(files: &mut F, made: &[NewFile<'p, '_>]) -> Result<
 }
 
 // Prints a text.
-fn print_lines<'a, W: Write>(output: &mut W, text: &str) -> Result<(), NotRun<'a>>
+fn print_lines<'a, W: Write>(output: &mut W, text: &str) -> Result<(), Stop<'a>>
     ensures ok { OnOk result (Appends (W.contents output.old) (W.contents output.new) text.now) }
     ensures nothing { IfErr result RefusesNothing }
 {
     match write_text(output, text) {
         Ok(()) => Ok(()),
-        Err(FileError::Fault) => Err(NotRun::FileFault("-")),
-        Err(FileError::ReaderGone) => Err(NotRun::ReaderGone),
-        Err(FileError::OutOfMemory) => Err(NotRun::OutOfMemory),
+        Err(error) => Err(Stop::of_file("-", error)),
     }
 }
 
@@ -275,7 +273,7 @@ fn write_outcome<'p, F: Files, W: Write>(
     output: &mut W,
     made: &[NewFile<'p, '_>],
     lines: &str,
-) -> Result<(), NotRun<'p>>
+) -> Result<(), Stop<'p>>
     ensures files { OnOk result (F.store files.new ≡ with_all (map written_of made.now) (F.store files.old)) }
     ensures printed { OnOk result (Appends (W.contents output.old) (W.contents output.new) lines.now) }
     ensures err { OnErr result ((F.store files.new ≡ F.store files.old) ⊎ (F.store files.new ≡ with_all (map written_of made.now) (F.store files.old))) }
@@ -283,7 +281,7 @@ fn write_outcome<'p, F: Files, W: Write>(
 {
     match write_files(files, made) {
         Ok(()) => print_lines(output, lines),
-        Err(not_run) => Err(not_run),
+        Err(stop) => Err(stop),
     }
 }
 
@@ -295,7 +293,7 @@ pub(crate) fn write_run<'a, F: Files, W: Write>(
     output: &mut W,
     request: RunRequest<'a>,
     ran: Ran<'a>,
-) -> Result<Summary, NotRun<'a>>
+) -> Result<Summary, Stop<'a>>
     ensures ok { OnOk result ((o : Outcome) × ShowsAll ran.entry o
         × (F.store files.new ≡ with_all (writes_of request.entry o) (F.store files.old))
         × Appends (W.contents output.old) (W.contents output.new) (lines_of request.entry o)) }
@@ -311,6 +309,6 @@ pub(crate) fn write_run<'a, F: Files, W: Write>(
     let made = list_files(alloc, jobs.as_slice(), outgoing.as_slice())?;
     match write_outcome(files, output, made.as_slice(), lines.as_str()) {
         Ok(()) => Ok(summary),
-        Err(not_run) => Err(not_run),
+        Err(stop) => Err(stop),
     }
 }

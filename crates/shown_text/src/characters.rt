@@ -20,3 +20,19 @@ pub(crate) fn show_character<W: fmt::Write>(output: &mut W, character: char) -> 
         output.write_char(character)
     }
 }
+
+/// What a character is called that looks like an ASCII one, or like nothing.
+pub(crate) fn name_of(character: char) -> Option<&'static str> {
+    match character {
+        '\u{a0}' | '\u{2007}' | '\u{202f}' => Some("a no-break space"),
+        '\u{2000}'..='\u{200a}' | '\u{3000}' => Some("a wide or narrow space"),
+        '\u{200b}'..='\u{200d}' | '\u{2060}' => Some("a character without width"),
+        '\u{ad}' => Some("a soft hyphen"),
+        '\u{2010}' | '\u{2011}' => Some("a typographic hyphen"),
+        '\u{2012}'..='\u{2015}' => Some("a typographic dash"),
+        '\u{2212}' => Some("a typographic minus sign"),
+        '\u{2018}'..='\u{201f}' => Some("a typographic quotation mark"),
+        '\u{feff}' => Some("a byte order mark"),
+        _ => None,
+    }
+}

@@ -1,18 +1,23 @@
 ghost use Rattle.std.specs.Prelude.{◌<◌};
 
-use crate::once_tests::{ERASE, RUN};
+use crate::once_tests::{ERASE, RUN, new_console};
 use linked_list_allocator::LocalHeap;
 use micro_claims::Reason;
-use micro_word::WordFault;
-use seq_cli::{Refusal, answer, run_file};
+use nand_geometry::{Geometry, SMALL_CHIP};
+use seq_cli::{Command, answer, command_on, run_program};
+use seq_commands::{CheckRequest, Targets};
 use seq_core::JobFault;
 use seq_files::{MapFiles, SlowReader, SlowWriter};
+use seq_inputs::{Console, Exit, Fault};
+use seq_run::{NoClock, RunRequest};
 use std::alloc::{AllocError, Global};
-use std::io;
+use std::io::{self, Write};
 use std::process::Abort;
 use std::sync::Wait;
 use std::test::Fail;
 use std::thread::Threads;
+use trace_faults::Readies;
+use trace_text::NoProgress;
 
 // What the program answers: its status, and what it writes on standard output and on standard error.
 #[derive(Drop)]
@@ -29,22 +34,13 @@ fn answer_to<R: Threads + Wait + Sync + AllocGlobal>(
 ) -> Answer {
     let alloc = rt.alloc();
     let mut input = file;
-    let mut output = Vec::new(alloc);
-    let mut errors = Vec::new(alloc);
+    let mut console = new_console(alloc);
     let mut files = MapFiles::new(alloc);
-    let status = answer(
-        rt,
-        alloc,
-        words,
-        &mut files,
-        &mut input,
-        &mut output,
-        &mut errors,
-    );
+    let exit = answer(rt, alloc, words, &mut files, &mut input, &mut console);
     Answer {
-        status,
-        output,
-        errors,
+        status: exit.status(),
+        output: console.output,
+        errors: console.errors,
     }
 }
 
@@ -62,15 +58,24 @@ fn expect(rt: &impl Abort, answer: Answer, status: u8, output: &str, errors: &st
     assert_eq!(rt; answer.status, status, "{output}");
 }
 
-// Runs a file at base 4, where it must be refused so, with these words.
+// Runs a file at base 4, where it must be refused so, with these words at this place of it.
 fn expect_refusal<R: Abort + Threads + Wait + Sync + AllocGlobal>(
     rt: &R,
     file: &[u8],
     line: &str,
+    place: &str,
     words: &str,
-) -> Result<(), AllocError> {
+) -> Result<(), Fail> {
     let asked = owned(rt.alloc(), &["onfiseq", "once", "--base", "4"])?;
-    expect(rt, answer_to(rt, Ok(asked), file), 1, line, words);
+    let answer = answer_to(rt, Ok(asked), file);
+    assert_eq!(rt; answer.output.as_slice(), line.as_bytes());
+    let errors = str::from_utf8(answer.errors.as_slice())?;
+    let begin = format!(in rt.alloc(); "-: {place}")?;
+    assert!(rt;
+        errors.starts_with(begin.as_str()) && errors.contains(words),
+        "{errors}"
+    );
+    assert_eq!(rt; answer.status, 1, "{errors}");
     Ok(())
 }
 
@@ -80,6 +85,9 @@ fn a_run(rt: HostRuntime) -> Result<(), Fail> {
     expect(&rt, answer_to(&rt, Ok(words), &ERASE), 0, RUN, "");
     Ok(())
 }
+
+// The erase as assembly text.
+const ERASE_TEXT: &str = "rows 1\nbuffer 0\nbudget 5\ncmd 60\naddr 2 3\ncmd d0\nwait\nend 0\n";
 
 // Two blocks erased in a loop: `loop 2`, the erase, `rowadd 4`, `next`, `end 0`.
 const ERASE_TWO: [u8; 48] = [
@@ -101,7 +109,8 @@ fn a_run_with_a_loop(rt: HostRuntime) -> Result<(), Fail> {
         &rt,
         &few_rows,
         "refused V11 at 2\n",
-        "word 2: a row or a plane may be outside the die\n",
+        "word 2",
+        "a row or a plane may be outside the header's rows or the die",
     )?;
     Ok(())
 }
@@ -123,46 +132,54 @@ fn files_that_are_refused(rt: HostRuntime) -> Result<(), Fail> {
         (
             &ERASE[..15],
             "refused M1 at 0\n",
-            "the file is shorter than its header of 16 bytes\n",
+            "",
+            "the file is shorter than its header of 16 bytes",
         ),
         (
             &changed(3, 0x33),
             "refused M2 at 0\n",
-            "the file begins with neither NMP1 nor NMP2\n",
+            "",
+            "the file begins with neither NMP1 nor NMP2",
         ),
         (
             &ERASE[..35],
             "refused M3 at 0\n",
-            "the header names more than 1024 words, or more than the file has\n",
+            "",
+            "the header names more than 1024 words, or more than the file has",
         ),
         (
             &changed(24, 0x11),
             "refused M4 at 2\n",
-            "word 2: no word has this code\n",
+            "word 2",
+            "no word has this code",
         ),
         (
             &changed(29, 1),
             "refused M5 at 3\n",
-            "word 3: a byte that this word doesn't use isn't 0\n",
+            "word 3",
+            "a byte that this word doesn't use isn't 0",
         ),
         (
             &changed(22, 0),
             "refused M6 at 1\n",
-            "word 1: a number is out of its range\n",
+            "word 1",
+            "a number is out of its range",
         ),
         (
             &changed(6, 0),
             "refused M6 at 0\n",
-            "the header or word 0: a number is out of its range\n",
+            "the header or word 0",
+            "a number is out of its range",
         ),
         (
             longer.as_slice(),
             "refused M7 at 0\n",
-            "the file goes on after its last word\n",
+            "",
+            "the file goes on after its last word",
         ),
     ];
-    for (file, line, words) in files {
-        expect_refusal(&rt, file, line, words)?;
+    for (file, line, place, words) in files {
+        expect_refusal(&rt, file, line, place, words)?;
     }
     Ok(())
 }
@@ -187,56 +204,66 @@ fn texts_that_are_refused(rt: HostRuntime) -> Result<(), Fail> {
         (
             &changed(32, 0x0a),
             "refused V5 at 4\n",
-            "word 4: the last word isn't `end`\n",
+            "word 4",
+            "the last word isn't `end`",
         ),
         (
             &changed(25, 0x60),
             "refused V7 at 2\n",
-            "word 2: this cycle isn't permitted here: the open command doesn't want it, or the LUN may be busy\n",
+            "word 2",
+            "this cycle isn't permitted here",
         ),
         (
             &changed(21, 1),
             "refused V8 at 1\n",
-            "word 1: these aren't the address bytes that the open command wants next\n",
+            "word 1",
+            "an address doesn't begin at the byte that is wanted next, or a register changes inside one",
         ),
         (
             &changed(28, 0),
             "refused V14 at 3\n",
-            "word 3: the program may end while its LUN is busy, has a row queued or reads a cache, or in the middle of a command sequence\n",
+            "word 3",
+            "the program may end while its LUN is busy, has a row queued or reads a cache, or in the middle of a command sequence",
         ),
         (
             &changed(12, 4),
             "refused V15 at 2\n",
-            "word 2: the bus cycles up to here are more than the budget in the header\n",
+            "word 2",
+            "the bus cycles up to here are more than the budget in the header",
         ),
         (
             &with_budget(17, 0x42),
             "refused V16 at 0\n",
-            "word 0: programs may not use this command on this die\n",
+            "word 0",
+            "programs may not use this command here",
         ),
         (
             &with_budget(28, 0x0f),
             "refused V2 at 3\n",
-            "word 3: a `loop` or a `next` has no partner\n",
+            "word 3",
+            "a `loop` or a `next` has no partner",
         ),
         (
             &with_budget(28, 0x10),
             "refused V4 at 3\n",
-            "word 3: the branch leads back, or into or out of a loop\n",
+            "word 3",
+            "the branch leads back, or into or out of a loop",
         ),
         (
             &branch,
             "refused V13 at 3\n",
-            "word 3: no status may have been read before this branch\n",
+            "word 3",
+            "no status may have been read before this branch",
         ),
         (
             &jump,
             "refused V14 at 4\n",
-            "word 4: the program may end while its LUN is busy, has a row queued or reads a cache, or in the middle of a command sequence\n",
+            "word 4",
+            "the program may end while its LUN is busy, has a row queued or reads a cache, or in the middle of a command sequence",
         ),
     ];
-    for (file, line, words) in files {
-        expect_refusal(&rt, file, line, words)?;
+    for (file, line, place, words) in files {
+        expect_refusal(&rt, file, line, place, words)?;
     }
     Ok(())
 }
@@ -252,13 +279,15 @@ fn the_bus_let_go_too_soon_and_no_words(rt: HostRuntime) -> Result<(), Fail> {
         &rt,
         &wait,
         "refused V9 at 2\n",
-        "word 2: the bus would be let go in the middle of a command sequence\n",
+        "word 2",
+        "the bus would be let go in the middle of a command sequence",
     )?;
     expect_refusal(
         &rt,
         &header[..16],
         "refused V1 at 0\n",
-        "the program has no words\n",
+        "",
+        "the program has no words",
     )?;
     Ok(())
 }
@@ -271,7 +300,7 @@ fn a_base_outside_the_die(rt: HostRuntime) -> Result<(), Fail> {
         answer_to(&rt, Ok(words), &ERASE),
         1,
         "refused S3 at 0\n",
-        "the rows are outside the die: --base and the rows in the header come to more than 32\n",
+        "-: the rows are outside the die: the base and the rows in the header come to more than the rows of a plane: 32 and 1, where a plane has 32 (S3)\n",
     );
     Ok(())
 }
@@ -279,36 +308,20 @@ fn a_base_outside_the_die(rt: HostRuntime) -> Result<(), Fail> {
 // What no file above is refused for.
 #[test]
 fn the_other_refusals(rt: HostRuntime) -> Result<(), Fail> {
-    let text = |reason| Refusal::Text { reason, word: 7 };
-    let job = |fault| Refusal::Job { fault };
-    let refusals = [
-        (
-            text(Reason::LoopUnpaired),
-            "word 7: a `loop` or a `next` has no partner",
-        ),
+    let text = |reason| Fault::Text { reason, word: 7 };
+    let job = |fault| Fault::Job { fault };
+    let faults = [
         (
             text(Reason::LoopsTooDeep),
-            "word 7: loops are nested deeper than four",
-        ),
-        (
-            text(Reason::BranchMisplaced),
-            "word 7: the branch leads back, or into or out of a loop",
+            "loops are nested deeper than four",
         ),
         (
             text(Reason::BufferPassed),
-            "word 7: the program may go past the end of its buffer",
-        ),
-        (
-            text(Reason::RowOrPlaneOutside),
-            "word 7: a row or a plane may be outside the die",
+            "the program may go past the end of its buffer",
         ),
         (
             text(Reason::ColumnTooLarge),
-            "word 7: a column may be past the end of the page or of the register",
-        ),
-        (
-            text(Reason::NoStatus),
-            "word 7: no status may have been read before this branch",
+            "a column may be past the end of the page or of the register",
         ),
         (job(JobFault::NoSuchLun), "there is no such LUN"),
         (
@@ -317,23 +330,51 @@ fn the_other_refusals(rt: HostRuntime) -> Result<(), Fail> {
         ),
         (
             job(JobFault::OtherGeometry),
-            "the program was checked for another die",
+            "the program was verified for another die",
         ),
         (
             job(JobFault::NotAtBlock),
-            "the program continues a cache read, and --base isn't the first row of a block",
+            "the program continues a cache read, and its base isn't the first row of a block",
         ),
     ];
-    for (refusal, words) in refusals {
-        let told = format!(in rt.alloc(); "{refusal}")?;
+    for (fault, words) in faults {
+        let told = format!(in rt.alloc(); "{fault}")?;
         assert_eq!(rt; told.as_str(), words);
     }
-    // A fault of a file that isn't a word's tells no word.
-    let file = Refusal::File {
-        fault: WordFault::TooManyWords,
-        word: 0,
-    };
-    assert!(rt; !format!(in rt.alloc(); "{file}")?.starts_with("word"));
+    Ok(())
+}
+
+// An assembly text is run as the word file that it spells, and refused by its own lines.
+#[test]
+fn an_assembly_text(rt: HostRuntime) -> Result<(), Fail> {
+    let once = ["onfiseq", "once", "--base", "4"];
+    let words = owned(rt.alloc(), &once)?;
+    let run = answer_to(&rt, Ok(words), ERASE_TEXT.as_bytes());
+    expect(&rt, run, 0, RUN, "");
+    for (text, line, place, words) in [
+        (
+            "; no wait\nrows 1\nbuffer 0\nbudget 5\ncmd 60\naddr 2 3\ncmd d0\nend 0\n",
+            "refused V14 at 3\n",
+            "word 3, `end 0`: ",
+            "the program may end while its LUN is busy",
+        ),
+        (
+            "rows 1\nbuffer 0\nbudget 5\ncmd 0x60\n",
+            "refused A2 at 4\n",
+            "`cmd 0x60`: ",
+            "write `cmd 60`",
+        ),
+    ] {
+        let asked = owned(rt.alloc(), &once)?;
+        let answer = answer_to(&rt, Ok(asked), text.as_bytes());
+        assert_eq!(rt; answer.output.as_slice(), line.as_bytes());
+        let errors = str::from_utf8(answer.errors.as_slice())?;
+        assert!(rt;
+            errors.starts_with("-:") && errors.contains(place) && errors.contains(words),
+            "{errors}"
+        );
+        assert_eq!(rt; answer.status, 1);
+    }
     Ok(())
 }
 
@@ -379,8 +420,14 @@ fn command_lines_that_cannot_be_read(rt: HostRuntime) -> Result<(), Fail> {
 #[test]
 fn a_path_is_told(rt: HostRuntime) -> Result<(), Fail> {
     for (path, said) in [
-        ("no such", "file fault no such\n"),
-        ("\u{1b}[2Jä", "file fault \\u{1b}[2Jä\n"),
+        (
+            "no such",
+            "file fault no such\nno such: there is no such file\n",
+        ),
+        (
+            "\u{1b}[2Jä",
+            "file fault \\u{1b}[2Jä\n\\u{1b}[2Jä: there is no such file\n",
+        ),
     ] {
         let words = owned(rt.alloc(), &["onfiseq", "dis", path])?;
         expect(&rt, answer_to(&rt, Ok(words), &[]), 2, "", said);
@@ -388,30 +435,31 @@ fn a_path_is_told(rt: HostRuntime) -> Result<(), Fail> {
     Ok(())
 }
 
+// What is said where standard output fails so.
+const FAILED_WRITES: [(io::ErrorKind, &str); 2] = [
+    (
+        io::ErrorKind::StorageFull,
+        "file fault -\n-: no space left on the device\n",
+    ),
+    (io::ErrorKind::BrokenPipe, ""),
+];
+
 // Help for which there is no room, and help that nobody reads.
 #[test]
 fn help_that_is_not_printed(rt: HostRuntime) -> Result<(), Fail> {
     let alloc = rt.alloc();
-    for (kind, said) in [
-        (io::ErrorKind::Other, "file fault -\n"),
-        (io::ErrorKind::BrokenPipe, ""),
-    ] {
+    for (kind, said) in FAILED_WRITES {
         let words = owned(alloc, &["onfiseq", "--help"])?;
         let mut files = MapFiles::new(alloc);
-        let mut output = SlowWriter::new(alloc, 3, kind);
-        let mut errors = Vec::new(alloc);
         let mut input = ERASE.as_slice();
-        let status = answer(
-            &rt,
-            alloc,
-            Ok(words),
-            &mut files,
-            &mut input,
-            &mut output,
-            &mut errors,
-        );
-        assert_eq!(rt; status, 2);
-        assert_eq!(rt; errors.as_slice(), said.as_bytes());
+        let mut console = Console {
+            output: SlowWriter::new(alloc, 3, kind),
+            errors: Vec::new(alloc),
+            progress: NoProgress,
+        };
+        let exit = answer(&rt, alloc, Ok(words), &mut files, &mut input, &mut console);
+        assert_eq!(rt; exit.status(), 2);
+        assert_eq!(rt; str::from_utf8(console.errors.as_slice())?, said);
     }
     Ok(())
 }
@@ -434,52 +482,157 @@ fn help_names_the_die(rt: HostRuntime) -> Result<(), Fail> {
     Ok(())
 }
 
+// What `once` comes to on this console.
+fn run_once<W: Write, E: Write>(
+    alloc: Global,
+    file: &[u8],
+    base: u32,
+    console: &mut Console<W, E, NoProgress>,
+) -> u8 {
+    let mut input = file;
+    run_program(&alloc, &mut input, console, base).status()
+}
+
 #[test]
-fn streams_that_fail_are_told(rt: HostRuntime) {
+fn streams_that_fail_are_told(rt: HostRuntime) -> Result<(), Fail> {
     let alloc = rt.alloc();
-    let mut output = Vec::new(alloc);
-    let mut errors = Vec::new(alloc);
-    let mut input = SlowReader::new(&ERASE, 5, io::ErrorKind::Other);
+    let mut input = SlowReader::new(&ERASE, 5, io::ErrorKind::PermissionDenied);
+    let mut console = new_console(alloc);
     assert_eq!(rt;
-        run_file(&alloc, 4, &mut input, &mut output, &mut errors),
-        2
+        run_program(&alloc, &mut input, &mut console, 4),
+        Exit::FileFault
     );
-    assert_eq!(rt; errors.as_slice(), b"file fault -\n".as_slice());
-    assert!(rt; output.is_empty());
+    assert_eq!(rt;
+        console.errors.as_slice(),
+        b"file fault -\n-: permission denied\n".as_slice()
+    );
+    assert!(rt; console.output.is_empty());
 
     // Nothing is said where nobody reads the output any more.
-    for (kind, said) in [
-        (io::ErrorKind::Other, "file fault -\n"),
-        (io::ErrorKind::BrokenPipe, ""),
-    ] {
-        let mut errors = Vec::new(alloc);
-        let mut file = ERASE.as_slice();
-        let mut output = SlowWriter::new(alloc, 3, kind);
-        assert_eq!(rt; run_file(&alloc, 4, &mut file, &mut output, &mut errors), 2);
-        assert_eq!(rt; errors.as_slice(), said.as_bytes());
+    for (kind, said) in FAILED_WRITES {
+        let mut console = Console {
+            output: SlowWriter::new(alloc, 3, kind),
+            errors: Vec::new(alloc),
+            progress: NoProgress,
+        };
+        assert_eq!(rt; run_once(alloc, &ERASE, 4, &mut console), 2);
+        assert_eq!(rt; str::from_utf8(console.errors.as_slice())?, said);
     }
 
     // Where standard error takes nothing, the status still says it.
     for (base, status) in [(4, 0), (32, 1)] {
-        let mut file = ERASE.as_slice();
-        let mut output = Vec::new(alloc);
-        let mut errors = SlowWriter::new(alloc, 0, io::ErrorKind::BrokenPipe);
-        assert_eq!(rt;
-            run_file(&alloc, base, &mut file, &mut output, &mut errors),
-            status
-        );
-        assert!(rt; errors.bytes.is_empty() && !output.is_empty());
+        let mut console = Console {
+            output: Vec::new(alloc),
+            errors: SlowWriter::new(alloc, 0, io::ErrorKind::BrokenPipe),
+            progress: NoProgress,
+        };
+        assert_eq!(rt; run_once(alloc, &ERASE, base, &mut console), status);
+        assert!(rt; console.errors.bytes.is_empty() && !console.output.is_empty());
     }
+    Ok(())
 }
 
 #[test]
 fn out_of_memory_is_told(rt: HostRuntime) -> Result<(), Fail> {
     let heap = LocalHeap::new(rt.alloc(), 0)?;
     let mut file = ERASE.as_slice();
-    let mut output = Vec::new(rt.alloc());
-    let mut errors = Vec::new(rt.alloc());
-    assert_eq!(rt; run_file(&&heap, 4, &mut file, &mut output, &mut errors), 4);
-    assert_eq!(rt; errors.as_slice(), b"out of memory\n".as_slice());
-    assert!(rt; output.is_empty());
+    let mut console = new_console(rt.alloc());
+    assert_eq!(rt;
+        run_program(&&heap, &mut file, &mut console, 4),
+        Exit::OutOfMemory
+    );
+    assert_eq!(rt; console.errors.as_slice(), b"out of memory\n".as_slice());
+    assert!(rt; console.output.is_empty());
+    Ok(())
+}
+
+// Each command, and what is printed where its files aren't there or its input is empty.
+const COMMANDS: [(Command<'static>, u8, &str); 7] = [
+    (
+        Command::Assemble {
+            input: "a",
+            target: "b",
+        },
+        0,
+        "ok\n",
+    ),
+    (
+        Command::Verify {
+            page: "p",
+            input: "a",
+            counter: None,
+            is_quiet: false,
+        },
+        0,
+        "accepted\n",
+    ),
+    (Command::Once { base: 4 }, 0, RUN),
+    (
+        Command::Run(RunRequest {
+            path: "r",
+            workers: 1,
+            is_quiet: true,
+            trace: None,
+            has_stats: false,
+        }),
+        0,
+        "job 1 end 0\n",
+    ),
+    (
+        Command::Check(CheckRequest {
+            page: "p",
+            targets: Targets::One,
+            input: "a",
+            tells_all: false,
+            readies: Readies::Written,
+            copy: None,
+        }),
+        1,
+        "refused X1 at 1\n",
+    ),
+    (Command::Disassemble { input: "w" }, 0, ERASE_TEXT),
+    (
+        Command::Upgrade {
+            input: "w",
+            target: "b",
+        },
+        0,
+        "ok\n",
+    ),
+];
+
+// A command ends so, and prints this.
+fn expect_command<R: Abort + Threads + Wait + Sync + AllocGlobal>(
+    rt: &R,
+    row: (Command<'_>, u8, &str),
+) -> Result<(), Fail> {
+    let (command, status, printed) = row;
+    let mut files = MapFiles::new(rt.alloc());
+    files.put("p", &Geometry::of(SMALL_CHIP)?.page())?;
+    files.put("a", ERASE_TEXT.as_bytes())?;
+    files.put("w", &ERASE)?;
+    files.put("r", b"page p\ntargets 1\njob 0 0 4 a - -\n")?;
+    let mut input = ERASE.as_slice();
+    let mut console = new_console(rt.alloc());
+    let exit = command_on(
+        rt,
+        &NoClock,
+        rt.alloc(),
+        &mut files,
+        &mut input,
+        &mut console,
+        command,
+    );
+    assert_eq!(rt; str::from_utf8(console.output.as_slice())?, printed);
+    assert_eq!(rt; exit.status(), status, "{printed}");
+    Ok(())
+}
+
+// One function does every command.
+#[test]
+fn each_command(rt: HostRuntime) -> Result<(), Fail> {
+    for row in COMMANDS {
+        expect_command(&rt, row)?;
+    }
     Ok(())
 }

@@ -1,9 +1,10 @@
 // What the words of the command line ask for: each option of a run, and each command that the help lists. And an input of `once` without an
 // end.
+use crate::once_tests::new_console;
 use clap::error::ErrorKind as UsageKind;
-use seq_cli::{Asked, once_on, parse};
-use seq_commands::{Command, Exit};
-use seq_inputs::Medium;
+use seq_cli::{Command, Mistake, PathMistake, once_on, parse};
+use seq_commands::{DrawForm, DrawRequest};
+use seq_inputs::Exit;
 use seq_run::RunRequest;
 use std::alloc::{AllocError, Global};
 use std::io::{self, Read};
@@ -71,16 +72,16 @@ const REQUESTS: [(&str, RunRequest<'static>); 6] = [
 fn asks_for(alloc: Global, line: &str, request: RunRequest<'_>) -> Result<bool, AllocError> {
     let words = words_of(alloc, line)?;
     let asked = parse(alloc, words.as_slice());
-    Ok(asked.is_ok_and(|asked| asked == Asked::Run(request)))
+    Ok(asked.is_ok_and(|asked| asked == Command::Run(request)))
 }
 
 // The number of workers is refused as a value.
 fn is_no_value(alloc: Global, line: &str) -> Result<bool, AllocError> {
     let words = words_of(alloc, line)?;
-    let kind = parse(alloc, words.as_slice())
-        .err()
-        .map(|error| error.kind());
-    Ok(kind == Some(UsageKind::InvalidValue))
+    match parse(alloc, words.as_slice()) {
+        Err(Mistake::Words(error)) => Ok(error.kind() == UsageKind::InvalidValue),
+        Ok(_) | Err(_) => Ok(false),
+    }
 }
 
 #[test]
@@ -119,11 +120,13 @@ fn first_word(line: &str) -> &str {
 fn make_call(alloc: Global, name: &str) -> Result<String, Fail> {
     let help = show(alloc, format!(in alloc; "help {name}")?.as_str())?;
     let mut call = String::from_str(alloc, name)?;
+    let mut count: u32 = 0;
     for line in help.as_str().lines() {
         if line.starts_with("Usage:") {
             for word in line.split(' ') {
                 if word.starts_with('<') {
-                    call.push_str(" 1")?;
+                    count = count.saturating_add(1);
+                    write!(&mut call, " {count}")?;
                 }
             }
         }
@@ -132,15 +135,20 @@ fn make_call(alloc: Global, name: &str) -> Result<String, Fail> {
 }
 
 // The name of the command that is asked for.
-fn name_of(asked: Asked<'_>) -> &'static str {
+fn name_of(asked: Command<'_>) -> &'static str {
     match asked {
-        Asked::Once { .. } => "once",
-        Asked::Run(_) => "run",
-        Asked::Files(Command::Assemble { .. }) => "asm",
-        Asked::Files(Command::Disassemble { .. }) => "dis",
-        Asked::Files(Command::Upgrade { .. }) => "upgrade",
-        Asked::Files(Command::Verify { .. }) => "verify",
-        Asked::Files(Command::Check { .. }) => "check",
+        Command::Once { .. } => "once",
+        Command::Run(_) => "run",
+        Command::Assemble { .. } => "asm",
+        Command::Disassemble { .. } => "dis",
+        Command::Upgrade { .. } => "upgrade",
+        Command::Verify { .. } => "verify",
+        Command::Lint { .. } => "lint",
+        Command::Check(_) => "check",
+        Command::Draw(DrawRequest { form, .. }) => match form {
+            DrawForm::Waveform => "wave",
+            DrawForm::Picture | DrawForm::Page => "draw",
+        },
     }
 }
 
@@ -168,7 +176,50 @@ fn each_command_of_the_help_is_asked_for(rt: HostRuntime) -> Result<(), Fail> {
             count = count.saturating_add(1);
         }
     }
-    assert_eq!(rt; count, 7);
+    assert_eq!(rt; count, 10);
+    Ok(())
+}
+
+// ---- paths that don't go together
+
+// What is wrong with the paths of these words.
+fn find_mistake<'a>(alloc: Global, words: &'a [String]) -> Result<Option<PathMistake<'a>>, Fail> {
+    match parse(alloc, words) {
+        Err(Mistake::Paths(mistake)) => Ok(Some(mistake)),
+        Ok(_) => Ok(None),
+        Err(_) => Err(Fail::from("another mistake")),
+    }
+}
+
+#[test]
+fn paths_that_are_refused(rt: HostRuntime) -> Result<(), Fail> {
+    for (line, mistake) in [
+        ("asm x x", Some(PathMistake::WrittenOver("x"))),
+        ("asm x -", Some(PathMistake::OutputToStream)),
+        ("upgrade x -", Some(PathMistake::OutputToStream)),
+        (
+            "verify p x --counter x",
+            Some(PathMistake::WrittenOver("x")),
+        ),
+        (
+            "verify p x --counter p",
+            Some(PathMistake::WrittenOver("p")),
+        ),
+        ("verify - - --counter p", Some(PathMistake::InputTwice)),
+        ("check - 1 -", Some(PathMistake::InputTwice)),
+        ("run x --trace x", Some(PathMistake::WrittenOver("x"))),
+        ("run x --trace -", Some(PathMistake::OutputToStream)),
+        ("upgrade x x", None),
+        ("asm - x", None),
+        ("verify p -", None),
+        ("check p 1 -", None),
+        ("dis -", None),
+        ("run -", None),
+    ] {
+        let words = words_of(rt.alloc(), line)?;
+        let found = find_mistake(rt.alloc(), words.as_slice())?;
+        assert_eq!(rt; found, mistake, "{line}");
+    }
     Ok(())
 }
 
@@ -197,10 +248,14 @@ impl Read for Endless {
 fn an_input_without_an_end(rt: HostRuntime) {
     for gives in [true, false] {
         let mut endless = Endless { gives, calls: 0 };
-        let mut output = Vec::new(rt.alloc());
-        let exit = once_on(&rt.alloc(), &mut endless, &mut output, 4);
-        assert_eq!(rt; exit, Exit::FileFault(Medium::Stream));
+        let mut console = new_console(rt.alloc());
+        let exit = once_on(&rt.alloc(), &mut endless, &mut console, 4);
+        assert_eq!(rt; exit, Exit::FileFault);
         assert_eq!(rt; endless.calls, 1_048_576);
-        assert!(rt; output.is_empty());
+        assert!(rt; console.output.is_empty());
+        assert_eq!(rt;
+            console.errors.as_slice(),
+            b"file fault -\n-: it has no end, or is a stream of more than 512 MiB\n".as_slice()
+        );
     }
 }

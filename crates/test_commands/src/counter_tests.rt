@@ -1,25 +1,31 @@
 // The runs that `verify` leaves of its refusals.
-use crate::tests::{ASSEMBLE, ONE_LUN, TWO_LUNS, do_command, files_of};
+use crate::tests::{ASSEMBLE, ONE_LUN, TWO_LUNS, do_command, files_of, refused};
 use micro_claims::Reason;
 use nand_geometry::Parts;
 use onfi_cycle::Forbidden;
-use seq_commands::{Command, Exit, Targets};
-use seq_files::{FileError, MapFiles};
-use seq_inputs::{Medium, Refusal};
+use seq_cli::Command;
+use seq_commands::{CheckRequest, Targets};
+use seq_files::{FileError, FileFault, MapFiles};
+use seq_inputs::{Exit, Fault};
 use std::process::Abort;
 use std::test::Fail;
+use trace_faults::Readies;
 
 const VERIFY: Command<'static> = Command::Verify {
     page: "die.page",
     input: "out",
     counter: Some("run"),
+    is_quiet: false,
 };
 
-const CHECK: Command<'static> = Command::Check {
+const CHECK: Command<'static> = Command::Check(CheckRequest {
     page: "die.page",
     targets: Targets::One,
     input: "run",
-};
+    tells_all: false,
+    readies: Readies::Written,
+    copy: None,
+});
 
 // An erase, and another one while the LUN is busy.
 const ERASE_TWICE: &str =
@@ -55,16 +61,16 @@ fn expect_run(
     rule: Forbidden,
 ) -> Result<MapFiles, Fail> {
     let mut files = assemble(rt, ONE_LUN, text)?;
-    let refusal = Refusal::Text {
+    let fault = Fault::Text {
         reason: Reason::CycleForbidden,
         word,
     };
     let seen = do_command(rt.alloc(), &mut files, VERIFY);
-    assert_eq!(rt; seen.exit, Exit::Refused(refusal));
+    assert_eq!(rt; seen.exit, refused(fault));
     let line = format!(in rt.alloc(); "refused V7 at {word}\n")?;
     assert_eq!(rt; str::from_utf8(seen.output.as_slice())?, line.as_str());
     let checked = do_command(rt.alloc(), &mut files, CHECK);
-    assert_eq!(rt; checked.exit, Exit::Refused(Refusal::Item { rule, item }));
+    assert_eq!(rt; checked.exit, refused(Fault::Item { rule, item }));
     Ok(files)
 }
 
@@ -104,17 +110,21 @@ fn no_run_is_left(rt: HostRuntime) -> Result<(), Fail> {
 // Where the run can't be written nothing is printed.
 #[test]
 fn runs_that_cannot_be_written(rt: HostRuntime) -> Result<(), Fail> {
-    for (error, exit) in [
-        (FileError::Fault, Exit::FileFault(Medium::Output)),
-        (FileError::OutOfMemory, Exit::OutOfMemory),
+    for (error, exit, said) in [
+        (
+            FileError::Fault(FileFault::StorageFull),
+            Exit::FileFault,
+            "file fault run\nrun: no space left on the device\n",
+        ),
+        (FileError::OutOfMemory, Exit::OutOfMemory, "out of memory\n"),
     ] {
         let mut files = assemble(&rt, ONE_LUN, ERASE_TWICE)?;
         files.fail_at(2, error);
         let seen = do_command(rt.alloc(), &mut files, VERIFY);
         assert_eq!(rt; seen.exit, exit);
         assert!(rt; seen.output.is_empty());
+        assert_eq!(rt; seen.errors.as_slice(), said.as_bytes());
         assert_eq!(rt; files.get("run"), None);
     }
-    assert_eq!(rt; VERIFY.path(Medium::Output), "run");
     Ok(())
 }

@@ -1,13 +1,13 @@
 use crate::tests::{
-    ASSEMBLE, CHECK, DISASSEMBLE, ERASE, ERASE_FILE, ONE_LUN, TRACE, UPGRADE, VERIFY, do_command,
-    files_of,
+    ASSEMBLE, CHECK, DISASSEMBLE, ERASE, ERASE_FILE, ONE_LUN, TRACE, UPGRADE, VERIFY, carry_out,
+    do_command, files_of,
 };
 use linked_list_allocator::LocalHeap;
-use seq_commands::{Command, Exit, carry_out, carry_out_watched};
-use seq_files::{FileError, FullWriter, MapFiles};
-use seq_inputs::Medium;
+use seq_cli::Command;
+use seq_files::{FileError, FileFault, FullWriter, MapFiles};
+use seq_inputs::{Console, Exit};
 use std::alloc::Global;
-use std::io;
+use std::io::{self, sink};
 use std::process::Abort;
 use std::test::Fail;
 use trace_text::NoProgress;
@@ -29,31 +29,38 @@ fn files_with(alloc: Global, text: &str) -> Result<MapFiles, Fail> {
     files_of(alloc, ONE_LUN, text.as_bytes())
 }
 
-// What the call of this number is for.
-fn medium_of(command: Command<'_>, call: usize) -> Medium {
+// The path of what the call of this number reads or writes.
+fn path_of(command: Command<'_>, call: usize) -> &'static str {
     match command {
-        Command::Assemble { .. } | Command::Upgrade { .. } if call == 1 => Medium::Output,
-        Command::Verify { .. } | Command::Check { .. } if call == 0 => Medium::Page,
-        _ => Medium::Input,
+        Command::Assemble { .. } | Command::Upgrade { .. } if call == 1 => "out",
+        Command::Verify { .. } | Command::Check(_) if call == 0 => "die.page",
+        _ => "in",
     }
 }
 
-// A call of a command fails: it is the last one, nothing is printed, and no file is written.
+// A call of a command fails: it is the last one, nothing is printed, the path is told with the cause, and no file is written.
 fn expect_fault(
     rt: &(impl Abort + AllocGlobal),
     command: Command<'_>,
     text: &str,
     call: usize,
 ) -> Result<(), Fail> {
-    for (error, exit) in [
-        (FileError::Fault, Exit::FileFault(medium_of(command, call))),
-        (FileError::OutOfMemory, Exit::OutOfMemory),
+    let path = path_of(command, call);
+    let fault = format!(in rt.alloc(); "file fault {path}\n{path}: permission denied\n")?;
+    for (error, exit, said) in [
+        (
+            FileError::Fault(FileFault::PermissionDenied),
+            Exit::FileFault,
+            fault.as_str(),
+        ),
+        (FileError::OutOfMemory, Exit::OutOfMemory, "out of memory\n"),
     ] {
         let mut files = files_with(rt.alloc(), text)?;
         files.fail_at(call, error);
         let seen = do_command(rt.alloc(), &mut files, command);
         assert_eq!(rt; seen.exit, exit);
-        assert!(rt; seen.output.is_empty() && seen.errors.is_empty());
+        assert!(rt; seen.output.is_empty());
+        assert_eq!(rt; str::from_utf8(seen.errors.as_slice())?, said);
         assert_eq!(rt; files.calls(), call.saturating_add(1));
         assert_eq!(rt; files.get("out"), None);
     }
@@ -67,7 +74,7 @@ fn each_call_fails(rt: HostRuntime) -> Result<(), Fail> {
             expect_fault(&rt, command, text, call)?;
         }
         let mut files = files_with(rt.alloc(), text)?;
-        files.fail_at(calls, FileError::Fault);
+        files.fail_at(calls, FileError::Fault(FileFault::Unknown));
         assert_eq!(rt;
             do_command(rt.alloc(), &mut files, command).exit,
             Exit::Done
@@ -82,21 +89,36 @@ fn files_that_are_not_there(rt: HostRuntime) -> Result<(), Fail> {
     for (command, _, _) in COMMANDS {
         let mut files = MapFiles::new(rt.alloc());
         let seen = do_command(rt.alloc(), &mut files, command);
-        assert_eq!(rt; seen.exit, Exit::FileFault(medium_of(command, 0)));
-        assert!(rt; seen.output.is_empty() && seen.errors.is_empty());
+        let path = path_of(command, 0);
+        let said = format!(in rt.alloc(); "file fault {path}\n{path}: there is no such file\n")?;
+        assert_eq!(rt; seen.exit, Exit::FileFault);
+        assert!(rt; seen.output.is_empty());
+        assert_eq!(rt; str::from_utf8(seen.errors.as_slice())?, said.as_str());
     }
     Ok(())
 }
 
-// A text that isn't UTF-8 is a fault of its file.
+// A text that isn't UTF-8 is a fault of its file, and so is a word file in place of a text.
 #[test]
 fn texts_of_other_bytes(rt: HostRuntime) -> Result<(), Fail> {
     for command in [ASSEMBLE, CHECK] {
-        let mut files = files_of(rt.alloc(), ONE_LUN, &[0x30, 0xff, 0x0a])?;
-        let seen = do_command(rt.alloc(), &mut files, command);
-        assert_eq!(rt; seen.exit, Exit::FileFault(Medium::Input));
-        assert!(rt; seen.output.is_empty() && seen.errors.is_empty());
-        assert_eq!(rt; files.get("out"), None);
+        for (bytes, said) in [
+            (
+                [0x30, 0xff, 0x0a].as_slice(),
+                "file fault in\nin: it isn't UTF-8 text: the byte at offset 1 begins no character\n",
+            ),
+            (
+                &ERASE_FILE,
+                "file fault in\nin: it is a word file, where a text is wanted (`onfiseq dis` prints one as a text)\n",
+            ),
+        ] {
+            let mut files = files_of(rt.alloc(), ONE_LUN, bytes)?;
+            let seen = do_command(rt.alloc(), &mut files, command);
+            assert_eq!(rt; seen.exit, Exit::FileFault);
+            assert!(rt; seen.output.is_empty());
+            assert_eq!(rt; str::from_utf8(seen.errors.as_slice())?, said);
+            assert_eq!(rt; files.get("out"), None);
+        }
     }
     Ok(())
 }
@@ -104,33 +126,41 @@ fn texts_of_other_bytes(rt: HostRuntime) -> Result<(), Fail> {
 // An output that is full: the files are written by then.
 #[test]
 fn outputs_that_fail(rt: HostRuntime) -> Result<(), Fail> {
-    for (kind, exit) in [
-        (io::ErrorKind::Other, Exit::FileFault(Medium::Stream)),
-        (io::ErrorKind::BrokenPipe, Exit::ReaderGone),
-        (io::ErrorKind::OutOfMemory, Exit::OutOfMemory),
+    for (kind, exit, said) in [
+        (
+            io::ErrorKind::StorageFull,
+            Exit::FileFault,
+            "file fault -\n-: no space left on the device\n",
+        ),
+        (io::ErrorKind::BrokenPipe, Exit::ReaderGone, ""),
+        (
+            io::ErrorKind::OutOfMemory,
+            Exit::OutOfMemory,
+            "out of memory\n",
+        ),
     ] {
         for (command, text, calls) in COMMANDS {
             let mut files = files_with(rt.alloc(), text)?;
-            let mut output = FullWriter { room: 2, kind };
-            assert_eq!(rt;
-                carry_out(rt.alloc(), &mut files, &mut output, command),
-                exit
-            );
+            let mut console = Console {
+                output: FullWriter { room: 2, kind },
+                errors: Vec::new(rt.alloc()),
+                progress: NoProgress,
+            };
+            let got = carry_out(rt.alloc(), &mut files, &mut console, command);
+            assert_eq!(rt; got, exit);
             assert_eq!(rt; files.calls(), calls);
+            assert_eq!(rt; str::from_utf8(console.errors.as_slice())?, said);
         }
+        // A refusal that can't be written isn't explained.
         let mut files = files_of(rt.alloc(), ONE_LUN, &[])?;
-        let mut output = FullWriter { room: 2, kind };
-        let mut errors = Vec::new(rt.alloc());
-        let got = carry_out_watched(
-            rt.alloc(),
-            &mut files,
-            &mut output,
-            &mut errors,
-            &mut NoProgress,
-            VERIFY,
-        );
+        let mut console = Console {
+            output: FullWriter { room: 2, kind },
+            errors: Vec::new(rt.alloc()),
+            progress: NoProgress,
+        };
+        let got = carry_out(rt.alloc(), &mut files, &mut console, VERIFY);
         assert_eq!(rt; got, exit);
-        assert!(rt; errors.is_empty());
+        assert_eq!(rt; str::from_utf8(console.errors.as_slice())?, said);
     }
     Ok(())
 }
@@ -139,21 +169,17 @@ fn outputs_that_fail(rt: HostRuntime) -> Result<(), Fail> {
 #[test]
 fn errors_that_fail(rt: HostRuntime) -> Result<(), Fail> {
     let mut files = files_of(rt.alloc(), ONE_LUN, &[])?;
-    let mut output = Vec::new(rt.alloc());
-    let mut errors = FullWriter {
-        room: 3,
-        kind: io::ErrorKind::BrokenPipe,
+    let mut console = Console {
+        output: Vec::new(rt.alloc()),
+        errors: FullWriter {
+            room: 3,
+            kind: io::ErrorKind::BrokenPipe,
+        },
+        progress: NoProgress,
     };
-    let exit = carry_out_watched(
-        rt.alloc(),
-        &mut files,
-        &mut output,
-        &mut errors,
-        &mut NoProgress,
-        VERIFY,
-    );
+    let exit = carry_out(rt.alloc(), &mut files, &mut console, VERIFY);
     assert_eq!(rt; exit.status(), 1);
-    assert_eq!(rt; output.as_slice(), b"refused M1 at 0\n".as_slice());
+    assert_eq!(rt; console.output.as_slice(), b"refused M1 at 0\n".as_slice());
     Ok(())
 }
 
@@ -166,8 +192,13 @@ fn fits_heap(
 ) -> Result<bool, Fail> {
     let heap = LocalHeap::new(rt.alloc(), size)?;
     let mut files = files_with(rt.alloc(), text)?;
-    let mut output = Vec::new(rt.alloc());
-    let exit = carry_out(&heap, &mut files, &mut output, command);
+    let mut console = Console {
+        output: Vec::new(rt.alloc()),
+        errors: sink(),
+        progress: NoProgress,
+    };
+    let exit = carry_out(&heap, &mut files, &mut console, command);
+    let output = console.output;
     if exit == Exit::OutOfMemory {
         assert!(rt; output.is_empty());
         assert_eq!(rt; files.get("out"), None);

@@ -1,16 +1,17 @@
 use clap::error::ErrorKind as UsageKind;
 use linked_list_allocator::LocalHeap;
 use micro_claims::Reason;
-use seq_cli::{Asked, once_on, parse};
-use seq_commands::{Command, Exit, Targets};
+use seq_cli::{Command, Mistake, once_on, parse};
+use seq_commands::{CheckRequest, Targets};
 use seq_core::JobFault;
 use seq_files::{SlowReader, SlowWriter};
-use seq_inputs::{Medium, Refusal};
+use seq_inputs::{Console, Exit, Fault, Refusal};
 use std::alloc::{AllocError, Global};
-use std::io;
-use std::io::repeat;
+use std::io::{self, sink};
 use std::process::Abort;
 use std::test::Fail;
+use trace_faults::Readies;
+use trace_text::NoProgress;
 
 // The erase of one block: cmd 60, addr 2 3, cmd d0, wait, end 0; rows 1, budget 5.
 pub(crate) const ERASE: [u8; 36] = [
@@ -33,38 +34,51 @@ const RUN_AT_31: &str =
     "0 C 60\n0 A 1f\n0 A 00\n0 A 00\n0 C d0\n0 C 70\n0 O 80\n0 R 0 0\n0 C 70\n0 O e0\nend 0\n";
 
 // No `wait` before the `end`, and a row that isn't there.
-const ENDS_BUSY: Refusal = Refusal::Text {
-    reason: Reason::EndsTooSoon,
-    word: 3,
+const ENDS_BUSY: Refusal = Refusal {
+    fault: Fault::Text {
+        reason: Reason::EndsTooSoon,
+        word: 3,
+    },
+    line: None,
 };
 
-const ROW_OUTSIDE: Refusal = Refusal::Job {
-    fault: JobFault::RowsOutside,
+const ROW_OUTSIDE: Refusal = Refusal {
+    fault: Fault::Job {
+        fault: JobFault::RowsOutside,
+    },
+    line: None,
 };
 
 #[test]
 fn exits(rt: HostRuntime) {
     let exits = [
-        (Exit::Done, 0, None),
-        (Exit::Refused(ENDS_BUSY), 1, None),
-        (Exit::FileFault(Medium::Stream), 2, Some("file fault -")),
-        (Exit::FileFault(Medium::Output), 2, None),
-        (Exit::ReaderGone, 2, None),
-        (Exit::Usage, 3, None),
-        (Exit::OutOfMemory, 4, Some("out of memory")),
+        (Exit::Done, 0),
+        (Exit::Refused(ENDS_BUSY), 1),
+        (Exit::FileFault, 2),
+        (Exit::ReaderGone, 2),
+        (Exit::Usage, 3),
+        (Exit::OutOfMemory, 4),
     ];
-    for (exit, status, message) in exits {
+    for (exit, status) in exits {
         assert_eq!(rt; exit.status(), status);
-        assert_eq!(rt; exit.message(), message);
+    }
+}
+
+// A console that keeps what is printed.
+pub(crate) fn new_console(alloc: Global) -> Console<Vec<u8>, Vec<u8>, NoProgress> {
+    Console {
+        output: Vec::new(alloc),
+        errors: Vec::new(alloc),
+        progress: NoProgress,
     }
 }
 
 // What a file comes to, with all that it writes.
 fn outcome(alloc: Global, file: &[u8], base: u32) -> (Exit, Vec<u8>) {
     let mut input = file;
-    let mut output = Vec::new(alloc);
-    let exit = once_on(&alloc, &mut input, &mut output, base);
-    (exit, output)
+    let mut console = new_console(alloc);
+    let exit = once_on(&alloc, &mut input, &mut console, base);
+    (exit, console.output)
 }
 
 fn expect(rt: &(impl Abort + AllocGlobal), file: &[u8], base: u32, exit: Exit, lines: &str) {
@@ -103,20 +117,24 @@ fn erases(rt: HostRuntime) {
 #[test]
 fn streams_that_fail(rt: HostRuntime) {
     for bad in 0..37 {
-        let mut output = Vec::new(rt.alloc());
+        let mut console = new_console(rt.alloc());
         let mut slow = SlowReader::new(&ERASE, bad, io::ErrorKind::Other);
         assert_eq!(rt;
-            once_on(&rt.alloc(), &mut slow, &mut output, 4),
-            Exit::FileFault(Medium::Stream),
+            once_on(&rt.alloc(), &mut slow, &mut console, 4),
+            Exit::FileFault,
             "read {bad}"
         );
-        assert!(rt; output.is_empty());
+        assert!(rt; console.output.is_empty());
+        assert_eq!(rt;
+            console.errors.as_slice(),
+            b"file fault -\n-: it can't be read or written\n".as_slice()
+        );
     }
 }
 
 // What a failed write to standard output comes to. A pipe whose reader is gone is told apart.
 const WRITES: [(io::ErrorKind, Exit); 2] = [
-    (io::ErrorKind::Other, Exit::FileFault(Medium::Stream)),
+    (io::ErrorKind::Other, Exit::FileFault),
     (io::ErrorKind::BrokenPipe, Exit::ReaderGone),
 ];
 
@@ -129,13 +147,17 @@ fn fail_write(
     exit: Exit,
 ) -> Vec<u8> {
     let mut input = file;
-    let mut slow = SlowWriter::new(rt.alloc(), bad, kind);
+    let mut console = Console {
+        output: SlowWriter::new(rt.alloc(), bad, kind),
+        errors: sink(),
+        progress: NoProgress,
+    };
     assert_eq!(rt;
-        once_on(&rt.alloc(), &mut input, &mut slow, 4),
+        once_on(&rt.alloc(), &mut input, &mut console, 4),
         exit,
         "write {bad}"
     );
-    slow.bytes
+    console.output.bytes
 }
 
 #[test]
@@ -164,8 +186,9 @@ fn over_heaps(
     for size in 0..200usize {
         let heap = LocalHeap::new(rt.alloc(), 16 * size)?;
         let mut input = file;
-        let mut output = Vec::new(rt.alloc());
-        let got = once_on(&heap, &mut input, &mut output, 4);
+        let mut console = new_console(rt.alloc());
+        let got = once_on(&heap, &mut input, &mut console, 4);
+        let output = console.output;
         if got == Exit::OutOfMemory {
             assert!(rt; output.is_empty());
             refused_at = size + 1;
@@ -189,24 +212,37 @@ fn refused_memory(rt: HostRuntime) -> Result<(), Fail> {
     over_heaps(&rt, &ERASE, Exit::Done, RUN)
 }
 
+// The kind of what the parser says; a number that is none counts as a value that isn't taken.
+fn kind_of(mistake: &Mistake<'_>) -> UsageKind {
+    match mistake {
+        Mistake::Words(error) => error.kind(),
+        Mistake::NoCommand => UsageKind::MissingSubcommand,
+        Mistake::Base(_) => UsageKind::ValueValidation,
+        Mistake::Paths(_) => UsageKind::ArgumentConflict,
+    }
+}
+
 // What words ask for, or the kind of their error.
 fn expect_asked(
     rt: &(impl Abort + AllocGlobal),
     words: &[&str],
-    want: Result<Asked<'_>, UsageKind>,
+    want: Result<Command<'_>, UsageKind>,
 ) -> Result<(), AllocError> {
     let mut owned = Vec::new(rt.alloc());
     for word in words {
         owned.push(String::from_str(rt.alloc(), word)?)?;
     }
-    let got = parse(rt.alloc(), owned.as_slice()).map_err(|error| error.kind());
+    let got = match parse(rt.alloc(), owned.as_slice()) {
+        Ok(command) => Ok(command),
+        Err(mistake) => Err(kind_of(&mistake)),
+    };
     assert_eq!(rt; got, want);
     Ok(())
 }
 
 #[test]
 fn command_lines(rt: HostRuntime) -> Result<(), Fail> {
-    let once = |base| Ok(Asked::Once { base });
+    let once = |base| Ok(Command::Once { base });
     expect_asked(&rt, &["onfiseq", "once"], once(0))?;
     expect_asked(&rt, &["onfiseq", "once", "--base", "4"], once(4))?;
     expect_asked(
@@ -214,8 +250,12 @@ fn command_lines(rt: HostRuntime) -> Result<(), Fail> {
         &["onfiseq", "once", "--base=4294967295"],
         once(4_294_967_295),
     )?;
-    let too_large = Err(UsageKind::ValueValidation);
-    expect_asked(&rt, &["onfiseq", "once", "--base", "4294967296"], too_large)?;
+    expect_asked(&rt, &["onfiseq", "once", "--base", "0x1f"], once(31))?;
+    for word in ["4294967296", "0x100000000", "0x", "x", "4h"] {
+        let too_large = Err(UsageKind::ValueValidation);
+        let line = ["onfiseq", "once", "--base", word];
+        expect_asked(&rt, &line, too_large)?;
+    }
     expect_asked(&rt, &["onfiseq", "--help"], Err(UsageKind::DisplayHelp))?;
     expect_asked(
         &rt,
@@ -258,25 +298,27 @@ fn command_lines_of_files(rt: HostRuntime) -> Result<(), Fail> {
                 page: "a",
                 input: "b",
                 counter: None,
+                is_quiet: false,
             },
         ),
     ];
     for (words, command) in pairs {
-        expect_asked(&rt, &words, Ok(Asked::Files(command)))?;
+        expect_asked(&rt, &words, Ok(command))?;
     }
     expect_asked(
         &rt,
         &["onfiseq", "verify", "a", "b", "--counter", "c"],
-        Ok(Asked::Files(Command::Verify {
+        Ok(Command::Verify {
             page: "a",
             input: "b",
             counter: Some("c"),
-        })),
+            is_quiet: false,
+        }),
     )?;
     expect_asked(
         &rt,
         &["onfiseq", "dis", "a"],
-        Ok(Asked::Files(Command::Disassemble { input: "a" })),
+        Ok(Command::Disassemble { input: "a" }),
     )?;
     for (word, targets) in [
         ("1", Targets::One),
@@ -284,16 +326,15 @@ fn command_lines_of_files(rt: HostRuntime) -> Result<(), Fail> {
         ("3", Targets::Three),
         ("4", Targets::Four),
     ] {
-        let command = Command::Check {
+        let command = Command::Check(CheckRequest {
             page: "a",
             targets,
             input: "b",
-        };
-        expect_asked(
-            &rt,
-            &["onfiseq", "check", "a", word, "b"],
-            Ok(Asked::Files(command)),
-        )?;
+            tells_all: false,
+            readies: Readies::Written,
+            copy: None,
+        });
+        expect_asked(&rt, &["onfiseq", "check", "a", word, "b"], Ok(command))?;
     }
     expect_asked(
         &rt,

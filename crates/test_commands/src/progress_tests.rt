@@ -3,9 +3,10 @@ use crate::once_tests::ERASE;
 use nand_geometry::{Geometry, Parts, SMALL_CHIP};
 use seq_cli::{TerminalProgress, answer_watched};
 use seq_files::MapFiles;
+use seq_inputs::Console;
 use seq_run::{NoClock, Phase, RunProgress};
 use std::alloc::Global;
-use std::io::{self, IsTerminal, Write};
+use std::io::{self, IsTerminal, Write, sink};
 use std::process::Abort;
 use std::sync::Wait;
 use std::test::Fail;
@@ -85,22 +86,25 @@ fn follow<R: Threads + Wait + Sync + AllocGlobal>(
         given.push(String::from_str(alloc, word)?)?;
     }
     let mut written = Vec::new(alloc);
-    let mut progress = TerminalProgress::new(Made {
-        is_terminal,
-        written: &mut written,
-    });
-    let status = answer_watched(
+    let mut console = Console {
+        output: sink(),
+        errors: sink(),
+        progress: TerminalProgress::new(Made {
+            is_terminal,
+            written: &mut written,
+        }),
+    };
+    let exit = answer_watched(
         rt,
         &NoClock,
         alloc,
         Ok(given),
         &mut make_files(alloc)?,
         &mut [].as_slice(),
-        &mut Vec::new(alloc),
-        &mut Vec::new(alloc),
-        &mut progress,
+        &mut console,
     );
-    Ok((status, written))
+    drop(console);
+    Ok((exit.status(), written))
 }
 
 #[test]

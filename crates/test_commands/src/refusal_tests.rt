@@ -2,83 +2,74 @@ ghost use Rattle.std.specs.Prelude.{◌<◌};
 
 use crate::tests::{
     ASSEMBLE, CHECK, DISASSEMBLE, ERASE_FILE, ONE_LUN, TWO_LUNS, UPGRADE, VERIFY, do_command,
-    expect, files_of,
+    expect, files_of, refused,
 };
 use micro_claims::Reason;
 use nand_geometry::{Geometry, Parts};
-use seq_commands::{Command, Exit};
+use seq_cli::Command;
 use seq_core::JobFault;
 use seq_files::MapFiles;
-use seq_inputs::{Explained, Refusal};
+use seq_inputs::{Exit, Fault, Refusal, words_of};
 use std::alloc::Global;
 use std::process::Abort;
 use std::test::Fail;
 
-// The smallest texts that are refused, with the line and the words.
-const SOURCES: [(&str, &str, &str); 11] = [
-    (
-        "x",
-        "refused A1 at 1\n",
-        "in: line 1: `x`: a word, or a label alone on its line (a letter, then letters, digits or _, 32 at most) (A1)\n",
-    ),
-    (
-        "\u{1b}[2Jö\r",
-        "refused A1 at 1\n",
-        "in: line 1: `\\u{1b}[2Jö\\r`: a word, or a label alone on its line (a letter, then letters, digits or _, 32 at most) (A1)\n",
-    ),
-    (
-        "rows",
-        "refused A2 at 1\n",
-        "in: line 1: `rows`: rows takes a number from 1 to 4096 (A2)\n",
-    ),
-    (
-        "rows 1\nbuffer 0\nbudget 5\ncmd 6g\n",
-        "refused A2 at 4\n",
-        "in: line 4: `cmd 6g`: cmd takes two hexadecimal digits (A2)\n",
-    ),
-    (
-        "rows 0",
-        "refused A3 at 1\n",
-        "in: line 1: `rows 0`: rows takes a number from 1 to 4096 (A3)\n",
-    ),
-    (
-        "rows 1\nbuffer 0\nbudget 5\njmp L\n",
-        "refused A4 at 4\n",
-        "in: line 4: `jmp L`: no line has this label (A4)\n",
-    ),
-    (
-        "rows 1\nbuffer 0\nbudget 5\nL:\nL:\nwait\n",
-        "refused A5 at 5\n",
-        "in: line 5: `L:`: a line before has this label (A5)\n",
-    ),
-    (
-        "rows 1\nbuffer 0\nbudget 5\nL:\n",
-        "refused A6 at 4\n",
-        "in: line 4: `L:`: a label names the next word, and there is none (A6)\n",
-    ),
-    (
-        "",
-        "refused A8 at 1\n",
-        "in: line 1: ``: the first three lines are rows N, buffer N and budget N, in this order (A8)\n",
-    ),
-    (
-        "rows 1\nbuffer 0\nwait\n",
-        "refused A8 at 3\n",
-        "in: line 3: `wait`: the first three lines are rows N, buffer N and budget N, in this order (A8)\n",
-    ),
-    (
-        "rows 1\nbuffer 0\nbudget 5\ncmd 60\naddr 3 3\n",
-        "refused A3 at 5\n",
-        "in: line 5: `addr 3 3`: addr takes FROM and COUNT, COUNT from 1, together 5 at most (A3)\n",
-    ),
+// The smallest texts that are refused, with the code and the line.
+const SOURCES: [(&str, &str, usize); 11] = [
+    ("x", "A1", 1),
+    ("\u{1b}[2Jö\r", "A1", 1),
+    ("rows", "A2", 1),
+    ("rows 1\nbuffer 0\nbudget 5\ncmd 6g\n", "A2", 4),
+    ("rows 0", "A3", 1),
+    ("rows 1\nbuffer 0\nbudget 5\njmp L\n", "A4", 4),
+    ("rows 1\nbuffer 0\nbudget 5\nL:\nL:\nwait\n", "A5", 5),
+    ("rows 1\nbuffer 0\nbudget 5\nL:\n", "A6", 4),
+    ("", "A8", 1),
+    ("rows 1\nbuffer 0\nwait\n", "A8", 3),
+    ("rows 1\nbuffer 0\nbudget 5\ncmd 60\naddr 3 3\n", "A3", 5),
 ];
+
+// A command refuses this text at this line, and its words begin with file and line, end with the code, and have nothing for a terminal to do.
+fn expect_line(
+    rt: &(impl Abort + AllocGlobal),
+    command: Command<'_>,
+    row: (&str, &str, usize),
+) -> Result<MapFiles, Fail> {
+    let (text, code, line) = row;
+    let mut files = files_of(rt.alloc(), ONE_LUN, text.as_bytes())?;
+    let seen = do_command(rt.alloc(), &mut files, command);
+    let told = format!(in rt.alloc(); "refused {code} at {line}\n")?;
+    let begin = format!(in rt.alloc(); "in:{line}: ")?;
+    let end = format!(in rt.alloc(); " ({code})\n")?;
+    assert_eq!(rt; str::from_utf8(seen.output.as_slice())?, told.as_str());
+    let words = str::from_utf8(seen.errors.as_slice())?;
+    assert!(rt;
+        words.starts_with(begin.as_str()) && words.ends_with(end.as_str()),
+        "{words}"
+    );
+    assert!(rt; !words.contains('\u{1b}'), "{words}");
+    assert_eq!(rt; seen.exit.status(), 1);
+    Ok(files)
+}
 
 #[test]
 fn sources(rt: HostRuntime) -> Result<(), Fail> {
-    for (text, line, words) in SOURCES {
-        let files = expect(&rt, ONE_LUN, text.as_bytes(), ASSEMBLE, line, words)?;
+    for row in SOURCES {
+        let files = expect_line(&rt, ASSEMBLE, row)?;
         assert_eq!(rt; files.get("out"), None);
     }
+    Ok(())
+}
+
+// A text is refused by `verify` as by `asm`, where it begins as one.
+#[test]
+fn sources_that_are_verified(rt: HostRuntime) -> Result<(), Fail> {
+    for row in SOURCES {
+        if row.0.starts_with("rows") {
+            expect_line(&rt, VERIFY, row)?;
+        }
+    }
+    expect_line(&rt, VERIFY, ("\n ; no header\nwait\n", "A8", 3))?;
     Ok(())
 }
 
@@ -88,14 +79,43 @@ fn too_many_words(rt: HostRuntime) -> Result<(), Fail> {
     for _ in 0..1025 {
         text.push_str("wait\n")?;
     }
-    expect(
-        &rt,
-        ONE_LUN,
-        text.as_bytes(),
-        ASSEMBLE,
-        "refused A7 at 1028\n",
-        "in: line 1028: `wait`: a text has 1,024 words at most (A7)\n",
-    )?;
+    expect_line(&rt, ASSEMBLE, (text.as_str(), "A7", 1028))?;
+    Ok(())
+}
+
+// A word of an assembly text that is verified is told with its line; labels, comments and blank lines are no words.
+#[test]
+fn reasons_in_sources(rt: HostRuntime) -> Result<(), Fail> {
+    let text =
+        "; erase\nrows 1\nbuffer 0\n\nbudget 5\nfirst:\n  cmd 60 ; opens\n\taddr 2 3\nlast:\ncmd d0\n\nend 0\n";
+    let mut files = files_of(rt.alloc(), ONE_LUN, text.as_bytes())?;
+    let seen = do_command(rt.alloc(), &mut files, VERIFY);
+    assert_eq!(rt;
+        str::from_utf8(seen.output.as_slice())?,
+        "refused V14 at 3\n"
+    );
+    let words = str::from_utf8(seen.errors.as_slice())?;
+    assert!(rt;
+        words.starts_with("in:12: word 3, `end 0`: the program may end while its LUN is busy"),
+        "{words}"
+    );
+    Ok(())
+}
+
+// A text where a word file is wanted.
+#[test]
+fn sources_in_place_of_word_files(rt: HostRuntime) -> Result<(), Fail> {
+    let text = b"rows 1\nbuffer 0\nbudget 5\nwait\nend 0\n";
+    for command in [DISASSEMBLE, UPGRADE] {
+        expect(
+            &rt,
+            ONE_LUN,
+            text,
+            command,
+            "refused M2 at 0\n",
+            "in: it is an assembly text, where a word file is wanted: `onfiseq asm` makes one (M2)\n",
+        )?;
+    }
     Ok(())
 }
 
@@ -352,24 +372,36 @@ fn verified(
         page: "die.page",
         input: "out",
         counter: None,
+        is_quiet: false,
     };
     let seen = do_command(rt.alloc(), &mut files, command);
     Ok((seen.exit, seen.output, seen.errors))
 }
 
+// The verifier refuses these words at this word, which is shown, and its line ends with the code, of V7 with the rule.
+fn expect_text(
+    rt: &(impl Abort + AllocGlobal),
+    row: (&str, &str, usize, &str),
+) -> Result<(), Fail> {
+    let (words, code, word, shown) = row;
+    let (_, output, errors) = verified(rt, ONE_LUN, "rows 1\nbuffer 0\nbudget 16\n", words)?;
+    let line = format!(in rt.alloc(); "refused {code} at {word}\n")?;
+    let begin = format!(in rt.alloc(); "out: word {word}, `{shown}`: ")?;
+    let rule = if code == "V7" { ", F" } else { ")\n" };
+    let end = format!(in rt.alloc(); " ({code}{rule}")?;
+    assert_eq!(rt; str::from_utf8(output.as_slice())?, line.as_str());
+    let told = str::from_utf8(errors.as_slice())?;
+    assert!(rt;
+        told.starts_with(begin.as_str()) && told.contains(end.as_str()),
+        "{told}"
+    );
+    Ok(())
+}
+
 #[test]
 fn texts(rt: HostRuntime) -> Result<(), Fail> {
-    for (words, code, word, shown) in TEXTS {
-        let (_, output, errors) = verified(&rt, ONE_LUN, "rows 1\nbuffer 0\nbudget 16\n", words)?;
-        let line = format!(in rt.alloc(); "refused {code} at {word}\n")?;
-        let begin = format!(in rt.alloc(); "out: word {word}, `{shown}`: ")?;
-        let end = format!(in rt.alloc(); " ({code})\n")?;
-        assert_eq!(rt; str::from_utf8(output.as_slice())?, line.as_str());
-        let errors = str::from_utf8(errors.as_slice())?;
-        assert!(rt;
-            errors.starts_with(begin.as_str()) && errors.ends_with(end.as_str()),
-            "{errors}"
-        );
+    for row in TEXTS {
+        expect_text(&rt, row)?;
     }
     Ok(())
 }
@@ -377,11 +409,11 @@ fn texts(rt: HostRuntime) -> Result<(), Fail> {
 #[test]
 fn no_words(rt: HostRuntime) -> Result<(), Fail> {
     let (exit, _, errors) = verified(&rt, ONE_LUN, "rows 1\nbuffer 0\nbudget 0\n", "")?;
-    let refusal = Refusal::Text {
+    let fault = Fault::Text {
         reason: Reason::NoWords,
         word: 0,
     };
-    assert_eq!(rt; exit, Exit::Refused(refusal));
+    assert_eq!(rt; exit, refused(fault));
     assert_eq!(rt;
         str::from_utf8(errors.as_slice())?,
         "out: the program has no words (V1)\n"
@@ -389,35 +421,22 @@ fn no_words(rt: HostRuntime) -> Result<(), Fail> {
     Ok(())
 }
 
-const NOT_A_LINE: &str = "the line hasn't the shape of an item";
-
-const NOT_A_NUMBER: &str = "a field isn't a number of its form";
-
-// Texts that aren't traces, with the code, the line and what stands there.
-const TRACES: [(&str, &str, usize, &str, &str); 8] = [
-    ("x", "X1", 1, "x", NOT_A_LINE),
-    ("0 C 60", "X1", 1, "0 C 60", NOT_A_LINE),
-    ("0 X 60\n", "X1", 1, "0 X 60", NOT_A_LINE),
-    ("0 C 60\n\n", "X1", 2, "", NOT_A_LINE),
-    ("0 C D0\n", "X2", 1, "0 C D0", NOT_A_NUMBER),
-    ("0 C 6g\n", "X2", 1, "0 C 6g", NOT_A_NUMBER),
-    ("4 C 60\n", "X2", 1, "4 C 60", NOT_A_NUMBER),
-    ("0 C 6\t\n", "X2", 1, "0 C 6\\t", NOT_A_NUMBER),
+// Texts that aren't traces, with the code and the line.
+const TRACES: [(&str, &str, usize); 8] = [
+    ("x", "X1", 1),
+    ("0 C 60", "X1", 1),
+    ("0 X 60\n", "X1", 1),
+    ("0 C 60\n\n", "X1", 2),
+    ("0 C D0\n", "X2", 1),
+    ("0 C 6g\n", "X2", 1),
+    ("4 C 60\n", "X2", 1),
+    ("0 C 6\t\n", "X2", 1),
 ];
 
 #[test]
 fn traces(rt: HostRuntime) -> Result<(), Fail> {
-    for (text, code, number, shown, meaning) in TRACES {
-        let line = format!(in rt.alloc(); "refused {code} at {number}\n")?;
-        let words = format!(in rt.alloc(); "in: line {number}, `{shown}`: {meaning} ({code})\n")?;
-        expect(
-            &rt,
-            ONE_LUN,
-            text.as_bytes(),
-            CHECK,
-            line.as_str(),
-            words.as_str(),
-        )?;
+    for row in TRACES {
+        expect_line(&rt, CHECK, row)?;
     }
     Ok(())
 }
@@ -436,16 +455,12 @@ fn repeat(alloc: Global, count: usize) -> Result<String, Fail> {
 fn long_lines(rt: HostRuntime) -> Result<(), Fail> {
     let long = repeat(rt.alloc(), 100_000)?;
     let shown = repeat(rt.alloc(), 120)?;
-    let words = format!(in rt.alloc(); "in: line 1, `{shown}...`: {NOT_A_LINE} (X1)\n")?;
-    let input = long.as_str().as_bytes();
-    expect(
-        &rt,
-        ONE_LUN,
-        input,
-        CHECK,
-        "refused X1 at 1\n",
-        words.as_str(),
-    )?;
+    let begin = format!(in rt.alloc(); "in:1: `{shown}...`: ")?;
+    let mut files = files_of(rt.alloc(), ONE_LUN, long.as_str().as_bytes())?;
+    let seen = do_command(rt.alloc(), &mut files, CHECK);
+    assert_eq!(rt; seen.exit.status(), 1);
+    let words = str::from_utf8(seen.errors.as_slice())?;
+    assert!(rt; words.starts_with(begin.as_str()), "{words}");
     Ok(())
 }
 
@@ -489,7 +504,8 @@ fn expect_illegal(
     let mut files = files_of(rt.alloc(), parts, text.as_bytes())?;
     let seen = do_command(rt.alloc(), &mut files, CHECK);
     let line = format!(in rt.alloc(); "refused {code} at {item}\n")?;
-    let begin = format!(in rt.alloc(); "in: item {item}, `{shown}`: ")?;
+    let number = item.saturating_add(1);
+    let begin = format!(in rt.alloc(); "in:{number}: item {item}, `{shown}`: ")?;
     let end = format!(in rt.alloc(); " ({code})\n")?;
     assert_eq!(rt; str::from_utf8(seen.output.as_slice())?, line.as_str());
     let errors = str::from_utf8(seen.errors.as_slice())?;
@@ -515,21 +531,21 @@ fn illegal_traces(rt: HostRuntime) -> Result<(), Fail> {
     expect_illegal(&rt, cache, ("0 C 31\n", "F15", 0, "0 C 31"))
 }
 
-// What no file of a command is refused for.
+// What no file of a command is refused for, and the number that is told.
 #[test]
 fn refusals_of_jobs(rt: HostRuntime) -> Result<(), Fail> {
-    let refusal = Refusal::Job {
+    let fault = Fault::Job {
         fault: JobFault::NoSuchLun,
     };
-    let explained = Explained {
-        path: "in",
-        refusal,
-        shown: None,
-    };
     assert_eq!(rt;
-        format!(in rt.alloc(); "{explained}")?.as_str(),
+        words_of(rt.alloc(), "in", fault)
+            .ok_or("no words")?
+            .as_str(),
         "in: there is no such LUN (S2)"
     );
-    assert_eq!(rt; refusal.line(rt.alloc())?.as_str(), "refused S2 at 0\n");
+    for (line, text) in [(None, "refused S2 at 0\n"), (Some(7), "refused S2 at 7\n")] {
+        let refusal = Refusal { fault, line };
+        assert_eq!(rt; refusal.text(rt.alloc())?.as_str(), text);
+    }
     Ok(())
 }

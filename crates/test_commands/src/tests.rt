@@ -1,11 +1,17 @@
 use micro_claims::Reason;
 use nand_geometry::{Geometry, Parts, SMALL_CHIP};
-use seq_commands::{Command, Exit, Targets, carry_out_watched};
+use seq_cli::Command;
+use seq_commands::{
+    CheckRequest, Targets, assemble_file, check_trace, disassemble_file, draw_trace, lint_file,
+    upgrade_file, verify_file,
+};
 use seq_files::MapFiles;
-use seq_inputs::{Medium, Refusal};
-use std::alloc::{AllocError, Global};
+use seq_inputs::{Console, Exit, Fault, Refusal};
+use std::alloc::{AllocError, Allocator, Global};
+use std::io::Write;
 use std::process::Abort;
 use std::test::Fail;
+use trace_faults::Readies;
 use trace_text::NoProgress;
 
 // One LUN of 8 blocks of 4 pages of 512 + 16 bytes, in one plane.
@@ -44,13 +50,17 @@ pub(crate) const VERIFY: Command<'static> = Command::Verify {
     page: "die.page",
     input: "in",
     counter: None,
+    is_quiet: true,
 };
 
-pub(crate) const CHECK: Command<'static> = Command::Check {
+pub(crate) const CHECK: Command<'static> = Command::Check(CheckRequest {
     page: "die.page",
     targets: Targets::One,
     input: "in",
-};
+    tells_all: false,
+    readies: Readies::Written,
+    copy: None,
+});
 
 pub(crate) const ASSEMBLE: Command<'static> = Command::Assemble {
     input: "in",
@@ -73,6 +83,39 @@ pub(crate) fn files_of(alloc: Global, parts: Parts, input: &[u8]) -> Result<MapF
     Ok(files)
 }
 
+// A refusal of a file that no run file names.
+pub(crate) fn refused(fault: Fault) -> Exit {
+    Exit::Refused(Refusal { fault, line: None })
+}
+
+// Does a command on files by its own function, whatever the allocator is.
+pub(crate) fn carry_out<A: Allocator + Clone, W: Write, E: Write>(
+    alloc: A,
+    files: &mut MapFiles,
+    console: &mut Console<W, E, NoProgress>,
+    command: Command<'_>,
+) -> Exit {
+    match command {
+        Command::Assemble { input, target } => assemble_file(alloc, files, console, input, target),
+        Command::Verify {
+            page,
+            input,
+            counter,
+            is_quiet,
+        } => verify_file(alloc, files, console, page, input, counter, is_quiet),
+        Command::Lint {
+            page,
+            input,
+            output,
+        } => lint_file(alloc, files, console, page, input, output),
+        Command::Check(request) => check_trace(alloc, files, console, request),
+        Command::Draw(request) => draw_trace(alloc, files, console, request),
+        Command::Disassemble { input } => disassemble_file(alloc, files, console, input),
+        Command::Upgrade { input, target } => upgrade_file(alloc, files, console, input, target),
+        Command::Once { .. } | Command::Run(_) => Exit::Usage,
+    }
+}
+
 // What a command comes to: its end, its output, and what it says to a person.
 #[derive(Drop)]
 pub(crate) struct Seen {
@@ -82,16 +125,13 @@ pub(crate) struct Seen {
 }
 
 pub(crate) fn do_command(alloc: Global, files: &mut MapFiles, command: Command<'_>) -> Seen {
-    let mut output = Vec::new(alloc);
-    let mut errors = Vec::new(alloc);
-    let exit = carry_out_watched(
-        alloc,
-        files,
-        &mut output,
-        &mut errors,
-        &mut NoProgress,
-        command,
-    );
+    let mut console = Console {
+        output: Vec::new(alloc),
+        errors: Vec::new(alloc),
+        progress: NoProgress,
+    };
+    let exit = carry_out(alloc, files, &mut console, command);
+    let Console { output, errors, .. } = console;
     Seen {
         exit,
         output,
@@ -164,10 +204,12 @@ fn upgrades_in_place(rt: HostRuntime) -> Result<(), Fail> {
     Ok(())
 }
 
+// A word file, and the assembly text itself.
 #[test]
 fn verifies(rt: HostRuntime) -> Result<(), Fail> {
     for parts in [ONE_LUN, TWO_LUNS, WITH_CACHE] {
         expect(&rt, parts, &ERASE_FILE, VERIFY, "accepted\n", "")?;
+        expect(&rt, parts, ERASE.as_bytes(), VERIFY, "accepted\n", "")?;
     }
     Ok(())
 }
@@ -181,11 +223,14 @@ fn checks(rt: HostRuntime) -> Result<(), Fail> {
         (Targets::Three, Exit::Done),
         (Targets::Four, Exit::Done),
     ] {
-        let command = Command::Check {
+        let command = Command::Check(CheckRequest {
             page: "die.page",
             targets,
             input: "in",
-        };
+            tells_all: false,
+            readies: Readies::Written,
+            copy: None,
+        });
         let mut files = files_of(rt.alloc(), ONE_LUN, b"1 C 60\n")?;
         assert_eq!(rt; do_command(rt.alloc(), &mut files, command).exit, exit);
     }
@@ -209,7 +254,7 @@ fn traces_of_two_luns(rt: HostRuntime) -> Result<(), Fail> {
         opener,
         CHECK,
         "refused F9 at 5\n",
-        "in: item 5, `0 C 60`: the LUN is busy (F9)\n",
+        "in:6: item 5, `0 C 60`: the LUN is busy (F9)\n",
     )?;
     expect(
         &rt,
@@ -217,24 +262,7 @@ fn traces_of_two_luns(rt: HostRuntime) -> Result<(), Fail> {
         row,
         CHECK,
         "refused F9 at 8\n",
-        "in: item 8, `0 A 00`: the LUN is busy (F9)\n",
+        "in:9: item 8, `0 A 00`: the LUN is busy (F9)\n",
     )?;
     Ok(())
-}
-
-#[test]
-fn paths(rt: HostRuntime) {
-    let paths = [
-        (VERIFY, ["-", "die.page", "in", "-"]),
-        (CHECK, ["-", "die.page", "in", "-"]),
-        (ASSEMBLE, ["-", "-", "in", "out"]),
-        (UPGRADE, ["-", "-", "in", "out"]),
-        (DISASSEMBLE, ["-", "-", "in", "-"]),
-    ];
-    for (command, want) in paths {
-        let media = [Medium::Stream, Medium::Page, Medium::Input, Medium::Output];
-        for (medium, path) in media.iter().zip(want) {
-            assert_eq!(rt; command.path(*medium), path);
-        }
-    }
 }

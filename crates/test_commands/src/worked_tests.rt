@@ -1,6 +1,7 @@
 use crate::tests::{ASSEMBLE, ONE_LUN, TWO_LUNS, do_command, files_of};
 use nand_geometry::Parts;
-use seq_commands::{Command, Exit};
+use seq_cli::Command;
+use seq_inputs::Exit;
 use std::process::Abort;
 use std::test::Fail;
 
@@ -32,6 +33,7 @@ fn expect(
         page: "die.page",
         input: "out",
         counter: None,
+        is_quiet: false,
     };
     let seen = do_command(rt.alloc(), &mut files, command);
     assert_eq!(rt; str::from_utf8(seen.output.as_slice())?, line, "{text}");

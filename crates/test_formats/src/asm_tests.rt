@@ -1,5 +1,5 @@
 use linked_list_allocator::LocalHeap;
-use micro_asm::{AsmFault, AsmMessage, AsmRefusal, assemble, disassemble};
+use micro_asm::{AsmFault, AsmRefusal, assemble, disassemble};
 use micro_word::{Text, Word, write};
 use std::alloc::Global;
 use std::process::Abort;
@@ -529,34 +529,6 @@ fn long_texts_without_memory(rt: HostRuntime) -> Result<(), Fail> {
 fn the_examples_are_assembled(rt: HostRuntime) -> Result<(), Fail> {
     for (text, lines) in EXAMPLES {
         assert_eq!(rt; written_again(rt.alloc(), text)?.as_str(), *lines);
-    }
-    Ok(())
-}
-
-// What is said of faults.
-const MESSAGES: &[(&str, &str)] = &[
-    (
-        "rows 1\nbuffer 0\nbudget 5\ncmd 60\naddr 3 3\n",
-        "line 5: `addr 3 3`: addr takes FROM and COUNT, COUNT from 1, together 5 at most (A3)",
-    ),
-    (
-        "rows 1\nbuffer 0\nbudget 5\ncmd 6g",
-        "line 4: `cmd 6g`: cmd takes two hexadecimal digits (A2)",
-    ),
-    (
-        "",
-        "line 1: ``: the first three lines are rows N, buffer N and budget N, in this order (A8)",
-    ),
-];
-
-#[test]
-fn faults_are_told_with_their_line(rt: HostRuntime) -> Result<(), Fail> {
-    for (text, message) in MESSAGES {
-        let refusal = assemble(rt.alloc(), text)
-            .err()
-            .ok_or("the text is assembled")?;
-        let told = format!(in rt.alloc(); "{}", AsmMessage::new(refusal, text))?;
-        assert_eq!(rt; told.as_str(), *message);
     }
     Ok(())
 }

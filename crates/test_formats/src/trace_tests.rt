@@ -290,7 +290,7 @@ fn messages(rt: HostRuntime) -> Result<(), Fail> {
     };
     assert_eq!(rt;
         shape.to_string(rt.alloc())?.as_str(),
-        "X1 at line 10: the line hasn't the shape of an item"
+        "X1 at line 10: the line isn't ended by a line feed, has no letter of an item, or has another number of fields than its letter wants"
     );
     let number = TraceRefusal::Fault {
         fault: TraceFault::BadNumber,

@@ -300,7 +300,7 @@ fn messages(rt: HostRuntime) -> Result<(), Fail> {
     };
     assert_eq!(rt;
         refusal.to_string(rt.alloc())?.as_str(),
-        "M5 at word 3: a field without a meaning for this word is set"
+        "M5 at word 3: a byte that this word doesn't use isn't 0"
     );
     assert_eq!(rt;
         WordRefusal::OutOfMemory.to_string(rt.alloc())?.as_str(),

@@ -4,10 +4,12 @@
 
 use seq_cli::answer;
 use seq_files::MapFiles;
+use seq_inputs::Console;
 use std::alloc::{AllocError, Global};
 use std::io::{self, Write};
 use std::sync::Wait;
 use std::thread::Threads;
+use trace_text::NoProgress;
 
 // The erase of one block: cmd 60, addr 2 3, cmd d0, wait, end 0; rows 1, budget 5.
 const ERASE: [u8; 36] = [
@@ -167,21 +169,16 @@ fn show<R: Print + AllocGlobal + Threads + Wait + Sync>(
     file: &[u8],
 ) -> io::Result<()> {
     let mut input = file;
-    let mut output = Vec::new(rt.alloc());
-    let mut errors = Vec::new(rt.alloc());
-    let status = answer(
-        rt,
-        rt.alloc(),
-        words,
-        files,
-        &mut input,
-        &mut output,
-        &mut errors,
-    );
-    println!(rt; "status {status}, standard output:")?;
-    io::writer(rt).write_all(output.as_slice())?;
+    let mut console = Console {
+        output: Vec::new(rt.alloc()),
+        errors: Vec::new(rt.alloc()),
+        progress: NoProgress,
+    };
+    let exit = answer(rt, rt.alloc(), words, files, &mut input, &mut console);
+    println!(rt; "status {}, standard output:", exit.status())?;
+    io::writer(rt).write_all(console.output.as_slice())?;
     println!(rt; "and standard error:")?;
-    io::writer(rt).write_all(errors.as_slice())
+    io::writer(rt).write_all(console.errors.as_slice())
 }
 
 // What `once` comes to at a base.
@@ -196,7 +193,7 @@ fn once<R: Print + AllocGlobal + Threads + Wait + Sync>(
 }
 
 // The command lines on the files, one after another.
-const LINES: [&str; 22] = [
+const LINES: [&str; 24] = [
     "asm erase.asm erase.nmp",
     "dis erase.nmp",
     "verify die.page erase.nmp",
@@ -218,6 +215,8 @@ const LINES: [&str; 22] = [
     "dis bad.nmp",
     "check die.page 5 erase.trace",
     "check nothing 1 erase.trace",
+    "verify die.page no_wait.asm",
+    "asm erase.asm erase.asm",
     "--version",
 ];
 

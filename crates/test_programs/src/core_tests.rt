@@ -818,29 +818,29 @@ fn faults_of_loads_are_shown(rt: HostRuntime) -> Result<(), Fail> {
         ),
         (
             LoadFault::OtherGeometry,
-            "the text was verified for another geometry",
+            "the program was verified for another die",
         ),
     ];
     for (fault, text) in loads {
         assert_eq!(rt; fault.to_string(rt.alloc())?.as_str(), text);
     }
     let jobs = [
-        (JobFault::NoSuchLun, "the LUN isn't there"),
+        (JobFault::NoSuchLun, "there is no such LUN"),
         (
             JobFault::RowsOutside,
-            "a row of the job is outside the geometry",
+            "the rows are outside the die: the base and the rows in the header come to more than the rows of a plane",
         ),
         (
             JobFault::BufferLength,
-            "the buffer hasn't the length that the text names",
+            "the buffer isn't as long as the header says",
         ),
         (
             JobFault::OtherGeometry,
-            "the text was verified for another geometry",
+            "the program was verified for another die",
         ),
         (
             JobFault::NotAtBlock,
-            "the text continues a cache read, and the job doesn't begin with a block",
+            "the program continues a cache read, and its base isn't the first row of a block",
         ),
     ];
     for (fault, text) in jobs {

@@ -2,7 +2,8 @@
 use crate::tests::{ask, make_files, play};
 use run_file::parse_run;
 use seq_files::MapFiles;
-use seq_run::{RunEnd, plan_run};
+use seq_inputs::Exit;
+use seq_run::plan_run;
 use std::alloc::Global;
 use std::process::Abort;
 use std::test::Fail;
@@ -29,7 +30,7 @@ fn make_long(alloc: Global, length: usize) -> Result<MapFiles, Fail> {
 #[test]
 fn the_longest_buffer(rt: HostRuntime) -> Result<(), Fail> {
     let mut files = make_long(rt.alloc(), LONGEST)?;
-    assert_eq!(rt; play(&rt, &mut files, ask(1)).end, RunEnd::Done);
+    assert_eq!(rt; play(&rt, &mut files, ask(1)).end, Exit::Done);
     let bytes = files.get("out").ok_or("a buffer")?;
     assert_eq!(rt; bytes.len(), LONGEST);
     assert!(rt; bytes.starts_with(&[7, 7, 7, 7]));

@@ -1,21 +1,33 @@
 // Runs of which a call, or a write to an output, fails.
 use crate::tests::{Played, ask, make_files, make_image, play};
-use seq_files::{FileError, FullWriter, MapFiles};
-use seq_run::{RunEnd, RunRequest, run_on};
+use seq_files::{FileError, FileFault, FullWriter, MapFiles};
+use seq_inputs::{Console, Exit};
+use seq_run::{RunRequest, run_on};
 use std::alloc::Global;
 use std::io;
 use std::process::Abort;
 use std::sync::Wait;
 use std::test::Fail;
 use std::thread::Threads;
+use trace_text::NoProgress;
 
 // Two erases with a file for the buffer of each, and an image for each LUN.
 const RUN: &str = "page two\ntargets 1\npolls 1\nimage 0 0 die0\nimage 0 1 die1\n\
     job 0 0 0 erase - out0\njob 0 1 0 erase - out1\n";
 
-// What is read and then written, call by call.
-const CALLS: [&str; 11] = [
-    "run", "two", "die0", "die1", "erase", "erase", "out0", "out1", "die0", "die1", "trace",
+// What is read and then written, call by call, and the place in the run file of what is read.
+const CALLS: [(&str, &str); 11] = [
+    ("run", ""),
+    ("two", "run:1: "),
+    ("die0", "run:4: "),
+    ("die1", "run:5: "),
+    ("erase", "run:6: "),
+    ("erase", "run:7: "),
+    ("out0", ""),
+    ("out1", ""),
+    ("die0", ""),
+    ("die1", ""),
+    ("trace", ""),
 ];
 
 // A file that is written, with its length before the run and after it.
@@ -103,10 +115,11 @@ fn play_failing<R: Threads + Wait + Sync + Abort + AllocGlobal>(
 #[test]
 fn each_call_fails(rt: HostRuntime) -> Result<(), Fail> {
     for call in 0..CALLS.len() {
-        let played = play_failing(&rt, call, FileError::Fault)?;
-        assert_eq!(rt; played.end, RunEnd::FileFault, "call {call}");
-        let want = format!(in rt.alloc(); "file fault {}\n", CALLS[call])?;
-        assert_eq!(rt; played.errors.as_slice(), want.as_str().as_bytes());
+        let played = play_failing(&rt, call, FileError::Fault(FileFault::PermissionDenied))?;
+        assert_eq!(rt; played.end, Exit::FileFault, "call {call}");
+        let (path, line) = CALLS[call];
+        let want = format!(in rt.alloc(); "file fault {path}\n{line}{path}: permission denied\n")?;
+        assert_eq!(rt; str::from_utf8(played.errors.as_slice())?, want.as_str());
     }
     Ok(())
 }
@@ -115,7 +128,7 @@ fn each_call_fails(rt: HostRuntime) -> Result<(), Fail> {
 fn each_call_is_refused_memory(rt: HostRuntime) -> Result<(), Fail> {
     for call in 0..CALLS.len() {
         let played = play_failing(&rt, call, FileError::OutOfMemory)?;
-        assert_eq!(rt; played.end, RunEnd::OutOfMemory, "call {call}");
+        assert_eq!(rt; played.end, Exit::OutOfMemory, "call {call}");
         assert_eq!(rt; played.errors.as_slice(), b"out of memory\n".as_slice());
     }
     Ok(())
@@ -124,9 +137,9 @@ fn each_call_is_refused_memory(rt: HostRuntime) -> Result<(), Fail> {
 #[test]
 fn no_call_fails(rt: HostRuntime) -> Result<(), Fail> {
     let mut files = make_old(rt.alloc())?;
-    files.fail_at(CALLS.len(), FileError::Fault);
+    files.fail_at(CALLS.len(), FileError::Fault(FileFault::PermissionDenied));
     let played = play(&rt, &mut files, ask_trace());
-    assert_eq!(rt; played.end, RunEnd::Done);
+    assert_eq!(rt; played.end, Exit::Done);
     assert_eq!(rt; files.calls(), CALLS.len());
     expect_written(&rt, &files, true);
     assert_eq!(rt; played.output.len(), 226 + 24);
@@ -139,13 +152,16 @@ fn play_full<R: Threads + Wait + Sync + AllocGlobal>(
     files: &mut MapFiles,
     kind: io::ErrorKind,
 ) -> Played {
-    let mut output = FullWriter { room: 9, kind };
-    let mut errors = Vec::new(rt.alloc());
-    let end = run_on(rt, rt.alloc(), files, &mut output, &mut errors, ask_trace());
+    let mut console = Console {
+        output: FullWriter { room: 9, kind },
+        errors: Vec::new(rt.alloc()),
+        progress: NoProgress,
+    };
+    let end = run_on(rt, rt.alloc(), files, &mut console, ask_trace());
     Played {
         end,
         output: Vec::new(rt.alloc()),
-        errors,
+        errors: console.errors,
     }
 }
 
@@ -153,11 +169,15 @@ fn play_full<R: Threads + Wait + Sync + AllocGlobal>(
 #[test]
 fn outputs_that_are_full(rt: HostRuntime) -> Result<(), Fail> {
     for (kind, end, errors) in [
-        (io::ErrorKind::Other, RunEnd::FileFault, "file fault -\n"),
-        (io::ErrorKind::BrokenPipe, RunEnd::ReaderGone, ""),
+        (
+            io::ErrorKind::StorageFull,
+            Exit::FileFault,
+            "file fault -\n-: no space left on the device\n",
+        ),
+        (io::ErrorKind::BrokenPipe, Exit::ReaderGone, ""),
         (
             io::ErrorKind::OutOfMemory,
-            RunEnd::OutOfMemory,
+            Exit::OutOfMemory,
             "out of memory\n",
         ),
     ] {
@@ -176,10 +196,13 @@ fn refusals_that_are_not_printed(rt: HostRuntime) -> Result<(), Fail> {
     let mut files = make_files(rt.alloc())?;
     files.put("run", b"bad\n")?;
     let played = play_full(&rt, &mut files, io::ErrorKind::Other);
-    assert_eq!(rt; played.end, RunEnd::FileFault);
-    assert_eq!(rt; played.errors.as_slice(), b"file fault -\n".as_slice());
+    assert_eq!(rt; played.end, Exit::FileFault);
+    assert_eq!(rt;
+        played.errors.as_slice(),
+        b"file fault -\n-: it can't be read or written\n".as_slice()
+    );
     let played = play_full(&rt, &mut files, io::ErrorKind::BrokenPipe);
-    assert_eq!(rt; (played.end, played.end.status()), (RunEnd::ReaderGone, 2));
+    assert_eq!(rt; (played.end, played.end.status()), (Exit::ReaderGone, 2));
     assert!(rt; played.errors.is_empty());
     Ok(())
 }

@@ -1,6 +1,6 @@
 // Runs that begin with images of dies and bytes of buffers, and write both.
 use crate::tests::{EMPTY, ask, expect_file, make_files, make_image, play};
-use seq_run::RunEnd;
+use seq_inputs::Exit;
 use std::test::Fail;
 
 const BEHIND: &str = "page one\ntargets 1\nimage 0 0 die\njob 0 0 0 both in out\n";
@@ -24,11 +24,11 @@ fn a_program_then_a_read(rt: HostRuntime) -> Result<(), Fail> {
     files.put("run", BEHIND.as_bytes())?;
     files.put("die", &EMPTY)?;
     files.put("in", &[0xa5, 0x3c])?;
-    assert_eq!(rt; play(&rt, &mut files, ask(1)).end, RunEnd::Done);
+    assert_eq!(rt; play(&rt, &mut files, ask(1)).end, Exit::Done);
     expect_file(&rt, &files, "out", &[0xa5, 0x3c, 0xa5, 0x3c], 4)?;
     expect_file(&rt, &files, "die", &FIRST, 556)?;
     files.put("in", &[0x0f, 0x0f])?;
-    assert_eq!(rt; play(&rt, &mut files, ask(2)).end, RunEnd::Done);
+    assert_eq!(rt; play(&rt, &mut files, ask(2)).end, Exit::Done);
     expect_file(&rt, &files, "out", &[0x0f, 0x0f, 0x05, 0x0c], 4)?;
     expect_file(&rt, &files, "die", &SECOND, 556)?;
     Ok(())
@@ -45,7 +45,7 @@ fn two_programs_then_reads(rt: HostRuntime) -> Result<(), Fail> {
     files.put("die", &EMPTY)?;
     files.put("in", &[0xa5, 0x3c])?;
     files.put("in2", &[0x0f, 0x0f])?;
-    assert_eq!(rt; play(&rt, &mut files, ask(1)).end, RunEnd::Done);
+    assert_eq!(rt; play(&rt, &mut files, ask(1)).end, Exit::Done);
     expect_file(&rt, &files, "out", &[0xa5, 0x3c, 0xa5, 0x3c], 4)?;
     expect_file(&rt, &files, "out2", &[0x0f, 0x0f, 0x05, 0x0c], 4)?;
     expect_file(&rt, &files, "die", &SECOND, 556)?;
@@ -157,7 +157,7 @@ fn files_that_are_named_twice(rt: HostRuntime) -> Result<(), Fail> {
         files.put("in", &[0xa5, 0x3c])?;
         files.put("in2", &[0x0f, 0x0f])?;
         let played = play(&rt, &mut files, ask(1));
-        assert_eq!(rt; played.end, RunEnd::Done, "of {}", shared.run);
+        assert_eq!(rt; played.end, Exit::Done, "of {}", shared.run);
         expect_file(&rt, &files, shared.path, shared.first, shared.length)?;
     }
     Ok(())
@@ -175,7 +175,7 @@ fn each_die_has_its_own_image(rt: HostRuntime) -> Result<(), Fail> {
     for (path, byte) in [("a", 0x11), ("b", 0x22), ("c", 0x33), ("d", 0x44)] {
         files.put(path, make_image(rt.alloc(), 0, &[byte])?.as_slice())?;
     }
-    assert_eq!(rt; play(&rt, &mut files, ask(1)).end, RunEnd::Done);
+    assert_eq!(rt; play(&rt, &mut files, ask(1)).end, Exit::Done);
     expect_file(&rt, &files, "out", &[0xa5, 0x3c, 0x21, 0x3c], 4)?;
     for (path, bytes) in [
         ("a", &[0x11, 0xff]),

@@ -1,8 +1,9 @@
 // What a run is asked for beside its file: no trace on standard output, the trace in a file, and what there was.
 use crate::tests::{Played, ask, make_files, play};
 use seq_files::MapFiles;
+use seq_inputs::Console;
 use seq_run::{Phase, RunProgress, RunRequest, run_watched};
-use std::io;
+use std::io::{self, Sink, sink};
 use std::process::Abort;
 use std::sync::Wait;
 use std::sync::atomic::{AtomicU64, Ordering};
@@ -104,27 +105,21 @@ impl Clock for MadeClock {
 }
 
 // What standard error says of a run with this clock, of which this is told what it does.
-fn watch<R: Threads + Wait + Sync + Abort + AllocGlobal, C: Clock, P: RunProgress>(
+fn watch<R: Threads + Wait + Sync + Abort + AllocGlobal, C: Clock, P: RunProgress + Drop>(
     rt: &R,
     clock: &C,
-    progress: &mut P,
+    progress: P,
     run: &str,
-) -> Result<Vec<u8>, Fail> {
+) -> Result<Console<Sink, Vec<u8>, P>, Fail> {
     let mut files = make_files(rt.alloc())?;
     files.put("run", run.as_bytes())?;
-    let mut output = Vec::new(rt.alloc());
-    let mut errors = Vec::new(rt.alloc());
-    run_watched(
-        rt,
-        clock,
-        rt.alloc(),
-        &mut files,
-        &mut output,
-        &mut errors,
+    let mut console = Console {
+        output: sink(),
+        errors: Vec::new(rt.alloc()),
         progress,
-        ask_stats(),
-    );
-    Ok(errors)
+    };
+    run_watched(rt, clock, rt.alloc(), &mut files, &mut console, ask_stats());
+    Ok(console)
 }
 
 // How long the jobs take, and what is told of it.
@@ -138,9 +133,9 @@ const TIMES: [(u64, &str); 4] = [
 #[test]
 fn how_long_it_took(rt: HostRuntime) -> Result<(), Fail> {
     for (step, told) in TIMES {
-        let errors = watch(&rt, &made_clock(step), &mut NoProgress, RUN)?;
+        let console = watch(&rt, &made_clock(step), NoProgress, RUN)?;
         let want = format!(in rt.alloc(); "{WHAT_THERE_WAS}, {told}\n")?;
-        assert_eq!(rt; str::from_utf8(errors.as_slice())?, want.as_str());
+        assert_eq!(rt; str::from_utf8(console.errors.as_slice())?, want.as_str());
     }
     Ok(())
 }
@@ -166,11 +161,11 @@ fn what_a_run_does(rt: HostRuntime) -> Result<(), Fail> {
         ),
         ("page one\nbad\n", [Phase::Reading].as_slice()),
     ] {
-        let mut kept = Kept {
+        let kept = Kept {
             told: Vec::new(rt.alloc()),
         };
-        watch(&rt, &made_clock(1), &mut kept, run)?;
-        assert_eq!(rt; kept.told.as_slice(), phases);
+        let console = watch(&rt, &made_clock(1), kept, run)?;
+        assert_eq!(rt; console.progress.told.as_slice(), phases);
     }
     Ok(())
 }

@@ -1,5 +1,6 @@
 // Run files that are refused: what is wrong with a line, and what standard error says of it.
 use crate::tests::{Tried, ask, make_files, play, try_all};
+use seq_run::RunRequest;
 use std::test::Fail;
 
 // The smallest run file of each fault of a line.
@@ -154,68 +155,115 @@ struct Told {
     errors: &'static str,
 }
 
-const TOLD: [Told; 13] = [
+const TOLD: [Told; 15] = [
     Told {
         run: "page one\nbad\n",
-        errors: "run: line 2: unknown line, or a field is missing or one too many (J1)\n",
+        errors: "run:2: `bad`: no statement `bad`: a line begins with page, targets, image, job, polls or fail (J1)\n",
     },
     Told {
         run: "page erase\n",
-        errors: "run: line 1: erase: fewer than the 256 bytes of a parameter page (P1)\n",
+        errors: "run:1: erase: fewer than the 256 bytes of a parameter page (P1)\n",
     },
     Told {
         run: "page one\ntargets 1\nimage 0 0 erase\n",
-        errors: "run: line 3: erase: the image doesn't begin with NDI1 (I2)\n",
+        errors: "run:3: erase: the image doesn't begin with NDI1 (I2)\n",
     },
     Told {
-        run: "page one\ntargets 1\nimage 0 1 erase\n",
-        errors: "run: line 3: no such LUN (J4)\n",
+        run: "page one\ntargets 2\nimage 0 1 erase\n",
+        errors: "run:3: no such LUN: target 0, LUN 1, where targets go from 0 to 1, and LUNs from 0 to 0 (J4)\n",
     },
     Told {
         run: "page one\ntargets 1\njob 0 0 0 one - -\n",
-        errors: "run: line 3: one: the file begins with neither NMP1 nor NMP2 (M2)\n",
+        errors: "run:3: one: the file begins with neither NMP1 nor NMP2 (M2)\n",
     },
     Told {
         run: "page one\ntargets 1\njob 0 0 0 unknown - -\n",
-        errors: "run: line 3: unknown: word 2: no word has this code (M4)\n",
+        errors: "run:3: unknown: word 2: no word has this code (M4)\n",
     },
     Told {
-        run: "page one\ntargets 1\npolls 2\njob 0 0 0 branch - -\n",
-        errors: "run: line 4: branch: word 3, `brs 01 L4`: no status may have been read before this branch (V13)\n",
+        run: "page one\ntargets 1\njob 0 0 0 source - -\n",
+        errors: "run:3: source:5: `cmd 0x60`: a byte is its two hexadecimal digits alone: write `cmd 60` (A2)\n",
     },
     Told {
         run: "page one\ntargets 1\njob 0 0 0 erase one -\n",
-        errors: "run: line 3: one: the input is longer than the buffer (J5)\n",
+        errors: "run:3: one: the input is longer than the buffer: it has 256 bytes, and the buffer has 0 (J5)\n",
     },
     Told {
         run: "page one\ntargets 1\njob 0 0 32 erase - -\n",
-        errors: "run: line 3: erase: the rows are outside the die: BASE and the rows in the header come to more than the rows of a plane (S3)\n",
+        errors: "run:3: erase: the rows are outside the die: the base and the rows in the header come to more than the rows of a plane: 32 and 1, where a plane has 32 (S3)\n",
     },
     Told {
         run: "page nothing\n",
-        errors: "file fault nothing\n",
+        errors: "file fault nothing\nrun:1: nothing: there is no such file\n",
     },
     Told {
         run: "page one\ntargets 1\njob 0 0 0 nothing - -\n",
-        errors: "file fault nothing\n",
+        errors: "file fault nothing\nrun:3: nothing: there is no such file\n",
     },
     // A terminal shows what stands in a path, and does nothing of it.
     Told {
         run: "page \u{1b}[2J\n",
-        errors: "file fault \\u{1b}[2J\n",
+        errors: "file fault \\u{1b}[2J\nrun:1: \\u{1b}[2J: there is no such file\n",
     },
     Told {
         run: "page one\ntargets 1\njob 0 0 0 erase \u{7}one -\n",
-        errors: "run: line 3: \\u{7}one: the input is longer than the buffer (J5)\n",
+        errors: "run:3: \\u{7}one: the input is longer than the buffer: it has 6 bytes, and the buffer has 0 (J5)\n",
+    },
+    Told {
+        run: "page one\r\ntargets 1\r\n",
+        errors: "file fault one\\r\nrun:1: one\\r: there is no such file: its path ends in a carriage return, as only LF ends a line\n",
+    },
+    Told {
+        run: "page one\ntargets 1\r\n",
+        errors: "run:2: `targets 1\\r`: the line ends in CR LF; only LF ends a line (J2)\n",
     },
 ];
+
+// Of a reason the words begin with run file, line, program and word, and end with the code.
+#[test]
+fn reasons_of_programs(rt: HostRuntime) -> Result<(), Fail> {
+    let mut files = make_files(rt.alloc())?;
+    files.put("branch", &BRANCH)?;
+    files.put(
+        "run",
+        b"page one\ntargets 1\npolls 2\njob 0 0 0 branch - -\n",
+    )?;
+    let played = play(&rt, &mut files, ask(1));
+    let errors = str::from_utf8(played.errors.as_slice())?;
+    assert!(rt;
+        errors.starts_with(
+            "run:4: branch: word 3, `brs 01 L4`: no status may have been read before this branch"
+        ),
+        "{errors}"
+    );
+    assert!(rt; errors.ends_with(" (V13)\n"), "{errors}");
+    Ok(())
+}
+
+// A job's program may be an assembly text.
+#[test]
+fn a_job_of_an_assembly_text(rt: HostRuntime) -> Result<(), Fail> {
+    let mut files = make_files(rt.alloc())?;
+    files.put(
+        "source",
+        b"; erase\nrows 1\nbuffer 0\nbudget 5\ncmd 60\naddr 2 3\ncmd d0\nwait\nend 3\n",
+    )?;
+    files.put("run", b"page one\ntargets 1\njob 0 0 0 source - -\n")?;
+    let request = RunRequest {
+        is_quiet: true,
+        ..ask(1)
+    };
+    let played = play(&rt, &mut files, request);
+    assert_eq!(rt; str::from_utf8(played.output.as_slice())?, "job 1 end 3\n");
+    Ok(())
+}
 
 #[test]
 fn what_standard_error_says(rt: HostRuntime) -> Result<(), Fail> {
     for told in &TOLD {
         let mut files = make_files(rt.alloc())?;
         files.put("unknown", &UNKNOWN)?;
-        files.put("branch", &BRANCH)?;
+        files.put("source", b"; erase\nrows 1\nbuffer 0\nbudget 5\ncmd 0x60\n")?;
         files.put("\u{7}one", b"longer")?;
         files.put("run", told.run.as_bytes())?;
         let played = play(&rt, &mut files, ask(1));
@@ -227,7 +275,13 @@ fn what_standard_error_says(rt: HostRuntime) -> Result<(), Fail> {
 // A run file that isn't there or isn't UTF-8.
 #[test]
 fn run_files_that_cannot_be_read(rt: HostRuntime) -> Result<(), Fail> {
-    for run in [None, Some(&[0x70, 0xff, 0x0a])] {
+    for (run, said) in [
+        (None, "file fault run\nrun: there is no such file\n"),
+        (
+            Some(&[0x70, 0xff, 0x0a]),
+            "file fault run\nrun: it isn't UTF-8 text: the byte at offset 1 begins no character\n",
+        ),
+    ] {
         let mut files = make_files(rt.alloc())?;
         if let Some(bytes) = run {
             files.put("run", bytes)?;
@@ -235,7 +289,7 @@ fn run_files_that_cannot_be_read(rt: HostRuntime) -> Result<(), Fail> {
         let played = play(&rt, &mut files, ask(1));
         assert_eq!(rt; played.end.status(), 2);
         assert!(rt; played.output.is_empty());
-        assert_eq!(rt; played.errors.as_slice(), b"file fault run\n".as_slice());
+        assert_eq!(rt; str::from_utf8(played.errors.as_slice())?, said);
     }
     Ok(())
 }

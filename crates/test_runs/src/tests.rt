@@ -1,11 +1,13 @@
 use nand_geometry::{Geometry, Parts, SMALL_CHIP};
 use seq_files::MapFiles;
-use seq_run::{RunEnd, RunRequest, run_on};
+use seq_inputs::{Console, Exit};
+use seq_run::{RunRequest, run_on};
 use std::alloc::{AllocError, Global};
 use std::process::Abort;
 use std::sync::Wait;
 use std::test::Fail;
 use std::thread::Threads;
+use trace_text::NoProgress;
 
 // One LUN of 8 blocks of 4 pages of 512 + 16 bytes, in one plane.
 pub(crate) const ONE_LUN: Parts = SMALL_CHIP;
@@ -50,7 +52,7 @@ pub(crate) const EMPTY: [u8; 24] = [
 // What became of a run: how it ended, and what it printed on standard output and on standard error.
 #[derive(Drop)]
 pub(crate) struct Played {
-    pub end: RunEnd,
+    pub end: Exit,
     pub output: Vec<u8>,
     pub errors: Vec<u8>,
 }
@@ -84,13 +86,16 @@ pub(crate) fn play<R: Threads + Wait + Sync + AllocGlobal>(
     files: &mut MapFiles,
     request: RunRequest<'_>,
 ) -> Played {
-    let mut output = Vec::new(rt.alloc());
-    let mut errors = Vec::new(rt.alloc());
-    let end = run_on(rt, rt.alloc(), files, &mut output, &mut errors, request);
+    let mut console = Console {
+        output: Vec::new(rt.alloc()),
+        errors: Vec::new(rt.alloc()),
+        progress: NoProgress,
+    };
+    let end = run_on(rt, rt.alloc(), files, &mut console, request);
     Played {
         end,
-        output,
-        errors,
+        output: console.output,
+        errors: console.errors,
     }
 }
 

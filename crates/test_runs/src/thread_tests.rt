@@ -1,7 +1,8 @@
 // Runs by several workers.
 use crate::tests::{TWO_LUNS, ask, make_files, play};
 use nand_geometry::Geometry;
-use seq_run::{RunEnd, RunRequest};
+use seq_inputs::Exit;
+use seq_run::RunRequest;
 use std::alloc::{AllocError, Global};
 use std::process::Abort;
 use std::sync::Wait;
@@ -49,7 +50,7 @@ fn are_done<R: Threads + Wait + Sync + AllocGlobal>(
     let items = parse(rt.alloc(), text)?;
     let geometry = Geometry::of(TWO_LUNS)?;
     Ok(
-        played.end == RunEnd::Done
+        played.end == Exit::Done
             && played.output.as_slice() == ends.as_str().as_bytes()
             && check(&geometry, 2, items.as_slice()).is_ok(),
     )

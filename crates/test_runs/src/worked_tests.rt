@@ -1,7 +1,7 @@
 // Worked programs as jobs of a run: what they leave in buffers and images.
 use crate::tests::{ask, expect_file, make_files, make_image, play};
 use seq_files::MapFiles;
-use seq_run::RunEnd;
+use seq_inputs::Exit;
 use std::alloc::Global;
 use std::test::Fail;
 
@@ -180,7 +180,7 @@ fn worked_programs(rt: HostRuntime) -> Result<(), Fail> {
     for worked in &WORKED {
         let mut files = make_worked(rt.alloc(), worked.words, worked.run, worked.row)?;
         let played = play(&rt, &mut files, ask(1));
-        assert_eq!(rt; played.end, RunEnd::Done, "of {}", worked.run);
+        assert_eq!(rt; played.end, Exit::Done, "of {}", worked.run);
         let output = str::from_utf8(played.output.as_slice())?;
         assert!(rt; output.ends_with(worked.last), "of {}", worked.run);
         expect_file(&rt, &files, worked.path, worked.first, worked.length)?;
@@ -193,7 +193,7 @@ fn worked_programs(rt: HostRuntime) -> Result<(), Fail> {
 fn a_program_of_both_planes(rt: HostRuntime) -> Result<(), Fail> {
     let run = "page two\ntargets 1\nimage 0 0 empty\njob 0 0 0 words in -\n";
     let mut files = make_worked(rt.alloc(), &PROGRAM_PLANES, run, 0)?;
-    assert_eq!(rt; play(&rt, &mut files, ask(1)).end, RunEnd::Done);
+    assert_eq!(rt; play(&rt, &mut files, ask(1)).end, Exit::Done);
     let image = files.get("empty").ok_or("an image")?;
     assert_eq!(rt; image.len(), 1088);
     assert_eq!(rt;
@@ -211,7 +211,7 @@ fn a_program_of_both_planes(rt: HostRuntime) -> Result<(), Fail> {
 fn the_parameter_page_of_a_die(rt: HostRuntime) -> Result<(), Fail> {
     let run = "page one\ntargets 1\njob 0 0 0 words - out\n";
     let mut files = make_worked(rt.alloc(), &PAGE, run, 0)?;
-    assert_eq!(rt; play(&rt, &mut files, ask(1)).end, RunEnd::Done);
+    assert_eq!(rt; play(&rt, &mut files, ask(1)).end, Exit::Done);
     assert_eq!(rt; files.get("out"), files.get("one"));
     Ok(())
 }
@@ -222,7 +222,7 @@ fn two_pages_by_the_cache(rt: HostRuntime) -> Result<(), Fail> {
     let run = "page cache\ntargets 1\nimage 0 0 die\njob 0 0 0 words - out\n";
     let mut files = make_worked(rt.alloc(), &READ_CACHE, run, 1)?;
     let played = play(&rt, &mut files, ask(1));
-    assert_eq!(rt; played.end, RunEnd::Done);
+    assert_eq!(rt; played.end, Exit::Done);
     let output = str::from_utf8(played.output.as_slice())?;
     let part = "0 C 31\n0 C 70\n0 O 80\n0 R 0 0\n0 Y 0\n0 C 70\n0 O e0\n0 C 00\n";
     assert!(rt; output.contains(part));
@@ -245,7 +245,7 @@ fn a_cache_read_within_a_block(rt: HostRuntime) -> Result<(), Fail> {
     assert_eq!(rt; played.output.as_slice(), b"refused S6 at 3\n".as_slice());
     let errors = str::from_utf8(played.errors.as_slice())?;
     let words =
-        "run: line 3: words: the program continues a cache read, and BASE isn't the first row of a block (S6)\n";
+        "run:3: words: the program continues a cache read, and its base isn't the first row of a block: 1, where a block has 4 rows (S6)\n";
     assert_eq!(rt; errors, words);
     Ok(())
 }

@@ -1645,7 +1645,7 @@ fn refusals_are_told(rt: HostRuntime) -> Result<(), Fail> {
     let told = format!(in rt.alloc(); "{refusal}")?;
     assert_eq!(rt;
         told.as_str(),
-        "V15 at word 2: the cost may pass the budget"
+        "V15 at word 2: the bus cycles up to here are more than the budget in the header"
     );
     Ok(())
 }

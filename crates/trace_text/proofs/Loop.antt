@@ -26,9 +26,9 @@ regroup front item (Err e) = refl
 pub starts : (whole : List ℕ) → IsSoFar 1 whole whole []
 starts whole = record { so_far = empty_front (reading_from 1 [] whole) }
 
-pub goes_on : (line : ℕ) (rest whole behind : List ℕ) (front : List Item) (item : Item) → BeginsWith rest item behind → IsSoFar line rest whole front → IsSoFar (line + 1) behind whole (front ++ item ∷ [])
-goes_on line rest whole behind front item first before =
-    let one : with_front front (reading_from line [] rest) ≡ with_front (front ++ item ∷ []) (reading_from (line + 1) [] behind) = ap (with_front front) (first.read line) ∙ regroup front item (reading_from (line + 1) [] behind) in
+pub goes_on : (line : ℕ) (rest whole after : List ℕ) (front : List Item) (item : Item) → BeginsWith rest item after → IsSoFar line rest whole front → IsSoFar (line + 1) after whole (front ++ item ∷ [])
+goes_on line rest whole after front item first before =
+    let one : with_front front (reading_from line [] rest) ≡ with_front (front ++ item ∷ []) (reading_from (line + 1) [] after) = ap (with_front front) (first.read line) ∙ regroup front item (reading_from (line + 1) [] after) in
     record { so_far = sym one ∙ before.so_far }
 
 pub ends : (line : ℕ) (rest whole : List ℕ) (front : List Item) (code : TraceFault) → HasFault rest code → IsSoFar line rest whole front → reading whole ≡ Err (Fault code line)

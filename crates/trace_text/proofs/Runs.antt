@@ -80,7 +80,7 @@ pub one_item : (g : Parts) (n : ℕ) (s : BusView) (past items : List Item) (d :
 one_item g n s past [] d some f = absurd (omega (arith, some))
 one_item g n s past (i ∷ items) d some f = let one : reverse (i ∷ []) ≡ i ∷ [] = grind (arith, common_steps) in subst (λ (xs : List Item). Follows g n s (xs ++ past)) (sym one) f
 
--- of what is left behind a place so many come
+-- of what is left after a place so many come
 pub goes_on : (g : Parts) (n : ℕ) (s : BusView) (items part : List Item) (place k : ℕ) → part ≡ drop place items → place ≤ length items → k ≤ length part → Follows g n s (reverse (take k part) ++ reverse (take place items)) → Follows g n s (reverse (take (place + k) items)) × (place + k ≤ length items)
 goes_on g n s items part place k left inside low f =
     let len = ap length left ∙ length-drop place items in (

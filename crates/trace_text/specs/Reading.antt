@@ -101,7 +101,7 @@ abbrev pub at_line : {A : Type 0} → ℕ → Result A TraceFault → Result A T
 at_line line (Ok x) = Ok x
 at_line line (Err code) = Err (Fault code line)
 
--- From line number `line` on, of which `front` is read: a line feed (10) ends a line, and the text ends behind one.
+-- From line number `line` on, of which `front` is read: a line feed (10) ends a line, and the text ends after one.
 unfoldable pub reading_from : ℕ → List ℕ → List ℕ → Result (List Item) TraceRefusal
 reading_from line front [] = if length front == 0 then Ok [] else Err (Fault BadShape line)
 reading_from line front (b ∷ bs) =
@@ -119,7 +119,7 @@ IsRefusalOf OutOfMemory read = IsOk read
 
 -- ---- a text line by line
 
--- the first line is the item's, and the rest stands behind it
+-- the first line is the item's, and the rest stands after it
 pub record BeginsWith (text : List ℕ) (item : Item) (rest : List ℕ) : Type 0 where
   pub shorter : length rest < length text
   pub read : (line : ℕ) → reading_from line [] text ≡ (reading_from (line + 1) [] rest >>= λ items. Ok (item ∷ items))

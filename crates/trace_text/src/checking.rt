@@ -72,7 +72,7 @@ pub fn first_broken<P: CheckProgress>(
 }
 
 /// Whether a trace is legal on a channel of so many targets of this geometry, 4 at most: whether each item is permitted
-/// after those before it (docs/MODEL.md, "Rules"). The items stand in the order of time. The byte of an output isn't
+/// after those before it (docs/model/MODEL.md, "Rules"). The items stand in the order of time. The byte of an output isn't
 /// judged. Takes no memory, and a time that grows with the number of items alone.
 pub fn check(geometry: &Geometry, targets: u8, items: &[Item]) -> Result<(), CheckRefusal>
     requires { targets ≤ 4 }

@@ -11,16 +11,22 @@
 //! CE and LUN are one digit from 0 to 3, and XX is two hexadecimal digits in lower case.
 #![tactic(auto)]
 
+mod bad_number;
+mod bad_shape;
 mod checking;
 mod data_run;
 pub mod laws;
 mod line;
+mod line_advice;
+mod message;
 mod parsing;
 mod printing;
 mod progress;
 mod refusal;
+mod slip;
 
 pub use checking::{CheckRefusal, check, check_watched, first_broken};
+pub use message::TraceMessage;
 pub use parsing::parse;
 pub use printing::{is_printable, print, print_bytes};
 pub use progress::{CheckProgress, NoProgress};

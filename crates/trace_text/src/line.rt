@@ -10,7 +10,7 @@ use onfi_cycle::{Cycle, Item, Kind};
 
 // What the second field of a line says.
 #[derive(Clone, Copy)]
-enum Letter {
+pub(crate) enum Letter {
     CycleOf(Kind),
     Ready,
     ArrayReady,
@@ -18,7 +18,7 @@ enum Letter {
 
 // The letter that is the whole field.
 #[tactic(auto, unfolding(crate::specs::Reading::letter_of))]
-fn letter_of(field: &str) -> Option<Letter>
+pub(crate) fn letter_of(field: &str) -> Option<Letter>
     ensures { result ≡ letter_of field.now }
 {
     match field.as_bytes() {
@@ -34,7 +34,7 @@ fn letter_of(field: &str) -> Option<Letter>
 
 // A chip enable or a LUN.
 #[tactic(auto, unfolding(crate::specs::Reading::place_of))]
-fn place_of(field: &str) -> Option<u8>
+pub(crate) fn place_of(field: &str) -> Option<u8>
     ensures { result ≡ place_of field.now }
 {
     match field.as_bytes() {
@@ -57,7 +57,7 @@ pub(crate) fn hex_value(digit: u8) -> Option<u8>
 
 // A byte of two hexadecimal digits.
 #[tactic(auto, unfolding(crate::specs::Reading::byte_of))]
-fn byte_of(field: &str) -> Option<u8>
+pub(crate) fn byte_of(field: &str) -> Option<u8>
     ensures { result ≡ byte_of field.now }
 {
     match field.as_bytes() {
@@ -68,7 +68,7 @@ fn byte_of(field: &str) -> Option<u8>
 
 // Whether a ready tells of failure.
 #[tactic(auto, unfolding(crate::specs::Reading::fail_of))]
-fn fail_of(field: &str) -> Option<bool>
+pub(crate) fn fail_of(field: &str) -> Option<bool>
     ensures { result ≡ fail_of field.now }
 {
     match field.as_bytes() {

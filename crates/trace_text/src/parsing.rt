@@ -54,10 +54,10 @@ fn first_cycle(text: &str) -> Option<(Item, &str)>
     ensures some { IfSome result (λ x. BeginsWith text.entry.now x.0 x.1.now) }
     ensures utf8 { IfSome result (λ x. IsUtf8 x.1.now) }
 {
-    let [ce, before, letter, behind, high, low, end, ..] = text.as_bytes() else {
+    let [ce, before, letter, after, high, low, end, ..] = text.as_bytes() else {
         return None;
     };
-    if *before != b' ' || *behind != b' ' || *end != b'\n' {
+    if *before != b' ' || *after != b' ' || *end != b'\n' {
         return None;
     }
     let item = cycle_of(*ce, *letter, *high, *low)?;
@@ -88,14 +88,14 @@ fn count_items(text: &str) -> Result<usize, TraceRefusal>
     let mut rest = text;
     let mut count = 0;
     'lines: loop {
-        if let Some((_, behind)) = first_cycle(rest) {
-            rest = behind;
+        if let Some((_, after)) = first_cycle(rest) {
+            rest = after;
             count += 1;
             continue 'lines;
         }
         match first_of_fields(rest) {
-            Ok(Some((_, behind))) => {
-                rest = behind;
+            Ok(Some((_, after))) => {
+                rest = after;
                 count += 1;
             }
             Ok(None) => return Ok(count),
@@ -143,15 +143,15 @@ fn items_of<A: Allocator>(alloc: A, text: &str) -> Result<Vec<Item, A>, TraceRef
     };
     let mut rest = text;
     'lines: loop {
-        if let Some((item, behind)) = first_cycle(rest) {
+        if let Some((item, after)) = first_cycle(rest) {
             keep(&mut items, item, text)?;
-            rest = behind;
+            rest = after;
             continue 'lines;
         }
         match first_of_fields(rest) {
-            Ok(Some((item, behind))) => {
+            Ok(Some((item, after))) => {
                 keep(&mut items, item, text)?;
-                rest = behind;
+                rest = after;
             }
             Ok(None) => return Ok(items),
             Err(fault) => {

@@ -12,7 +12,7 @@ use thiserror::Error;
 pub enum TraceFault {
     /// The line isn't ended, its second field is none of the letters, or it has another number of fields than its
     /// letter wants.
-    #[error("the line hasn't the shape of an item")]
+    #[error("the line isn't ended by a line feed, has no letter of an item, or has another number of fields than its letter wants")]
     BadShape,
     /// A number field isn't a number of its form, whatever characters it has.
     #[error("a field isn't a number of its form")]

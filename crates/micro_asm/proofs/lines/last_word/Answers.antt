@@ -8,7 +8,7 @@ pub lines-preserved : goal.lines-preserved
 lines-preserved c = record {
   room = omega (arith, c.in-Some.ensures.shorter);
   same =
-      last_more c.lines.found c.if-begins_word.found c.lines.line (lines c.lines.rest.now) (lines c.in-Some.behind.now) c.in-Some.front.now c.in-Some.ensures.some
+      last_more c.lines.found c.if-begins_word.found c.lines.line (lines c.lines.rest.now) (lines c.in-Some.after.now) c.in-Some.front.now c.in-Some.ensures.some
       (elim c.if-begins_word.branch [
         | then-begins_word w ↦ picks_first _ _ _ _ (sym c.begins_word.ensures ∙ w.if-begins_word.true) w.found-is
         | else-begins_word w ↦ picks_second _ _ _ _ (sym c.begins_word.ensures ∙ w.if-begins_word.false) w.found-is

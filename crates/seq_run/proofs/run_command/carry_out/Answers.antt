@@ -7,7 +7,7 @@ pub returns-clause-ok : goal.returns-clause-ok
 returns-clause-ok g c =
     on_ok c.write_run.result c.write_run.ensures.ok
     (done_of_plan c.args.request c.args.plan c.in_ok-ran.ran (g.F.Files.store c.args.files.now) (g.F.Files.store c.write_run.new.files)
-    (λ (lines : List ℕ). Appends (g.W.Write.contents c.args.output.now) (g.W.Write.contents c.write_run.new.output) lines)
+    (λ (lines : List ℕ). Appends (g.W.Write.contents c.args.console.now.output) (g.W.Write.contents c.write_run.new.output) lines)
     c.in_ok-ran.ensures.channel c.in_ok-ran.ensures.jobs c.in_ok-ran.ensures.images c.in_ok-ran.ensures.happened)
 
 pub returns-clause-err : goal.returns-clause-err

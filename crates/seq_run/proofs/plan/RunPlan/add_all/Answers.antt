@@ -1,7 +1,6 @@
-use Rattle.std.proofs.Common.{arith, ◌∙◌, sym, subst}
-use Rattle.seq_run.specs.declared.not_run.NotRun.{NotRun}
+use Rattle.std.proofs.Common.{arith, ◌∙◌, refl, sym, subst}
 use Rattle.run_file.specs.Shown.{shown_all}
-use Rattle.seq_run.specs.Failures.{Refuses}
+use Rattle.seq_inputs.specs.Stops.{SaysAt}
 use Rattle.seq_run.specs.Judged.{Numbered, RestIsRefused}
 use Rattle.seq_run.specs.Planned.{output_in}
 use Rattle.seq_run.proofs.Resting.{passes_on, stops_here, all_pass, text_stops, planned_more, images_more}
@@ -12,7 +11,7 @@ pub returns-in-Err-clause-err : goal.returns-in-Err-clause-err
 returns-in-Err-clause-err g c =
     let i = c.loop-numbered.invariant in
     stops_here (g.F.Files.store c.args.files.now) (g.F.Files.store c.loop-numbered.files) c.args.self.now.dies.geometry c.loop-numbered.self.dies.geometry
-    c.args.self.now.dies.targets c.loop-numbered.self.dies.targets c.args.last c.args.rest.now c.loop-numbered.numbered-index _ c.in-Err.not_run
+    c.args.self.now.dies.targets c.loop-numbered.self.dies.targets c.args.last c.args.rest.now c.loop-numbered.numbered-index _ c.in-Err.stop
     c.loop-numbered-test.true i.0 i.1 i.2 c.in-Err.ensures.err i.3
 
 pub loop-numbered-preserved : goal.loop-numbered-preserved
@@ -33,10 +32,13 @@ loop-numbered-preserved g c =
 
 pub returns-in-Some-clause-err : goal.returns-in-Some-clause-err
 returns-in-Some-clause-err g c =
-    subst (λ (r : NotRun). Refuses (RestIsRefused (g.F.Files.store c.args.files.now) c.args.self.now.dies.geometry c.args.self.now.dies.targets (shown_all c.args.rest.now) c.args.last) r)
-    (sym c.refuse_line.ensures)
-    (text_stops (g.F.Files.store c.args.files.now) c.args.self.now.dies.geometry c.args.self.now.dies.targets c.args.last c.in-Some.field-0 c.args.rest.now
-    c.loop-numbered.numbered-index (omega (arith, c.loop-numbered-test.false)) c.in-Some.is c.loop-numbered.invariant.3)
+    subst (λ r. SaysAt (RestIsRefused (g.F.Files.store c.args.files.now) c.args.self.now.dies.geometry c.args.self.now.dies.targets (shown_all c.args.rest.now) c.args.last) r)
+    (sym c.refuse_line.ensures) (
+      c.in-Some.field-0.line,
+      text_stops (g.F.Files.store c.args.files.now) c.args.self.now.dies.geometry c.args.self.now.dies.targets c.args.last c.in-Some.field-0 c.args.rest.now
+          c.loop-numbered.numbered-index (omega (arith, c.loop-numbered-test.false)) c.in-Some.is c.loop-numbered.invariant.3,
+      refl,
+    )
 
 pub returns-in-None-clause-ok : goal.returns-in-None-clause-ok
 returns-in-None-clause-ok g c =

@@ -1,0 +1,71 @@
+//! A command that programs may not use.
+
+use crate::refused::Refused;
+use onfi_cycle::Command;
+use std::fmt;
+
+/// Why programs may not use a command.
+#[derive(Clone, Copy, Debug, PartialEq, Eq)]
+pub enum BarredCause {
+    /// `stat` and `wait` ask for the status.
+    Poll,
+    /// No command has this byte.
+    NoCommand { byte: u8 },
+    /// The parameter page declares no operations of several planes.
+    SeveralPlanes,
+    /// The parameter page declares no cache read.
+    CacheRead,
+    /// The command wants the only LUN of a target, and this one has so many.
+    SeveralLuns { luns: u8 },
+}
+
+impl BarredCause {
+    pub(crate) fn of(refused: &Refused<'_>, byte: u8) -> Option<BarredCause> {
+        let parts = refused.geometry.parts();
+        match Command::of(byte) {
+            Command::Unknown => Some(BarredCause::NoCommand { byte }),
+            Command::ReadStatus | Command::ReadStatusEnhanced => Some(BarredCause::Poll),
+            Command::BlockErasePlane | Command::ProgramPlane => {
+                told_if(!parts.multi_plane, BarredCause::SeveralPlanes)
+            }
+            Command::ReadCacheSequential | Command::ReadCacheEnd => {
+                told_if(!parts.cache, BarredCause::CacheRead)
+            }
+            Command::ReadId | Command::ReadParameterPage | Command::Reset => told_if(
+                parts.luns > 1,
+                BarredCause::SeveralLuns { luns: parts.luns },
+            ),
+            Command::Read
+            | Command::ReadConfirm
+            | Command::ChangeReadColumn
+            | Command::ChangeReadColumnConfirm
+            | Command::BlockErase
+            | Command::BlockEraseConfirm
+            | Command::PageProgram
+            | Command::ChangeWriteColumn
+            | Command::ProgramConfirm => None,
+        }
+    }
+}
+
+// The cause, where it stands.
+fn told_if(stands: bool, cause: BarredCause) -> Option<BarredCause> {
+    if stands { Some(cause) } else { None }
+}
+
+impl fmt::Display for BarredCause {
+    fn fmt<W: fmt::Write>(&self, f: &mut fmt::Formatter<W>) -> fmt::Result {
+        match self {
+            BarredCause::Poll => f.write_str("programs ask for the status by `stat` or `wait`"),
+            BarredCause::NoCommand { byte } => write!(f, "no command has the byte {byte:02x}"),
+            BarredCause::SeveralPlanes => f.write_str(
+                "the parameter page declares no program and erase of several planes",
+            ),
+            BarredCause::CacheRead => f.write_str("the parameter page declares no cache read"),
+            BarredCause::SeveralLuns { luns } => write!(
+                f,
+                "it works on a target with one LUN alone, and this one has {luns}"
+            ),
+        }
+    }
+}

@@ -1,0 +1,80 @@
+//! A cache read that may not go on, or may not end.
+
+use crate::busy::Busy;
+use crate::no_driver::NoDriver;
+use crate::refused::Refused;
+use micro_claims::{bound_plus, is_at_most};
+use onfi_cycle::Command;
+use std::fmt;
+
+/// Why `cmd 31` or `cmd 3f` may come at a wrong time.
+#[derive(Clone, Copy, Debug, PartialEq, Eq)]
+pub enum CacheCause {
+    NoDriver(NoDriver),
+    Busy(Busy),
+    /// `cmd 31` where the last work may be none of `cmd 30` and `cmd 31`.
+    NothingToContinue,
+    /// `cmd 31` where the page that it reads may be past its block, of so many pages.
+    PastBlock { pages: u32 },
+    /// `cmd 3f` where the last work may be another than `cmd 31`.
+    NothingToEnd,
+}
+
+impl CacheCause {
+    /// Against `cmd 31`.
+    pub(crate) fn of_next(refused: &Refused<'_>) -> Option<CacheCause> {
+        let lun = &refused.state.lun;
+        let pages = refused.geometry.parts().pages;
+        if let Some(cause) = CacheCause::of_lun(refused) {
+            Some(cause)
+        } else if lun.last.other {
+            Some(CacheCause::NothingToContinue)
+        } else if !is_at_most(bound_plus(lun.cached.page.hi, 2), u64::from(pages)) {
+            Some(CacheCause::PastBlock { pages })
+        } else {
+            None
+        }
+    }
+
+    /// Against `cmd 3f`.
+    pub(crate) fn of_end(refused: &Refused<'_>) -> Option<CacheCause> {
+        let last = refused.state.lun.last;
+        if let Some(cause) = CacheCause::of_lun(refused) {
+            Some(cause)
+        } else if last.other || last.read {
+            Some(CacheCause::NothingToEnd)
+        } else {
+            None
+        }
+    }
+
+    // Against both.
+    fn of_lun(refused: &Refused<'_>) -> Option<CacheCause> {
+        if let Some(no_driver) = NoDriver::of(refused) {
+            Some(CacheCause::NoDriver(no_driver))
+        } else if refused.state.lun.busy {
+            Some(CacheCause::Busy(Busy::of(refused)))
+        } else {
+            None
+        }
+    }
+}
+
+impl fmt::Display for CacheCause {
+    fn fmt<W: fmt::Write>(&self, f: &mut fmt::Formatter<W>) -> fmt::Result {
+        match self {
+            CacheCause::NoDriver(no_driver) => write!(f, "{no_driver}"),
+            CacheCause::Busy(busy) => write!(f, "{busy}"),
+            CacheCause::NothingToContinue => f.write_str(
+                "the last work of the LUN must be `cmd 30` or `cmd 31`, and it may be another",
+            ),
+            CacheCause::PastBlock { pages } => write!(
+                f,
+                "the next page may be past the end of its block, which has {pages}"
+            ),
+            CacheCause::NothingToEnd => {
+                f.write_str("the last work of the LUN must be `cmd 31`, and it may be another")
+            }
+        }
+    }
+}

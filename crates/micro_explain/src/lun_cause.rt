@@ -1,0 +1,83 @@
+//! A LUN that may not be ready for more work.
+
+use crate::busy::Busy;
+use crate::command_at::CommandAt;
+use crate::queue_cause::QueueCause;
+use crate::refused::Refused;
+use onfi_cycle::{Command, Forbidden};
+use std::fmt;
+
+/// Why the LUN may not take on more work.
+#[derive(Clone, Copy)]
+pub enum LunCause {
+    /// It may be busy.
+    Busy(Busy),
+    /// Its queue doesn't go together with it.
+    Queue(QueueCause),
+    /// It reads a cache since this command.
+    CacheRead(CommandAt),
+}
+
+impl LunCause {
+    /// Against what wants the LUN to be ready.
+    pub(crate) fn of_busy(refused: &Refused<'_>) -> Option<LunCause> {
+        if refused.state.lun.busy {
+            Some(LunCause::Busy(Busy::of(refused)))
+        } else {
+            None
+        }
+    }
+
+    // Against what wants that no cache read goes on.
+    fn of_cache(refused: &Refused<'_>) -> Option<LunCause> {
+        if refused.state.lun.last.cache {
+            Some(LunCause::CacheRead(refused.cache_read()))
+        } else {
+            None
+        }
+    }
+
+    /// Against work that wants the LUN for itself.
+    pub(crate) fn of_lone_work(refused: &Refused<'_>) -> Option<LunCause> {
+        if let Some(busy) = LunCause::of_busy(refused) {
+            Some(busy)
+        } else if let Some(queue) = QueueCause::of_lone_work(refused) {
+            Some(LunCause::Queue(queue))
+        } else {
+            LunCause::of_cache(refused)
+        }
+    }
+
+    /// Against the row of an opener.
+    pub(crate) fn of_row(refused: &Refused<'_>, opener: Command) -> Option<LunCause> {
+        if let Some(busy) = LunCause::of_busy(refused) {
+            Some(busy)
+        } else if let Some(queue) = QueueCause::of_row(refused, opener) {
+            Some(LunCause::Queue(queue))
+        } else {
+            LunCause::of_cache(refused)
+        }
+    }
+
+    /// The rule that this breaks.
+    pub fn rule(self) -> Forbidden {
+        match self {
+            LunCause::Busy(_) => Forbidden::LunBusy,
+            LunCause::Queue(_) => Forbidden::QueueClash,
+            LunCause::CacheRead(_) => Forbidden::CacheReadMisplaced,
+        }
+    }
+}
+
+impl fmt::Display for LunCause {
+    fn fmt<W: fmt::Write>(&self, f: &mut fmt::Formatter<W>) -> fmt::Result {
+        match self {
+            LunCause::Busy(busy) => write!(f, "{busy}"),
+            LunCause::Queue(queue) => write!(f, "{queue}"),
+            LunCause::CacheRead(command) => write!(
+                f,
+                "the cache read of {command} goes on: `cmd 3f` and a `wait` must end it"
+            ),
+        }
+    }
+}

@@ -1,0 +1,35 @@
+//! The sequence that is open.
+
+use crate::command_at::CommandAt;
+use crate::wanted::Wanted;
+use micro_claims::Place;
+use std::fmt;
+
+/// What is open on the target before a word.
+#[derive(Clone, Copy)]
+pub struct Open {
+    pub place: Place,
+    /// The command that opened it, or the change of the write column in it.
+    pub command: Option<CommandAt>,
+    /// Operations of several planes are declared.
+    pub multi_plane: bool,
+}
+
+impl fmt::Display for Open {
+    fn fmt<W: fmt::Write>(&self, f: &mut fmt::Formatter<W>) -> fmt::Result {
+        let wanted = Wanted {
+            place: self.place,
+            multi_plane: self.multi_plane,
+        };
+        match (self.place, self.command) {
+            (Place::Closed, _) => f.write_str("no sequence is open"),
+            (Place::Unknown, _) | (_, None) => {
+                f.write_str("ways meet here, and on some of them a sequence is open")
+            }
+            (Place::After { .. } | Place::InData | Place::InColumn { .. }, Some(command)) => write!(
+                f,
+                "{command} is open and wants {wanted} next"
+            ),
+        }
+    }
+}

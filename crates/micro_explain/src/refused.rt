@@ -1,0 +1,78 @@
+//! A refused word, with what is known before it.
+
+use crate::command_at::CommandAt;
+use crate::history::History;
+use crate::open::Open;
+use micro_claims::{Bounds, Place, State};
+use micro_word::Word;
+use nand_geometry::Geometry;
+use onfi_cycle::Command;
+
+/// A refused word, with what is known before it.
+#[derive(Clone, Copy)]
+pub(crate) struct Refused<'a> {
+    pub words: &'a [Word],
+    /// Its place.
+    pub at: usize,
+    pub word: Word,
+    pub geometry: &'a Geometry,
+    pub bounds: Bounds,
+    pub state: &'a State,
+    /// What the words before it have done.
+    pub history: History,
+    /// The same after one more turn of the loop around it.
+    pub turned: Option<History>,
+}
+
+// The command that opened the sequence of a place, or the change of the write column in it.
+fn command_of_place(place: Place) -> Option<Command> {
+    match place {
+        Place::Closed | Place::Unknown => None,
+        Place::After { opener, .. } => Some(opener),
+        Place::InData => Some(Command::PageProgram),
+        Place::InColumn { .. } => Some(Command::ChangeWriteColumn),
+    }
+}
+
+impl Refused<'_> {
+    /// What the words before it have done, and else what they have done after one more turn.
+    pub(crate) fn whole_history(&self) -> History {
+        match self.turned {
+            None => self.history,
+            Some(turned) => self.history.or(turned),
+        }
+    }
+
+    /// The command by the last word that gives it.
+    pub(crate) fn last(&self, command: Command) -> CommandAt {
+        CommandAt::last_before(self.words, self.at, command)
+    }
+
+    /// What is open.
+    pub(crate) fn open(&self) -> Open {
+        let place = self.state.target.tail;
+        Open {
+            place,
+            command: match command_of_place(place) {
+                None => None,
+                Some(command) => Some(self.last(command)),
+            },
+            multi_plane: self.geometry.parts().multi_plane,
+        }
+    }
+
+    /// The target has several LUNs.
+    pub(crate) fn has_several_luns(&self) -> bool {
+        self.geometry.parts().luns > 1
+    }
+
+    /// The LUN surely drives alone.
+    pub(crate) fn drives(&self) -> bool {
+        self.state.target.shows.is_some()
+    }
+
+    /// The cache read that goes on.
+    pub(crate) fn cache_read(&self) -> CommandAt {
+        self.last(Command::ReadCacheSequential)
+    }
+}

@@ -1,0 +1,77 @@
+//! What a sequence wants next.
+
+use micro_claims::Place;
+use onfi_cycle::Command;
+use std::fmt;
+
+/// What the sequence of a place wants next.
+#[derive(Clone, Copy)]
+pub(crate) struct Wanted {
+    pub place: Place,
+    /// Operations of several planes are declared.
+    pub multi_plane: bool,
+}
+
+impl Wanted {
+    // What ends the sequence of an opener whose addresses have come.
+    fn closer(self, opener: Command) -> &'static str {
+        match opener {
+            Command::Read => "`cmd 30`",
+            Command::ChangeReadColumn => "`cmd e0`",
+            Command::BlockErase if self.multi_plane => "`cmd d0` or `cmd d1`",
+            Command::BlockErase => "`cmd d0`",
+            Command::PageProgram => self.in_data(),
+            Command::ReadConfirm
+            | Command::ChangeReadColumnConfirm
+            | Command::BlockEraseConfirm
+            | Command::BlockErasePlane
+            | Command::ReadStatus
+            | Command::ReadStatusEnhanced
+            | Command::ChangeWriteColumn
+            | Command::ProgramConfirm
+            | Command::ProgramPlane
+            | Command::ReadId
+            | Command::ReadParameterPage
+            | Command::Reset
+            | Command::ReadCacheSequential
+            | Command::ReadCacheEnd
+            | Command::Unknown => "nothing",
+        }
+    }
+
+    // What comes in the data of a program.
+    fn in_data(self) -> &'static str {
+        if self.multi_plane {
+            "`put`, `cmd 85`, `cmd 10` or `cmd 11`"
+        } else {
+            "`put`, `cmd 85` or `cmd 10`"
+        }
+    }
+
+    // What comes where no address is wanted.
+    fn command(self) -> &'static str {
+        match self.place {
+            Place::After { opener, .. } => self.closer(opener),
+            Place::InData | Place::InColumn { .. } => self.in_data(),
+            Place::Closed | Place::Unknown => "nothing",
+        }
+    }
+}
+
+impl fmt::Display for Wanted {
+    fn fmt<W: fmt::Write>(&self, f: &mut fmt::Formatter<W>) -> fmt::Result {
+        let (next, left) = (self.place.next_address(), self.place.addresses_left());
+        match self.place {
+            Place::After {
+                opener: Command::ReadId,
+                ..
+            } => f.write_str("`addr 0 1` with `col 32`"),
+            Place::After {
+                opener: Command::ReadParameterPage,
+                ..
+            } => { f.write_str("`addr 0 1` with `col 0`") }
+            _ if left > 0 => write!(f, "`addr {next} {left}`"),
+            _ => f.write_str(self.command()),
+        }
+    }
+}

@@ -1,0 +1,54 @@
+-- What the caller is told of a trace.
+use Rattle.std.specs.Prelude.{ℕ, ◌+◌, ◌||◌, nat_lt, if◌then◌else◌, List, [], ◌∷◌, Option, Some, None}
+use Rattle.nand_geometry.specs.declared.parts.Parts.{Parts}
+use Rattle.nand_geometry.specs.declared.page_fault.PageFault.{PageFault}
+use Rattle.nand_geometry.specs.Limits.{fault_of}
+use Rattle.onfi_cycle.specs.declared.item.Item.{Item}
+use Rattle.onfi_cycle.specs.declared.forbidden.Forbidden.{Forbidden}
+use Rattle.onfi_cycle.specs.declared.forbidden.Forbidden.TheVariants.{NotThere, CommandUnknown, SequenceOpen, SeveralLuns, NoColumnToChange, CommandMisplaced, AddressMisplaced, RowOutside, LunBusy, QueueClash, InputMisplaced, NoSoleDriver, DataNotReady, ColumnOutside, CacheReadMisplaced}
+use Rattle.onfi_cycle.specs.Permitted.{broken}
+use Rattle.onfiseq_c.specs.Geometry.{number_of_fault}
+use Rattle.onfiseq_c.specs.Item.{item_of}
+use Rattle.onfiseq_c.specs.declared.item.OnfiseqItem.{OnfiseqItem}
+use Rattle.onfiseq_c.specs.declared.check.OnfiseqAnswer.{OnfiseqAnswer}
+
+-- the number of a rule's code, F1 to F15
+abbrev pub rule_number : Forbidden → ℕ
+rule_number NotThere = 1
+rule_number CommandUnknown = 2
+rule_number SequenceOpen = 3
+rule_number SeveralLuns = 4
+rule_number NoColumnToChange = 5
+rule_number CommandMisplaced = 6
+rule_number AddressMisplaced = 7
+rule_number RowOutside = 8
+rule_number LunBusy = 9
+rule_number QueueClash = 10
+rule_number InputMisplaced = 11
+rule_number NoSoleDriver = 12
+rule_number DataNotReady = 13
+rule_number ColumnOutside = 14
+rule_number CacheReadMisplaced = 15
+
+abbrev pub answer : ℕ → ℕ → ℕ → OnfiseqAnswer
+answer letter number at = record { letter = letter; number = number; at = at }
+
+-- by whether there is a value
+abbrev pub by_option : {A B : Type 0} → Option A → B → (A → B) → B
+by_option None none some = none
+by_option (Some x) none some = some x
+
+-- the items after this past, the first of them at place at: F and the rule at the first that isn't permitted, I at the first that is none
+unfoldable pub checked : Parts → ℕ → List Item → List OnfiseqItem → ℕ → OnfiseqAnswer
+checked g targets past [] at = answer 0 0 at
+checked g targets past (i ∷ items) at =
+    by_option (item_of i) (answer 73 0 at)
+    (λ item. by_option (broken g targets past item) (checked g targets (item ∷ past) items (at + 1)) (λ rule. answer 70 (rule_number rule) at))
+
+-- the answer where the numbers have this fault
+abbrev pub answered_with : Parts → ℕ → List OnfiseqItem → Option PageFault → OnfiseqAnswer
+answered_with g targets items (Some fault) = answer 80 (number_of_fault fault) 0
+answered_with g targets items None = checked g targets [] items 0
+
+abbrev pub answered : Parts → ℕ → List OnfiseqItem → OnfiseqAnswer
+answered g targets items = if nat_lt targets 1 || nat_lt 4 targets then answer 84 0 0 else answered_with g targets items (fault_of g)

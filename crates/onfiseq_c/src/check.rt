@@ -1,0 +1,91 @@
+//! The check of a whole trace.
+ghost use Rattle.std.specs.Prelude.{◌≡◌, ◌≤◌, []};
+ghost use Rattle.onfiseq_c.specs.Geometry.{parts_of};
+ghost use Rattle.onfiseq_c.specs.Check.{rule_number, checked, answered};
+
+use crate::geometry::{OnfiseqGeometry, number_of_page_fault};
+use crate::item::OnfiseqItem;
+use nand_geometry::Geometry;
+use onfi_cycle::{BusState, Forbidden};
+
+/// An answer. `letter` is 0 where all is well, and `at` counts the items. Else `letter` and `number` are those of the code, as F and 9 of F9: F is the rule that the
+/// item at `at` breaks first, P the fault of the geometry. I says that the numbers at `at` are no item, and T that the targets aren't 1 to 4.
+#[repr(C)]
+#[derive(Clone, Copy)]
+pub struct OnfiseqAnswer {
+    pub letter: u8,
+    pub number: u32,
+    pub at: usize,
+}
+
+impl OnfiseqAnswer {
+    #[inline(always)]
+    fn of(letter: u8, number: u32, at: usize) -> OnfiseqAnswer
+        ensures { result ≡ record { letter = letter; number = number; at = at } }
+    {
+        OnfiseqAnswer { letter, number, at }
+    }
+}
+
+// The number of a rule's code.
+pub(crate) fn rule_number(rule: Forbidden) -> u32
+    ensures { result ≡ rule_number rule }
+{
+    match rule {
+        Forbidden::NotThere => 1,
+        Forbidden::CommandUnknown => 2,
+        Forbidden::SequenceOpen => 3,
+        Forbidden::SeveralLuns => 4,
+        Forbidden::NoColumnToChange => 5,
+        Forbidden::CommandMisplaced => 6,
+        Forbidden::AddressMisplaced => 7,
+        Forbidden::RowOutside => 8,
+        Forbidden::LunBusy => 9,
+        Forbidden::QueueClash => 10,
+        Forbidden::InputMisplaced => 11,
+        Forbidden::NoSoleDriver => 12,
+        Forbidden::DataNotReady => 13,
+        Forbidden::ColumnOutside => 14,
+        Forbidden::CacheReadMisplaced => 15,
+    }
+}
+
+// Plays the items of a trace, up to the first that is refused.
+fn check_items(geometry: Geometry, targets: u8, items: &[OnfiseqItem]) -> OnfiseqAnswer
+    requires { targets ≤ 4 }
+    ensures { result ≡ checked geometry targets [] items.now 0 }
+{
+    let mut state = BusState::new(geometry, targets);
+    let mut rest = items;
+    let mut at = 0;
+    'items: while let Some((first, behind)) = rest.split_first() {
+        let Some(item) = first.item() else {
+            return OnfiseqAnswer::of(b'I', 0, at);
+        };
+        if let Some(rule) = state.judge(item) {
+            return OnfiseqAnswer::of(b'F', rule_number(rule), at);
+        }
+        state.apply(item);
+        rest = behind;
+        at += 1;
+    }
+    OnfiseqAnswer::of(0, 0, at)
+}
+
+/// Checks whether the items are a legal trace on a channel of so many targets of this geometry.
+#[unsafe(no_mangle)]
+pub extern "C" fn onfiseq_check(
+    geometry: &OnfiseqGeometry,
+    targets: u8,
+    items: &[OnfiseqItem],
+) -> OnfiseqAnswer
+    ensures { result ≡ answered (parts_of geometry.now) targets items.now }
+{
+    if targets < 1 || targets > 4 {
+        return OnfiseqAnswer::of(b'T', 0, 0);
+    }
+    match Geometry::of(geometry.parts()) {
+        Ok(geometry) => check_items(geometry, targets, items),
+        Err(fault) => OnfiseqAnswer::of(b'P', number_of_page_fault(fault), 0),
+    }
+}

@@ -1,0 +1,25 @@
+//! onfiseq for C (include/onfiseq.h): the parameter page of a chip, and the check of a channel's trace, whole or item by item.
+//!
+//! All that crosses is numbers, records of numbers and slices of them. A call asks nothing of its caller but what the types of its
+//! arguments say, takes no memory, and keeps nothing: the state of a channel is a record in the caller's memory.
+#![tactic(auto)]
+
+mod abi;
+mod bus;
+mod check;
+mod geometry;
+mod item;
+mod look;
+mod many;
+mod record;
+mod status;
+
+pub use abi::{OnfiseqAbi, OnfiseqSample, onfiseq_abi, onfiseq_sample};
+pub use bus::{OnfiseqBus, onfiseq_begin, onfiseq_push};
+pub use check::{OnfiseqAnswer, onfiseq_check};
+pub use geometry::{OnfiseqGeometry, OnfiseqPage, onfiseq_page};
+pub use item::OnfiseqItem;
+pub use look::{OnfiseqLook, onfiseq_ask, onfiseq_look};
+pub use many::onfiseq_push_all;
+pub use record::{OnfiseqLun, OnfiseqQueued, OnfiseqTarget};
+pub use status::onfiseq_push_status;

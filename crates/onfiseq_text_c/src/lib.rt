@@ -1,0 +1,15 @@
+//! onfiseq for C (include/onfiseq.h): assembly text to word files and back, and what each code means in words.
+//!
+//! It takes memory by `malloc`, `realloc` and `free` of the program that it is linked into, and gives all of it back before it returns. What it writes goes into
+//! buffers of the caller.
+#![tactic(auto)]
+
+mod assembly;
+mod failure;
+mod placed;
+mod words;
+
+pub use assembly::{onfiseq_assemble, onfiseq_disassemble};
+pub use failure::Failure;
+pub use placed::OnfiseqPlaced;
+pub use words::onfiseq_words;

@@ -1,0 +1,54 @@
+-- What any command comes to: what its input and its files were, what the files are then, and what is printed.
+use Rattle.std.specs.Prelude.{◌≡◌, ◌⊎◌, ℕ, List, Option, None, IfSome, codes}
+use Rattle.std.specs.Option.{option_map}
+use Rattle.seq_files.specs.Store.{Store}
+use Rattle.seq_inputs.specs.declared.refusal.Refusal.{Refusal}
+use Rattle.seq_inputs.specs.Inputs.{FileIsRefused}
+use Rattle.seq_inputs.specs.Stops.{Tells}
+use Rattle.seq_inputs.specs.Refusals.{line_of}
+use Rattle.seq_commands.specs.Commands.{IsAssembled, SourceIsRefused, IsDisassembled, IsUpgraded, IsAccepted, VerifyRefuses, VerifyLeaves}
+use Rattle.seq_commands.specs.Checks.{ReadingRefuses, IsLegalTrace, CheckRefuses, CheckLeaves}
+use Rattle.seq_commands.specs.Draws.{IsDrawn}
+use Rattle.seq_run.specs.Runs.{IsRunDone, RunIsRefused, RunMayLeave}
+use Rattle.seq_cli.specs.Once.{IsProgramRun, ProgramMayBeRefused}
+use Rattle.seq_cli.specs.declared.command.Command.{Command}
+use Rattle.seq_cli.specs.declared.command.Command.TheVariants.{Assemble, Verify, Lint, Once, Run, Check, Draw, Disassemble, Upgrade}
+
+-- the command is done: this was its input, where that is known, this is left and this was printed
+abbrev pub IsDone : Command → (input : Option (List ℕ)) → (files later : Option Store) → (printed : List ℕ) → Type 0
+IsDone (Assemble text target) input files later printed = IsAssembled files later text.now target.now × (printed ≡ codes "ok\n")
+IsDone (Verify page text counter quiet) input files later printed = IsAccepted files page.now text.now × (later ≡ files) × (printed ≡ codes "accepted\n")
+IsDone (Lint page text output) input files later printed = IsAccepted files page.now text.now × (later ≡ files)
+IsDone (Once base) input files later printed = IfSome input (λ bytes. IsProgramRun base bytes printed) × (later ≡ files)
+IsDone (Run request) input files later printed = IsRunDone files later request printed
+IsDone (Check request) input files later printed = IsLegalTrace files later request × (printed ≡ codes "legal\n")
+IsDone (Draw request) input files later printed = IsDrawn files later request × (printed ≡ codes "ok\n")
+IsDone (Disassemble file) input files later printed = IsDisassembled files file.now printed × (later ≡ files)
+IsDone (Upgrade file target) input files later printed = IsUpgraded files later file.now target.now × (printed ≡ codes "ok\n")
+
+-- what a command may refuse, and what it leaves and prints then: one line, but for all faults of a trace
+abbrev pub MayRefuse : Command → (input : Option (List ℕ)) → (files later : Option Store) → Refusal → (printed : List ℕ) → Type 0
+MayRefuse (Assemble text target) input files later refusal printed = Tells (SourceIsRefused files text.now) refusal × (later ≡ files) × (printed ≡ line_of refusal)
+MayRefuse (Verify page text counter quiet) input files later refusal printed =
+    Tells (VerifyRefuses files later page.now text.now (option_map (λ path. path.now) counter)) refusal × (printed ≡ line_of refusal)
+MayRefuse (Lint page text output) input files later refusal printed =
+    Tells (VerifyRefuses files files page.now text.now None) refusal × (later ≡ files) × (printed ≡ line_of refusal)
+MayRefuse (Once base) input files later refusal printed = IfSome input (λ bytes. Tells (ProgramMayBeRefused base bytes) refusal) × (later ≡ files) × (printed ≡ line_of refusal)
+MayRefuse (Run request) input files later refusal printed = RunIsRefused files request refusal × (later ≡ files) × (printed ≡ line_of refusal)
+MayRefuse (Check request) input files later refusal printed = CheckRefuses files later request refusal printed
+MayRefuse (Draw request) input files later refusal printed =
+    Tells (ReadingRefuses files request.page.now request.input.now) refusal × (later ≡ files) × (printed ≡ line_of refusal)
+MayRefuse (Disassemble file) input files later refusal printed = Tells (FileIsRefused files file.now) refusal × (later ≡ files) × (printed ≡ line_of refusal)
+MayRefuse (Upgrade file target) input files later refusal printed = Tells (FileIsRefused files file.now) refusal × (later ≡ files) × (printed ≡ line_of refusal)
+
+-- what a command may leave, however it ends: the files as they were, or what it writes when it is done
+abbrev pub MayLeave : Command → (files later : Option Store) → Type 0
+MayLeave (Assemble text target) files later = (later ≡ files) ⊎ IsAssembled files later text.now target.now
+MayLeave (Verify page text counter quiet) files later = VerifyLeaves files later page.now text.now (option_map (λ path. path.now) counter)
+MayLeave (Lint page text output) files later = later ≡ files
+MayLeave (Once base) files later = later ≡ files
+MayLeave (Run request) files later = RunMayLeave files later request
+MayLeave (Check request) files later = CheckLeaves files later request
+MayLeave (Draw request) files later = (later ≡ files) ⊎ IsDrawn files later request
+MayLeave (Disassemble file) files later = later ≡ files
+MayLeave (Upgrade file target) files later = (later ≡ files) ⊎ IsUpgraded files later file.now target.now

@@ -1,0 +1,151 @@
+//! What the program is asked to do, and doing it.
+ghost use Rattle.std.specs.Prelude.{◌≡◌, List, ℕ};
+ghost use Rattle.std.specs.Io.KnownBytes.{Appends};
+ghost use Rattle.seq_inputs.specs.declared.refusal.Refusal.{Refusal};
+ghost use Rattle.seq_cli.specs.Commands.{IsDone, MayRefuse, MayLeave};
+
+use crate::once::run_program;
+use seq_commands::{
+    CheckRequest, DrawRequest, LintOutput, assemble_file, check_trace, disassemble_file,
+    draw_trace, lint_file, upgrade_file, verify_file,
+};
+use seq_files::Files;
+use seq_inputs::{Console, Exit};
+use seq_run::{RunProgress, RunRequest, run_watched};
+use std::alloc::Global;
+use std::io::{Read, Write};
+use std::sync::Wait;
+use std::thread::Threads;
+use std::time::Clock;
+use trace_text::CheckProgress;
+
+/// A command with its paths. `-` as a path that is read is standard input.
+#[derive(Clone, Copy, Debug, PartialEq, Eq)]
+pub enum Command<'a> {
+    /// To assemble a text into a word file.
+    Assemble {
+        input: &'a str,
+        target: &'a str,
+    },
+    /// To verify a microprogram, as a word file or an assembly text, for the geometry of a parameter page. Where a refusal has its run, the trace of
+    /// the run may be written to a file. The notes to one that is accepted are said on standard error, unless it is to be quiet.
+    Verify {
+        page: &'a str,
+        input: &'a str,
+        counter: Option<&'a str>,
+        is_quiet: bool,
+    },
+    /// To print the notes to a microprogram that is accepted, or the header that is enough for it.
+    Lint {
+        page: &'a str,
+        input: &'a str,
+        output: LintOutput,
+    },
+    /// To run the microprogram on standard input once, its rows counted from this index.
+    Once {
+        base: u32,
+    },
+    /// To run a channel as a run file says.
+    Run(RunRequest<'a>),
+    /// To check whether the trace of a text is legal on a channel.
+    Check(CheckRequest<'a>),
+    /// To draw a trace, as a waveform, as a picture or as a page.
+    Draw(DrawRequest<'a>),
+    /// To print the assembly text of a word file.
+    Disassemble {
+        input: &'a str,
+    },
+    /// To write a word file of either format as one of format 2.
+    Upgrade {
+        input: &'a str,
+        target: &'a str,
+    },
+}
+
+/// The files that a command names: those that it reads, and one that it writes.
+#[derive(Clone, Copy)]
+pub(crate) struct Paths<'a> {
+    pub inputs: [Option<&'a str>; 2],
+    pub output: Option<&'a str>,
+}
+
+impl<'a> Command<'a> {
+    /// Its paths.
+    pub(crate) fn paths(self) -> Paths<'a> {
+        let (inputs, output) = match self {
+            Command::Assemble { input, target } | Command::Upgrade { input, target } => {
+                ([Some(input), None], Some(target))
+            }
+            Command::Verify {
+                page,
+                input,
+                counter,
+                is_quiet: _,
+            } => ([Some(page), Some(input)], counter),
+            Command::Lint {
+                page,
+                input,
+                output: _,
+            } => ([Some(page), Some(input)], None),
+            Command::Once { .. } => ([None, None], None),
+            Command::Run(request) => ([Some(request.path), None], request.trace),
+            Command::Check(request) => ([Some(request.page), Some(request.input)], request.copy),
+            Command::Draw(request) => (
+                [Some(request.page), Some(request.input)],
+                Some(request.target),
+            ),
+            Command::Disassemble { input } => ([Some(input), None], None),
+        };
+        Paths { inputs, output }
+    }
+}
+
+/// Does a command, as its own function says: [`run_program`] of the input, [`run_watched`] or one of `seq_commands`. What is wrong with a file is said in
+/// words on the console's errors, and so is a fault of a file or a stream, or that there is no memory; its progress is told how far a check or a run has
+/// come. A run starts threads by the handle and takes the time by the clock.
+pub fn command_on<
+    T: Threads + Wait + Sync,
+    C: Clock,
+    F: Files,
+    R: Read,
+    W: Write,
+    E: Write,
+    P: CheckProgress + RunProgress,
+>(
+    rt: &T,
+    clock: &C,
+    alloc: Global,
+    files: &mut F,
+    input: &mut R,
+    console: &mut Console<W, E, P>,
+    command: Command<'_>,
+) -> Exit
+    ensures done { result ≡ Exit.Done → (printed : List ℕ)
+        × IsDone command.entry (R.remaining input.old) (F.store files.old) (F.store files.new) printed
+        × Appends (W.contents console.old.output) (W.contents console.new.output) printed }
+    ensures refused { (refusal : Refusal) → result ≡ Exit.Refused refusal → (printed : List ℕ)
+        × MayRefuse command.entry (R.remaining input.old) (F.store files.old) (F.store files.new) refusal printed
+        × Appends (W.contents console.old.output) (W.contents console.new.output) printed }
+    ensures files { MayLeave command.entry (F.store files.old) (F.store files.new) }
+{
+    match command {
+        Command::Assemble { input, target } => assemble_file(alloc, files, console, input, target),
+        Command::Verify {
+            page,
+            input,
+            counter,
+            is_quiet,
+        } => verify_file(alloc, files, console, page, input, counter, is_quiet),
+        Command::Lint {
+            page,
+            input,
+            output,
+        } => lint_file(alloc, files, console, page, input, output),
+        Command::Once { base } => run_program(&alloc, input, console, base),
+        Command::Run(request) => run_watched(rt, clock, alloc, files, console, request),
+        Command::Check(request) => check_trace(alloc, files, console, request),
+        Command::Draw(request) => draw_trace(alloc, files, console, request),
+        Command::Disassemble { input } => disassemble_file(alloc, files, console, input),
+        Command::Upgrade { input, target } => upgrade_file(alloc, files, console, input, target),
+    }
+}

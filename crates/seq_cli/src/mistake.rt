@@ -1,0 +1,90 @@
+//! A command line that asks for nothing that can be done.
+
+use crate::command::{Command, Paths};
+use clap::Error;
+use shown_text::Shown;
+use std::fmt;
+
+/// What is wrong with the paths of a command.
+#[derive(Clone, Copy, Debug, PartialEq, Eq)]
+pub enum PathMistake<'a> {
+    /// What is written would go where `ok` or the trace is printed.
+    OutputToStream,
+    /// Two files are to be read from standard input.
+    InputTwice,
+    /// What is read would be written over.
+    WrittenOver(&'a str),
+}
+
+impl fmt::Display for PathMistake<'_> {
+    fn fmt<W: fmt::Write>(&self, f: &mut fmt::Formatter<W>) -> fmt::Result {
+        match self {
+            PathMistake::OutputToStream => f.write_str(
+                "a file to write can't be `-`: what the command prints would be mixed with it",
+            ),
+            PathMistake::InputTwice => {
+                f.write_str("`-` stands for standard input, which only one file can be read from")
+            }
+            PathMistake::WrittenOver(path) => write!(
+                f,
+                "{} would be written over: it is read by this command",
+                Shown::path(path)
+            ),
+        }
+    }
+}
+
+impl<'a> PathMistake<'a> {
+    /// What is wrong with the paths of this command, if something is. `upgrade` may write over what it has read.
+    pub(crate) fn find(command: Command<'a>) -> Option<PathMistake<'a>> {
+        let Paths { inputs, output } = command.paths();
+        if inputs == [Some("-"), Some("-")] {
+            return Some(PathMistake::InputTwice);
+        }
+        let output = output?;
+        if output == "-" {
+            return Some(PathMistake::OutputToStream);
+        }
+        if inputs.contains(&Some(output)) && !matches!(command, Command::Upgrade { .. }) {
+            return Some(PathMistake::WrittenOver(output));
+        }
+        None
+    }
+}
+
+/// Why the words of a command line give no command.
+#[derive(Drop)]
+pub enum Mistake<'a> {
+    /// The parser has a text for the user: of a mistake, or help that was asked for.
+    Words(Error),
+    /// No command is asked for.
+    NoCommand,
+    /// The index of `--base` isn't a number.
+    Base(&'a str),
+    /// The paths don't go together.
+    Paths(PathMistake<'a>),
+}
+
+impl From<Error> for Mistake<'_> {
+    fn from(error: Error) -> Self {
+        Mistake::Words(error)
+    }
+}
+
+impl fmt::Display for Mistake<'_> {
+    fn fmt<W: fmt::Write>(&self, f: &mut fmt::Formatter<W>) -> fmt::Result {
+        match self {
+            Mistake::Words(error) => write!(f, "{error}"),
+            Mistake::NoCommand => writeln!(
+                f,
+                "error: a command is wanted; `onfiseq help` names them"
+            ),
+            Mistake::Base(word) => writeln!(
+                f,
+                "error: --base takes a row, 0 to 31, as a decimal number or as 0x and hexadecimal digits, and not `{}`",
+                Shown::line(word)
+            ),
+            Mistake::Paths(mistake) => writeln!(f, "error: {mistake}"),
+        }
+    }
+}

@@ -1,0 +1,153 @@
+-- What a check tells of a trace: its first fault, whether its text can be written, and whether it is legal.
+use Rattle.std.proofs.Common.{◌≡◌, ◌≤◌, ℕ, true, false, Bool, List, [], ◌∷◌, ◌++◌, Option, Some, None, refl, sym, ap, subst, ◌∙◌, arith, take, reverse, cond, append_assoc, suc, zero, ◌<◌, length, not, ◌&&◌}
+use Rattle.std.specs.List.{All}
+use Rattle.nand_geometry.specs.declared.parts.Parts.{Parts}
+use Rattle.onfi_cycle.specs.declared.item.Item.{Item}
+use Rattle.onfi_cycle.specs.declared.forbidden.Forbidden.{Forbidden}
+use Rattle.onfi_cycle.specs.Permitted.{is_legal, IsFirstBroken}
+use Rattle.trace_faults.specs.declared.broken_rule.BrokenRule.{BrokenRule}
+use Rattle.trace_faults.specs.declared.readies.Readies.{Readies}
+use Rattle.trace_faults.specs.declared.readies.Readies.TheVariants.{Written, Shown}
+use Rattle.trace_faults.specs.Recovery.{gone_on}
+use Rattle.trace_faults.specs.ShownReadies.{only_one, lun_drives, driving_lun, ready_before, array_ready_before, ready_at, array_ready_at, ready_of, array_ready_of, with_ready, with_readies, listed, is_status, has_ready, has_array_ready, has_fail, is_output}
+use Rattle.trace_faults.specs.Faults.{fresh, faults_of, completed_from, completed}
+use Rattle.trace_faults.proofs.Judged.{faultless_are_legal, first_broken_is_first}
+use Rattle.trace_faults.proofs.Shown.{completed_are_judged}
+use Rattle.trace_text.specs.Line.{IsPrintable}
+use Rattle.trace_text.specs.Checking.{TellsFirst}
+use Rattle.trace_text.specs.declared.checking.CheckRefusal.{CheckRefusal}
+use Rattle.trace_text.specs.declared.checking.CheckRefusal.TheVariants.{At}
+use Rattle.onfi_cycle.specs.declared.item.Item.TheVariants.{Cyc, Rdy, Ard}
+use Rattle.onfi_cycle.specs.declared.lun_state.LunState.{LunState}
+use Rattle.onfi_cycle.specs.State.{BusView}
+use Rattle.onfi_cycle.specs.Look.{looked}
+use Rattle.seq_files.specs.Store.{Store}
+use Rattle.seq_commands.specs.declared.check_request.CheckRequest.{CheckRequest}
+use Rattle.seq_commands.specs.Commands.{count_of}
+use Rattle.seq_commands.specs.Checks.{told_of, judged_trace, IsJudged, IsLegalTrace}
+
+-- nothing is told of a legal trace
+pub none_told : (g : Parts) (n : ℕ) (items : List Item) → is_legal g n (reverse items) ≡ true → [] ≡ take 1 (faults_of Written g n items)
+none_told g n items legal = sym (ap (λ (fs : List BrokenRule). take 1 fs) ((faultless_are_legal g n items).1 legal))
+
+-- and of another its first fault
+pub first_told : (g : Parts) (n : ℕ) (items : List Item) (place : ℕ) (rule : Forbidden) → IsFirstBroken g n items place rule → record { item = place; rule = rule } ∷ [] ≡ take 1 (faults_of Written g n items)
+first_told g n items place rule first =
+    let found = first_broken_is_first g n items place rule first in
+    sym (ap (λ (fs : List BrokenRule). take 1 fs) found.1)
+
+pub told_at : (g : Parts) (m n : ℕ) (items : List Item) (refusal : CheckRefusal) (place : ℕ) (rule : Forbidden) → m ≡ n → refusal ≡ At place rule → TellsFirst g m items refusal → IsFirstBroken g n items place rule
+told_at g m n items refusal place rule same is tells = subst (λ k. IsFirstBroken g k items place rule) same (subst (TellsFirst g m items) is tells)
+
+-- ---- the text of a trace with the readies that it shows can be written, where that of the trace can
+
+none_printable : All IsPrintable []
+none_printable k d h = absurd (omega (arith, h))
+
+more_printable : (i : Item) (items : List Item) → IsPrintable i → All IsPrintable items → All IsPrintable (i ∷ items)
+more_printable i items here rest zero d h = here
+more_printable i items here rest (suc k) d h = rest k d (omega (arith, h))
+
+some_printable : (o : Option Item) (items : List Item) → ((i : Item) → o ≡ Some i → IsPrintable i) → All IsPrintable items → All IsPrintable (listed o ++ items)
+some_printable None items here rest = rest
+some_printable (Some i) items here rest = more_printable i items (here i refl) rest
+
+only_four : (a b c d : Bool) (n : ℕ) → only_one a b c d ≡ Some n → n ≤ 3
+only_four true false false false n h = let same : n ≡ 0 = cc in omega (arith, same)
+only_four false true false false n h = let same : n ≡ 1 = cc in omega (arith, same)
+only_four false false true false n h = let same : n ≡ 2 = cc in omega (arith, same)
+only_four false false false true n h = let same : n ≡ 3 = cc in omega (arith, same)
+only_four true true c d n h = cc
+only_four true false true d n h = cc
+only_four true false false true n h = cc
+only_four false true true d n h = cc
+only_four false true false true n h = cc
+only_four false false true true n h = cc
+only_four false false false false n h = cc
+
+only_then : (b : Bool) (o : Option Item) (r : Item) → cond b o None ≡ Some r → o ≡ Some r
+only_then true o r h = h
+only_then false o r h = cc
+
+only_some : (b : Bool) (x r : Item) → cond b (Some x) None ≡ Some r → x ≡ r
+only_some true x r h = cc
+only_some false x r h = cc
+
+ready_printable : (s : BusView) (i r : Item) → IsPrintable i → ready_before s i ≡ Some r → IsPrintable r
+ready_printable s (Cyc c) r p h = at (driving_lun s c.ce) refl (only_then (is_output c.kind) (ready_at s c.ce (driving_lun s c.ce) c.byte) r h)
+  where
+    of : (number : ℕ) (o : Option LunState) → number ≤ 3 → ready_of o c.ce number c.byte ≡ Some r → IsPrintable r
+    of number None few g = cc
+    of number (Some lun) few g =
+        subst IsPrintable (only_some (is_status lun.latch && (lun.busy && has_ready c.byte)) (Rdy c.ce number (has_fail c.byte)) r g) (p, few)
+
+    at : (o : Option ℕ) → driving_lun s c.ce ≡ o → ready_at s c.ce o c.byte ≡ Some r → IsPrintable r
+    at None e g = cc
+    at (Some number) e g = of number (looked s (record { ce = c.ce; lun = number }))
+        (only_four (lun_drives s c.ce 0) (lun_drives s c.ce 1) (lun_drives s c.ce 2) (lun_drives s c.ce 3) number e) g
+ready_printable s (Rdy ce lun fail) r p h = cc
+ready_printable s (Ard ce lun) r p h = cc
+
+array_ready_printable : (s : BusView) (i r : Item) → IsPrintable i → array_ready_before s i ≡ Some r → IsPrintable r
+array_ready_printable s (Cyc c) r p h = at (driving_lun s c.ce) refl (only_then (is_output c.kind) (array_ready_at s c.ce (driving_lun s c.ce) c.byte) r h)
+  where
+    of : (number : ℕ) (o : Option LunState) → number ≤ 3 → array_ready_of o c.ce number c.byte ≡ Some r → IsPrintable r
+    of number None few g = cc
+    of number (Some lun) few g =
+        subst IsPrintable (only_some (is_status lun.latch && (not lun.busy && (lun.array_busy && (has_ready c.byte && has_array_ready c.byte)))) (Ard c.ce number) r g) (p, few)
+
+    at : (o : Option ℕ) → driving_lun s c.ce ≡ o → array_ready_at s c.ce o c.byte ≡ Some r → IsPrintable r
+    at None e g = cc
+    at (Some number) e g = of number (looked s (record { ce = c.ce; lun = number }))
+        (only_four (lun_drives s c.ce 0) (lun_drives s c.ce 1) (lun_drives s c.ce 2) (lun_drives s c.ce 3) number e) g
+array_ready_printable s (Rdy ce lun fail) r p h = cc
+array_ready_printable s (Ard ce lun) r p h = cc
+
+completed_from_printable : (items : List Item) (s : BusView) → All IsPrintable items → All IsPrintable (completed_from s items)
+completed_from_printable [] s all = none_printable
+completed_from_printable (i ∷ items) s all =
+    let here : IsPrintable i = all 0 i (omega arith) in
+    let rest : All IsPrintable items = λ k d h. all (suc k) d (omega (arith, h)) in
+    let r = ready_before s i in
+    let a = array_ready_before (with_ready s i) i in
+    let later = completed_from (gone_on i (with_readies s i)) items in
+    subst (All IsPrintable) (sym (append_assoc (listed r) (listed a) (i ∷ later)))
+    (some_printable r (listed a ++ (i ∷ later)) (λ x is. ready_printable s i x here is)
+    (some_printable a (i ∷ later) (λ x is. array_ready_printable (with_ready s i) i x here is)
+    (more_printable i later here (completed_from_printable items (gone_on i (with_readies s i)) rest))))
+
+pub completed_printable : (g : Parts) (n : ℕ) (items written : List Item) → All IsPrintable items → written ≡ completed g n items → All IsPrintable written
+completed_printable g n items written all is = subst (All IsPrintable) (sym is) (completed_from_printable items (fresh g n) all)
+
+-- ---- a trace of which nothing is told is legal
+
+none_of_first : (faults : List BrokenRule) → take 1 faults ≡ [] → faults ≡ []
+none_of_first [] h = refl
+none_of_first (f ∷ faults) h = cc
+
+none_of_all : (all : Bool) (faults : List BrokenRule) → told_of all faults ≡ [] → faults ≡ []
+none_of_all true faults h = h
+none_of_all false faults h = none_of_first faults h
+
+faultless : (readies : Readies) (g : Parts) (n : ℕ) (items : List Item) → faults_of readies g n items ≡ [] → is_legal g n (reverse (judged_trace readies g n items)) ≡ true
+faultless Written g n items none = (faultless_are_legal g n items).0 none
+faultless Shown g n items none = (completed_are_judged g n items).0 none
+
+empty : {X : Type 0} (xs : List X) → length xs < 1 → xs ≡ []
+empty [] h = refl
+empty (x ∷ xs) h = absurd (omega (arith, h))
+
+pub legal_trace : (files later : Option Store) (request : CheckRequest) (told : List BrokenRule) → length told < 1 → IsJudged files later request told → IsLegalTrace files later request
+legal_trace files later request told none j =
+    let n = count_of request.targets in
+    let nothing = none_of_all request.tells_all (faults_of request.readies j.g n j.judged.items) (sym j.judged.told_is ∙ empty told none) in
+    record {
+      g = j.g;
+      has_page = j.has_page;
+      text = j.text;
+      is_there = j.is_there;
+      items = j.judged.items;
+      is_text = j.judged.is_text;
+      legal = faultless request.readies j.g n j.judged.items nothing;
+      copied = j.judged.copied;
+    }

@@ -1,0 +1,110 @@
+-- What a check comes to: which trace is judged, which of its faults are told, and what is written.
+use Rattle.std.specs.Prelude.{◌≡◌, ◌⊎◌, ◌++◌, [], ◌∷◌, ℕ, true, Bool, List, Option, Some, None, Err, reverse, take, if◌then◌else◌}
+use Rattle.std.specs.Option.{option_map}
+use Rattle.seq_files.specs.Store.{Store, Holds, with_file}
+use Rattle.nand_geometry.specs.declared.parts.Parts.{Parts}
+use Rattle.onfi_cycle.specs.declared.item.Item.{Item}
+use Rattle.onfi_cycle.specs.Permitted.{is_legal}
+use Rattle.trace_text.specs.declared.refusal.TraceRefusal.TheVariants.{Fault as TraceFaultAt}
+use Rattle.trace_text.specs.Line.{text}
+use Rattle.trace_text.specs.Trace.{IsTextOf}
+use Rattle.trace_text.specs.Reading.{reading as trace_reading}
+use Rattle.trace_faults.specs.declared.broken_rule.BrokenRule.{BrokenRule}
+use Rattle.trace_faults.specs.declared.readies.Readies.{Readies}
+use Rattle.trace_faults.specs.declared.readies.Readies.TheVariants.{Written, Shown}
+use Rattle.trace_faults.specs.Faults.{faults_of, completed}
+use Rattle.seq_inputs.specs.Inputs.{HasPage, PageIsRefused}
+use Rattle.seq_inputs.specs.Refusals.{line_of, refusal_of}
+use Rattle.seq_inputs.specs.Stops.{Tells}
+use Rattle.seq_inputs.specs.declared.fault.Fault.{Fault}
+use Rattle.seq_inputs.specs.declared.fault.Fault.TheVariants.{Trace, Item as ItemAt}
+use Rattle.seq_inputs.specs.declared.refusal.Refusal.{Refusal}
+use Rattle.seq_commands.specs.declared.check_request.CheckRequest.{CheckRequest}
+use Rattle.seq_commands.specs.Commands.{count_of}
+
+-- the trace that is judged: as it is written, or with the readies that its status outputs show
+abbrev pub judged_trace : Readies → Parts → ℕ → List Item → List Item
+judged_trace Written g targets items = items
+judged_trace Shown g targets items = completed g targets items
+
+-- all faults, or the first
+abbrev pub told_of : Bool → List BrokenRule → List BrokenRule
+told_of all faults = if all then faults else take 1 faults
+
+-- the faults of a trace that are told
+abbrev pub told_faults : CheckRequest → Parts → List Item → List BrokenRule
+told_faults request g items = told_of request.tells_all (faults_of request.readies g (count_of request.targets) items)
+
+-- the lines of faults
+abbrev pub fault_lines : List BrokenRule → List ℕ
+fault_lines [] = []
+fault_lines (fault ∷ faults) = line_of (refusal_of (ItemAt fault.rule fault.item)) ++ fault_lines faults
+
+-- the text of a trace is written where a path is given for it
+abbrev pub with_copy : Option (List ℕ) → List Item → Option Store → Option Store
+with_copy None items files = files
+with_copy (Some path) items files = with_file files path (text items)
+
+-- the trace that is judged is written where a path is given for it, and no other file changes
+abbrev pub IsCopied : (files later : Option Store) → CheckRequest → Parts → List Item → Type 0
+IsCopied files later request g items =
+    later ≡ with_copy (option_map (λ path. path.now) request.copy) (judged_trace request.readies g (count_of request.targets) items) files
+
+-- of the trace of a text these faults are told, and it is written where a path is given for it
+pub record IsJudgedText (files later : Option Store) (request : CheckRequest) (g : Parts) (bytes : List ℕ) (told : List BrokenRule) : Type 0 where
+  pub items : List Item
+  pub is_text : IsTextOf bytes items
+  pub told_is : told ≡ told_faults request g items
+  pub copied : IsCopied files later request g items
+
+-- of the trace at the path these faults are told
+pub record IsJudged (files later : Option Store) (request : CheckRequest) (told : List BrokenRule) : Type 0 where
+  pub g : Parts
+  pub has_page : HasPage files request.page.now g
+  pub text : List ℕ
+  pub is_there : Holds files request.input.now text
+  pub judged : IsJudgedText files later request g text told
+
+-- the trace at the path is legal on a channel of so many targets
+pub record IsLegalTrace (files later : Option Store) (request : CheckRequest) : Type 0 where
+  pub g : Parts
+  pub has_page : HasPage files request.page.now g
+  pub text : List ℕ
+  pub is_there : Holds files request.input.now text
+  pub items : List Item
+  pub is_text : IsTextOf text items
+  pub legal : is_legal g (count_of request.targets) (reverse (judged_trace request.readies g (count_of request.targets) items)) ≡ true
+  pub copied : IsCopied files later request g items
+
+-- the first fault of the text of a trace
+abbrev pub RefusesTrace : List ℕ → Fault → Type 0
+RefusesTrace bytes (Trace fault line) = trace_reading bytes ≡ Err (TraceFaultAt fault line)
+RefusesTrace bytes _ = ⊥
+
+pub record TraceIsRefused (files : Option Store) (page input : List ℕ) (fault : Fault) : Type 0 where
+  pub g : Parts
+  pub has_page : HasPage files page g
+  pub text : List ℕ
+  pub is_there : Holds files input text
+  pub refuses : RefusesTrace text fault
+
+-- the page is refused, or the text of the trace
+abbrev pub ReadingRefuses : Option Store → (page input : List ℕ) → Fault → Type 0
+ReadingRefuses files page input fault = PageIsRefused files page fault ⊎ TraceIsRefused files page input fault
+
+-- faults are told, the first of which is what is refused
+pub record TraceIsFaulty (files later : Option Store) (request : CheckRequest) (refusal : Refusal) (printed : List ℕ) : Type 0 where
+  pub first : BrokenRule
+  pub rest : List BrokenRule
+  pub judged : IsJudged files later request (first ∷ rest)
+  pub is_first : refusal ≡ refusal_of (ItemAt first.rule first.item)
+  pub lines : printed ≡ fault_lines (first ∷ rest)
+
+-- what a check refuses, and what it prints and leaves then
+abbrev pub CheckRefuses : (files later : Option Store) → CheckRequest → Refusal → (printed : List ℕ) → Type 0
+CheckRefuses files later request refusal printed =
+    (Tells (ReadingRefuses files request.page.now request.input.now) refusal × (later ≡ files) × (printed ≡ line_of refusal)) ⊎ TraceIsFaulty files later request refusal printed
+
+-- files are as they were, or the trace that is judged is written
+abbrev pub CheckLeaves : (files later : Option Store) → CheckRequest → Type 0
+CheckLeaves files later request = (later ≡ files) ⊎ ((told : List BrokenRule) × IsJudged files later request told)

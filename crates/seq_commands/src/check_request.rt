@@ -1,0 +1,19 @@
+//! What a check is asked for.
+
+use crate::targets::Targets;
+use trace_faults::Readies;
+
+/// What a check is asked for. `-` as a path that is read is standard input.
+#[derive(Clone, Copy, Debug, PartialEq, Eq)]
+pub struct CheckRequest<'a> {
+    /// The parameter page of each die.
+    pub page: &'a str,
+    pub targets: Targets,
+    /// The text of the trace.
+    pub input: &'a str,
+    /// Whether all faults are told, or the first alone.
+    pub tells_all: bool,
+    pub readies: Readies,
+    /// Where the trace that is judged is written to.
+    pub copy: Option<&'a str>,
+}

@@ -1,0 +1,27 @@
+//! What a drawing is asked for.
+
+use crate::targets::Targets;
+
+/// As what a trace is drawn.
+#[derive(Clone, Copy, Debug, PartialEq, Eq)]
+pub enum DrawForm {
+    /// A value change dump, which waveform viewers open.
+    Waveform,
+    /// An SVG.
+    Picture,
+    /// A page for a browser: the same picture, and the text of the trace beside it.
+    Page,
+}
+
+/// What a drawing is asked for. `-` as a path that is read is standard input.
+#[derive(Clone, Copy, Debug, PartialEq, Eq)]
+pub struct DrawRequest<'a> {
+    pub form: DrawForm,
+    /// The parameter page of each die.
+    pub page: &'a str,
+    pub targets: Targets,
+    /// The text of the trace.
+    pub input: &'a str,
+    /// Where the drawing is written to.
+    pub target: &'a str,
+}

@@ -1,0 +1,110 @@
+//! The lines of the notes to a microprogram.
+
+use micro_asm::disassemble;
+use micro_lint::{Header, Note, least_header, lint};
+use micro_program::Verified;
+use seq_inputs::{say_words, words_of_note};
+use std::alloc::{AllocError, Allocator};
+use std::io::Write;
+
+// How many notes there are.
+fn push_count<A: Allocator>(lines: &mut String<A>, count: usize) -> Result<(), AllocError> {
+    match count {
+        0 => lines.push_str("no notes\n"),
+        1 => lines.push_str("1 note\n"),
+        _ => writeln!(lines, "{count} notes"),
+    }
+}
+
+// The line of a note to a microprogram of this path, which was read from these bytes and has this text as assembly.
+fn push_note<A: Allocator + Clone>(
+    lines: &mut String<A>,
+    alloc: A,
+    path: &str,
+    bytes: &[u8],
+    assembly: &str,
+    note: Note,
+) -> Result<(), AllocError> {
+    let words = words_of_note(alloc, path, bytes, assembly, note.word(), note, note.code());
+    match words {
+        None => Err(AllocError),
+        Some(words) => {
+            lines.push_str(words.as_str())?;
+            lines.push_str("\n")
+        }
+    }
+}
+
+/// The notes to a microprogram that was read from these bytes, a line each.
+fn push_notes<A: Allocator + Clone>(
+    lines: &mut String<A>,
+    alloc: A,
+    path: &str,
+    bytes: &[u8],
+    verified: &Verified<A>,
+) -> Result<usize, AllocError> {
+    let notes = lint(alloc.clone()?, verified.text(), verified.geometry())?;
+    let assembly = disassemble(alloc.clone()?, verified.text())?;
+    for note in notes.as_slice() {
+        push_note(lines, alloc.clone()?, path, bytes, assembly.as_str(), *note)?;
+    }
+    Ok(notes.len())
+}
+
+/// The lines of the notes to a microprogram that was read from these bytes, and how many they are.
+pub(crate) fn lines_of_notes<A: Allocator + Clone>(
+    alloc: A,
+    path: &str,
+    bytes: &[u8],
+    verified: &Verified<A>,
+) -> Result<String<A>, AllocError> {
+    let mut lines = String::new(alloc.clone()?);
+    let count = push_notes(&mut lines, alloc, path, bytes, verified)?;
+    push_count(&mut lines, count)?;
+    Ok(lines)
+}
+
+/// The header lines with the least numbers that are enough; without a bound those of the text as it is.
+pub(crate) fn lines_of_header<A: Allocator + Clone>(
+    alloc: A,
+    verified: &Verified<A>,
+) -> Result<String<A>, AllocError> {
+    let text = verified.text();
+    let least = least_header(alloc.clone()?, text, verified.geometry())?;
+    let Header {
+        rows,
+        buffer,
+        budget,
+    } = least.unwrap_or(Header::of(text));
+    let mut lines = String::new(alloc);
+    writeln!(&mut lines, "rows {rows}")?;
+    writeln!(&mut lines, "buffer {buffer}")?;
+    writeln!(&mut lines, "budget {budget}")?;
+    Ok(lines)
+}
+
+// The notes to a microprogram that was read from these bytes, a line each, and nothing else.
+fn notes_of<A: Allocator + Clone>(
+    alloc: A,
+    path: &str,
+    bytes: &[u8],
+    verified: &Verified<A>,
+) -> Result<String<A>, AllocError> {
+    let mut lines = String::new(alloc.clone()?);
+    push_notes(&mut lines, alloc, path, bytes, verified)?;
+    Ok(lines)
+}
+
+/// Says the notes to a microprogram in words.
+pub(crate) fn say_notes<A: Allocator + Clone, E: Write>(
+    alloc: A,
+    errors: &mut E,
+    path: &str,
+    bytes: &[u8],
+    verified: &Verified<A>,
+) {
+    match notes_of(alloc, path, bytes, verified) {
+        Ok(lines) => say_words(errors, lines.as_str()),
+        Err(_) => say_words(errors, "no notes are told: out of memory\n"),
+    }
+}

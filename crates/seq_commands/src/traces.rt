@@ -1,0 +1,49 @@
+//! Reading and writing the texts of traces.
+ghost use Rattle.std.specs.Prelude.{◌≡◌, IfOk, IfErr, OnOk, OnErr};
+ghost use Rattle.std.specs.List.{All};
+ghost use Rattle.seq_files.specs.Store.{with_file};
+ghost use Rattle.trace_text.specs.Line.{text, IsPrintable};
+ghost use Rattle.trace_text.specs.Trace.{IsTextOf};
+ghost use Rattle.seq_inputs.specs.Stops.{RefusesNothing, Says};
+ghost use Rattle.seq_commands.specs.Checks.{RefusesTrace};
+
+use onfi_cycle::Item;
+use seq_files::Files;
+use seq_inputs::{Fault, Stop, words_of_trace, write_file};
+use std::alloc::Allocator;
+use trace_text::{TraceRefusal, parse, print};
+
+/// The items of the text of this path.
+pub(crate) fn items_of<'p, A: Allocator + Clone>(
+    alloc: A,
+    path: &'p str,
+    text: &str,
+) -> Result<Vec<Item, A>, Stop<'p, A>>
+    ensures ok { IfOk result (λ items. IsTextOf text.now items.items) }
+    ensures err { IfErr result (Says (RefusesTrace text.now)) }
+{
+    match parse(alloc.clone()?, text) {
+        Ok(items) => Ok(items),
+        Err(TraceRefusal::Fault { fault, line }) => {
+            let words = words_of_trace(alloc, path, text, fault, line);
+            Err(Stop::refused(Fault::Trace { fault, line }, words))
+        }
+        Err(TraceRefusal::OutOfMemory) => Err(Stop::OutOfMemory),
+    }
+}
+
+/// Writes items as the text of a trace.
+pub(crate) fn put_items<'p, A: Allocator, F: Files>(
+    alloc: A,
+    files: &mut F,
+    path: &'p str,
+    items: &[Item],
+) -> Result<(), Stop<'p, A>>
+    requires { All IsPrintable items.now }
+    ensures ok { OnOk result (F.store files.new ≡ with_file (F.store files.old) path.now (text items.now)) }
+    ensures nothing { IfErr result (λ e. RefusesNothing e) }
+    ensures stays { OnErr result (F.store files.new ≡ F.store files.old) }
+{
+    let text = print(alloc, items)?;
+    write_file(files, path, text.as_str().as_bytes())
+}

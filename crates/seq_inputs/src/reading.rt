@@ -1,0 +1,247 @@
+//! What a command reads: files, and what they are.
+ghost use Rattle.std.specs.Prelude.{◌≡◌, IfOk, IfErr, OnOk, OnErr, Ok, None};
+ghost use Rattle.nand_geometry.specs.Reading.{read_of};
+ghost use Rattle.micro_word.specs.Text.{IsFileOf};
+ghost use Rattle.micro_asm.specs.Reading.{Spells};
+ghost use Rattle.micro_program.specs.Safe.{IsSafe};
+ghost use Rattle.micro_walk.specs.Faults.{fault_of};
+ghost use Rattle.seq_files.specs.Store.{Holds, with_file};
+ghost use Rattle.seq_inputs.specs.Inputs.{HasPage, PageIsRefused, RefusesPage, HasFile, FileIsRefused, RefusesFile, is_blank, is_source, RefusesSource, IsProgram, RefusesProgram, HasText, RefusesReason, FileOrTextIsRefused};
+ghost use Rattle.seq_inputs.specs.Stops.{Says, RefusesNothing};
+
+use crate::explaining::{words_of, words_of_file, words_of_reason, words_of_source};
+use crate::fault::Fault;
+use crate::stop::Stop;
+use micro_asm::{AsmRefusal, assemble};
+use micro_claims::Fault as TextFault;
+use micro_program::Verified;
+use micro_walk::examine;
+use micro_word::{Text, WordRefusal, read};
+use nand_geometry::Geometry;
+use seq_files::{FileFault, Files};
+use std::alloc::Allocator;
+
+/// The bytes of a file.
+pub fn read_file<'p, A: Allocator, F: Files>(
+    alloc: A,
+    files: &mut F,
+    path: &'p str,
+) -> Result<Vec<u8, A>, Stop<'p, A>>
+    ensures holds { IfOk result (λ bytes. Holds (F.store files.old) path.now bytes.items) }
+    ensures nothing { IfErr result (λ e. RefusesNothing e) }
+    ensures stays { F.store files.new ≡ F.store files.old }
+{
+    match files.read(alloc, path) {
+        Ok(bytes) => Ok(bytes),
+        Err(error) => Err(Stop::of_file(path, error)),
+    }
+}
+
+/// Makes a file of these bytes.
+pub fn write_file<'p, A: Allocator, F: Files>(
+    files: &mut F,
+    path: &'p str,
+    bytes: &[u8],
+) -> Result<(), Stop<'p, A>>
+    ensures written { OnOk result (F.store files.new ≡ with_file (F.store files.old) path.now bytes.now) }
+    ensures nothing { IfErr result (λ e. RefusesNothing e) }
+    ensures stays { OnErr result (F.store files.new ≡ F.store files.old) }
+{
+    match files.write(path, bytes) {
+        Ok(()) => Ok(()),
+        Err(error) => Err(Stop::of_file(path, error)),
+    }
+}
+
+// What is wrong with a file that is to be a text.
+fn fault_of_text(bytes: &[u8], at: usize) -> FileFault {
+    if bytes.starts_with(b"NMP") {
+        FileFault::WordFile
+    } else {
+        FileFault::NotText { at }
+    }
+}
+
+/// The text of the file of this path; what isn't UTF-8 is a fault of the file.
+pub fn text_of<'p, 'b, A: Allocator>(path: &'p str, bytes: &'b [u8]) -> Result<&'b str, Stop<'p, A>>
+    ensures ok { IfOk result (λ text. text.now ≡ bytes.now) }
+    ensures err { IfErr result (λ e. RefusesNothing e) }
+{
+    match str::from_utf8(bytes) {
+        Ok(text) => Ok(text),
+        Err(error) => Err(Stop::FileFault {
+            path,
+            fault: fault_of_text(bytes, error.valid_up_to()),
+            line: None,
+        }),
+    }
+}
+
+// The geometry that a parameter page declares.
+fn geometry_in<'p, A: Allocator>(
+    alloc: A,
+    path: &'p str,
+    bytes: &[u8],
+) -> Result<Geometry, Stop<'p, A>>
+    ensures ok { IfOk result (λ g. read_of bytes.now ≡ Ok g) }
+    ensures err { IfErr result (Says (RefusesPage bytes.now)) }
+{
+    match Geometry::read(bytes) {
+        Ok(geometry) => Ok(geometry),
+        Err(fault) => {
+            let fault = Fault::Page { fault };
+            Err(Stop::refused(fault, words_of(alloc, path, fault)))
+        }
+    }
+}
+
+/// The geometry of the page at a path.
+pub fn geometry_at<'p, A: Allocator + Clone, F: Files>(
+    alloc: A,
+    files: &mut F,
+    path: &'p str,
+) -> Result<Geometry, Stop<'p, A>>
+    ensures ok { IfOk result (λ g. HasPage (F.store files.old) path.now g) }
+    ensures err { IfErr result (Says (PageIsRefused (F.store files.old) path.now)) }
+    ensures stays { F.store files.new ≡ F.store files.old }
+{
+    let bytes = read_file(alloc.clone()?, files, path)?;
+    geometry_in(alloc, path, bytes.as_slice())
+}
+
+/// The microprogram of a word file, of either format, that has this path.
+pub fn read_words<'p, A: Allocator + Clone>(
+    alloc: A,
+    path: &'p str,
+    bytes: &[u8],
+) -> Result<Text<A>, Stop<'p, A>>
+    ensures ok { IfOk result (IsFileOf bytes.now) }
+    ensures err { IfErr result (Says (RefusesFile bytes.now)) }
+{
+    match read(alloc.clone()?, bytes) {
+        Ok(text) => Ok(text),
+        Err(WordRefusal::Fault { fault, word }) => {
+            let words = words_of_file(alloc, path, bytes, fault, word);
+            Err(Stop::refused(Fault::File { fault, word }, words))
+        }
+        Err(WordRefusal::OutOfMemory) => Err(Stop::OutOfMemory),
+    }
+}
+
+/// The microprogram of the word file at a path.
+pub fn words_at<'p, A: Allocator + Clone, F: Files>(
+    alloc: A,
+    files: &mut F,
+    path: &'p str,
+) -> Result<Text<A>, Stop<'p, A>>
+    ensures ok { IfOk result (λ x. HasFile (F.store files.old) path.now x) }
+    ensures err { IfErr result (Says (FileIsRefused (F.store files.old) path.now)) }
+    ensures stays { F.store files.new ≡ F.store files.old }
+{
+    let bytes = read_file(alloc.clone()?, files, path)?;
+    read_words(alloc, path, bytes.as_slice())
+}
+
+/// The microprogram of an assembly text that has this path.
+pub fn read_source<'p, A: Allocator + Clone>(
+    alloc: A,
+    path: &'p str,
+    bytes: &[u8],
+) -> Result<Text<A>, Stop<'p, A>>
+    ensures ok { IfOk result (Spells bytes.now) }
+    ensures err { IfErr result (Says (RefusesSource bytes.now)) }
+{
+    let text = text_of(path, bytes)?;
+    match assemble(alloc.clone()?, text) {
+        Ok(program) => Ok(program),
+        Err(AsmRefusal::Fault { fault, line }) => {
+            let words = words_of_source(alloc, path, text, fault, line);
+            Err(Stop::refused(Fault::Source { fault, line }, words))
+        }
+        Err(AsmRefusal::OutOfMemory) => Err(Stop::OutOfMemory),
+    }
+}
+
+// A space, a tab, or the end of a line.
+fn is_blank(byte: u8) -> bool
+    ensures { result ≡ is_blank byte }
+{
+    byte == b' ' || (byte == b'\t' || (byte == b'\n' || byte == b'\r'))
+}
+
+/// Whether a file is taken for an assembly text, and for no word file: it begins with a comment or with the header line `rows`, blanks before
+/// it left out.
+#[tactic(auto, unfolding(crate::specs::Inputs::is_source))]
+pub fn is_source(bytes: &[u8]) -> bool
+    ensures { result ≡ is_source bytes.now }
+{
+    let mut rest = bytes;
+    'blanks: while let [first, after @ ..] = rest {
+        if !is_blank(*first) {
+            return *first == b';' || rest.starts_with(b"rows");
+        }
+        rest = after;
+    }
+    false
+}
+
+/// The microprogram of a file that has this path: an assembly text, or a word file of either format.
+pub fn read_program<'p, A: Allocator + Clone>(
+    alloc: A,
+    path: &'p str,
+    bytes: &[u8],
+) -> Result<Text<A>, Stop<'p, A>>
+    ensures ok { IfOk result (IsProgram bytes.now) }
+    ensures err { IfErr result (Says (RefusesProgram bytes.now)) }
+{
+    if is_source(bytes) {
+        read_source(alloc, path, bytes)
+    } else {
+        read_words(alloc, path, bytes)
+    }
+}
+
+// Verifies the microprogram of a file for a geometry.
+fn verify_program<'p, A: Allocator + Clone>(
+    alloc: A,
+    path: &'p str,
+    bytes: &[u8],
+    text: Text<A>,
+    geometry: Geometry,
+) -> Result<Verified<A>, Stop<'p, A>>
+    ensures same { IfOk result (λ v. (v.text ≡ text) × (v.geometry ≡ geometry)) }
+    ensures safe { OnOk result (IsSafe text geometry) }
+    ensures faultless { OnOk result (fault_of geometry text ≡ None) }
+    ensures err { IfErr result (Says (RefusesReason geometry text)) }
+{
+    match examine(&text, &geometry) {
+        Ok(walked) => Ok(Verified::of(text, geometry, walked)),
+        Err(TextFault { word, reason }) => {
+            let words = words_of_reason(alloc, path, bytes, &text, &geometry, word, reason);
+            Err(Stop::refused(Fault::Text { reason, word }, words))
+        }
+    }
+}
+
+/// The microprogram at a path, an assembly text or a word file, verified for a geometry.
+#[tactic(auto, using(crate::proofs::Verifieds::has_text, crate::proofs::Verifieds::file_said, crate::proofs::Verifieds::reason_said))]
+pub fn verified_at<'p, A: Allocator + Clone, F: Files>(
+    alloc: A,
+    files: &mut F,
+    path: &'p str,
+    geometry: Geometry,
+) -> Result<Verified<A>, Stop<'p, A>>
+    ensures ok { IfOk result (λ v. HasText (F.store files.old) geometry path.now v.text × (v.geometry ≡ geometry)) }
+    ensures err { IfErr result (Says (FileOrTextIsRefused (F.store files.old) geometry path.now)) }
+    ensures stays { F.store files.new ≡ F.store files.old }
+{
+    let bytes = read_file(alloc.clone()?, files, path)?;
+    let text = match read_program(alloc.clone()?, path, bytes.as_slice()) {
+        Ok(text) => text,
+        Err(stop) => return Err(stop),
+    };
+    match verify_program(alloc, path, bytes.as_slice(), text, geometry) {
+        Ok(verified) => Ok(verified),
+        Err(stop) => Err(stop),
+    }
+}

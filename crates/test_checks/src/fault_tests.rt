@@ -1,0 +1,248 @@
+use nand_geometry::{Geometry, Parts, SMALL_CHIP};
+use onfi_cycle::{Forbidden, Item};
+use std::alloc::Global;
+use std::process::Abort;
+use std::test::Fail;
+use trace_faults::{BrokenRule, Readies, complete, find_faults};
+use trace_text::parse;
+
+// Two LUNs of 8 blocks of 4 pages of 512 + 16 bytes, in two planes each.
+const TWO_LUNS: Parts = Parts {
+    luns: 2,
+    plane_bits: 1,
+    enhanced: true,
+    multi_plane: true,
+    ..SMALL_CHIP
+};
+
+// One such LUN that reads a cache.
+const WITH_CACHE: Parts = Parts {
+    cache: true,
+    ..SMALL_CHIP
+};
+
+// A trace on one target of this geometry, and its faults.
+#[derive(Clone, Copy)]
+struct Judged<'a> {
+    parts: Parts,
+    text: &'a str,
+    readies: Readies,
+    faults: &'a [BrokenRule],
+}
+
+// The items of a text.
+fn items_of(alloc: Global, text: &str) -> Result<Vec<Item>, Fail> {
+    match parse(alloc, text) {
+        Ok(items) => Ok(items),
+        Err(_) => Err(Fail::from("the text is no trace")),
+    }
+}
+
+fn expect_faults(rt: &(impl Abort + AllocGlobal), judged: Judged<'_>) -> Result<(), Fail> {
+    let items = items_of(rt.alloc(), judged.text)?;
+    let geometry = Geometry::of(judged.parts)?;
+    let faults = find_faults(rt.alloc(), &geometry, 1, items.as_slice(), judged.readies)?;
+    assert_eq!(rt; faults.as_slice(), judged.faults, "{}", judged.text);
+    Ok(())
+}
+
+// A trace with the readies that it shows is this one.
+fn expect_whole(
+    rt: &(impl Abort + AllocGlobal),
+    parts: Parts,
+    text: &str,
+    whole: &str,
+) -> Result<(), Fail> {
+    let items = items_of(rt.alloc(), text)?;
+    let geometry = Geometry::of(parts)?;
+    let found = complete(rt.alloc(), &geometry, 1, items.as_slice())?;
+    let expected = items_of(rt.alloc(), whole)?;
+    assert_eq!(rt; found.as_slice(), expected.as_slice(), "{text}");
+    Ok(())
+}
+
+// The features of a die are set, which is none of the commands, and its status is asked for.
+const FOREIGN: Judged<'static> = Judged {
+    parts: SMALL_CHIP,
+    text: "0 C ef\n0 A 01\n0 I 00\n0 C 70\n0 O e0\n",
+    readies: Readies::Written,
+    faults: &[
+        BrokenRule {
+            item: 0,
+            rule: Forbidden::CommandUnknown,
+        },
+        BrokenRule {
+            item: 1,
+            rule: Forbidden::AddressMisplaced,
+        },
+        BrokenRule {
+            item: 2,
+            rule: Forbidden::InputMisplaced,
+        },
+    ],
+};
+
+// A program that isn't ended, and an erase: the opener of that is too early, and all that follows it is right.
+const NOT_ENDED: Judged<'static> = Judged {
+    parts: SMALL_CHIP,
+    text: "0 C 80\n0 A 00\n0 C 60\n0 A 00\n0 A 00\n0 A 00\n0 C d0\n0 R 0 0\n",
+    readies: Readies::Written,
+    faults: &[BrokenRule {
+        item: 2,
+        rule: Forbidden::SequenceOpen,
+    }],
+};
+
+// An erase while the LUN is busy: its opener isn't done, so that nothing of it is in its place.
+const BUSY: Judged<'static> = Judged {
+    parts: SMALL_CHIP,
+    text: "0 C 60\n0 A 00\n0 A 00\n0 A 00\n0 C d0\n0 C 60\n0 A 04\n0 C d0\n0 R 0 0\n0 C 60\n",
+    readies: Readies::Written,
+    faults: &[
+        BrokenRule {
+            item: 5,
+            rule: Forbidden::LunBusy,
+        },
+        BrokenRule {
+            item: 6,
+            rule: Forbidden::AddressMisplaced,
+        },
+        BrokenRule {
+            item: 7,
+            rule: Forbidden::CommandMisplaced,
+        },
+    ],
+};
+
+// A ready of a LUN that isn't busy, and of a target that isn't there.
+const READIES: Judged<'static> = Judged {
+    parts: SMALL_CHIP,
+    text: "0 R 0 0\n1 C 70\n0 C 70\n",
+    readies: Readies::Written,
+    faults: &[
+        BrokenRule {
+            item: 0,
+            rule: Forbidden::NotThere,
+        },
+        BrokenRule {
+            item: 1,
+            rule: Forbidden::NotThere,
+        },
+    ],
+};
+
+// Two erases as they stand on a bus: nobody wrote that the LUN became ready.
+const RECORDED: &str =
+    "0 C 60\n0 A 00\n0 A 00\n0 A 00\n0 C d0\n0 C 70\n0 O 80\n0 O e1\n0 C 60\n0 A 04\n0 A 00\n0 A 00\n0 C d0\n0 C 70\n0 O e0\n";
+
+const RECORDED_AS_WRITTEN: Judged<'static> = Judged {
+    parts: SMALL_CHIP,
+    text: RECORDED,
+    readies: Readies::Written,
+    faults: &[
+        BrokenRule {
+            item: 8,
+            rule: Forbidden::LunBusy,
+        },
+        BrokenRule {
+            item: 9,
+            rule: Forbidden::AddressMisplaced,
+        },
+        BrokenRule {
+            item: 10,
+            rule: Forbidden::AddressMisplaced,
+        },
+        BrokenRule {
+            item: 11,
+            rule: Forbidden::AddressMisplaced,
+        },
+        BrokenRule {
+            item: 12,
+            rule: Forbidden::CommandMisplaced,
+        },
+    ],
+};
+
+const RECORDED_AS_SHOWN: Judged<'static> = Judged {
+    parts: SMALL_CHIP,
+    text: RECORDED,
+    readies: Readies::Shown,
+    faults: &[],
+};
+
+#[test]
+fn foreign_sequences(rt: HostRuntime) -> Result<(), Fail> {
+    expect_faults(&rt, FOREIGN)
+}
+
+#[test]
+fn sequences_that_are_not_ended(rt: HostRuntime) -> Result<(), Fail> {
+    expect_faults(&rt, NOT_ENDED)
+}
+
+#[test]
+fn work_on_a_busy_lun(rt: HostRuntime) -> Result<(), Fail> {
+    expect_faults(&rt, BUSY)
+}
+
+#[test]
+fn readies_that_are_none(rt: HostRuntime) -> Result<(), Fail> {
+    expect_faults(&rt, READIES)
+}
+
+#[test]
+fn readies_that_status_shows(rt: HostRuntime) -> Result<(), Fail> {
+    expect_faults(&rt, RECORDED_AS_WRITTEN)?;
+    expect_faults(&rt, RECORDED_AS_SHOWN)
+}
+
+// RDY with FAIL, and without.
+#[test]
+fn recorded_erases(rt: HostRuntime) -> Result<(), Fail> {
+    expect_whole(
+        &rt,
+        SMALL_CHIP,
+        RECORDED,
+        "0 C 60\n0 A 00\n0 A 00\n0 A 00\n0 C d0\n0 C 70\n0 O 80\n0 R 0 1\n0 O e1\n0 C 60\n0 A 04\n0 A 00\n0 A 00\n0 C d0\n0 C 70\n0 R 0 0\n0 O e0\n",
+    )
+}
+
+// RDY alone, and then ARDY, after the next page is asked for.
+#[test]
+fn recorded_cache_reads(rt: HostRuntime) -> Result<(), Fail> {
+    expect_whole(
+        &rt,
+        WITH_CACHE,
+        "0 C 00\n0 A 00\n0 A 00\n0 A 00\n0 A 00\n0 A 00\n0 C 30\n0 C 70\n0 O e0\n0 C 31\n0 C 70\n0 O 80\n0 O c0\n0 O e0\n0 O e0\n",
+        "0 C 00\n0 A 00\n0 A 00\n0 A 00\n0 A 00\n0 A 00\n0 C 30\n0 C 70\n0 R 0 0\n0 O e0\n0 C 31\n0 C 70\n0 O 80\n0 R 0 0\n0 O c0\n0 Y 0\n0 O e0\n0 O e0\n",
+    )
+}
+
+// Both at once.
+#[test]
+fn recorded_cache_reads_that_end_at_once(rt: HostRuntime) -> Result<(), Fail> {
+    expect_whole(
+        &rt,
+        WITH_CACHE,
+        "0 C 00\n0 A 00\n0 A 00\n0 A 00\n0 A 00\n0 A 00\n0 C 30\n0 C 70\n0 O e0\n0 C 31\n0 C 70\n0 O e0\n",
+        "0 C 00\n0 A 00\n0 A 00\n0 A 00\n0 A 00\n0 A 00\n0 C 30\n0 C 70\n0 R 0 0\n0 O e0\n0 C 31\n0 C 70\n0 R 0 0\n0 Y 0\n0 O e0\n",
+    )
+}
+
+// The status of one LUN says nothing of the other, and data that looks like a status says nothing.
+#[test]
+fn the_lun_that_shows_its_status(rt: HostRuntime) -> Result<(), Fail> {
+    expect_whole(
+        &rt,
+        TWO_LUNS,
+        "0 C 60\n0 A 00\n0 A 00\n0 A 00\n0 C d0\n0 C 78\n0 A 20\n0 A 00\n0 A 00\n0 O e0\n0 C 78\n0 A 00\n0 A 00\n0 A 00\n0 O e0\n",
+        "0 C 60\n0 A 00\n0 A 00\n0 A 00\n0 C d0\n0 C 78\n0 A 20\n0 A 00\n0 A 00\n0 O e0\n0 C 78\n0 A 00\n0 A 00\n0 A 00\n0 R 0 0\n0 O e0\n",
+    )
+}
+
+// What a trace has already, it keeps, and it is one whose text can be written.
+#[test]
+fn traces_that_are_whole(rt: HostRuntime) -> Result<(), Fail> {
+    let whole = "0 C 60\n0 A 00\n0 A 00\n0 A 00\n0 C d0\n0 C 70\n0 O 80\n0 R 0 0\n0 O e0\n";
+    expect_whole(&rt, SMALL_CHIP, whole, whole)
+}

@@ -1,0 +1,11 @@
+//! Tests of what is told of recorded traces, and of what an author surely didn't mean.
+#![tactic(auto)]
+
+#[cfg(test)]
+mod check_tests;
+#[cfg(test)]
+mod draw_tests;
+#[cfg(test)]
+mod fault_tests;
+#[cfg(test)]
+mod lint_tests;

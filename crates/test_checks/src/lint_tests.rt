@@ -1,0 +1,137 @@
+use nand_geometry::{Geometry, SMALL_CHIP};
+use seq_commands::{LintOutput, lint_file, verify_file};
+use seq_files::MapFiles;
+use seq_inputs::{Console, Exit};
+use std::alloc::Global;
+use std::process::Abort;
+use std::test::Fail;
+use trace_text::NoProgress;
+
+// A read without the second `cmd 00`, in a header that gives too much.
+const NO_DATA: &str =
+    "rows 2\nbuffer 512\nbudget 900\ncmd 00\naddr 0 5\ncmd 30\nwait\nget 512\nend 0\n";
+
+const NOTES: &str =
+    "read.asm: the header gives `rows 2`, and `rows 1` is enough (N5)\nread.asm: the header gives `budget 900`, and `budget 519` is enough (N5)\nread.asm:8: word 4, `get 512`: it reads the status 512 times: a `cmd 00` is missing after `wait` (word 3) (N1)\n";
+
+// A read as it is meant.
+const READ: &str =
+    "rows 1\nbuffer 512\nbudget 520\ncmd 00\naddr 0 5\ncmd 30\nwait\ncmd 00\nget 512\nend 0\n";
+
+// What is printed and said of a text, and how the command ends.
+#[derive(Drop)]
+struct Seen {
+    exit: Exit,
+    output: Vec<u8>,
+    errors: Vec<u8>,
+}
+
+fn console_of(alloc: Global) -> Console<Vec<u8>, Vec<u8>, NoProgress> {
+    Console {
+        output: Vec::new(alloc),
+        errors: Vec::new(alloc),
+        progress: NoProgress,
+    }
+}
+
+fn files_of(alloc: Global, text: &str) -> Result<MapFiles, Fail> {
+    let mut files = MapFiles::new(alloc);
+    files.put("die.page", &Geometry::of(SMALL_CHIP)?.page())?;
+    files.put("read.asm", text.as_bytes())?;
+    Ok(files)
+}
+
+fn see_lint(alloc: Global, text: &str, output: LintOutput) -> Result<Seen, Fail> {
+    let mut files = files_of(alloc, text)?;
+    let mut console = console_of(alloc);
+    let exit = lint_file(
+        alloc,
+        &mut files,
+        &mut console,
+        "die.page",
+        "read.asm",
+        output,
+    );
+    let Console { output, errors, .. } = console;
+    Ok(Seen {
+        exit,
+        output,
+        errors,
+    })
+}
+
+fn see_verify(alloc: Global, text: &str, is_quiet: bool) -> Result<Seen, Fail> {
+    let mut files = files_of(alloc, text)?;
+    let mut console = console_of(alloc);
+    let exit = verify_file(
+        alloc,
+        &mut files,
+        &mut console,
+        "die.page",
+        "read.asm",
+        None,
+        is_quiet,
+    );
+    let Console { output, errors, .. } = console;
+    Ok(Seen {
+        exit,
+        output,
+        errors,
+    })
+}
+
+// A command is done, and printed and said this.
+fn expect_seen(
+    rt: &(impl Abort + AllocGlobal),
+    seen: &Seen,
+    printed: &str,
+    said: &str,
+) -> Result<(), Fail> {
+    assert_eq!(rt; seen.exit, Exit::Done);
+    assert_eq!(rt; str::from_utf8(seen.output.as_slice())?, printed);
+    assert_eq!(rt; str::from_utf8(seen.errors.as_slice())?, said);
+    Ok(())
+}
+
+#[test]
+fn notes_are_printed(rt: HostRuntime) -> Result<(), Fail> {
+    let seen = see_lint(rt.alloc(), NO_DATA, LintOutput::Notes)?;
+    let printed = format!(in rt.alloc(); "{NOTES}3 notes\n")?;
+    expect_seen(&rt, &seen, printed.as_str(), "")
+}
+
+#[test]
+fn no_notes_are_printed(rt: HostRuntime) -> Result<(), Fail> {
+    let seen = see_lint(rt.alloc(), READ, LintOutput::Notes)?;
+    expect_seen(&rt, &seen, "no notes\n", "")
+}
+
+#[test]
+fn the_header_that_is_enough(rt: HostRuntime) -> Result<(), Fail> {
+    let seen = see_lint(rt.alloc(), NO_DATA, LintOutput::Header)?;
+    expect_seen(&rt, &seen, "rows 1\nbuffer 512\nbudget 519\n", "")
+}
+
+#[test]
+fn notes_are_said_after_accepted(rt: HostRuntime) -> Result<(), Fail> {
+    let seen = see_verify(rt.alloc(), NO_DATA, false)?;
+    expect_seen(&rt, &seen, "accepted\n", NOTES)?;
+    let seen = see_verify(rt.alloc(), NO_DATA, true)?;
+    expect_seen(&rt, &seen, "accepted\n", "")
+}
+
+// It refuses what `verify` refuses, in the same words.
+#[test]
+fn a_text_that_is_refused(rt: HostRuntime) -> Result<(), Fail> {
+    let text = "rows 1\nbuffer 0\nbudget 9\ncmd 60\naddr 2 3\ncmd d0\nend 0\n";
+    let seen = see_lint(rt.alloc(), text, LintOutput::Notes)?;
+    assert_eq!(rt; seen.exit.status(), 1);
+    assert_eq!(rt;
+        str::from_utf8(seen.output.as_slice())?,
+        "refused V14 at 3\n"
+    );
+    let other = see_verify(rt.alloc(), text, false)?;
+    assert_eq!(rt; seen.output.as_slice(), other.output.as_slice());
+    assert_eq!(rt; seen.errors.as_slice(), other.errors.as_slice());
+    Ok(())
+}

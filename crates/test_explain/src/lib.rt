@@ -1,0 +1,17 @@
+//! What is told of refused microprograms. Only tests stand here.
+#![tactic(auto)]
+
+#[cfg(test)]
+mod address_tests;
+#[cfg(test)]
+mod command_tests;
+#[cfg(test)]
+mod data_tests;
+#[cfg(test)]
+mod loop_tests;
+#[cfg(test)]
+mod number_tests;
+#[cfg(test)]
+mod rule_tests;
+#[cfg(test)]
+mod table;

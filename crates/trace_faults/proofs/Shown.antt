@@ -1,0 +1,160 @@
+-- A trace that is completed is judged as it is with the readies that it shows.
+use Rattle.std.proofs.Common.{◌≡◌, ◌↔◌, ℕ, ◌+◌, Bool, true, false, not, cond, List, [], ◌∷◌, ◌++◌, Option, Some, None, refl, sym, ap, ◌∙◌, arith, append_assoc, length, subst, ◌&&◌}
+use Rattle.std.specs.List.{slice_get}
+use Rattle.std.proofs.lemmas.Option.{slice_get_within}
+use Rattle.std.proofs.lemmas.Bool.{and_parts}
+use Rattle.std.proofs.lemmas.Bool.Decides.{nat_tests}
+use Rattle.onfi_cycle.specs.declared.item.Item.{Item}
+use Rattle.onfi_cycle.specs.declared.item.Item.TheVariants.{Cyc, Rdy, Ard}
+use Rattle.onfi_cycle.specs.declared.forbidden.Forbidden.{Forbidden}
+use Rattle.onfi_cycle.specs.declared.lun_state.LunState.{LunState}
+use Rattle.onfi_cycle.specs.LunView.{LunView}
+use Rattle.onfi_cycle.specs.Rules.{breaks_not_there, lun_is, is_some_and}
+use Rattle.onfi_cycle.specs.State.{BusView, TargetView, judged, judged_on}
+use Rattle.onfi_cycle.specs.Look.{looked, look_on, look_at_some, look_at}
+use Rattle.trace_faults.specs.declared.broken_rule.BrokenRule.{BrokenRule}
+use Rattle.trace_faults.specs.declared.readies.Readies.{Readies}
+use Rattle.trace_faults.specs.declared.readies.Readies.TheVariants.{Written, Shown}
+use Rattle.trace_faults.specs.Recovery.{gone_on}
+use Rattle.trace_faults.specs.ShownReadies.{ready_before, array_ready_before, ready_at, array_ready_at, ready_of, array_ready_of, with_ready, with_readies, gone_on_some, listed, driving_lun, is_status, has_ready, has_array_ready, has_fail, is_output}
+use Rattle.trace_faults.specs.Faults.{fresh, before_item, fault_at, faults_from, completed_from, completed}
+use Rattle.trace_faults.specs.Laws.{CompletedAreJudged}
+use Rattle.trace_faults.proofs.Judged.{faultless_are_legal}
+
+-- ---- 1. a ready that is shown is permitted
+
+-- a target that is there, with a LUN that is there
+record IsThere (s : BusView) (ce number : ℕ) (lun : LunState) : Type 0 where
+  t : TargetView
+  is_target : slice_get s.targets ce ≡ Some t
+  v : LunView
+  is_lun : slice_get t.luns number ≡ Some v
+  is_seen : look_at v ≡ lun
+
+seen_there : (s : BusView) (ce number : ℕ) (lun : LunState) → looked s (record { ce = ce; lun = number }) ≡ Some lun → IsThere s ce number lun
+seen_there s ce number lun is = on (slice_get s.targets ce) refl is
+  where
+    some_same : (x y : LunState) → Some x ≡ Some y → x ≡ y
+    some_same x y h = cc
+
+    at : (t : TargetView) → slice_get s.targets ce ≡ Some t → (v : Option LunView) → slice_get t.luns number ≡ v → look_at_some v ≡ Some lun → IsThere s ce number lun
+    at t here None is_v looks = cc
+    at t here (Some v) is_v looks = record { t = t; is_target = here; v = v; is_lun = is_v; is_seen = some_same (look_at v) lun looks }
+
+    on : (o : Option TargetView) → slice_get s.targets ce ≡ o → look_on o number ≡ Some lun → IsThere s ce number lun
+    on None e h = cc
+    on (Some t) e h = at t e (slice_get t.luns number) refl h
+
+-- a ready of a LUN that is seen busy breaks no rule, nor does that of an array which is seen busy
+busy_there : (s : BusView) (ce number : ℕ) (fail : Bool) (lun : LunState) → IsThere s ce number lun → lun.busy ≡ true → judged s (Rdy ce number fail) ≡ None
+unfolding breaks_not_there
+busy_there s ce number fail lun f busy =
+    let inside = slice_get_within s.targets ce f.t f.is_target in
+    let same : f.v.busy ≡ true = ap (λ (l : LunState). l.busy) f.is_seen ∙ busy in
+    let is : lun_is (λ v. v.busy) f.t.luns number ≡ true = ap (λ o. is_some_and (λ (v : LunView). v.busy) o) f.is_lun ∙ same in
+    let on : judged_on s.geometry (length s.targets) (Some f.t) (Rdy ce number fail) ≡ None = grind (arith, nat_tests) in
+    ap (λ o. judged_on s.geometry (length s.targets) o (Rdy ce number fail)) f.is_target ∙ on
+
+array_busy_there : (s : BusView) (ce number : ℕ) (lun : LunState) → IsThere s ce number lun → lun.array_busy ≡ true → judged s (Ard ce number) ≡ None
+unfolding breaks_not_there
+array_busy_there s ce number lun f busy =
+    let inside = slice_get_within s.targets ce f.t f.is_target in
+    let same : f.v.array_busy ≡ true = ap (λ (l : LunState). l.array_busy) f.is_seen ∙ busy in
+    let is : lun_is (λ v. v.array_busy) f.t.luns number ≡ true = ap (λ o. is_some_and (λ (v : LunView). v.array_busy) o) f.is_lun ∙ same in
+    let on : judged_on s.geometry (length s.targets) (Some f.t) (Ard ce number) ≡ None = grind (arith, nat_tests) in
+    ap (λ o. judged_on s.geometry (length s.targets) o (Ard ce number)) f.is_target ∙ on
+
+only_then : (b : Bool) (o : Option Item) (r : Item) → cond b o None ≡ Some r → o ≡ Some r
+only_then true o r h = h
+only_then false o r h = cc
+
+record IsGiven (b : Bool) (x r : Item) : Type 0 where
+  holds : b ≡ true
+  same : x ≡ r
+
+given : (b : Bool) (x r : Item) → cond b (Some x) None ≡ Some r → IsGiven b x r
+given true x r h = record { holds = refl; same = cc }
+given false x r h = cc
+
+ready_is_permitted : (s : BusView) (i r : Item) → ready_before s i ≡ Some r → judged s r ≡ None
+ready_is_permitted s (Cyc c) r h = at (driving_lun s c.ce) (only_then (is_output c.kind) (ready_at s c.ce (driving_lun s c.ce) c.byte) r h)
+  where
+    of : (number : ℕ) (o : Option LunState) → looked s (record { ce = c.ce; lun = number }) ≡ o → ready_of o c.ce number c.byte ≡ Some r → judged s r ≡ None
+    of number None e g = cc
+    of number (Some lun) e g =
+        let is = given (is_status lun.latch && (lun.busy && has_ready c.byte)) (Rdy c.ce number (has_fail c.byte)) r g in
+        let busy = (and_parts lun.busy (has_ready c.byte) (and_parts (is_status lun.latch) (lun.busy && has_ready c.byte) is.holds).1).0 in
+        subst (λ (x : Item). judged s x ≡ None) is.same (busy_there s c.ce number (has_fail c.byte) lun (seen_there s c.ce number lun e) busy)
+
+    at : (o : Option ℕ) → ready_at s c.ce o c.byte ≡ Some r → judged s r ≡ None
+    at None g = cc
+    at (Some number) g = of number (looked s (record { ce = c.ce; lun = number })) refl g
+ready_is_permitted s (Rdy ce lun fail) r h = cc
+ready_is_permitted s (Ard ce lun) r h = cc
+
+array_ready_is_permitted : (s : BusView) (i r : Item) → array_ready_before s i ≡ Some r → judged s r ≡ None
+array_ready_is_permitted s (Cyc c) r h = at (driving_lun s c.ce) (only_then (is_output c.kind) (array_ready_at s c.ce (driving_lun s c.ce) c.byte) r h)
+  where
+    of : (number : ℕ) (o : Option LunState) → looked s (record { ce = c.ce; lun = number }) ≡ o → array_ready_of o c.ce number c.byte ≡ Some r → judged s r ≡ None
+    of number None e g = cc
+    of number (Some lun) e g =
+        let shows = has_ready c.byte && has_array_ready c.byte in
+        let is = given (is_status lun.latch && (not lun.busy && (lun.array_busy && shows))) (Ard c.ce number) r g in
+        let rest = (and_parts (is_status lun.latch) (not lun.busy && (lun.array_busy && shows)) is.holds).1 in
+        let busy = (and_parts lun.array_busy shows (and_parts (not lun.busy) (lun.array_busy && shows) rest).1).0 in
+        subst (λ (x : Item). judged s x ≡ None) is.same (array_busy_there s c.ce number lun (seen_there s c.ce number lun e) busy)
+
+    at : (o : Option ℕ) → array_ready_at s c.ce o c.byte ≡ Some r → judged s r ≡ None
+    at None g = cc
+    at (Some number) g = of number (looked s (record { ce = c.ce; lun = number })) refl g
+array_ready_is_permitted s (Rdy ce lun fail) r h = cc
+array_ready_is_permitted s (Ard ce lun) r h = cc
+
+-- ---- 2. whether there is a fault doesn't hang on the number with which one begins to count
+
+-- no fault here, and none after it
+parted : (k m : ℕ) (o : Option Forbidden) (xs ys : List BrokenRule) → fault_at k o ++ xs ≡ [] → (xs ≡ [] → ys ≡ []) → fault_at m o ++ ys ≡ []
+parted k m None xs ys h more = more h
+parted k m (Some rule) xs ys h more = cc
+
+counted_from : (readies : Readies) (items : List Item) (s : BusView) (k m : ℕ) → faults_from readies s k items ≡ [] → faults_from readies s m items ≡ []
+counted_from readies [] s k m h = refl
+counted_from readies (i ∷ items) s k m h =
+    let b = before_item readies s i in
+    parted k m (judged b i) (faults_from readies (gone_on i b) (k + 1) items) (faults_from readies (gone_on i b) (m + 1) items) h
+    (λ none. counted_from readies items (gone_on i b) (k + 1) (m + 1) none)
+
+-- a ready that is permitted is passed over
+passed : (s : BusView) (o : Option Item) (rest : List Item) (k m : ℕ) → ((x : Item) → o ≡ Some x → judged s x ≡ None) → (faults_from Written s k (listed o ++ rest) ≡ []) ↔ (faults_from Written (gone_on_some o s) m rest ≡ [])
+passed s None rest k m permitted = (λ h. counted_from Written rest s k m h, λ h. counted_from Written rest s m k h)
+passed s (Some x) rest k m permitted =
+    let one : faults_from Written s k (x ∷ rest) ≡ faults_from Written (gone_on x s) (k + 1) rest =
+    ap (λ (f : Option Forbidden). fault_at k f ++ faults_from Written (gone_on x s) (k + 1) rest) (permitted x refl) in (
+      λ h. counted_from Written rest (gone_on x s) (k + 1) m (sym one ∙ h),
+      λ h. one ∙ counted_from Written rest (gone_on x s) m (k + 1) h,
+    )
+
+-- ---- 3. the law
+
+same_from : (items : List Item) (s : BusView) (k m : ℕ) → (faults_from Shown s k items ≡ []) ↔ (faults_from Written s m (completed_from s items) ≡ [])
+same_from [] s k m = (λ h. refl, λ h. refl)
+same_from (i ∷ items) s k m =
+    let r = ready_before s i in
+    let a = array_ready_before (with_ready s i) i in
+    let whole = with_readies s i in
+    let rest = completed_from (gone_on i whole) items in
+    let first = passed s r (listed a ++ (i ∷ rest)) m 0 (ready_is_permitted s i) in
+    let second = passed (with_ready s i) a (i ∷ rest) 0 0 (array_ready_is_permitted (with_ready s i) i) in
+    let later = same_from items (gone_on i whole) (k + 1) (0 + 1) in
+    let grouped = ap (λ (is : List Item). faults_from Written s m is) (append_assoc (listed r) (listed a) (i ∷ rest)) in (
+      λ h. grouped ∙ first.1 (second.1 (parted k 0 (judged whole i) (faults_from Shown (gone_on i whole) (k + 1) items) (faults_from Written (gone_on i whole) (0 + 1) rest) h later.0)),
+      λ h. parted 0 k (judged whole i) (faults_from Written (gone_on i whole) (0 + 1) rest) (faults_from Shown (gone_on i whole) (k + 1) items) (second.0 (first.0 (sym grouped ∙ h))) later.1,
+    )
+
+pub completed_are_judged : CompletedAreJudged
+completed_are_judged g n items =
+    let same = same_from items (fresh g n) 0 0 in
+    let legal = faultless_are_legal g n (completed g n items) in (
+      λ h. legal.0 (same.0 h),
+      λ h. same.1 (legal.1 h),
+    )

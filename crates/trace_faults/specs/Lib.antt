@@ -1,0 +1,4 @@
+pub mod Recovery
+pub mod ShownReadies
+pub mod Faults
+pub mod Laws

@@ -1,0 +1,22 @@
+//! What holds of the definitions: the contracts of functions that do nothing.
+ghost use Rattle.trace_faults.specs.Laws.{FaultlessAreLegal, FirstBrokenIsFirst, FirstIsFirstBroken, CompletedAreJudged};
+
+/// A trace has no fault exactly when it is legal.
+pub fn faultless_are_legal()
+    ensures { FaultlessAreLegal }
+{}
+
+/// The first item of a trace that isn't permitted after those before it is its first fault, with the first rule that this breaks.
+pub fn first_broken_is_first()
+    ensures { FirstBrokenIsFirst }
+{}
+
+/// The first fault of a trace is its first item that isn't permitted after those before it, with the first rule that this breaks.
+pub fn first_is_first_broken()
+    ensures { FirstIsFirstBroken }
+{}
+
+/// With the readies that its status outputs show, a trace has no fault exactly when it is legal, completed by them.
+pub fn completed_are_judged()
+    ensures { CompletedAreJudged }
+{}

@@ -1,0 +1,21 @@
+//! Every fault of a trace, and the readies that a recorded trace doesn't have.
+//!
+//! A trace that was recorded on a bus has more than one fault, and nobody wrote down when a LUN became ready. [`find_faults`] judges each item on what
+//! those before it leave, permitted or not ([`go_on`]), and tells each fault, a [`BrokenRule`]; [`complete`] puts the readies before the status
+//! outputs that show them. The definitions stand in `specs/`, with their laws ([`laws`]): the first fault is that of `trace_text`'s check, and a trace that
+//! is completed is judged as that check would.
+#![tactic(auto)]
+
+mod broken_rule;
+mod completing;
+mod finding;
+pub mod laws;
+mod readies;
+mod recovery;
+mod shown_readies;
+
+pub use broken_rule::BrokenRule;
+pub use completing::complete;
+pub use finding::find_faults;
+pub use readies::Readies;
+pub use recovery::go_on;

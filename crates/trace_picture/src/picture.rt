@@ -1,0 +1,437 @@
+//! The picture: lanes, boxes, spans and what stands in them, as SVG.
+ghost use Rattle.std.specs.Prelude.{◌≤◌};
+
+use crate::broken::Broken;
+use crate::label::Label;
+use crate::layout::{Cut, LEFT, Layout, Tenths, cut_at, strip_of};
+use crate::piece::Piece;
+use crate::places::{ITEM, places};
+use crate::span::{Failure, Span, Worker};
+use crate::timeline::Timeline;
+use crate::word::Word;
+use nand_geometry::Geometry;
+use onfi_cycle::Item;
+use std::alloc::{AllocError, Allocator};
+use std::fmt;
+
+// The width of a character in a box, and what is left free beside its text, in tenths of a point.
+const CHARACTER: u64 = 56;
+
+const MARGIN: u64 = 30;
+
+// How far apart the numbers of items stand at least, in tenths of a point.
+const TICK: u64 = 520;
+
+const STYLE: &str =
+    "<style>.n{font-size:12px;font-weight:bold;text-anchor:end;fill:#222}.l{font-size:11px;text-anchor:end;fill:#444}\
+.t{font-size:9px;fill:#666}.w{font-size:9.5px;fill:#fff}.g{stroke:#ddd}.k{stroke:#eee}.busy{fill:#c98a10}.array{fill:#f1dca8}\
+.f{font-size:11px;font-weight:bold;fill:#b01010}.r{stroke:#b01010;stroke-width:2}.h{font-size:13px;fill:#222}\
+.read{fill:#2f6fb0}.program{fill:#8a4a20}.erase{fill:#6a2a80}.status{fill:#6b7280}.other{fill:#2f6f4f}.lone{fill:#b4bac4}</style>\n";
+
+// What is drawn.
+#[derive(Drop)]
+struct Picture<A: Allocator> {
+    layout: Layout,
+    several: bool,
+    items: usize,
+    places: Vec<u64, A>,
+    timeline: Timeline<A>,
+    // The widest cut of each box, in which its words stand.
+    widest: Vec<Cut, A>,
+}
+
+// Where an item begins.
+fn place_of(places: &[u64], item: usize) -> u64 {
+    match places.get(item) {
+        None => match places.last() {
+            None => 0,
+            Some(end) => *end,
+        },
+        Some(place) => *place,
+    }
+}
+
+// The wider of two cuts, the first where they are as wide.
+fn wider(one: Cut, other: Cut) -> Cut {
+    if other.width > one.width { other } else { one }
+}
+
+// The widest cut of a stretch.
+fn widest_of(from: u64, to: u64) -> Cut {
+    let mut widest = cut_at(from, to, strip_of(from));
+    for strip in strip_of(from)..strip_of(to).saturating_add(1) {
+        widest = wider(widest, cut_at(from, to, strip));
+    }
+    widest
+}
+
+// The widest cut of each box.
+fn widest_cuts<A: Allocator>(
+    alloc: A,
+    count: usize,
+    pieces: &[Piece],
+    places: &[u64],
+) -> Result<Vec<Cut, A>, AllocError> {
+    let none = Cut {
+        strip: 0,
+        x: 0,
+        width: 0,
+    };
+    let mut widest = Vec::from_elem(alloc, none, count)?;
+    for piece in pieces {
+        if piece.sequence < widest.len() {
+            let cut = widest_of(place_of(places, piece.first), place_of(places, piece.end));
+            widest[piece.sequence] = wider(widest[piece.sequence], cut);
+        }
+    }
+    Ok(widest)
+}
+
+// How many of the words have room in so much width, in tenths of a point.
+fn fitting(words: [Option<Word>; 5], room: u64) -> usize {
+    let mut used = 0u64;
+    let mut fit = 0usize;
+    for (number, word) in words.iter().enumerate() {
+        if let Some(word) = word {
+            used = used.saturating_add(
+                (word.width() as u64)
+                    .saturating_add(1)
+                    .saturating_mul(CHARACTER),
+            );
+            if used <= room.saturating_add(CHARACTER) {
+                fit = number.saturating_add(1);
+            }
+        }
+    }
+    fit
+}
+
+// The first of the words, with spaces between.
+#[derive(Clone, Copy)]
+struct Words {
+    words: [Option<Word>; 5],
+    count: usize,
+}
+
+impl fmt::Display for Words {
+    fn fmt<W: fmt::Write>(&self, f: &mut fmt::Formatter<W>) -> fmt::Result {
+        let mut is_first = true;
+        for (number, word) in self.words.iter().enumerate() {
+            if number < self.count
+                && let Some(word) = word
+            {
+                if !is_first {
+                    f.write_str(" ")?;
+                }
+                is_first = false;
+                write!(f, "{word}")?;
+            }
+        }
+        Ok(())
+    }
+}
+
+// The words of a label, all of them.
+fn all_words(label: Label, several: bool) -> Words {
+    Words {
+        words: label.words(several),
+        count: 5,
+    }
+}
+
+impl<A: Allocator> Picture<A> {
+    // The heading.
+    fn write_heading<W: fmt::Write>(&self, f: &mut fmt::Formatter<W>) -> fmt::Result {
+        let (width, height) = (self.layout.width(), self.layout.height());
+        write!(
+            f,
+            "<svg xmlns=\"http://www.w3.org/2000/svg\" width=\"{width}\" height=\"{height}\" viewBox=\"0 0 {width} {height}\" font-family=\"sans-serif\">\n"
+        )?;
+        f.write_str(STYLE)?;
+        write!(
+            f,
+            "<rect width=\"100%\" height=\"100%\" fill=\"#fff\"/>\n<text x=\"10\" y=\"18\" class=\"h\">{} items, ",
+            self.items
+        )?;
+        match self.timeline.broken {
+            None => f.write_str("legal</text>\n"),
+            Some(broken) => write!(f, "{broken}</text>\n"),
+        }
+    }
+
+    // The name of a lane, and the line along it.
+    fn write_lane<W: fmt::Write>(
+        &self,
+        f: &mut fmt::Formatter<W>,
+        strip: u64,
+        ce: u8,
+    ) -> fmt::Result {
+        let y = self.layout.enable_y(strip, ce);
+        let end = Tenths(self.layout.used(strip).saturating_add(LEFT * 10));
+        write!(
+            f,
+            "<text x=\"{}\" y=\"{}\" class=\"n\">CE{ce}</text>\n<line x1=\"{LEFT}\" x2=\"{end}\" y1=\"{}\" y2=\"{}\" class=\"g\"/>\n",
+            LEFT - 8,
+            y.saturating_add(19),
+            y.saturating_add(15),
+            y.saturating_add(15)
+        )?;
+        for lun in 0..self.layout.luns {
+            let y = self.layout.lun_y(strip, ce, lun);
+            write!(
+                f,
+                "<text x=\"{}\" y=\"{}\" class=\"l\">LUN {lun}</text>\n<line x1=\"{LEFT}\" x2=\"{end}\" y1=\"{}\" y2=\"{}\" class=\"g\"/>\n",
+                LEFT - 8,
+                y.saturating_add(11),
+                y.saturating_add(7),
+                y.saturating_add(7)
+            )?;
+        }
+        Ok(())
+    }
+
+    // The lanes of all strips.
+    fn write_lanes<W: fmt::Write>(&self, f: &mut fmt::Formatter<W>) -> fmt::Result {
+        for strip in 0..self.layout.strips() {
+            for ce in 0..self.layout.targets {
+                self.write_lane(f, strip, ce)?;
+            }
+        }
+        Ok(())
+    }
+
+    // The number of an item, and the line below it.
+    fn write_tick<W: fmt::Write>(
+        &self,
+        f: &mut fmt::Formatter<W>,
+        item: usize,
+        x: u64,
+    ) -> fmt::Result {
+        let strip = strip_of(x);
+        let left = Tenths(cut_at(x, x, strip).x.saturating_add(LEFT * 10));
+        let y = self.layout.strip_y(strip);
+        write!(
+            f,
+            "<text x=\"{left}\" y=\"{}\" class=\"t\">{item}</text>\n<line x1=\"{left}\" x2=\"{left}\" y1=\"{}\" y2=\"{}\" class=\"k\"/>\n",
+            y.saturating_add(10),
+            y.saturating_add(13),
+            y.saturating_add(self.layout.strip_height().saturating_sub(12))
+        )
+    }
+
+    // The numbers of items, so many that they don't stand in each other's way.
+    fn write_ticks<W: fmt::Write>(&self, f: &mut fmt::Formatter<W>) -> fmt::Result {
+        let mut next = 0u64;
+        for (item, place) in self.places.iter().enumerate() {
+            if *place >= next && (item % 5 == 0 || item == self.items) {
+                self.write_tick(f, item, *place)?;
+                next = place.saturating_add(TICK);
+            }
+        }
+        Ok(())
+    }
+
+    // The time in which a LUN or its array works.
+    fn write_span<W: fmt::Write>(&self, f: &mut fmt::Formatter<W>, span: &Span) -> fmt::Result {
+        let Span {
+            ce,
+            lun,
+            worker,
+            from,
+            end,
+        } = *span;
+        let from = place_of(&self.places, from.saturating_add(1));
+        let to = match end {
+            None => self.layout.length,
+            Some(item) => place_of(&self.places, item),
+        };
+        let to = to.max(from.saturating_add(20));
+        let class = match worker {
+            Worker::Lun => "busy",
+            Worker::Array => "array",
+        };
+        for strip in strip_of(from)..strip_of(to).saturating_add(1) {
+            let cut = cut_at(from, to, strip);
+            if cut.width > 0 {
+                let (x, width) = (Tenths(cut.x.saturating_add(LEFT * 10)), Tenths(cut.width));
+                let y = self.layout.lun_y(strip, ce, lun);
+                write!(
+                    f,
+                    "<rect x=\"{x}\" y=\"{y}\" width=\"{width}\" height=\"14\" class=\"{class}\"/>\n"
+                )?;
+            }
+        }
+        Ok(())
+    }
+
+    // The time in which arrays work, and then that of LUNs.
+    fn write_spans<W: fmt::Write>(&self, f: &mut fmt::Formatter<W>) -> fmt::Result {
+        for worker in [Worker::Array, Worker::Lun] {
+            for span in &self.timeline.spans {
+                if span.worker == worker {
+                    self.write_span(f, span)?;
+                }
+            }
+        }
+        Ok(())
+    }
+
+    // A failure.
+    fn write_failure<W: fmt::Write>(
+        &self,
+        f: &mut fmt::Formatter<W>,
+        failure: &Failure,
+    ) -> fmt::Result {
+        let x = place_of(&self.places, failure.item);
+        let strip = strip_of(x);
+        write!(
+            f,
+            "<text x=\"{}\" y=\"{}\" class=\"f\">fail</text>\n",
+            Tenths(cut_at(x, x, strip).x.saturating_add(LEFT * 10 + 30)),
+            self.layout
+                .lun_y(strip, failure.ce, failure.lun)
+                .saturating_add(11)
+        )
+    }
+
+    // A piece of a box.
+    fn write_piece<W: fmt::Write>(&self, f: &mut fmt::Formatter<W>, piece: &Piece) -> fmt::Result {
+        let Some(sequence) = self.timeline.sequences.get(piece.sequence) else {
+            return Ok(());
+        };
+        let (from, to) = (
+            place_of(&self.places, piece.first),
+            place_of(&self.places, piece.end),
+        );
+        let words = all_words(sequence.label, self.several);
+        for strip in strip_of(from)..strip_of(to).saturating_add(1) {
+            let cut = cut_at(from, to, strip);
+            if cut.width > 0 {
+                write!(
+                    f,
+                    "<rect x=\"{}\" y=\"{}\" width=\"{}\" height=\"22\" rx=\"2\" class=\"{}\"><title>items {} to {}: {words}</title></rect>\n",
+                    Tenths(cut.x.saturating_add(LEFT * 10 + 5)),
+                    self.layout.enable_y(strip, sequence.ce).saturating_add(4),
+                    Tenths(cut.width.saturating_sub(10).max(10)),
+                    sequence.label.class(),
+                    piece.first,
+                    piece.end.saturating_sub(1)
+                )?;
+            }
+        }
+        Ok(())
+    }
+
+    // The words of a box, as many as have room.
+    fn write_words<W: fmt::Write>(
+        &self,
+        f: &mut fmt::Formatter<W>,
+        number: usize,
+        cut: &Cut,
+    ) -> fmt::Result {
+        let Some(sequence) = self.timeline.sequences.get(number) else {
+            return Ok(());
+        };
+        let words = sequence.label.words(self.several);
+        let count = fitting(words, cut.width.saturating_sub(MARGIN));
+        if count == 0 {
+            return Ok(());
+        }
+        write!(
+            f,
+            "<text x=\"{}\" y=\"{}\" class=\"w\">{}</text>\n",
+            Tenths(cut.x.saturating_add(LEFT * 10 + 30)),
+            self.layout
+                .enable_y(cut.strip, sequence.ce)
+                .saturating_add(19),
+            Words { words, count }
+        )
+    }
+
+    // Boxes and what stands in them.
+    fn write_boxes<W: fmt::Write>(&self, f: &mut fmt::Formatter<W>) -> fmt::Result {
+        for piece in &self.timeline.pieces {
+            self.write_piece(f, piece)?;
+        }
+        for (number, cut) in self.widest.iter().enumerate() {
+            self.write_words(f, number, cut)?;
+        }
+        Ok(())
+    }
+
+    // Where a rule is broken.
+    fn write_broken<W: fmt::Write>(
+        &self,
+        f: &mut fmt::Formatter<W>,
+        broken: Broken,
+    ) -> fmt::Result {
+        let x = place_of(&self.places, broken.item);
+        let strip = strip_of(x);
+        let left = cut_at(x, x, strip).x.saturating_add(LEFT * 10);
+        let y = self.layout.strip_y(strip);
+        write!(
+            f,
+            "<line x1=\"{}\" x2=\"{}\" y1=\"{}\" y2=\"{}\" class=\"r\"/>\n<text x=\"{}\" y=\"{}\" class=\"f\">{} at item {}</text>\n",
+            Tenths(left),
+            Tenths(left),
+            y.saturating_add(12),
+            y.saturating_add(self.layout.strip_height().saturating_sub(6)),
+            Tenths(left.saturating_add(40)),
+            y.saturating_add(self.layout.strip_height().saturating_sub(8)),
+            broken.rule.code(),
+            broken.item
+        )
+    }
+}
+
+impl<A: Allocator> fmt::Display for Picture<A> {
+    fn fmt<W: fmt::Write>(&self, f: &mut fmt::Formatter<W>) -> fmt::Result {
+        self.write_heading(f)?;
+        self.write_lanes(f)?;
+        self.write_ticks(f)?;
+        self.write_spans(f)?;
+        for failure in &self.timeline.failures {
+            self.write_failure(f, failure)?;
+        }
+        self.write_boxes(f)?;
+        if let Some(broken) = self.timeline.broken {
+            self.write_broken(f, broken)?;
+        }
+        f.write_str("</svg>\n")
+    }
+}
+
+/// The picture of a trace on a channel of so many targets, 4 at most, of this geometry: an SVG of its own, with no script, and no font but the browser's.
+/// An item that breaks a rule is drawn, and what comes after it is grey. `AllocError` is answered only where memory was refused.
+pub fn draw<A: Allocator + Clone>(
+    alloc: A,
+    geometry: &Geometry,
+    targets: u8,
+    items: &[Item],
+) -> Result<String<A>, AllocError>
+    requires { targets ≤ 4 }
+{
+    let places = places(alloc.clone()?, items)?;
+    let timeline = Timeline::of(alloc.clone()?, geometry, targets, items)?;
+    let widest = widest_cuts(
+        alloc.clone()?,
+        timeline.sequences.len(),
+        &timeline.pieces,
+        &places,
+    )?;
+    let luns = geometry.parts().luns;
+    let length = place_of(&places, items.len());
+    let picture = Picture {
+        layout: Layout {
+            targets,
+            luns,
+            length: length.max(ITEM),
+        },
+        several: luns > 1,
+        items: items.len(),
+        places,
+        timeline,
+        widest,
+    };
+    String::format(alloc, &picture)
+}

@@ -1,0 +1,97 @@
+//! A number field that hasn't its form.
+
+use crate::line::{Letter, byte_of, fail_of, letter_of, place_of};
+use crate::slip::Slip;
+use shown_text::Shown;
+use std::fmt;
+
+// What a number field tells.
+#[derive(Clone, Copy)]
+enum Number {
+    ChipEnable,
+    Lun,
+    Fail,
+    Byte,
+}
+
+impl Number {
+    // Whether the field has the form of this number.
+    fn is_well_formed(self, field: &str) -> bool {
+        match self {
+            Number::ChipEnable | Number::Lun => place_of(field).is_some(),
+            Number::Fail => fail_of(field).is_some(),
+            Number::Byte => byte_of(field).is_some(),
+        }
+    }
+
+    // What is wrong with the form of a field.
+    fn slip(self, field: &str) -> Slip {
+        match self {
+            Number::ChipEnable | Number::Lun | Number::Fail => Slip::in_digit(field),
+            Number::Byte => Slip::in_byte(field),
+        }
+    }
+}
+
+impl fmt::Display for Number {
+    fn fmt<W: fmt::Write>(&self, f: &mut fmt::Formatter<W>) -> fmt::Result {
+        f.write_str(match self {
+            Number::ChipEnable => "CE is one digit from 0 to 3",
+            Number::Lun => "LUN is one digit from 0 to 3",
+            Number::Fail => "FAIL is 0 or 1",
+            Number::Byte => "XX is two hexadecimal digits in lower case",
+        })
+    }
+}
+
+// The number field of a line that hasn't its form.
+#[derive(Clone, Copy)]
+pub(crate) struct BadNumber<'a> {
+    field: &'a str,
+    number: Number,
+}
+
+impl<'a> BadNumber<'a> {
+    // The first number field of this line that hasn't its form.
+    pub(crate) fn of(line: &'a str) -> BadNumber<'a> {
+        let ce = field_at(line, 0);
+        if !Number::ChipEnable.is_well_formed(ce) {
+            return BadNumber {
+                field: ce,
+                number: Number::ChipEnable,
+            };
+        }
+        let third = field_at(line, 2);
+        match letter_of(field_at(line, 1)) {
+            Some(Letter::Ready) if Number::Lun.is_well_formed(third) => BadNumber {
+                field: field_at(line, 3),
+                number: Number::Fail,
+            },
+            Some(Letter::Ready | Letter::ArrayReady) => BadNumber {
+                field: third,
+                number: Number::Lun,
+            },
+            Some(Letter::CycleOf(_)) | None => BadNumber {
+                field: third,
+                number: Number::Byte,
+            },
+        }
+    }
+}
+
+// The field of this number, counted from 0; empty if there is none.
+fn field_at(line: &str, number: usize) -> &str {
+    line.split(' ').nth(number).unwrap_or("")
+}
+
+impl fmt::Display for BadNumber<'_> {
+    fn fmt<W: fmt::Write>(&self, f: &mut fmt::Formatter<W>) -> fmt::Result {
+        let BadNumber { field, number } = *self;
+        write!(
+            f,
+            "`{}` {}: {number}",
+            Shown::line(field),
+            number.slip(field)
+        )
+    }
+}

@@ -1,0 +1,61 @@
+//! What is said of a refusal to a person.
+
+use crate::bad_number::BadNumber;
+use crate::bad_shape::BadShape;
+use crate::line_advice::LineAdvice;
+use crate::refusal::{TraceFault, TraceRefusal};
+use shown_text::{Shown, line_at};
+use std::fmt;
+
+/// A refusal beside the text that was refused. It displays what stands in its line, unless that is empty, and what is wanted there:
+/// `` `0 C D0`: `D0` is in upper case: XX is two hexadecimal digits in lower case (X2)``. The file and the number of the line are for the caller to
+/// write in front.
+#[derive(Clone, Copy)]
+pub struct TraceMessage<'a> {
+    refusal: TraceRefusal,
+    text: &'a str,
+}
+
+impl<'a> TraceMessage<'a> {
+    /// A refusal of this text.
+    pub fn new(refusal: TraceRefusal, text: &'a str) -> TraceMessage<'a> {
+        TraceMessage { refusal, text }
+    }
+}
+
+// Writes what is wanted in this line.
+fn write_wanted<W: fmt::Write>(
+    f: &mut fmt::Formatter<W>,
+    fault: TraceFault,
+    line: &str,
+    is_ended: bool,
+) -> fmt::Result {
+    if let Some(advice) = LineAdvice::find(line, is_ended) {
+        return write!(f, "{advice}");
+    }
+    match fault {
+        TraceFault::BadShape => write!(f, "{}", BadShape::of(line)),
+        TraceFault::BadNumber => write!(f, "{}", BadNumber::of(line)),
+    }
+}
+
+// Whether a line feed ends this line of a text, counted from 1.
+fn is_ended(text: &str, line: usize) -> bool {
+    text.split('\n').nth(line).is_some()
+}
+
+impl fmt::Display for TraceMessage<'_> {
+    fn fmt<W: fmt::Write>(&self, f: &mut fmt::Formatter<W>) -> fmt::Result {
+        match self.refusal {
+            TraceRefusal::Fault { fault, line } => {
+                let stood = line_at(self.text, line);
+                if !stood.is_empty() {
+                    write!(f, "`{}`: ", Shown::line(stood))?;
+                }
+                write_wanted(f, fault, stood, is_ended(self.text, line))?;
+                write!(f, " ({})", fault.code())
+            }
+            TraceRefusal::OutOfMemory => f.write_str("out of memory"),
+        }
+    }
+}

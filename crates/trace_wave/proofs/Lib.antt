@@ -1,0 +1,4 @@
+pub mod Lists
+pub mod Counted
+pub mod Kept
+pub mod Drawn

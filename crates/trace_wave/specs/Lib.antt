@@ -1,0 +1,5 @@
+pub mod Levels
+pub mod Changes
+pub mod Header
+pub mod Wave
+pub mod Keeping

@@ -1,0 +1,199 @@
+//! What is told of the model: R/B#, busy, array and fail of the LUNs, and the rule.
+ghost use Rattle.std.specs.Prelude.{◌≡◌, ℕ, ◌+◌, ◌*◌, ◌<◌, ◌≤◌, List, ◌∷◌, [], ◌++◌, None, length};
+ghost use Rattle.std.specs.Vec.{vec_len, vec_capacity};
+ghost use Rattle.nand_geometry.specs.declared.parts.Parts.{Parts};
+ghost use Rattle.onfi_cycle.specs.declared.item.Item.{Item as ItemValue};
+ghost use Rattle.onfi_cycle.specs.State.{judged};
+ghost use Rattle.trace_wave.specs.Keeping.{Stands};
+ghost use Rattle.trace_wave.specs.Levels.{is_busy, has_busy_array, tells_failure, some_busy, readies, target_levels, targets_levels, model_levels, shown};
+ghost use Rattle.trace_wave.specs.Changes.{changes};
+ghost use Rattle.trace_wave.specs.Wave.{rule_number, rule_next, past_next};
+
+use crate::channel::Channel;
+use crate::levels::{rule_bits, shown};
+use crate::text::push_changes;
+use arrayvec::ArrayVec;
+use onfi_cycle::{Forbidden, Item};
+use std::alloc::Allocator;
+
+/// How many lines tell of the model at most: R/B# of four targets, three lines of sixteen LUNs, and four bits of a rule.
+pub(crate) const MOST_LINES: usize = 56;
+
+// The number in the code of a rule.
+fn rule_number(rule: Forbidden) -> u8
+    ensures value { result ≡ rule_number rule }
+    ensures some { 1 ≤ result }
+{
+    match rule {
+        Forbidden::NotThere => 1,
+        Forbidden::CommandUnknown => 2,
+        Forbidden::SequenceOpen => 3,
+        Forbidden::SeveralLuns => 4,
+        Forbidden::NoColumnToChange => 5,
+        Forbidden::CommandMisplaced => 6,
+        Forbidden::AddressMisplaced => 7,
+        Forbidden::RowOutside => 8,
+        Forbidden::LunBusy => 9,
+        Forbidden::QueueClash => 10,
+        Forbidden::InputMisplaced => 11,
+        Forbidden::NoSoleDriver => 12,
+        Forbidden::DataNotReady => 13,
+        Forbidden::ColumnOutside => 14,
+        Forbidden::CacheReadMisplaced => 15,
+    }
+}
+
+// Some LUN of a target is busy, of so many from number n on.
+fn some_busy(channel: &Channel, ce: u8, count: u8, n: u8) -> bool
+    requires { (ce < 4) × (count + n ≤ 4) }
+    ensures { (g : Parts) (targets : ℕ) (past : List ItemValue) → Stands g targets past channel.now → ce < targets → count + n ≤ g.luns
+        → result ≡ some_busy g past ce count n }
+{
+    if count == 0 {
+        return false;
+    }
+    channel.is_busy(ce, n) || some_busy(channel, ce, count - 1, n + 1)
+}
+
+// Adds R/B# of so many targets, from number n on.
+fn push_readies(
+    levels: &mut ArrayVec<u8, MOST_LINES>,
+    channel: &Channel,
+    known: bool,
+    count: u8,
+    n: u8,
+)
+    requires few { count + n ≤ 4 }
+    requires places { length levels.old.items + count ≤ 56 }
+    ensures value { (g : Parts) (targets : ℕ) (past : List ItemValue) → Stands g targets past channel.now → count + n ≤ targets
+        → levels.new.items ≡ levels.old.items ++ readies known g past count n }
+    ensures len { length levels.new.items ≡ length levels.old.items + count }
+{
+    if count == 0 {
+        return;
+    }
+    levels.push(shown(known, !some_busy(channel, n, channel.luns(), 0)));
+    push_readies(levels, channel, known, count - 1, n + 1);
+}
+
+// Adds the three lines of a LUN.
+fn push_lun(levels: &mut ArrayVec<u8, MOST_LINES>, channel: &Channel, known: bool, ce: u8, lun: u8)
+    requires places { length levels.old.items + 3 ≤ 56 }
+    ensures value { (g : Parts) (targets : ℕ) (past : List ItemValue) → Stands g targets past channel.now → ce < targets → lun < g.luns
+        → levels.new.items ≡ levels.old.items ++ (shown known (is_busy g past ce lun) ∷ shown known (has_busy_array g past ce lun) ∷ shown known (tells_failure past ce lun) ∷ []) }
+    ensures len { length levels.new.items ≡ length levels.old.items + 3 }
+{
+    levels.push(shown(known, channel.is_busy(ce, lun)));
+    levels.push(shown(known, channel.has_busy_array(ce, lun)));
+    levels.push(shown(known, channel.tells_failure(ce, lun)));
+}
+
+// Adds those of so many LUNs of a target, from number n on.
+fn push_target(
+    levels: &mut ArrayVec<u8, MOST_LINES>,
+    channel: &Channel,
+    known: bool,
+    ce: u8,
+    count: u8,
+    n: u8,
+)
+    requires few { count + n ≤ 4 }
+    requires places { length levels.old.items + 3 * count ≤ 56 }
+    ensures value { (g : Parts) (targets : ℕ) (past : List ItemValue) → Stands g targets past channel.now → ce < targets → count + n ≤ g.luns
+        → levels.new.items ≡ levels.old.items ++ target_levels known g past ce count n }
+    ensures len { length levels.new.items ≡ length levels.old.items + 3 * count }
+{
+    if count == 0 {
+        return;
+    }
+    push_lun(levels, channel, known, ce, n);
+    push_target(levels, channel, known, ce, count - 1, n + 1);
+}
+
+// Adds those of so many targets, from number n on.
+fn push_targets(
+    levels: &mut ArrayVec<u8, MOST_LINES>,
+    channel: &Channel,
+    known: bool,
+    count: u8,
+    n: u8,
+)
+    requires few { count + n ≤ 4 }
+    requires places { length levels.old.items + 12 * count ≤ 56 }
+    ensures value { (g : Parts) (targets : ℕ) (past : List ItemValue) → Stands g targets past channel.now → count + n ≤ targets
+        → levels.new.items ≡ levels.old.items ++ targets_levels known g past count n }
+    ensures len { length levels.new.items ≤ length levels.old.items + 12 * count }
+{
+    if count == 0 {
+        return;
+    }
+    push_target(levels, channel, known, n, channel.luns(), 0);
+    push_targets(levels, channel, known, count - 1, n + 1);
+}
+
+/// The levels of all lines of the model; known while no rule is broken.
+pub(crate) fn model_levels(channel: &Channel, rule: u8) -> ArrayVec<u8, MOST_LINES>
+    ensures value { (g : Parts) (targets : ℕ) (past : List ItemValue) → Stands g targets past channel.now
+        → result.items ≡ model_levels g targets past rule }
+    ensures len { length result.items ≤ 56 }
+{
+    let mut levels = ArrayVec::new();
+    push_readies(&mut levels, channel, rule == 0, channel.targets(), 0);
+    push_targets(&mut levels, channel, rule == 0, channel.targets(), 0);
+    let _ = levels.try_extend_from_slice(&rule_bits(rule));
+    levels
+}
+
+// Adds what an item that breaks no rule changes, and goes on by it.
+fn push_effect<A: Allocator>(out: &mut Vec<u8, A>, channel: &mut Channel, item: Item)
+    requires permitted { judged channel.old.state item ≡ None }
+    requires places { vec_len out.old + 168 ≤ vec_capacity out.old }
+    ensures value { (g : Parts) (targets : ℕ) (past : List ItemValue) → Stands g targets past channel.old
+        → out.new.items ≡ out.old.items ++ changes (45 + targets) (model_levels g targets past 0) (model_levels g targets (item ∷ past) 0) }
+    ensures stands { (g : Parts) (targets : ℕ) (past : List ItemValue) → Stands g targets past channel.old → Stands g targets (item ∷ past) channel.new }
+    ensures len { vec_len out.new ≤ vec_len out.old + 168 }
+    ensures capacity { vec_capacity out.old ≤ vec_capacity out.new }
+{
+    if channel.keeps_levels(item) {
+        channel.go_on(item);
+        return;
+    }
+    let before = model_levels(channel, 0);
+    channel.go_on(item);
+    let after = model_levels(channel, 0);
+    push_changes(out, 45 + channel.targets(), &before, &after);
+}
+
+/// Adds what an item changes after a legal past and this rule, and goes on by it; the rule then. After a first broken rule nothing is judged any more.
+pub(crate) fn push_model<A: Allocator>(
+    out: &mut Vec<u8, A>,
+    channel: &mut Channel,
+    rule: u8,
+    item: Item,
+) -> u8
+    requires places { vec_len out.old + 168 ≤ vec_capacity out.old }
+    ensures value { (g : Parts) (targets : ℕ) (past : List ItemValue) → Stands g targets past channel.old
+        → out.new.items ≡ out.old.items ++ changes (45 + targets) (model_levels g targets past rule) (model_levels g targets (past_next past result item) result) }
+    ensures rule { (g : Parts) (targets : ℕ) (past : List ItemValue) → Stands g targets past channel.old → result ≡ rule_next g targets past rule item }
+    ensures stands { (g : Parts) (targets : ℕ) (past : List ItemValue) → Stands g targets past channel.old
+        → Stands g targets (past_next past result item) channel.new }
+    ensures len { vec_len out.new ≤ vec_len out.old + 168 }
+    ensures capacity { vec_capacity out.old ≤ vec_capacity out.new }
+{
+    if rule != 0 {
+        return rule;
+    }
+    match channel.judge(item) {
+        None => {
+            push_effect(out, channel, item);
+            0
+        }
+        Some(broken) => {
+            let next = rule_number(broken);
+            let before = model_levels(channel, 0);
+            let after = model_levels(channel, next);
+            push_changes(out, 45 + channel.targets(), &before, &after);
+            next
+        }
+    }
+}

@@ -1,0 +1,206 @@
+/* Random calls of everything in onfiseq.h, for AddressSanitizer, with what one call must say of another:
+ *  - ask says what push then answers, push_all does as many pushes, push_status the readies and then the item, and check judges a channel's items as
+ *    the pushes did;
+ *  - verify_run has verify's verdict, its run is legal but for its last cycle, and a short buffer has its beginning;
+ *  - a refused item leaves the state as it was, byte for byte; a text that was assembled is disassembled and assembled to the same file.
+ *
+ *     fuzz CALLS SEED chip.page */
+#include "onfiseq.h"
+#include <stdio.h>
+#include <stdlib.h>
+#include <string.h>
+
+enum { HISTORY = 512 };
+
+static uint64_t seed;
+static uint8_t page[4096];
+static size_t page_length;
+static unsigned long permitted, refused, accepted, runs;
+
+static uint32_t draw(uint32_t below) {
+    seed = seed * 6364136223846793005u + 1442695040888963407u;
+    return (uint32_t)(seed >> 33) % below;
+}
+
+static void must(int holds, const char *what) {
+    if (!holds) printf("wrong: %s\n", what), exit(1);
+}
+
+static struct onfiseq_geometry random_chip(void) {
+    struct onfiseq_geometry chip = {512u << draw(3), 16 * draw(5), 4 << draw(3), 8 << draw(4), (uint8_t)(1 + draw(4)), (uint8_t)draw(3), draw(16) != 0, draw(2), draw(2)};
+    if (draw(32) == 0) chip.luns = (uint8_t)draw(256);
+    if (draw(32) == 0) chip.pages = draw(0xffffffff);
+    return chip;
+}
+
+static struct onfiseq_item random_item(uint32_t targets) {
+    static const char kinds[] = "CCCCAAAAAAAAIIOORRYX";
+    static const uint8_t bytes[] = {0x00, 0x30, 0x60, 0xd0, 0xd1, 0x70, 0x78, 0x80, 0x10, 0x11, 0x15, 0x05, 0xe0, 0x31, 0x3f, 0x90, 0xec, 0xff, 0x85};
+    struct onfiseq_item item = {(uint8_t)(draw(16) ? draw(targets ? targets : 1) : draw(256)), (uint8_t)kinds[draw(sizeof kinds - 1)], 0, 0};
+    if (item.kind == 'C') item.byte = bytes[draw(sizeof bytes)];
+    else if (item.kind == 'R' || item.kind == 'Y') item.byte = (uint8_t)(draw(8) ? draw(4) : draw(256));
+    else item.byte = (uint8_t)(draw(4) ? 0 : draw(draw(8) ? 16 : 256));
+    if (item.kind == 'R' || draw(32) == 0) item.fail = (uint8_t)draw(draw(8) ? 2 : 256);
+    return item;
+}
+
+/* One that is permitted, as far as a few draws find one; now and then any. */
+static struct onfiseq_item likely_item(const struct onfiseq_bus *bus) {
+    struct onfiseq_item item = random_item((uint32_t)bus->count);
+    for (int k = 0; k < 300 && draw(1000) && onfiseq_ask(bus, &item) != 0; k++) item = random_item((uint32_t)bus->count);
+    return item;
+}
+
+/* A look at every LUN that there may be. */
+static void look_around(const struct onfiseq_bus *bus) {
+    struct onfiseq_look look = onfiseq_look(bus, (uint8_t)draw(6), (uint8_t)draw(6));
+    must(look.queued <= 4 && look.latch <= 2 && look.register_ <= 3, "a look");
+    must(look.is_there || (!look.busy && look.queued == 0), "a look at nothing");
+}
+
+/* What push_status is to push: the readies that the byte shows of the one LUN that drives the bus, where it gives its status, and the item. */
+static size_t complete(const struct onfiseq_bus *bus, struct onfiseq_item item, struct onfiseq_item *some) {
+    struct onfiseq_look look = {0};
+    size_t count = 0;
+    uint8_t lun = 0;
+    int drivers = 0;
+    for (uint8_t k = 0; k < 4; k++)
+        if (onfiseq_look(bus, item.ce, k).latch) drivers++, lun = k, look = onfiseq_look(bus, item.ce, k);
+    if (drivers == 1 && look.latch == 1 && item.kind == 'O' && item.fail == 0 && (item.byte & 0x40)) {
+        if (look.busy) some[count++] = (struct onfiseq_item){item.ce, 'R', lun, item.byte & 1};
+        if ((look.array_busy || (look.busy && look.caching)) && (item.byte & 0x20)) some[count++] = (struct onfiseq_item){item.ce, 'Y', lun, 0};
+    }
+    some[count] = item;
+    return count + 1;
+}
+
+/* A status output, or another item, on a bus whose R/B# isn't seen. */
+static size_t play_status(struct onfiseq_bus *bus, struct onfiseq_item *kept) {
+    struct onfiseq_bus copy = *bus;
+    struct onfiseq_item some[3], item = likely_item(bus);
+    size_t done = 99, other = 98;
+    if (draw(4)) item.kind = 'O', item.fail = 0, item.byte = (uint8_t)(draw(4) << 5 | draw(2));
+    size_t count = complete(bus, item, some);
+    uint32_t answer = onfiseq_push_status(bus, &item, &done);
+    must(answer == onfiseq_push_all(&copy, some, count, &other) && done == other, "push_status and push_all differ");
+    must(memcmp(&copy, bus, sizeof copy) == 0, "push_status left another state");
+    must(answer || count == 1 || !onfiseq_look(bus, item.ce, some[0].byte).busy, "a LUN that showed that it is ready is busy");
+    memcpy(kept, some, done * sizeof *some);
+    return done;
+}
+
+/* A channel of its own with random items, permitted ones more often than not. */
+static unsigned long play_channel(void) {
+    static struct onfiseq_item kept[HISTORY], some[8];
+    struct onfiseq_geometry chip = random_chip();
+    uint8_t targets = (uint8_t)(draw(16) ? 1 + draw(4) : draw(256));
+    struct onfiseq_bus bus = onfiseq_begin(&chip, targets), copy;
+    size_t length = 0, steps = draw(HISTORY), stuck = 0, done = 99;
+    unsigned long calls = 1;
+    for (size_t k = 0; k < steps && length < HISTORY - 20 && stuck < 5; k++) {
+        struct onfiseq_item item = likely_item(&bus);
+        uint32_t asked = onfiseq_ask(&bus, &item);
+        copy = bus;
+        uint32_t answer = onfiseq_push(&bus, &item);
+        must(asked == answer, "ask and push differ");
+        must(answer == 0 || memcmp(&copy, &bus, sizeof bus) == 0, "a refused item changed the state");
+        calls += 2;
+        if (answer == 0) kept[length++] = item, permitted++;
+        else refused++;
+        stuck = answer ? stuck + 1 : 0;
+        if (draw(4) == 0) look_around(&bus), calls++;
+        if (draw(8) == 0) length += play_status(&bus, kept + length), calls += 2;
+        if (draw(16) == 0) {
+            size_t count = draw(8);
+            for (size_t j = 0; j < count; j++) some[j] = j ? random_item(targets) : likely_item(&bus);
+            copy = bus;
+            answer = onfiseq_push_all(&bus, some, count, &done);
+            must(done <= count && (answer == 0) == (done == count), "push_all counts wrong");
+            for (size_t j = 0; j < done; j++) must(onfiseq_push(&copy, &some[j]) == 0, "push_all went on where push doesn't"), kept[length++] = some[j];
+            if (answer) must(onfiseq_push(&copy, &some[done]) == answer, "push_all and push differ");
+            item = random_item(targets);
+            must(onfiseq_ask(&copy, &item) == onfiseq_ask(&bus, &item), "push_all left another state");
+            calls += done + 4;
+        }
+    }
+    struct onfiseq_answer answer = onfiseq_check(&chip, targets, kept, length);
+    if (bus.count) must(answer.letter == 0 && answer.at == length, "check refuses what push permitted");
+    else must(answer.letter == 'P' || answer.letter == 'T', "check knows a channel that can't begin");
+    return calls + 1;
+}
+
+/* A verdict, with the run of a refusal that has one. */
+static struct onfiseq_verdict verify_file(const uint8_t *file, size_t length) {
+    static struct onfiseq_item whole[2048], some[2048], none;
+    struct onfiseq_page chip = onfiseq_page(page, page_length);
+    struct onfiseq_verdict verdict = onfiseq_verify(page, page_length, file, length), other;
+    size_t count = 99, again = 98, room = draw(32);
+    memset(some, 0x77, sizeof some), memset(&none, 0x77, sizeof none);
+    other = onfiseq_verify_run(page, page_length, file, length, whole, sizeof whole / sizeof *whole, &count);
+    must(verdict.letter == other.letter && verdict.number == other.number && verdict.at == other.at, "verify and verify_run differ");
+    other = onfiseq_verify_run(page, page_length, file, length, room ? some : NULL, room, &again);
+    must(verdict.letter == other.letter && count == again, "two runs differ");
+    must(count == 0 || (verdict.letter == 'V' && verdict.number == 7), "a run of another refusal");
+    size_t kept = count < room ? count : room;
+    must(memcmp(whole, some, kept * sizeof *some) == 0, "another beginning of a run");
+    for (size_t k = kept; k < 64; k++) must(memcmp(&some[k], &none, sizeof none) == 0, "what is behind a run is written");
+    size_t shown = count < sizeof whole / sizeof *whole ? count : sizeof whole / sizeof *whole;
+    struct onfiseq_answer answer = onfiseq_check(&chip.geometry, 1, whole, shown);
+    must(count == 0 || shown < count || (answer.letter == 'F' && answer.at == count - 1), "a run is legal, or breaks a rule too soon");
+    runs += count != 0;
+    return verdict;
+}
+
+/* A text of random lines, assembled, verified, and back. */
+static unsigned long play_program(void) {
+    static const char *const lines[] = {
+        "cmd 60\n", "addr 2 3\n", "cmd d0\n", "wait\n", "brs 01 a\n", "a:\n", "end 0\n", "end 1\n", "cmd 00\n", "addr 0 5\n", "cmd 30\n",
+        "get 16\n", "put 9\n", "loop 4\n", "next\n", "rowadd 1\n", "col 512\n", "stat\n", "yield\n", "seek 0\n", "jmp a\n", "row 0\n",
+        "plane 1\n", "cmd 70\n", "cmd ff\n", "bad\n", "; \xc3\xa9\n",
+    };
+    char text[1024] = "rows 1\nbuffer 16\nbudget 99\n";
+    static uint8_t file[4112], other[4112], back[32768];
+    size_t room = draw(8) ? sizeof file : draw(64);
+    if (draw(4) == 0) strcpy(text, "rows 1\nbuffer 0\nbudget 5\ncmd 60\naddr 2 3\ncmd d0\nwait\nend 0\n");
+    else for (unsigned k = draw(12); k > 0; k--) strcat(text, lines[draw(sizeof lines / sizeof *lines)]);
+    if (draw(16) == 0) text[draw((uint32_t)strlen(text))] = (char)draw(256);
+    struct onfiseq_placed made = onfiseq_assemble((uint8_t *)text, strlen(text), file, room);
+    if (made.letter) return must(made.letter != 'B' || made.length > room, "a short buffer"), 1;
+    struct onfiseq_placed shown = onfiseq_disassemble(file, made.length, back, sizeof back);
+    must(shown.letter == 0, "a file isn't disassembled");
+    struct onfiseq_placed again = onfiseq_assemble(back, shown.length, other, sizeof other);
+    must(again.letter == 0 && again.length == made.length && memcmp(file, other, made.length) == 0, "another file comes back");
+    accepted += verify_file(file, made.length).letter == 0;
+    file[draw((uint32_t)made.length)] ^= (uint8_t)(1 << draw(8));
+    verify_file(file, draw(4) ? made.length : draw((uint32_t)made.length));
+    onfiseq_disassemble(file, made.length, back, draw(2) ? sizeof back : draw(100));
+    return 10;
+}
+
+static unsigned long play_words(void) {
+    char text[160];
+    size_t room = draw(sizeof text + 1), length = onfiseq_words((uint8_t)("APFMVOIT?"[draw(9)]), draw(20), text, room);
+    must(length < 160 && (room == 0 || strlen(text) < room), "words");
+    uint8_t *cut = malloc(page_length);
+    size_t few = draw((uint32_t)page_length + 1);
+    memcpy(cut, page, few);
+    if (few) cut[draw((uint32_t)few)] ^= (uint8_t)(1 << draw(8));
+    struct onfiseq_page read = onfiseq_page(cut, few);
+    must(read.fault <= 9, "a page");
+    free(cut);
+    return 2;
+}
+
+int main(int count, char **words) {
+    unsigned long calls = 0, wanted = count > 1 ? strtoul(words[1], NULL, 10) : 100000;
+    seed = count > 2 ? strtoul(words[2], NULL, 10) : 1;
+    FILE *file = fopen(count > 3 ? words[3] : "", "rb");
+    must(file != NULL, "no page");
+    page_length = fread(page, 1, sizeof page, file);
+    fclose(file);
+    while (calls < wanted) calls += draw(8) == 0 ? play_channel() : draw(4) ? play_program() : play_words();
+    must(permitted > 0 && refused > 0 && accepted > 0 && runs > 0, "nothing was tried");
+    printf("nothing is wrong\n");
+    fprintf(stderr, "%lu calls: %lu items permitted, %lu refused, %lu programs accepted, %lu runs\n", calls, permitted, refused, accepted, runs);
+    return 0;
+}

@@ -1,0 +1,128 @@
+/* Compares onfiseq.h with what the library says of itself: the version, the size of each record, and the place and type of each field. */
+#include "onfiseq.h"
+#include <stdio.h>
+
+static int wrong;
+static unsigned flag;
+static struct onfiseq_sample none, all;
+
+static void test(int fits, const char *what) {
+    if (!fits) printf("differs: %s\n", what), wrong++;
+}
+
+#define SIZE(it) test(abi.it == sizeof(struct onfiseq_##it), "the size of " #it)
+#define IS(field, number) test(none.field == (number), #field)
+
+/* The next flag of the sample is this field and no other: it is set alone there, and it isn't set where all but it are. */
+#define FLAG(field)                                                                                                      \
+    do {                                                                                                                 \
+        struct onfiseq_sample one = onfiseq_sample(1u << flag), others = onfiseq_sample(~(1u << flag));                  \
+        test(one.field && !others.field && !none.field && all.field, #field);                                            \
+        flag++;                                                                                                          \
+    } while (0)
+
+static void test_sizes(void) {
+    struct onfiseq_abi abi = onfiseq_abi();
+    test(abi.version == ONFISEQ_VERSION, "the version");
+    SIZE(geometry);
+    SIZE(page);
+    SIZE(item);
+    SIZE(answer);
+    SIZE(queued);
+    SIZE(lun);
+    SIZE(target);
+    SIZE(bus);
+    SIZE(look);
+    SIZE(sample);
+}
+
+static void test_numbers(void) {
+    IS(geometry.page_bytes, 1);
+    IS(geometry.spare_bytes, 2);
+    IS(geometry.pages, 3);
+    IS(geometry.blocks, 4);
+    IS(geometry.luns, 5);
+    IS(geometry.plane_bits, 6);
+    IS(look.latch, 7);
+    IS(look.register_, 8);
+    IS(look.block, 9);
+    IS(look.page, 10);
+    IS(look.column, 11);
+    IS(look.queued, 12);
+    IS(target.opener, 26);
+    IS(target.phase, 27);
+    IS(target.r1, 28);
+    IS(target.r2, 29);
+    IS(target.r3, 30);
+    IS(target.column, 31);
+    IS(target.addresses, 32);
+    IS(target.inputs, 33);
+    IS(target.count, 34);
+    IS(item.ce, 39);
+    IS(item.kind, 40);
+    IS(item.byte, 41);
+    IS(item.fail, 42);
+    IS(answer.letter, 43);
+    IS(answer.number, 44);
+    IS(answer.at, 45);
+}
+
+static void test_luns(void) {
+    for (unsigned k = 0; k < 4; k++) {
+        IS(target.luns[k].latch, 13);
+        IS(target.luns[k].closer, 14);
+        IS(target.luns[k].register_, 15);
+        IS(target.luns[k].column, 35 + k);
+        IS(target.luns[k].array_block, 16);
+        IS(target.luns[k].array_page, 17);
+        IS(target.luns[k].register_block, 18);
+        IS(target.luns[k].register_page, 19);
+        IS(target.luns[k].outputs, 20);
+        IS(target.luns[k].queued, 21);
+        for (unsigned row = 0; row < 4; row++) {
+            IS(target.luns[k].queue[row].page, 22 + row);
+            IS(target.luns[k].queue[row].block, (22 + row) ^ 0x80);
+        }
+    }
+}
+
+static void test_flags(void) {
+    FLAG(geometry.enhanced);
+    FLAG(geometry.multi_plane);
+    FLAG(geometry.cache);
+    FLAG(look.is_there);
+    FLAG(look.busy);
+    FLAG(look.array_busy);
+    FLAG(look.caching);
+    FLAG(look.has_column);
+    FLAG(target.luns[3].queue[3].is_program);
+    FLAG(target.luns[3].busy);
+    FLAG(target.luns[3].has_closer);
+    FLAG(target.luns[3].array_busy);
+    FLAG(target.luns[3].has_column);
+    FLAG(target.luns[3].lost);
+    FLAG(target.is_open);
+    FLAG(target.is_empty);
+}
+
+/* The records that no sample holds: a page, and a channel. */
+static void test_others(void) {
+    struct onfiseq_geometry chip = {512, 16, 4, 8, 2, 1, true, false, true};
+    struct onfiseq_bus bus = onfiseq_begin(&chip, 3);
+    struct onfiseq_page page = onfiseq_page(NULL, 0);
+    test(bus.count == 3 && bus.geometry.page_bytes == 512 && bus.geometry.cache && !bus.geometry.multi_plane, "bus");
+    test(bus.targets[0].count == 2 && bus.targets[2].count == 2 && bus.targets[2].is_empty, "bus.targets");
+    test(page.fault == 1 && page.geometry.blocks == 0, "page");
+}
+
+int main(void) {
+    none = onfiseq_sample(0);
+    all = onfiseq_sample(~0u);
+    test_sizes();
+    test_numbers();
+    test_luns();
+    test_flags();
+    test_others();
+    if (wrong == 0) printf("onfiseq.h is as the library, version %d\n", ONFISEQ_VERSION);
+    return wrong != 0;
+}

@@ -1,0 +1,94 @@
+/* How much stack each call takes, painted: a thread on a stack that is filled with one byte, and what of it is changed.
+ *
+ *     stack chip.page program.. */
+#include "onfiseq.h"
+#include <pthread.h>
+#include <stdio.h>
+#include <stdlib.h>
+#include <string.h>
+
+enum { STACK = 4 << 20 };
+
+static uint8_t page[4096], file[65536], room[65536];
+static size_t page_length, file_length;
+static struct onfiseq_geometry chip;
+static struct onfiseq_bus bus;
+static const struct onfiseq_item erase[] = {
+    {0, 'C', 0x60, 0}, {0, 'A', 4, 0}, {0, 'A', 0, 0}, {0, 'A', 0, 0}, {0, 'C', 0xd0, 0}, {0, 'C', 0x70, 0},
+    {0, 'O', 0x80, 0}, {0, 'R', 0, 0},
+};
+enum { ITEMS = sizeof erase / sizeof *erase };
+
+static void *do_nothing(void *it) { return it; }
+static void *do_page(void *it) { return chip = onfiseq_page(page, page_length).geometry, it; }
+static void *do_check(void *it) { return onfiseq_check(&chip, 1, erase, ITEMS), it; }
+static void *do_begin(void *it) { return bus = onfiseq_begin(&chip, 1), it; }
+static void *do_push(void *it) {
+    for (int k = 0; k < ITEMS; k++) onfiseq_push(&bus, &erase[k]);
+    return it;
+}
+static void *do_push_all(void *it) {
+    size_t done;
+    return bus = onfiseq_begin(&chip, 1), onfiseq_push_all(&bus, erase, ITEMS, &done), it;
+}
+static void *do_look(void *it) { return onfiseq_ask(&bus, erase), onfiseq_look(&bus, 0, 0), it; }
+static void *do_verify(void *it) { return onfiseq_verify(page, page_length, file, file_length), it; }
+static void *do_verify_run(void *it) {
+    static struct onfiseq_item run[1024];
+    size_t length;
+    return onfiseq_verify_run(page, page_length, file, file_length, run, sizeof run / sizeof *run, &length), it;
+}
+static void *do_disassemble(void *it) { return onfiseq_disassemble(file, file_length, room, sizeof room), it; }
+static void *do_assemble(void *it) {
+    static uint8_t text[65536];
+    size_t length = onfiseq_disassemble(file, file_length, text, sizeof text).length;
+    return onfiseq_assemble(text, length, room, sizeof room), it;
+}
+static void *do_words(void *it) { return onfiseq_words('V', 14, (char *)room, 160), it; }
+
+static size_t stack_of(void *(*call)(void *)) {
+    pthread_attr_t how;
+    pthread_t thread;
+    size_t k = 0;
+    uint8_t *stack = aligned_alloc(4096, STACK);
+    memset(stack, 0xa5, STACK);
+    pthread_attr_init(&how);
+    pthread_attr_setstack(&how, stack, STACK);
+    pthread_create(&thread, &how, call, NULL);
+    pthread_join(thread, NULL);
+    while (k < STACK && stack[k] == 0xa5) k++;
+    free(stack);
+    return STACK - k;
+}
+
+static size_t read_all(const char *path, uint8_t *bytes, size_t most) {
+    FILE *it = fopen(path, "rb");
+    size_t length = it ? fread(bytes, 1, most, it) : 0;
+    if (it) fclose(it);
+    return length;
+}
+
+static void tell(const char *what, void *(*call)(void *), size_t idle) {
+    size_t used = stack_of(call);
+    printf("%-13s %6zu bytes of stack\n", what, used > idle ? used - idle : 0);
+}
+
+int main(int count, char **words) {
+    page_length = count > 1 ? read_all(words[1], page, sizeof page) : 0;
+    size_t idle = stack_of(do_nothing);
+    tell("page", do_page, idle);
+    tell("check", do_check, idle);
+    tell("begin", do_begin, idle);
+    tell("push", do_push, idle);
+    tell("push_all", do_push_all, idle);
+    tell("ask and look", do_look, idle);
+    tell("words", do_words, idle);
+    for (int k = 2; k < count; k++) {
+        file_length = read_all(words[k], file, sizeof file);
+        tell("verify", do_verify, idle);
+        tell("verify_run", do_verify_run, idle);
+        tell("disassemble", do_disassemble, idle);
+        tell("assemble", do_assemble, idle);
+    }
+    return 0;
+}

@@ -1,0 +1,151 @@
+"""onfiseq for Python: the calls of onfiseq.h by ctypes, with nothing but Python.
+
+    import onfiseq
+    lib = onfiseq.load("out/libonfiseq.so")
+    monitor = onfiseq.Monitor(lib, open("chip.page", "rb").read(), targets=1)
+    monitor.command(0, 0x60)        # raises onfiseq.Broken with the rule where the channel doesn't permit it
+
+`python3 tools/c_library.py` builds libonfiseq.so. A cocotb test calls the monitor's methods at the edges of WE#, RE# and R/B#.
+"""
+import ctypes
+
+u8, u32, u64, flag, size = ctypes.c_uint8, ctypes.c_uint32, ctypes.c_uint64, ctypes.c_bool, ctypes.c_size_t
+VERSION, NO_ITEM = 1, 255
+
+
+def record(name, **fields):
+    """A record of C with these fields."""
+    return type(name, (ctypes.Structure,), {"_fields_": list(fields.items())})
+
+
+Geometry = record("Geometry", page_bytes=u32, spare_bytes=u32, pages=u32, blocks=u32, luns=u8, plane_bits=u8, enhanced=flag, multi_plane=flag, cache=flag)
+Page = record("Page", fault=u32, geometry=Geometry)
+Item = record("Item", ce=u8, kind=u8, byte=u8, fail=u8)
+Answer = record("Answer", letter=u8, number=u32, at=size)
+Queued = record("Queued", page=u64, block=u32, is_program=flag)
+Lun = record("Lun", latch=u8, busy=flag, has_closer=flag, closer=u8, array_busy=flag, register=u8, has_column=flag, lost=flag, column=u32, array_block=u32,
+             array_page=u64, register_block=u32, register_page=u64, outputs=size, queued=size, queue=Queued * 4)
+Target = record("Target", is_open=flag, opener=u8, phase=u8, r1=u8, r2=u8, r3=u8, is_empty=flag, column=u32, addresses=size, inputs=size, count=size, luns=Lun * 4)
+Bus = record("Bus", geometry=Geometry, count=size, targets=Target * 4)
+Look = record("Look", is_there=flag, latch=u8, busy=flag, array_busy=flag, caching=flag, register=u8, has_column=flag, block=u32, page=u64, column=u64, queued=size)
+Placed = record("Placed", letter=u8, number=u32, at=size, length=size)
+Abi = record("Abi", version=u32, geometry=size, page=size, item=size, answer=size, queued=size, lun=size, target=size, bus=size, look=size, sample=size)
+
+# What each call answers, and what it takes.
+CALLS = {
+    "onfiseq_page": (Page, [ctypes.c_char_p, size]),
+    "onfiseq_check": (Answer, [ctypes.POINTER(Geometry), u8, ctypes.POINTER(Item), size]),
+    "onfiseq_begin": (Bus, [ctypes.POINTER(Geometry), u8]),
+    "onfiseq_push": (u32, [ctypes.POINTER(Bus), ctypes.POINTER(Item)]),
+    "onfiseq_push_all": (u32, [ctypes.POINTER(Bus), ctypes.POINTER(Item), size, ctypes.POINTER(size)]),
+    "onfiseq_push_status": (u32, [ctypes.POINTER(Bus), ctypes.POINTER(Item), ctypes.POINTER(size)]),
+    "onfiseq_ask": (u32, [ctypes.POINTER(Bus), ctypes.POINTER(Item)]),
+    "onfiseq_look": (Look, [ctypes.POINTER(Bus), u8, u8]),
+    "onfiseq_verify": (Answer, [ctypes.c_char_p, size, ctypes.c_char_p, size]),
+    "onfiseq_verify_run": (Answer, [ctypes.c_char_p, size, ctypes.c_char_p, size, ctypes.POINTER(Item), size, ctypes.POINTER(size)]),
+    "onfiseq_assemble": (Placed, [ctypes.c_char_p, size, ctypes.c_char_p, size]),
+    "onfiseq_disassemble": (Placed, [ctypes.c_char_p, size, ctypes.c_char_p, size]),
+    "onfiseq_words": (size, [u8, u32, ctypes.c_char_p, size]),
+    "onfiseq_abi": (Abi, []),
+}
+
+
+def load(path):
+    """The library of this path; a ValueError where its records aren't those here."""
+    lib = ctypes.CDLL(path)
+    for name, (answers, takes) in CALLS.items():
+        call = getattr(lib, name)
+        call.restype, call.argtypes = answers, takes
+    abi = lib.onfiseq_abi()
+    sizes = dict(geometry=Geometry, page=Page, item=Item, answer=Answer, queued=Queued, lun=Lun, target=Target, bus=Bus, look=Look)
+    if abi.version != VERSION or any(getattr(abi, name) != ctypes.sizeof(it) for name, it in sizes.items()):
+        raise ValueError("%s isn't the library of this module: version %d" % (path, abi.version))
+    return lib
+
+
+def words(lib, letter, number):
+    """What a code means."""
+    text = ctypes.create_string_buffer(160)
+    lib.onfiseq_words(ord(letter), number, text, len(text))
+    return text.value.decode()
+
+
+class Refused(Exception):
+    """A page, a program or a file is refused, by a code at a word or a line. Where a refusal by V7 has its run, its items stand in `run`: what happens up to the
+    refused word, and last the cycle that isn't permitted."""
+
+    def __init__(self, lib, letter, number, at=0, run=()):
+        super().__init__("%s%d at %d: %s" % (letter, number, at, words(lib, letter, number)))
+        self.code, self.at, self.run = "%s%d" % (letter, number), at, run
+
+
+class Broken(Exception):
+    """A cycle, or a ready, breaks a rule of the channel."""
+
+    def __init__(self, lib, number, count, item):
+        said = "item %d, %d %s %02x: " % (count, item.ce, chr(item.kind), item.byte)
+        super().__init__(said + ("no item" if number == NO_ITEM else "%s (F%d)" % (words(lib, "F", number), number)))
+        self.rule, self.count = number, count
+
+
+class Monitor:
+    """A channel that is watched: each call is an item of it. A call that raises leaves it as it was. With sees_ready=False nobody tells of readies: they are
+    taken from the status outputs that show them."""
+
+    def __init__(self, lib, page, targets=1, sees_ready=True):
+        read = lib.onfiseq_page(page, len(page))
+        if read.fault:
+            raise Refused(lib, "P", read.fault)
+        self.lib, self.count, self.sees_ready = lib, 0, sees_ready
+        self.bus = lib.onfiseq_begin(read.geometry, targets)
+        if self.bus.count == 0:
+            raise Refused(lib, "T", 0)
+
+    def push(self, ce, kind, byte, fail=0):
+        item = Item(ce, ord(kind), byte, fail)
+        rule = self.lib.onfiseq_push(self.bus, item) if self.sees_ready else self.lib.onfiseq_push_status(self.bus, item, size())
+        if rule:
+            raise Broken(self.lib, rule, self.count, item)
+        self.count += 1
+
+    def command(self, ce, byte):
+        self.push(ce, "C", byte)
+
+    def address(self, ce, byte):
+        self.push(ce, "A", byte)
+
+    def input(self, ce, byte):
+        self.push(ce, "I", byte)
+
+    def output(self, ce, byte):
+        self.push(ce, "O", byte)
+
+    def ready(self, ce, lun, failed=False):
+        self.push(ce, "R", lun, int(failed))
+
+    def array_ready(self, ce, lun):
+        self.push(ce, "Y", lun)
+
+    def look(self, ce, lun):
+        """The state of a LUN, None where none is there."""
+        look = self.lib.onfiseq_look(self.bus, ce, lun)
+        return look if look.is_there else None
+
+
+def verify(lib, page, file):
+    """Raises Refused where the microprogram of a word file isn't safe for the chip of a page."""
+    count, takes = size(), (page, len(page), file, len(file))
+    verdict = lib.onfiseq_verify_run(*takes, None, 0, count)
+    if verdict.letter:
+        run = (Item * count.value)()
+        lib.onfiseq_verify_run(*takes, run, len(run), count)
+        raise Refused(lib, chr(verdict.letter), verdict.number, verdict.at, list(run))
+
+
+def assemble(lib, text):
+    """The word file of an assembly text."""
+    file, text = ctypes.create_string_buffer(4112), text.encode()
+    placed = lib.onfiseq_assemble(text, len(text), file, len(file))
+    if placed.letter:
+        raise Refused(lib, chr(placed.letter), placed.number, placed.at)
+    return file.raw[: placed.length]

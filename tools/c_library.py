@@ -1,0 +1,229 @@
+"""Builds the libraries for C, then compiles, runs and compares what uses them.
+
+    python3 tools/c_library.py            as .ci/run does: a line for each user, and 1 at the end where one differs
+    python3 tools/c_library.py --build    the libraries alone
+    python3 tools/c_library.py --fuzz N   N random calls under AddressSanitizer alone, with a new seed
+
+at the root, after `rt ci`: a library is built over what that proved of the crates below it, which takes a minute or two each, once. It stands in
+crates/NAME/out/libNAME.a; a shared object of all of them, for Python, in out/libonfiseq.so. The users are the programs of examples/c and examples/python;
+what each must print stands in the folder `expected` beside it. Where rustc and Verilator are installed, the program of examples/rust and the
+test bench of examples/systemverilog run too.
+"""
+import importlib.machinery
+import importlib.util
+import os
+import re
+import resource
+import shutil
+import subprocess
+import sys
+import time
+from concurrent.futures import ThreadPoolExecutor
+
+LIBRARIES = ("onfiseq_c", "onfiseq_verify_c", "onfiseq_text_c")
+CC = ["cc", "-std=c99", "-Wall", "-Wextra", "-Werror", "-pedantic", "-O2", "-Iinclude"]
+CXX = ["c++", "-std=c++11", "-Wall", "-Wextra", "-Werror", "-Iinclude"]
+OUT = "out/c"
+SHARED = "out/libonfiseq.so"
+CHIP = "examples/small_chip/chip.page"
+ERASE = "examples/small_chip/erase_block"
+
+# Each user: its name, the words that run it, its input, and the status that it must end with. {out} is where its programs stand.
+USERS = (
+    ("layout", ["{out}/layout"], None, 0),
+    ("monitor", ["{out}/monitor", CHIP], ERASE + ".trace", 0),
+    ("monitor_busy", ["{out}/monitor", CHIP], "examples/c/busy.trace", 1),
+    ("monitor_status", ["{out}/monitor", CHIP, "no_ready"], "examples/c/no_ready.trace", 0),
+    ("status", ["{out}/status"], None, 0),
+    ("loader", ["{out}/loader", CHIP, ERASE + ".asm", "examples/small_chip/read_spare.asm", "examples/c/no_wait.asm", "examples/c/typing_error.asm"], None, 1),
+    ("monitor_cpp", ["{out}/monitor_cpp", CHIP], ERASE + ".trace", 0),
+    ("page", ["{out}/page", CHIP], "examples/c/busy.trace", 1),
+    ("fuzz", ["{out}/fuzz", "100000", "1", CHIP], None, 0),
+    ("python", [sys.executable, "examples/python/monitor.py", SHARED, CHIP, ERASE + ".asm"], ERASE + ".trace", 0),
+    ("python_busy", [sys.executable, "examples/python/monitor.py", SHARED, CHIP, "examples/c/no_wait.asm"], "examples/c/busy.trace", 0),
+)
+
+# The users in Rust, where rustc is installed.
+RUST = (
+    ("rust", ["{out}/monitor_rs", CHIP], ERASE + ".trace", 0),
+    ("rust_busy", ["{out}/monitor_rs", CHIP], "examples/c/busy.trace", 0),
+)
+
+
+def load_kit():
+    """The kit's own `rt`, as a module, so that a library is built as that would build it."""
+    loader = importlib.machinery.SourceFileLoader("gate", os.path.realpath(shutil.which("rt")))
+    made = importlib.util.module_from_spec(importlib.util.spec_from_loader("gate", loader))
+    sys.modules["gate"] = made
+    loader.exec_module(made)
+    library = made.rtlib
+    library.stop, library.Crate = made.stop, made.Crate
+    made.Crate.cuts_libraries, made.Crate.allowed = True, made.handles_of(os.getcwd())
+    return library
+
+
+def archive_of(name):
+    return "crates/%s/out/lib%s.a" % (name, name)
+
+
+def read(path):
+    with open(path) as it:
+        return it.read()
+
+
+def is_built(path, stamp):
+    """Whether the archive is there, built from these sources."""
+    return os.path.isfile(path) and os.path.isfile(path + ".stamp") and read(path + ".stamp") == stamp
+
+
+def build(library, crate):
+    """Builds the archive of a crate, and says why where it can't."""
+    path, stamp = archive_of(crate.name), crate.stamp()
+    if is_built(path, stamp):
+        return None
+    lacking = [below.name for below in crate.below() if not os.path.isfile("%s/format" % below.rlib)]
+    if lacking:
+        return "%s isn't proved here: run rt ci first" % lacking[0]
+    os.makedirs(os.path.dirname(path), exist_ok=True)
+    words = [library.RATTLE, "build", *crate.words([], keeps=False), "--toolchain", library.KIT + "/toolchain"]
+    words += ["-o", os.path.abspath(path)]
+    ran = subprocess.run(words, cwd=crate.folder, stdout=subprocess.PIPE, stderr=subprocess.STDOUT, text=True, errors="replace")
+    if ran.returncode or not os.path.isfile(path):
+        return ran.stdout[-2000:]
+    with open(path + ".stamp", "w") as it:
+        it.write(stamp)
+    return None
+
+
+def build_all():
+    library = load_kit()
+    crates = {crate.name: crate for crate in library.crates_below(os.getcwd())}
+    with ThreadPoolExecutor(len(LIBRARIES)) as pool:
+        found = list(pool.map(lambda name: build(library, crates[name]), LIBRARIES))
+    for name, why in zip(LIBRARIES, found):
+        if why:
+            sys.exit("c_library: %s: %s" % (name, why))
+
+
+# What calls the monitor of docs/use/C.md, which stands in front of it.
+CALLER = """
+int main(int count, char **words) {
+    static uint8_t bytes[4096];
+    unsigned target, byte;
+    char kind;
+    FILE *file = fopen(words[count - 1], "rb");
+    size_t length = file ? fread(bytes, 1, sizeof bytes, file) : 0;
+    if (file) fclose(file);
+    if (!begin(bytes, length, 1)) return 2;
+    while (scanf("%u %c %x", &target, &kind, &byte) == 3)
+        if (!see((uint8_t)target, kind, (uint8_t)byte)) return 1;
+    return 0;
+}
+"""
+
+
+def write_page_monitor(path):
+    """The monitor that docs/use/C.md shows, as a program."""
+    shown = re.search(r"^```c\n(.*?)^```$", read("docs/use/C.md"), re.M | re.S).group(1)
+    with open(path, "w") as it:
+        it.write(shown.replace("bool begin", "static bool begin").replace("bool see", "static bool see") + CALLER)
+
+
+def compile_all():
+    """Compiles the users and the shared object; each warning is an error."""
+    archives = [archive_of(name) for name in LIBRARIES]
+    os.makedirs(OUT, exist_ok=True)
+
+    def run(*words):
+        subprocess.run(words, check=True)
+
+    for name in ("layout", "monitor", "status", "loader"):
+        run(*CC, "examples/c/%s.c" % name, "examples/c/heap.c", *archives, "-o", "%s/%s" % (OUT, name))
+    run(*CC, "-std=gnu11", "examples/c/stack.c", "examples/c/heap.c", *archives, "-pthread", "-o", OUT + "/stack")
+    write_page_monitor(OUT + "/page.c")
+    run(*CC, OUT + "/page.c", "examples/c/heap.c", *archives, "-o", OUT + "/page")
+    run(*CC, "-g", "-fsanitize=address", "examples/c/fuzz.c", "examples/c/heap.c", *archives, "-o", OUT + "/fuzz")
+    run(*CC, "-c", "examples/systemverilog/onfiseq_dpi.c", "-o", OUT + "/onfiseq_dpi.o")
+    run(*CC, "-c", "examples/c/heap.c", "-fPIC", "-o", OUT + "/heap.o")
+    run(*CXX, "-x", "c++", "examples/c/monitor.c", "-x", "none", OUT + "/heap.o", *archives, "-o", OUT + "/monitor_cpp")
+    run("cc", "-shared", "-o", SHARED, OUT + "/heap.o", "-Wl,--whole-archive", *archives, "-Wl,--no-whole-archive")
+
+
+def run_user(name, words, given, status):
+    """Runs a user, and says what differs, if something does."""
+    ran = subprocess.run(
+        [word.format(out=OUT) for word in words],
+        env={**os.environ, "PYTHONDONTWRITEBYTECODE": "1"},
+        stdin=open(given) if given else subprocess.DEVNULL,
+        stdout=subprocess.PIPE,
+        stderr=subprocess.PIPE,
+        text=True,
+        errors="replace",
+        timeout=600,
+    )
+    language = name.split("_")[0]
+    wanted = read("examples/%s/expected/%s" % (language if language in ("python", "rust") else "c", name))
+    if ran.returncode == status and ran.stdout == wanted:
+        return None
+    return "it ended with %d and printed\n%s%swhere it is to end with %d and print\n%s" % (ran.returncode, ran.stdout, ran.stderr[-2000:], status, wanted)
+
+
+def compare_words():
+    """Whether onfiseq_words has the words of docs/use/CODES.md for each code of its letters, and none for any other."""
+    sys.dont_write_bytecode = True
+    sys.path.insert(0, "examples/python")
+    import onfiseq
+
+    lib = onfiseq.load(SHARED)
+    known = dict(re.findall(r"^\| ([APFMV]\d+) \| (.*) \|$", read("docs/use/CODES.md"), re.M))
+    told = {"%s%d" % (letter, number): onfiseq.words(lib, letter, number) for letter in "APFMV" for number in range(300)}
+    wrong = [code for code in told if told[code] != known.get(code, "")]
+    return "%s is said to mean `%s`" % (wrong[0], told[wrong[0]]) if wrong or len(known) < 50 else None
+
+
+def run_bench():
+    """Runs the test bench of examples/systemverilog, whose second erase comes too soon, and says what differs."""
+    room, here = OUT + "/verilator", os.getcwd()
+    shutil.rmtree(room, ignore_errors=True)
+    os.makedirs(room)
+    shutil.copy(CHIP, room)
+    sources = ["examples/systemverilog/" + name for name in ("onfiseq_pkg.sv", "onfiseq_monitor.sv", "bench.sv", "onfiseq_dpi.c")]
+    sources += ["examples/c/heap.c", archive_of("onfiseq_c"), archive_of("onfiseq_text_c")]
+    words = ["verilator", "--binary", "--timing", "--top-module", "bench", "-Mdir", "obj", "-CFLAGS", "-I%s/include" % here]
+    made = subprocess.run(words + ["%s/%s" % (here, it) for it in sources], cwd=room, stdout=subprocess.PIPE, stderr=subprocess.STDOUT, text=True)
+    if made.returncode:
+        return made.stdout[-2000:]
+    ran = subprocess.run(["obj/Vbench"], cwd=room, stdout=subprocess.PIPE, stderr=subprocess.STDOUT, text=True, preexec_fn=no_core)
+    return None if ran.returncode and "COMMAND 60: the LUN is busy (F9)" in ran.stdout else "it printed\n" + ran.stdout
+
+
+def no_core():
+    resource.setrlimit(resource.RLIMIT_CORE, (0, 0))
+
+
+def main():
+    build_all()
+    if sys.argv[1:] == ["--build"]:
+        return 0
+    compile_all()
+    if sys.argv[1:2] == ["--fuzz"]:
+        return subprocess.run([OUT + "/fuzz", sys.argv[2], str(int(time.time())), CHIP]).returncode
+    found = {name: run_user(name, *how) for name, *how in USERS}
+    found["words"] = compare_words()
+    if shutil.which("rustc"):
+        words = ["rustc", "-O", "-D", "warnings", "examples/rust/monitor.rs", "-L", "crates/onfiseq_c/out", "-l", "static=onfiseq_c"]
+        subprocess.run(words + ["-o", OUT + "/monitor_rs"], check=True)
+        found.update({name: run_user(name, *how) for name, *how in RUST})
+    else:
+        print("c_library: rustc isn't installed, so examples/rust isn't tried")
+    if shutil.which("verilator"):
+        found["verilator"] = run_bench()
+    else:
+        print("c_library: verilator isn't installed, so examples/systemverilog isn't tried")
+    for name, why in found.items():
+        print("c_library: %s %s" % (name, "differs: " + why if why else "ok"))
+    return 1 if any(found.values()) else 0
+
+
+if __name__ == "__main__":
+    sys.exit(main())
