@@ -1,5 +1,5 @@
 -- Small facts of tests.
-use Rattle.std.proofs.Common.{◌≡◌, ◌<◌, ◌==◌, true, ltb, ltb-true}
+use Rattle.std.proofs.Common.{◌≡◌, ◌<◌, true, ltb, ltb-true}
 use Rattle.std.proofs.lemmas.Bool.{and_parts}
 use Rattle.onfi_cycle.specs.declared.lun.Lun.{Lun}
 use Rattle.onfi_cycle.specs.Channel.{Channel, is_there}

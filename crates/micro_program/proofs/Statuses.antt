@@ -1,5 +1,5 @@
 -- A bit of the status byte: it is all that is left by its mask, or nothing is.
-use Rattle.std.proofs.Common.{◌≡◌, ℕ, zero, suc, ◌*◌, ◌<◌, ◌==◌, Bool, not, bit_and, refl, arith}
+use Rattle.std.proofs.Common.{◌≡◌, ℕ, zero, suc, ◌*◌, ◌<◌, ◌==◌, not, bit_and, refl, arith}
 use Rattle.std.proofs.lemmas.Nat.Bits.{and_pow, bit_at-lt}
 use Rattle.std.specs.Int.{bit_at}
 use Rattle.micro_program.specs.Program.{is_ready_status}
