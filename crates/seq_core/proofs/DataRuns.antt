@@ -61,7 +61,7 @@ taken_plays a b ce len bytes size t =
 
 -- 3. inputs
 
-own_inputs : (s : Channel) (l : Lun) (bytes : List ℕ) (past : List Item) → MovesAreOwn s l (gives Din bytes) past → broken_inputs s.geometry s.targets l.ce bytes past ≡ None
+pub own_inputs : (s : Channel) (l : Lun) (bytes : List ℕ) (past : List Item) → MovesAreOwn s l (gives Din bytes) past → broken_inputs s.geometry s.targets l.ce bytes past ≡ None
 own_inputs s l [] past own = refl
 own_inputs s l (byte ∷ bytes) past own =
     let later = cycle l.ce Din byte ∷ past in

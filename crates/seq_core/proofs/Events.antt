@@ -232,7 +232,7 @@ pub record StepLawful (s : Channel) (w : World) (l : Lun) (result : Option After
   pub lawful : LawfulWorld s a.world
 
 -- an answer that changes nothing
-nothing_done : (s : Channel) (w : World) (l : Lun) (answer : Stepped) → LawfulWorld s w → StepLawful s w l (stands w answer)
+pub nothing_done : (s : Channel) (w : World) (l : Lun) (answer : Stepped) → LawfulWorld s w → StepLawful s w l (stands w answer)
 nothing_done s w l answer law =
     record { a = record { world = w; reply = ToStep answer }; is_a = refl; own = record { new = []; is_new = refl; own = tt }; lawful = law }
 

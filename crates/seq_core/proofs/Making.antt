@@ -17,7 +17,7 @@ use Rattle.micro_word.specs.declared.word.Word.TheVariants.{Command, Address, Ge
 use Rattle.micro_program.specs.Lines.{Line}
 use Rattle.micro_program.specs.Program.{Job, Done, cost, cost_now, buffer_now, column_now, index_now, plane_now, place_now}
 use Rattle.micro_program.specs.Moves.{Move, Give, Take, and_then, moves, gives, part, column_bytes, put_bytes, is_wait}
-use Rattle.micro_program.specs.Step.{Stride, keeps_bus, next_step}
+use Rattle.micro_program.specs.Step.{Stride, keeps_bus, answered_step, next_step}
 use Rattle.seq_core.specs.declared.load_fault.LoadFault.{LoadFault}
 use Rattle.seq_core.specs.declared.stepped.Stepped.{Stepped}
 use Rattle.seq_core.specs.declared.stepped.Stepped.TheVariants.{Empty, Held, Ended}
@@ -66,22 +66,20 @@ MakesAsTold s (Some x) (Some r) = Making s x r
 MakesAsTold s None (Some r) = ⊥
 MakesAsTold s (Some x) None = ⊥
 
-making_fresh : (s : Channel) (j : Job) → Making s (fresh_slot j) (record { job = j; made = [] })
+pub making_fresh : (s : Channel) (j : Job) → Making s (fresh_slot j) (record { job = j; made = [] })
 making_fresh s j = record { job = refl; polled = false; count = 0; cycles = none; waits = λ h. cc }
 
-abbrev slot_after : Job → Stride → Slot
+abbrev pub slot_after : Job → Stride → Slot
 slot_after j r = record { job = j; ahead = r.ahead; done = r.done; code = r.code }
 
-abbrev slot_at : Job → List Line → List Done → Option ℕ → Slot
+abbrev pub slot_at : Job → List Line → List Done → Option ℕ → Slot
 slot_at j ahead done code = record { job = j; ahead = ahead; done = done; code = code }
 
-making_stride : (s : Channel) (past : List Item) (j : Job) (line : Line) (rest : List Line) (done : List Done) (code : Option ℕ) (r : Stride) (run : Running) → next_step s j past (line ∷ rest) done ≡ Some r → Making s (slot_at j (line ∷ rest) done code) run → Making s (slot_after j r) (record { job = run.job; made = added past r.past ++ run.made })
-making_stride s past j line rest done code r run e m = at left.leaves
+pub making_stride : (s : Channel) (bytes : List ℕ) (past : List Item) (j : Job) (line : Line) (rest : List Line) (done : List Done) (code : Option ℕ) (r : Stride) (run : Running) → answered_step s.geometry j bytes past (line ∷ rest) done ≡ Some r → Making s (slot_at j (line ∷ rest) done code) run → Making s (slot_after j r) (record { job = run.job; made = added past r.past ++ run.made })
+making_stride s bytes past j line rest done code r run e m = at left.leaves
   where
     left : StepLeaves s j past line rest done r
-    left =
-        let parts = step_parts s j past line rest done r e in
-        step_leaves s j parts.p.bytes past line rest done r (model_step s j past line rest done r parts)
+    left = step_leaves s j bytes past line rest done r e
 
     items : (bytes : List ℕ) → bytes ≡ left.p.bytes → cycles_of j.lun.ce left.moved bytes run.made ≡ added past r.past ++ run.made
     items bytes is =
@@ -116,15 +114,15 @@ making_stride s past j line rest done code r run e m = at left.leaves
 
 -- 3. an event
 
-abbrev told : Bool → Event → World → After → Option Running → Option Running
+abbrev pub told : Bool → Event → World → After → Option Running → Option Running
 told b e w a r = cond b (running_behind e w a r) r
 
 -- what another LUN's slot becomes doesn't matter
-elsewhere : (s : Channel) (past : List Item) (holder : Option Lun) (w : World) (m l : Lun) (v : Option Slot) (r : Option Running) → is_there s m ≡ true → is_there s l ≡ true → same_lun m l ≡ false → MakesAsTold s (slot_of s w l) r → MakesAsTold s (slot_of s (record { past = past; slots = with_slot s w.slots m v; holder = holder }) l) r
+pub elsewhere : (s : Channel) (past : List Item) (holder : Option Lun) (w : World) (m l : Lun) (v : Option Slot) (r : Option Running) → is_there s m ≡ true → is_there s l ≡ true → same_lun m l ≡ false → MakesAsTold s (slot_of s w l) r → MakesAsTold s (slot_of s (record { past = past; slots = with_slot s w.slots m v; holder = holder }) l) r
 elsewhere s past holder w m l v r there_m there_l differs h =
     subst (λ (o : Option Slot). MakesAsTold s o r) (sym (slot_other s past w.slots holder w m l v refl there_m there_l differs)) h
 
-here : (s : Channel) (past : List Item) (holder : Option Lun) (w : World) (m l : Lun) (v : Option Slot) (r : Option Running) → is_there s m ≡ true → length w.slots ≡ s.targets * s.geometry.luns → same_lun m l ≡ true → MakesAsTold s v r → MakesAsTold s (slot_of s (record { past = past; slots = with_slot s w.slots m v; holder = holder }) l) r
+pub here : (s : Channel) (past : List Item) (holder : Option Lun) (w : World) (m l : Lun) (v : Option Slot) (r : Option Running) → is_there s m ≡ true → length w.slots ≡ s.targets * s.geometry.luns → same_lun m l ≡ true → MakesAsTold s v r → MakesAsTold s (slot_of s (record { past = past; slots = with_slot s w.slots m v; holder = holder }) l) r
 here s past holder w m l v r there size same h =
     subst (λ (k : Lun). MakesAsTold s (slot_of s (record { past = past; slots = with_slot s w.slots m v; holder = holder }) k) r) (same_lun_is m l same)
     (subst (λ (o : Option Slot). MakesAsTold s o r) (sym (slot_same s past w.slots holder m v there size)) h)
@@ -138,32 +136,38 @@ load_made s w m l j r None false f e there size h =
     elsewhere s w.past w.holder w m l (Some (fresh_slot j)) r (loadable s w m j f).there there e h
 
 -- a step that does nothing adds nothing
-nothing_added : (past : List Item) → added past past ≡ []
+pub nothing_added : (past : List Item) → added past past ≡ []
 nothing_added past = let none_more : length past - length past ≡ 0 = omega arith in ap (λ (n : ℕ). take n past) none_more
 
-same_made : (w : World) (r : Option Running) → with_cycles (added w.past w.past) r ≡ r
+pub same_made : (w : World) (r : Option Running) → with_cycles (added w.past w.past) r ≡ r
 same_made w None = refl
 same_made w (Some r) = ap (λ (xs : List Item). Some (let x : Running = record { job = r.job; made = xs ++ r.made } in x)) (nothing_added w.past)
 
-unchanged : (s : Channel) (w : World) (l : Lun) (b : Bool) (r : Option Running) → MakesAsTold s (slot_of s w l) r → MakesAsTold s (slot_of s w l) (cond b (with_cycles (added w.past w.past) r) r)
+pub unchanged : (s : Channel) (w : World) (l : Lun) (b : Bool) (r : Option Running) → MakesAsTold s (slot_of s w l) r → MakesAsTold s (slot_of s w l) (cond b (with_cycles (added w.past w.past) r) r)
 unchanged s w l true r h = subst (MakesAsTold s (slot_of s w l)) (sym (same_made w r)) h
 unchanged s w l false r h = h
 
 -- the step of a slot whose job goes on
-strides_made : (s : Channel) (w : World) (m l : Lun) (j : Job) (ahead : List Line) (done : List Done) (code : Option ℕ) (q : Stride) (r : Option Running) (b : Bool) → next_step s j w.past ahead done ≡ Some q → same_lun m l ≡ b → is_there s m ≡ true → is_there s l ≡ true → length w.slots ≡ s.targets * s.geometry.luns → slot_of s w m ≡ Some (slot_at j ahead done code) → MakesAsTold s (slot_of s w l) r → MakesAsTold s (slot_of s (after_stride s w m j q).world l) (cond b (with_cycles (added w.past q.past) r) r)
-strides_made s w m l j [] done code q r b n e there_m there_l size is h = cc
-strides_made s w m l j (line ∷ rest) done code q r false n e there_m there_l size is h =
+pub strides_made : (s : Channel) (bytes : List ℕ) (w : World) (m l : Lun) (j : Job) (ahead : List Line) (done : List Done) (code : Option ℕ) (q : Stride) (r : Option Running) (b : Bool) → answered_step s.geometry j bytes w.past ahead done ≡ Some q → same_lun m l ≡ b → is_there s m ≡ true → is_there s l ≡ true → length w.slots ≡ s.targets * s.geometry.luns → slot_of s w m ≡ Some (slot_at j ahead done code) → MakesAsTold s (slot_of s w l) r → MakesAsTold s (slot_of s (after_stride s w m j q).world l) (cond b (with_cycles (added w.past q.past) r) r)
+strides_made s bytes w m l j [] done code q r b n e there_m there_l size is h = cc
+strides_made s bytes w m l j (line ∷ rest) done code q r false n e there_m there_l size is h =
     elsewhere s q.past (cond (keeps_bus q.outcome) (Some m) None) w m l (Some (slot_after j q)) r there_m there_l e h
-strides_made s w m l j (line ∷ rest) done code q r true n e there_m there_l size is h =
+strides_made s bytes w m l j (line ∷ rest) done code q r true n e there_m there_l size is h =
     here s q.past (cond (keeps_bus q.outcome) (Some m) None) w m l (Some (slot_after j q)) (with_cycles (added w.past q.past) r) there_m size e
     (at r (subst (λ (o : Option Slot). MakesAsTold s o r) (ap (slot_of s w) (sym (same_lun_is m l e)) ∙ is) h))
   where
     at : (r : Option Running) → MakesAsTold s (Some (slot_at j (line ∷ rest) done code)) r → MakesAsTold s (Some (slot_after j q)) (with_cycles (added w.past q.past) r)
     at None h = absurd h
-    at (Some run) h = making_stride s w.past j line rest done code q run n h
+    at (Some run) h = making_stride s bytes w.past j line rest done code q run n h
+
+-- the answers that a model gives
+answers_of_step : (s : Channel) (j : Job) (past : List Item) (ahead : List Line) (done : List Done) (q : Stride) → next_step s j past ahead done ≡ Some q → (bytes : List ℕ) × (answered_step s.geometry j bytes past ahead done ≡ Some q)
+answers_of_step s j past [] done q e = cc
+answers_of_step s j past (line ∷ rest) done q e =
+    let parts = step_parts s j past line rest done q e in (parts.p.bytes, model_step s j past line rest done q parts)
 
 -- of a step that stands
-stands_made : (s : Channel) (w : World) (l : Lun) (b : Bool) (answer : Stepped) (a : After) (r : Option Running) → stands w answer ≡ Some a → MakesAsTold s (slot_of s w l) r → MakesAsTold s (slot_of s a.world l) (cond b (with_cycles (added w.past a.world.past) r) r)
+pub stands_made : (s : Channel) (w : World) (l : Lun) (b : Bool) (answer : Stepped) (a : After) (r : Option Running) → stands w answer ≡ Some a → MakesAsTold s (slot_of s w l) r → MakesAsTold s (slot_of s a.world l) (cond b (with_cycles (added w.past a.world.past) r) r)
 stands_made s w l b answer a r is h =
     subst (λ (x : After). MakesAsTold s (slot_of s x.world l) (cond b (with_cycles (added w.past x.world.past) r) r)) (same_after (record { world = w; reply = ToStep answer }) a is) (unchanged s w l b r h)
 
@@ -175,7 +179,7 @@ step_made s w m l (Some x) a r b is e same there size h = of x.code refl e
     strode None n e = cc
     strode (Some q) n e =
         subst (λ (y : After). MakesAsTold s (slot_of s y.world l) (cond b (with_cycles (added w.past y.world.past) r) r)) (same_after (after_stride s w m x.job q) a e)
-        (strides_made s w m l x.job x.ahead x.done x.code q r b n same (there_of_slot s w m x is) there size is h)
+        (let k = answers_of_step s x.job w.past x.ahead x.done q n in strides_made s k.0 w m l x.job x.ahead x.done x.code q r b k.1 same (there_of_slot s w m x is) there size is h)
 
     free : (held : Bool) → cond held (stands w Held) (and_then (next_step s x.job w.past x.ahead x.done) (λ q. Some (after_stride s w m x.job q))) ≡ Some a → MakesAsTold s (slot_of s a.world l) (cond b (with_cycles (added w.past a.world.past) r) r)
     free true e = stands_made s w l b Held a r e h
@@ -200,7 +204,7 @@ item_slots : (s : Channel) (w : World) (l : Lun) (i : Item) (reply : Bool → Re
 item_slots s w l i reply true = refl
 item_slots s w l i reply false = refl
 
-event_made : (s : Channel) (w : World) (l : Lun) (e : Event) (a : After) (r : Option Running) → after s w e ≡ Some a → is_there s l ≡ true → length w.slots ≡ s.targets * s.geometry.luns → MakesAsTold s (slot_of s w l) r → MakesAsTold s (slot_of s a.world l) (told (is_of e l) e w a r)
+pub event_made : (s : Channel) (w : World) (l : Lun) (e : Event) (a : After) (r : Option Running) → after s w e ≡ Some a → is_there s l ≡ true → length w.slots ≡ s.targets * s.geometry.luns → MakesAsTold s (slot_of s w l) r → MakesAsTold s (slot_of s a.world l) (told (is_of e l) e w a r)
 event_made s w l (Load m j) a r is there size h =
     subst (λ (x : After). MakesAsTold s (slot_of s x.world l) (told (same_lun m l) (Load m j) w x r)) (same_after _ a is) (load_made s w m l j r (load_fault s w m j) (same_lun m l) refl refl there size h)
 event_made s w l (Step m) a r is there size h = step_made s w m l (slot_of s w m) a r (same_lun m l) refl is refl there size h
@@ -246,7 +250,7 @@ step_size s w m (Some x) a e = of x.code e
     of (Some code) e = sym (ap (λ (y : After). length y.world.slots) (same_after (record { world = w; reply = ToStep Ended }) a e))
     of None e = free (is_held w.holder m) e
 
-event_size : (s : Channel) (w : World) (e : Event) (a : After) → after s w e ≡ Some a → length a.world.slots ≡ length w.slots
+pub event_size : (s : Channel) (w : World) (e : Event) (a : After) → after s w e ≡ Some a → length a.world.slots ≡ length w.slots
 event_size s w (Load m j) a is = sym (ap (λ (x : After). length x.world.slots) (same_after _ a is)) ∙ load_size s w m j (load_fault s w m j)
 event_size s w (Step m) a is = step_size s w m (slot_of s w m) a is
 event_size s w (Ready m fail) a is = sym (ap (λ (x : After). length x.world.slots) (same_after _ a is)) ∙ item_size w (Rdy m.ce m.lun fail) ToReady _
@@ -319,7 +323,7 @@ made_most s j done polled made count (word before p m n d moves h waits is told)
     omega (arith, made_most s j before p m n h, counted_most s.geometry j before d.word moves is)
 made_most s j done polled made count (poll before p m n status moves h unready is told) = made_most s j before p m n h
 
-as_told : (s : Channel) (slot : Option Slot) (r : Option Running) → MakesAsTold s slot r → ((x : Slot) → slot ≡ Some x → IsWithin s x) → RunsAsTold s slot r
+pub as_told : (s : Channel) (slot : Option Slot) (r : Option Running) → MakesAsTold s slot r → ((x : Slot) → slot ≡ Some x → IsWithin s x) → RunsAsTold s slot r
 as_told s None None h within = tt
 as_told s (Some x) (Some r) h within =
     let w = within x refl in

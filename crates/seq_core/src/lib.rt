@@ -18,6 +18,7 @@ mod registers;
 mod sequencer;
 mod slot;
 mod slot_state;
+pub mod lun_slots;
 mod stepped;
 mod unload_fault;
 
@@ -25,6 +26,9 @@ pub use event_list::{Event, Ran, Reply, Shortage, do_event, run_events};
 pub use job::{Job, JobRefused};
 pub use job_fault::JobFault;
 pub use load_fault::LoadFault;
+pub use registers::Registers;
 pub use sequencer::{Core, LoadRefused, UnloadedJob};
+pub use slot::Slot;
+pub use slot_state::SlotState;
 pub use stepped::Stepped;
 pub use unload_fault::UnloadFault;

@@ -7,7 +7,7 @@ use nand_geometry::Geometry;
 
 /// What the words done have set (docs/use/WORDS.md). The index stops at its greatest number, which no geometry has.
 #[derive(Clone, Copy, Debug, PartialEq, Eq)]
-pub(crate) struct Registers {
+pub struct Registers {
     pub column: u16,
     pub index: u32,
     pub plane: u8,
@@ -17,7 +17,7 @@ pub(crate) struct Registers {
 
 impl Registers {
     /// Before the first word of a job with this base.
-    pub(crate) fn fresh(base: u32) -> Registers
+    pub fn fresh(base: u32) -> Registers
         ensures { result ≡ fresh_registers base }
     {
         Registers {
@@ -30,7 +30,7 @@ impl Registers {
     }
 
     /// The five address bytes, None where the row isn't there. Where only column bytes are wanted, the row's are 0.
-    pub(crate) fn five_bytes(self, geometry: &Geometry, lun: u8, last: u8) -> Option<[u8; 5]>
+    pub fn five_bytes(self, geometry: &Geometry, lun: u8, last: u8) -> Option<[u8; 5]>
         ensures { result ≡ five_bytes geometry.now lun self last }
     {
         let low = (self.column % 256) as u8;
@@ -43,7 +43,7 @@ impl Registers {
     }
 
     /// After a word of a job with this base; a poll has brought this status.
-    pub(crate) fn after(self, base: u32, word: Word, status: u8) -> Registers
+    pub fn after(self, base: u32, word: Word, status: u8) -> Registers
         requires { reaches self.place word < 2 ^ 32 }
         ensures { result ≡ registers_after base self word status }
     {

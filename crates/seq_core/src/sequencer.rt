@@ -20,6 +20,10 @@ use crate::job::Job;
 use crate::load_fault::LoadFault;
 use crate::slot::Slot;
 use crate::slot_state::SlotState;
+use crate::lun_slots::{
+    all_are_empty, empty_slots, holder_after, is_held, load_fault, lun_count, number_of, put_in,
+    state_in, take_in,
+};
 use crate::stepped::Stepped;
 use crate::unload_fault::UnloadFault;
 use arrayvec::ArrayVec;
@@ -62,50 +66,6 @@ pub struct UnloadedJob<A: Allocator = Global> {
     pub code: u8,
 }
 
-// How many LUNs so many targets have.
-fn lun_count(targets: u8, geometry: &Geometry) -> usize
-    requires { targets ≤ 4 }
-    ensures value { result ≡ targets * geometry.now.luns }
-    ensures most { result ≤ 16 }
-{
-    usize::from(targets) * usize::from(geometry.parts().luns)
-}
-
-// So many slots without a job.
-fn empty_slots<A: Allocator>(count: usize) -> ArrayVec<Option<Slot<A>>, MAX_CHANNEL_LUNS>
-    requires { count ≤ 16 }
-    ensures { result.items ≡ replicate count None }
-{
-    let mut slots: ArrayVec<Option<Slot<A>>, MAX_CHANNEL_LUNS> = ArrayVec::new();
-    for _ in 0..count {
-        slots.push(None);
-    }
-    slots
-}
-
-// The number of a LUN of a channel, if it is there.
-fn number_of(targets: u8, luns: u8, lun: Lun) -> Option<usize>
-    ensures { (s : Channel) → s.targets ≡ targets → s.geometry.luns ≡ luns
-        → result ≡ (if is_there s lun then Some (number s lun) else None) }
-{
-    if lun.ce < targets && lun.lun < luns {
-        Some(lun.place(luns))
-    } else {
-        None
-    }
-}
-
-// What a slot holds.
-fn state_in<A: Allocator>(slots: &[Option<Slot<A>>], place: usize) -> SlotState
-    requires { place < length slots.now }
-    ensures { result ≡ slot_state (get_or slots.now place None) }
-{
-    match &slots[place] {
-        None => SlotState::Empty,
-        Some(slot) => SlotState::of(slot.code()),
-    }
-}
-
 // Steps the slot of a number.
 fn step_in<A: Allocator + Copy>(
     bus: &mut Bus<A>,
@@ -122,79 +82,6 @@ fn step_in<A: Allocator + Copy>(
     match &mut slots[place] {
         Some(slot) => slot.step(bus),
         None => unreachable!(),
-    }
-}
-
-// Why a job isn't loaded onto a LUN that has a job or not, and is there or not.
-fn load_fault(
-    has_job: bool,
-    there: bool,
-    lun: Lun,
-    job_lun: Lun,
-    geometry: &Geometry,
-    job_geometry: &Geometry,
-) -> Option<LoadFault>
-    ensures { result ≡ fault_by has_job there lun job_lun geometry.now job_geometry.now }
-{
-    if has_job {
-        Some(LoadFault::SlotTaken)
-    } else if !there || lun != job_lun {
-        Some(LoadFault::OtherLun)
-    } else if geometry.parts() != job_geometry.parts() {
-        Some(LoadFault::OtherGeometry)
-    } else {
-        None
-    }
-}
-
-// A slot has no job.
-fn is_empty<A: Allocator>(slot: &Option<Slot<A>>) -> bool
-    ensures { result ≡ not (is_some slot.now) }
-{
-    match slot {
-        None => true,
-        Some(_) => false,
-    }
-}
-
-// No slot has a job.
-fn all_are_empty<A: Allocator>(slots: &[Option<Slot<A>>]) -> bool
-    ensures { result ≡ all_are_empty slots.now }
-{
-    slots.iter().all(|slot| is_empty(slot))
-}
-
-// Puts another slot at a number.
-fn put_in<A: Allocator>(slots: &mut [Option<Slot<A>>], place: usize, slot: Option<Slot<A>>)
-    requires { place < length slots.old }
-    ensures { slots.new ≡ set slots.old place slot }
-{
-    slots[place] = slot;
-}
-
-// Takes the slot of a number.
-fn take_in<A: Allocator>(slots: &mut [Option<Slot<A>>], place: usize) -> Option<Slot<A>>
-    requires { place < length slots.old }
-    ensures value { result ≡ get_or slots.old place None }
-    ensures slots { slots.new ≡ set slots.old place None }
-{
-    slots[place].take()
-}
-
-// Another LUN has the bus.
-fn is_held(holder: Option<Lun>, lun: Lun) -> bool
-    ensures { result ≡ is_held holder lun }
-{
-    holder.is_some_and(|holder| holder != lun)
-}
-
-// The LUN that has the bus after a step of this one.
-fn holder_after(answer: Stepped, lun: Lun) -> Option<Lun>
-    ensures { result ≡ holder_after answer lun }
-{
-    match answer {
-        Stepped::Went => Some(lun),
-        _ => None,
     }
 }
 

@@ -1,7 +1,8 @@
 //! A slot: a program in progress on its LUN.
-ghost use Rattle.std.specs.Prelude.{◌≡◌, ◌<◌, ◌^◌, ◌≤◌, List, Some, None, IfOk, OnOk, OnErr, length, slice_get};
+ghost use Rattle.std.specs.Prelude.{◌≡◌, ◌+◌, ◌<◌, ◌^◌, ◌≤◌, List, Some, None, IfOk, OnOk, OnErr, length, slice_get};
 ghost use Rattle.onfi_cycle.specs.declared.item.Item.{Item};
 ghost use Rattle.onfi_cycle.specs.Channel.{Channel};
+ghost use Rattle.onfi_cycle.specs.Content.{written};
 ghost use Rattle.micro_program.specs.Places.{IsShaped};
 ghost use Rattle.micro_program.specs.Program.{Job as JobValue};
 ghost use Rattle.target_bus.specs.Bus.{Traced, channel_of};
@@ -35,7 +36,7 @@ struct Position {
 
 /// A job in progress: its buffer as it is now, and how far it is.
 #[derive(Drop)]
-pub(crate) struct Slot<A: Allocator> {
+pub struct Slot<A: Allocator> {
     lun: Lun,
     base: u32,
     verified: Verified<A>,
@@ -95,7 +96,7 @@ fn code_of(word: Word) -> Option<u8>
 
 impl<A: Allocator> Slot<A> {
     /// A job before its first word.
-    pub(crate) fn new(job: Job<A>) -> Slot<A>
+    pub fn new(job: Job<A>) -> Slot<A>
         ensures value { result ≡ fresh_progress job }
         ensures verified { IsVerified job }
         ensures shaped { IsShaped job.text.words }
@@ -122,14 +123,46 @@ impl<A: Allocator> Slot<A> {
     }
 
     /// The code with which it has ended, if it has.
-    pub(crate) fn code(&self) -> Option<u8>
+    pub fn code(&self) -> Option<u8>
         ensures { result ≡ self.now.code }
     {
         self.position.code
     }
 
+    /// The LUN that it runs on.
+    pub fn lun(&self) -> Lun
+        ensures { result ≡ self.now.job.lun }
+    {
+        self.lun
+    }
+
+    /// What its words have set.
+    pub fn registers(&self) -> Registers
+        ensures { result ≡ self.now.registers }
+    {
+        self.position.registers
+    }
+
+    /// Its buffer as it is now.
+    pub fn buffer(&self) -> &[u8]
+        ensures value { result.now ≡ self.now.job.buffer }
+        ensures verified { IsVerified self.now.job }
+    {
+        &self.buffer
+    }
+
+    /// Puts bytes that were taken from a die into its buffer, from a place on.
+    pub fn put_taken(&mut self, place: usize, bytes: &[u8])
+        requires { place + length bytes.now ≤ length self.old.job.buffer }
+        ensures { self.new ≡ with_buffer self.old (written bytes.now place self.old.job.buffer) }
+    {
+        let (_, rest) = self.buffer.as_mut_slice().split_at_mut(place);
+        let (part, _) = rest.split_at_mut(bytes.len());
+        part.copy_from_slice(bytes);
+    }
+
     /// The job, with the buffer as it is now.
-    pub(crate) fn into_job(self) -> Job<A>
+    pub fn into_job(self) -> Job<A>
         ensures { result ≡ self.job }
     {
         Job {
@@ -140,8 +173,8 @@ impl<A: Allocator> Slot<A> {
         }
     }
 
-    // The next word.
-    fn next_word(&self) -> Word
+    /// The next word of a job that goes on.
+    pub fn next_word(&self) -> Word
         requires { (word : Word) × (slice_get self.now.job.text.words self.now.at ≡ Some word) }
         ensures word { slice_get self.now.job.text.words self.now.at ≡ Some result }
         ensures inside { self.now.at < 1024 }
@@ -151,8 +184,8 @@ impl<A: Allocator> Slot<A> {
         self.verified.text().words()[self.position.at]
     }
 
-    // Goes on after a word that brought this status, if that is done.
-    fn go_on(&mut self, word: Word, status: u8) -> Stepped
+    /// Goes on after a word that brought this status, if that is done.
+    pub fn go_on(&mut self, word: Word, status: u8) -> Stepped
         requires place { reaches self.old.registers.place word < 2 ^ 32 }
         requires inside { self.old.at < 1024 }
         requires room { length (loops_behind self.old.at self.old.loops word) ≤ 4 }

@@ -4,7 +4,7 @@ ghost use Rattle.seq_core.specs.Calls.{state_of, has_job};
 
 /// What the slot of a LUN holds.
 #[derive(Clone, Copy, Debug, PartialEq, Eq)]
-pub(crate) enum SlotState {
+pub enum SlotState {
     /// It has no job.
     Empty,
     /// Its job goes on.
@@ -15,7 +15,7 @@ pub(crate) enum SlotState {
 
 impl SlotState {
     /// That of a job with the code that it has ended with, if it has.
-    pub(crate) fn of(code: Option<u8>) -> SlotState
+    pub fn of(code: Option<u8>) -> SlotState
         ensures { result ≡ state_of code }
     {
         match code {
@@ -25,7 +25,7 @@ impl SlotState {
     }
 
     /// It has a job.
-    pub(crate) fn has_job(self) -> bool
+    pub fn has_job(self) -> bool
         ensures { result ≡ has_job self }
     {
         !matches!(self, SlotState::Empty)

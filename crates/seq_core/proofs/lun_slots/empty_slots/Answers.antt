@@ -1,6 +1,6 @@
 use Rattle.std.proofs.Common.{arith}
 use Rattle.seq_core.proofs.Cores.{one_more, one_longer, replicate_all}
-use Rattle.seq_core.proofs.sequencer.empty_slots.Goals as goal
+use Rattle.seq_core.proofs.lun_slots.empty_slots.Goals as goal
 
 pub loop-preserved : goal.loop-preserved
 loop-preserved g c =

@@ -1,7 +1,7 @@
 use Rattle.std.proofs.Common.{◌≤◌, subst, sym}
 use Rattle.nand_geometry.specs.declared.parts.Parts.{Parts}
 use Rattle.seq_core.proofs.Cores.{few_slots}
-use Rattle.seq_core.proofs.sequencer.lun_count.Goals as goal
+use Rattle.seq_core.proofs.lun_slots.lun_count.Goals as goal
 
 pub returns-clause-most : goal.returns-clause-most
 returns-clause-most c =

@@ -1,5 +1,5 @@
 use Rattle.std.proofs.Common.{◌≡◌, None, length, replicate}
-use Rattle.seq_core.proofs.sequencer.empty_slots.Given as goal
+use Rattle.seq_core.proofs.lun_slots.empty_slots.Given as goal
 
 abbrev pub invariant-loop : goal.invariant-loop
 invariant-loop g l = record {

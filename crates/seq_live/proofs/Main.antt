@@ -1,0 +1,21 @@
+-- The main theorem of a real bus.
+use Rattle.std.proofs.Common.{List}
+use Rattle.seq_core.specs.World.{fresh}
+use Rattle.seq_core.proofs.Main.{fresh_is_lawful, lawful_slot}
+use Rattle.seq_live.specs.Headline.{LiveHeadline}
+use Rattle.seq_live.proofs.Events.{live_run_goes_well}
+use Rattle.seq_live.proofs.Making.{runs_as_told}
+
+pub live_headline : LiveHeadline
+live_headline s events is v answered =
+    let r = live_run_goes_well s is events (fresh s) (fresh_is_lawful s) v answered in
+    record {
+      ran = r.ran;
+      is_ran = r.is_ran;
+      legal = r.lawful.legal;
+      own = r.own;
+      within = λ l x e. (lawful_slot s r.ran.world r.lawful l x e).within;
+      text = λ l x e. (lawful_slot s r.ran.world r.lawful l x e).text;
+      cycles = runs_as_told s events r.ran r.is_ran (λ l x e. (lawful_slot s r.ran.world r.lawful l x e).within);
+      lawful = r.lawful;
+    }

@@ -1,0 +1,125 @@
+-- What a call of a sequencer on a real bus is: an event, or several, of the world that it keeps.
+use Rattle.std.specs.Prelude.{◌≡◌, ℕ, ◌+◌, ◌==◌, Bool, true, false, ◌&&◌, if◌then◌else◌, List, [], ◌∷◌, ◌++◌, Option, Some, None, length, slice_get}
+use Rattle.std.specs.Int.RustNames.{bit_and}
+use Rattle.nand_geometry.specs.declared.parts.Parts.{Parts}
+use Rattle.onfi_cycle.specs.declared.lun.Lun.{Lun}
+use Rattle.onfi_cycle.specs.declared.item.Item.{Item}
+use Rattle.onfi_cycle.specs.Channel.{Channel, IsChannel}
+use Rattle.onfi_cycle.specs.State.{BusView, Follows}
+use Rattle.micro_word.specs.declared.word.Word.{Word}
+use Rattle.micro_word.specs.declared.word.Word.TheVariants.{Wait, ReadStatus}
+use Rattle.micro_program.specs.Program.{Job, fits, is_ready_status}
+use Rattle.micro_program.specs.Moves.{Move, outputs}
+use Rattle.micro_program.specs.Played.{Played, answered}
+use Rattle.micro_program.specs.Safe.{MovesAreOwn}
+use Rattle.micro_program.specs.Step.{first_byte}
+use Rattle.target_bus.specs.Bus.{channel_on}
+use Rattle.seq_core.specs.declared.stepped.Stepped.{Stepped}
+use Rattle.seq_core.specs.declared.slot_state.SlotState.TheVariants as state
+use Rattle.seq_core.specs.World.{World}
+use Rattle.seq_core.specs.Reply.{Reply}
+use Rattle.seq_core.specs.After.{Ran, is_held}
+use Rattle.seq_core.specs.Lawful.{LawfulWorld}
+use Rattle.seq_core.specs.Progress.{Progress, moves_at, status_of, outcome_of, progress_after}
+use Rattle.seq_core.specs.declared.registers.Registers.{Registers}
+use Rattle.seq_core.specs.Calls.{slot_at, slot_state, CanStep}
+use Rattle.seq_live.specs.Event.{LiveEvent, Step, Ready, ArrayReady}
+use Rattle.seq_live.specs.After.{run_live, AllAnswered}
+use Rattle.seq_live.specs.Headline.{LiveEventsAreOwn}
+use Rattle.seq_live.specs.Burst.{taken_by}
+use Rattle.seq_live.specs.Kept.{LiveView, channel_at, core_at, IsLiveAt}
+
+-- the run that a call was, from this world on: each step is answered, the run is defined, answered so and adds to the trace what is each event's own;
+-- the world after it is lawful, and is what is kept
+pub record LiveRan (v : LiveView) (w : World) (events : List LiveEvent) (replies : List Reply) (later : LiveView) : Type 0 where
+  pub answered : AllAnswered (channel_at v) events w
+  pub ran : Ran
+  pub is_ran : run_live (channel_at v) events w ≡ Some ran
+  pub replied : ran.replies ≡ replies
+  pub is_at : IsLiveAt later ran.world
+  pub own : LiveEventsAreOwn (channel_at v) events w
+  pub lawful : LawfulWorld (channel_at v) ran.world
+  pub channel : channel_at later ≡ channel_at v
+
+-- a call was this run of each lawful world that was kept
+abbrev pub IsLiveRun : LiveView → List LiveEvent → List Reply → LiveView → Type 0
+IsLiveRun v events replies later = (w : World) → IsLiveAt v w → LawfulWorld (channel_at v) w → LiveRan v w events replies later
+
+-- a call was this one event
+abbrev pub IsLiveEvent : LiveView → LiveEvent → Reply → LiveView → Type 0
+IsLiveEvent v e reply later = IsLiveRun v (e ∷ []) (reply ∷ []) later
+
+-- what is kept of a LUN; one that isn't there is as an empty slot
+abbrev pub live_slot : LiveView → Lun → Option Progress
+live_slot v l = slot_at (core_at v []) l
+
+-- a LUN has a program that goes on, and no other LUN has the bus
+pub record MayStep (v : LiveView) (l : Lun) : Type 0 where
+  pub running : state.Running ≡ slot_state (live_slot v l)
+  pub free : is_held v.holder l ≡ false
+
+-- after some past that this state follows, these moves are a LUN's own
+pub record CanMove (s : BusView) (l : Lun) (moved : List Move) : Type 0 where
+  pub geometry : Parts
+  pub targets : ℕ
+  pub past : List Item
+  pub follows : Follows geometry targets s past
+  pub own : MovesAreOwn (channel_on geometry targets []) l moved past
+
+-- these moves were made and their outputs gave these bytes: the state follows each past that it followed, with their cycles after it
+abbrev pub HasMoved : (old new : BusView) → ℕ → List Move → List ℕ → Type 0
+HasMoved old new ce moved bytes =
+    (g : Parts) (n : ℕ) (past : List Item) → Follows g n old past
+    → (later : List Item) × (answered ce moved bytes past ≡ Some (record { past = later; bytes = bytes })) × Follows g n new later
+
+-- the next word of a slot can be stepped after a past that the state follows, and so many bytes are what its outputs give
+pub record CanAnswer (g : Parts) (s : BusView) (v : Progress) (count : ℕ) : Type 0 where
+  pub targets : ℕ
+  pub past : List Item
+  pub follows : Follows g targets s past
+  pub can : CanStep (channel_on g targets []) past v
+  pub many : count ≡ taken_by can.word
+
+-- the moves of a word can be made on the state
+pub record CanMoveBy (g : Parts) (s : BusView) (l : Lun) (buffer : List ℕ) (r : Registers) (word : Word) : Type 0 where
+  pub moved : List Move
+  pub is_moved : moves_at g l.lun buffer r word ≡ Some moved
+  pub can : CanMove s l moved
+  pub inside : fits (length buffer) r.place word ≡ true
+
+-- the moves of a word were made on the state, and its outputs gave these bytes
+pub record HasMovedBy (g : Parts) (old new : BusView) (l : Lun) (buffer : List ℕ) (r : Registers) (word : Word) (bytes : List ℕ) : Type 0 where
+  pub moved : List Move
+  pub is_moved : moves_at g l.lun buffer r word ≡ Some moved
+  pub moves : HasMoved old new l.ce moved bytes
+
+-- the next word was stepped on the state, its outputs gave these bytes, and it left this of the slot
+pub record AnsweredSteps (g : Parts) (old new : BusView) (v : Progress) (bytes : List ℕ) (answer : Stepped) (u : Progress) : Type 0 where
+  pub word : Word
+  pub here : slice_get v.job.text.words v.at ≡ Some word
+  pub moves : HasMovedBy g old new v.job.lun v.job.buffer v.registers word bytes
+  pub slot_is : u ≡ progress_after v word bytes
+  pub answer_is : answer ≡ outcome_of word (status_of word bytes)
+
+-- ---- what a status shows
+
+-- the word polls the status of its LUN
+abbrev pub is_poll : Word → Bool
+is_poll Wait = true
+is_poll ReadStatus = true
+is_poll _ = false
+
+abbrev pub has_array_ready : ℕ → Bool
+has_array_ready status = bit_and status 32 == 32
+
+abbrev pub has_fail : ℕ → Bool
+has_fail status = bit_and status 1 == 1
+
+-- the readies that a poll shows: RDY that its LUN has become ready, with failure where FAIL is shown, and ARDY besides that its array has. A ready of
+-- a LUN that was ready before changes nothing
+abbrev pub shown_by : Lun → ℕ → List LiveEvent
+shown_by l status =
+    if is_ready_status status then Ready l (has_fail status) ∷ (if has_array_ready status then ArrayReady l ∷ [] else []) else []
+
+abbrev pub shown : Lun → Word → List ℕ → List LiveEvent
+shown l word bytes = if is_poll word then shown_by l (first_byte bytes) else []

@@ -1,0 +1,26 @@
+-- What happens on a real bus, whose chips answer what they answer.
+use Rattle.std.specs.Prelude.{ℕ, Bool, List, [], ◌∷◌}
+use Rattle.onfi_cycle.specs.declared.lun.Lun.{Lun}
+use Rattle.micro_program.specs.Program.{Job}
+use Rattle.seq_core.specs.Event.{Event, Load as ALoad, Step as AStep, Ready as AReady, ArrayReady as AnArrayReady, Unload as AnUnload, LoadsVerified}
+
+-- a job comes to a LUN, its next word is stepped and its outputs give these bytes, the LUN becomes ready, its array does, or its job is taken away
+pub data LiveEvent : Type 0 where
+  Load : (lun : Lun) (job : Job) → LiveEvent
+  Step : (lun : Lun) (bytes : List ℕ) → LiveEvent
+  Ready : (lun : Lun) (fail : Bool) → LiveEvent
+  ArrayReady : (lun : Lun) → LiveEvent
+  Unload : (lun : Lun) → LiveEvent
+
+-- the event without its bytes
+abbrev pub plain : LiveEvent → Event
+plain (Load l j) = ALoad l j
+plain (Step l bytes) = AStep l
+plain (Ready l fail) = AReady l fail
+plain (ArrayReady l) = AnArrayReady l
+plain (Unload l) = AnUnload l
+
+-- each job that is loaded is verified
+abbrev pub AllLoadVerified : List LiveEvent → Type 0
+AllLoadVerified [] = Unit {0}
+AllLoadVerified (e ∷ events) = LoadsVerified (plain e) × AllLoadVerified events

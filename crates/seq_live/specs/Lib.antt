@@ -1,0 +1,6 @@
+pub mod Event
+pub mod After
+pub mod Headline
+pub mod Burst
+pub mod Kept
+pub mod Calls

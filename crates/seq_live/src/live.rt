@@ -1,0 +1,397 @@
+//! The sequencer on a real bus: what is to be done on the pins, burst by burst, and what the chips answer.
+ghost use Rattle.std.specs.Prelude.{◌≡◌, ℕ, ◌<◌, ◌≤◌, List, [], ◌∷◌, ◌++◌, Some, None, if◌then◌else◌, IfOk, IfErr, IfSome, IfNone, length};
+ghost use Rattle.nand_geometry.specs.declared.parts.Parts.{Parts};
+ghost use Rattle.onfi_cycle.specs.Channel.{is_there};
+ghost use Rattle.micro_word.specs.declared.word.Word.{Word as WordValue};
+ghost use Rattle.seq_core.specs.declared.slot_state.SlotState.{SlotState as SlotStateValue};
+ghost use Rattle.seq_core.specs.World.{fresh, number};
+ghost use Rattle.seq_core.specs.Event.{IsVerified};
+ghost use Rattle.seq_core.specs.Reply.{Reply, ToLoad, ToStep, ToReady, ToArrayReady, ToUnload, Loaded, NotLoaded, Unloaded, NotUnloaded};
+ghost use Rattle.seq_core.specs.Calls.{slot_state, fault_by};
+ghost use Rattle.seq_live.specs.Event.{Load, Step, Ready, ArrayReady, Unload};
+ghost use Rattle.seq_live.specs.Kept.{LiveView, channel_at, IsLiveAt, IsLive};
+ghost use Rattle.seq_live.specs.Calls.{IsLiveRun, IsLiveEvent, live_slot, live_load_fault, MayStep, IsTruthful, NextWord, shown};
+
+use crate::out_of_turn::OutOfTurn;
+use crate::playing::play_next;
+use arrayvec::ArrayVec;
+use nand_geometry::Geometry;
+use onfi_cycle::{BusState, Item, Lun, MAX_CHANNEL_LUNS};
+use seq_core::lun_slots::{
+    empty_slots, holder_after, is_held, load_fault, lun_count, number_of, put_in, state_in, take_in,
+};
+use seq_core::{Job, LoadFault, LoadRefused, Slot, SlotState, Stepped, UnloadFault, UnloadedJob};
+use std::alloc::{Allocator, Global};
+use std::marker::Model;
+
+/// A step that goes on on the pins: of which LUN, and how many of its bursts are done.
+#[derive(Clone, Copy, Debug, PartialEq, Eq)]
+pub struct StepGoingOn {
+    pub lun: Lun,
+    pub done: usize,
+}
+
+/// A sequencer on the pins of a channel. Each LUN has a slot for one job; one LUN at a time has the bus. It keeps no trace and takes no memory: what has
+/// happened stands in the contracts alone.
+#[derive(Drop)]
+pub struct Live<A: Allocator = Global> {
+    state: BusState,
+    slots: ArrayVec<Option<Slot<A>>, MAX_CHANNEL_LUNS>,
+    holder: Option<Lun>,
+    going: Option<StepGoingOn>,
+}
+
+impl<A: Allocator> Model for Live<A> {
+    ghost use Rattle.seq_live.specs.Kept.{LiveView, IsLive};
+
+    ghost Value = { LiveView };
+
+    ghost view = { λ c. record { state = c.state; slots = c.slots.items; holder = c.holder; going = c.going } };
+
+    ghost invariant = { λ c. IsLive (record { state = c.state; slots = c.slots.items; holder = c.holder; going = c.going }) };
+}
+
+impl<A: Allocator> Live<A> {
+    /// A sequencer on the pins of a channel of so many targets of this geometry, 4 at most, None where there are more: each slot is empty. Its chips
+    /// are ready and have been reset, and none is selected.
+    pub fn new(geometry: Geometry, targets: u8) -> Option<Live<A>>
+        ensures some { IfSome result (λ live. (live.state.geometry ≡ geometry) × (length live.state.targets ≡ targets)) }
+        ensures world { IfSome result (λ live. IsLiveAt live (fresh (channel_at live))) }
+        ensures none { IfNone result (4 < targets) }
+    {
+        if targets > 4 {
+            return None;
+        }
+        let slots = empty_slots(lun_count(targets, &geometry));
+        Some(Live {
+            state: BusState::new(geometry, targets),
+            slots,
+            holder: None,
+            going: None,
+        })
+    }
+
+    // The number of a LUN, if it is there.
+    fn place(&self, lun: Lun) -> Option<usize>
+        ensures value { result ≡ (if is_there (channel_at self.now) lun then Some (number (channel_at self.now) lun) else None) }
+        ensures inside { IfSome result (λ k. (k < length self.now.slots) × (k < 16)) }
+    {
+        number_of(
+            self.state.targets(),
+            self.state.geometry().parts().luns,
+            lun,
+        )
+    }
+
+    // What the slot of a LUN holds.
+    fn state_at(&self, lun: Lun) -> SlotState
+        ensures value { result ≡ slot_state (live_slot self.now lun) }
+        ensures live { IsLive self.now }
+    {
+        match self.place(lun) {
+            None => SlotState::Empty,
+            Some(place) => state_in(self.slots.as_slice(), place),
+        }
+    }
+
+    /// The geometry of its LUNs.
+    pub fn geometry(&self) -> Geometry
+        ensures { result ≡ self.now.state.geometry }
+    {
+        self.state.geometry()
+    }
+
+    /// The LUN that has the bus, if one has it.
+    pub fn holder(&self) -> Option<Lun>
+        ensures { result ≡ self.now.holder }
+    {
+        self.holder
+    }
+
+    /// The step that goes on on the pins, if one does.
+    pub fn going(&self) -> Option<StepGoingOn>
+        ensures { result ≡ self.now.going }
+    {
+        self.going
+    }
+
+    // The answer of a step that changes nothing: the LUN has no program that goes on, or another LUN has the bus.
+    fn answer_at_rest(&self, lun: Lun) -> Option<Stepped>
+        ensures came { IfSome result (λ answer. (bytes : List ℕ) → IsLiveEvent self.now (Step lun bytes) (ToStep answer) self.now) }
+        ensures may { IfNone result (MayStep self.now lun) }
+    {
+        match self.state_at(lun) {
+            SlotState::Empty => Some(Stepped::Empty),
+            SlotState::Ended(_) => Some(Stepped::Ended),
+            SlotState::Running if is_held(self.holder, lun) => Some(Stepped::Held),
+            SlotState::Running => None,
+        }
+    }
+
+    /// What [`load`](Live::load) would answer.
+    pub fn admits(&self, lun: Lun, job: &Job<A>) -> Result<(), LoadFault>
+        ensures ok { IfOk result (λ _. live_load_fault self.now lun job.now ≡ None) }
+        ensures err { IfErr result (λ fault. live_load_fault self.now lun job.now ≡ Some fault) }
+        ensures verified { IsVerified job.now }
+        ensures live { IsLive self.now }
+    {
+        let has_job = self.state_at(lun).has_job();
+        let there = self.place(lun).is_some();
+        let geometry = self.state.geometry();
+        match load_fault(has_job, there, lun, job.lun(), &geometry, job.geometry()) {
+            Some(fault) => Err(fault),
+            None => Ok(()),
+        }
+    }
+
+    /// Loads a job onto its LUN. Errors, the first that stands, with the job handed back and all as it was: `S1` the LUN has a job; `S2` the LUN isn't
+    /// there, or isn't the job's; `S5` the job is of another geometry. Takes no memory.
+    pub fn load(&mut self, lun: Lun, job: Job<A>) -> Result<(), LoadRefused<A>>
+        ensures ok { IfOk result (λ _. IsLiveEvent self.old (Load lun job) (ToLoad Loaded) self.new) }
+        ensures err { IfErr result (λ e. (e.job ≡ job) × (self.new ≡ self.old)
+            × IsLiveEvent self.old (Load lun job) (ToLoad (NotLoaded e.fault job)) self.new) }
+        ensures refused { IfErr result (λ e. live_load_fault self.old lun job ≡ Some e.fault) }
+    {
+        match self.admits(lun, &job) {
+            Err(fault) => Err(LoadRefused { fault, job }),
+            Ok(()) => {
+                self.fill(lun, job);
+                Ok(())
+            }
+        }
+    }
+
+    // Puts a job that is admitted into its slot.
+    fn fill(&mut self, lun: Lun, job: Job<A>)
+        requires { live_load_fault self.old lun job ≡ None }
+        ensures { IsLiveEvent self.old (Load lun job) (ToLoad Loaded) self.new }
+    {
+        match self.place(lun) {
+            None => unreachable!(),
+            Some(place) => put_in(self.slots.as_mut_slice(), place, Some(Slot::new(job))),
+        }
+    }
+
+    // What [`unload`](Live::unload) would answer.
+    fn admits_unload(&self, lun: Lun) -> Result<u8, UnloadFault>
+        ensures ended { IfOk result (λ code. SlotState.Ended code ≡ slot_state (live_slot self.now lun)) }
+        ensures err { IfErr result (λ fault. IsLiveEvent self.now (Unload lun) (ToUnload (NotUnloaded fault)) self.now) }
+    {
+        match self.state_at(lun) {
+            SlotState::Empty => Err(UnloadFault::NoJob),
+            SlotState::Running => Err(UnloadFault::StillRunning),
+            SlotState::Ended(code) => Ok(code),
+        }
+    }
+
+    /// Takes a job that has ended from its LUN, with its buffer as the program left it. Errors, with all as it was: `U1` the LUN has no job, or isn't
+    /// there; `U2` its job hasn't ended. Takes no memory.
+    pub fn unload(&mut self, lun: Lun) -> Result<UnloadedJob<A>, UnloadFault>
+        ensures ok { IfOk result (λ done. IsLiveEvent self.old (Unload lun) (ToUnload (Unloaded done.job done.code)) self.new) }
+        ensures err { IfErr result (λ fault. (self.new ≡ self.old)
+            × IsLiveEvent self.old (Unload lun) (ToUnload (NotUnloaded fault)) self.new) }
+    {
+        match self.admits_unload(lun) {
+            Err(fault) => Err(fault),
+            Ok(code) => Ok(UnloadedJob {
+                job: self.empty(lun, code),
+                code,
+            }),
+        }
+    }
+
+    // Takes the job of a LUN that has ended with this code.
+    fn empty(&mut self, lun: Lun, code: u8) -> Job<A>
+        requires { SlotState.Ended code ≡ slot_state (live_slot self.old lun) }
+        ensures { IsLiveEvent self.old (Unload lun) (ToUnload (Unloaded result code)) self.new }
+    {
+        match self.place(lun) {
+            None => unreachable!(),
+            Some(place) => match take_in(self.slots.as_mut_slice(), place) {
+                None => unreachable!(),
+                Some(slot) => slot.into_job(),
+            },
+        }
+    }
+
+    /// A LUN becomes ready, with failure or without, as R/B# may tell; false, with all as it was, where it isn't there or isn't busy. What a poll shows
+    /// needs no call: [`finish`](Live::finish) sees it.
+    pub fn ready(&mut self, lun: Lun, fail: bool) -> bool
+        ensures came { IsLiveEvent self.old (Ready lun fail) (ToReady result) self.new }
+        ensures truth { (w : World) → IsLiveAt self.new w → is_there (channel_at self.old) lun ≡ true → is_busy self.new.state.geometry w.past lun ≡ false }
+        ensures stays { KeepsSlots self.old self.new }
+    {
+        go_on_if(
+            &mut self.state,
+            Item::Rdy {
+                ce: lun.ce,
+                lun: lun.lun,
+                fail,
+            },
+        )
+    }
+
+    /// The array of a LUN becomes ready after a cache read; false, with all as it was, where none goes on.
+    pub fn array_ready(&mut self, lun: Lun) -> bool
+        ensures came { IsLiveEvent self.old (ArrayReady lun) (ToArrayReady result) self.new }
+        ensures stays { KeepsSlots self.old self.new }
+    {
+        go_on_if(
+            &mut self.state,
+            Item::Ard {
+                ce: lun.ce,
+                lun: lun.lun,
+            },
+        )
+    }
+
+    // The next word of a LUN that may step.
+    fn word_at(&self, lun: Lun) -> Word
+        requires { MayStep self.now lun }
+        ensures next { IsNextWord self.now lun result }
+        ensures range { EndsWithFive result }
+    {
+        match self.place(lun) {
+            None => unreachable!(),
+            Some(place) => word_in(self.slots.as_slice(), place),
+        }
+    }
+
+    // The bursts of the next word of a LUN that may step.
+    fn bursts_at(&self, lun: Lun) -> Bursts
+        requires { MayStep self.now lun }
+        ensures { AreNextBursts self.now lun result.items }
+    {
+        let geometry = self.state.geometry();
+        match self.place(lun) {
+            None => unreachable!(),
+            Some(place) => bursts_in(&geometry, self.slots.as_slice(), place),
+        }
+    }
+
+    /// Begins a step of a LUN. `Going`: its next word's bursts are to be done on the pins, one after another as [`next`](Live::next) tells them, and then
+    /// [`finish`](Live::finish). `Answered`: nothing is to be done and all is as it was, since the LUN has no job or isn't there (`Empty`), its job
+    /// has ended (`Ended`), or another LUN has the bus (`Held`). Errors: `StepGoesOn`, with all as it was.
+    pub fn begin(&mut self, lun: Lun) -> Result<Begun, OutOfTurn>
+        ensures ok { IfOk result (λ begun. Begins self.old lun begun self.new) }
+        ensures err { IfErr result (λ e. (e ≡ OutOfTurn.StepGoesOn) × (self.new ≡ self.old)) }
+        ensures turn { IsOk result ↔ (self.old.going ≡ None) }
+    {
+        if self.going.is_some() {
+            return Err(OutOfTurn::StepGoesOn);
+        }
+        match self.answer_at_rest(lun) {
+            Some(answer) => Ok(Begun::Answered(answer)),
+            None => {
+                self.going = Some(StepGoingOn { lun, done: 0 });
+                Ok(Begun::Going)
+            }
+        }
+    }
+
+    /// What is to be done on the pins now; None where no step goes on, or all of its bursts are done.
+    pub fn next(&self) -> Option<Burst>
+        ensures some { IfSome result (λ burst. IsNextBurst self.now burst) }
+    {
+        let step = self.going?;
+        if self.answer_at_rest(step.lun).is_some() {
+            return None;
+        }
+        self.bursts_at(step.lun)
+            .as_slice()
+            .get(step.done)
+            .copied()
+    }
+
+    /// The burst that [`next`](Live::next) tells is done on the pins. Errors, with all as it was: `NoStep` no step goes on; `NoBurst` all of its bursts are
+    /// done.
+    pub fn gave(&mut self) -> Result<(), OutOfTurn>
+        ensures ok { IfOk result (λ _. IsBurstDone self.old self.new) }
+        ensures err { OnErr result (self.new ≡ self.old) }
+    {
+        let Some(step) = self.going else {
+            return Err(OutOfTurn::NoStep);
+        };
+        if self.next().is_none() {
+            return Err(OutOfTurn::NoBurst);
+        }
+        self.going = Some(StepGoingOn {
+            lun: step.lun,
+            done: step.done + 1,
+        });
+        Ok(())
+    }
+
+    // The readies that the status of a LUN shows.
+    fn show(&mut self, lun: Lun, status: u8)
+        requires { is_there (channel_at self.old) lun ≡ true }
+        ensures run { (replies : List Reply) × IsLiveRun self.old (shown_by lun status) replies self.new }
+        ensures truth { is_ready_status status ≡ true → IsReadyNow self.new.state lun }
+        ensures stays { KeepsSlots self.old self.new }
+    {
+        if is_ready_status(status) {
+            self.ready(lun, Status(status).has_failed());
+            if status & ARRAY_READY == ARRAY_READY {
+                self.array_ready(lun);
+            }
+        }
+    }
+
+    // Steps the next word of a LUN, whose outputs gave these bytes.
+    fn step_by(&mut self, lun: Lun, word: Word, taken: &[u8]) -> Stepped
+        requires may { MayStep self.old lun }
+        requires next { IsNextWord self.old lun word }
+        requires count { length taken.now ≡ taken_by word }
+        requires truth { ends_with word taken.now ≡ true → IsReadyNow self.old.state lun }
+        ensures { IsLiveEvent self.old (Step lun taken.now) (ToStep result) self.new }
+    {
+        let geometry = self.state.geometry();
+        match self.place(lun) {
+            None => unreachable!(),
+            Some(place) => {
+                let slots = self.slots.as_mut_slice();
+                let answer = step_in(&mut self.state, &geometry, slots, place, taken);
+                self.holder = holder_after(answer, lun);
+                answer
+            }
+        }
+    }
+
+    // Steps the next word of a LUN after the readies that its poll shows.
+    fn step_word(&mut self, lun: Lun, word: Word, taken: &[u8]) -> Stepped
+        requires may { MayStep self.old lun }
+        requires next { IsNextWord self.old lun word }
+        requires count { length taken.now ≡ taken_by word }
+        ensures { (replies : List Reply) × IsLiveRun self.old (shown lun word taken.now ++ (Step lun taken.now ∷ [])) (replies ++ (ToStep result ∷ [])) self.new }
+    {
+        if is_poll(word) {
+            self.show(lun, status_of(taken));
+        }
+        self.step_by(lun, word, taken)
+    }
+
+    /// Finishes the step that goes on, all of whose bursts are done: these bytes are what its outputs gave, one for a poll, as many as a `get` asks
+    /// for, else none. The readies that a poll shows come before it: RDY that the LUN has become ready, with failure where FAIL is shown, ARDY
+    /// besides that its array has. The answer is how the step went. Errors, with all as it was: `NoStep` no step goes on; `BurstsLeft`; `WrongCount`.
+    pub fn finish(&mut self, taken: &[u8]) -> Result<Stepped, OutOfTurn>
+        ensures ok { IfOk result (λ answer. HasFinished self.old taken.now answer self.new) }
+        ensures err { OnErr result (self.new ≡ self.old) }
+    {
+        let Some(step) = self.going else {
+            return Err(OutOfTurn::NoStep);
+        };
+        if let Some(answer) = self.answer_at_rest(step.lun) {
+            self.going = None;
+            return Ok(answer);
+        }
+        let word = self.word_at(step.lun);
+        if step.done < self.bursts_at(step.lun).len() {
+            return Err(OutOfTurn::BurstsLeft);
+        }
+        if taken.len() != taken_by(word) {
+            return Err(OutOfTurn::WrongCount);
+        }
+        self.going = None;
+        Ok(self.step_word(step.lun, word, taken))
+    }
+}
