@@ -17,7 +17,9 @@ use Rattle.seq_core.specs.Progress.{five_bytes, moves_at, poll_at, put_bytes_at}
 use Rattle.seq_core.specs.Playing.{EndsWithFive}
 use Rattle.seq_live.specs.declared.burst.Burst.{Burst}
 use Rattle.seq_live.specs.declared.burst.Burst.TheVariants.{Command, Address, Input, Output}
+use Rattle.onfi_cycle.specs.State.{BusView}
 use Rattle.seq_live.specs.Burst.{moves_of, all_moves, BurstFits, AllFit, poll_bursts, bursts_at, taken_by}
+use Rattle.seq_live.specs.Calls.{CanMove, HasMoved, CanMoveBy, HasMovedBy}
 
 some_same : {X : Type 0} (x y : X) → Some x ≡ Some y → x ≡ y
 some_same x y h = cc
@@ -30,7 +32,7 @@ pub record AreBursts (buffer : List ℕ) (place : ℕ) (word : Word) (moved : Li
 
 -- a row has three bytes
 three_of_row : (g : Parts) (l index plane : ℕ) (row : List ℕ) → row_bytes_of g l index plane ≡ Some row → take 3 row ≡ row
-three_of_row g l index plane row e = at (ltb l g.luns && (ltb index (indices g) && ltb plane (planes g))) e
+three_of_row g l index plane row e = at (ltb l g.luns && ltb index (indices g) && ltb plane (planes g)) e
   where
     at : (b : Bool) → cond b (Some (row_cycles (row_number g (indexed g l index plane)))) None ≡ Some row → take 3 row ≡ row
     at true h = subst (λ (xs : List ℕ). take 3 xs ≡ xs) (some_same (row_cycles (row_number g (indexed g l index plane))) row h) refl
@@ -56,14 +58,14 @@ poll_is g l buffer place word moved bursts one m b = at (ltb 1 g.luns) (row_byte
     at : (several : Bool) (o : Option (List ℕ)) → row_bytes_of g l.lun 0 0 ≡ o → cond several (and_then o (λ row. Some (Give Cmd 0x78 ∷ (gives Adr row ++ (Take ∷ []))))) (Some (Give Cmd 0x70 ∷ (Take ∷ []))) ≡ Some moved → cond several (and_then o (λ row. Some (Command l.ce 0x78 ∷ (Address l.ce (0 ∷ (0 ∷ row)) 2 3 ∷ (Output l.ce 1 ∷ []))))) (Some (Command l.ce 0x70 ∷ (Output l.ce 1 ∷ []))) ≡ Some bursts → AreBursts buffer place word moved bursts
     at false o is m b =
         same_bursts buffer place word moved (Give Cmd 0x70 ∷ (Take ∷ [])) bursts (Command l.ce 0x70 ∷ (Output l.ce 1 ∷ [])) m b
-        (record { moves = refl; fit = (tt, tt, tt); count = sym one })
+        (record { moves = refl; fit = (tt, (tt, tt)); count = sym one })
     at true None is m b = cc
     at true (Some row) is m b =
         let three : part 2 3 (0 ∷ (0 ∷ row)) ≡ row = three_of_row g l.lun 0 0 row is in
         same_bursts buffer place word moved (Give Cmd 0x78 ∷ (gives Adr row ++ (Take ∷ []))) bursts (Command l.ce 0x78 ∷ (Address l.ce (0 ∷ (0 ∷ row)) 2 3 ∷ (Output l.ce 1 ∷ []))) m b
         (record {
           moves = ap (λ (xs : List ℕ). Give Cmd 0x78 ∷ (gives Adr xs ++ (Take ∷ []))) (sym three);
-          fit = (tt, omega arith, tt, tt);
+          fit = (tt, (omega arith, (tt, tt)));
           count = no_outputs Adr (part 2 3 (0 ∷ (0 ∷ row))) (Take ∷ []) ∙ sym one;
         })
 
@@ -117,3 +119,27 @@ bursts_there g l buffer r (word.Put len) moved m b = cc
 bursts_there g l buffer r word.Wait moved m b = poll_there g l moved m b
 bursts_there g l buffer r word.ReadStatus moved m b = poll_there g l moved m b
 bursts_there g l buffer r w moved m b = cc
+
+-- a word's bursts were done on a state
+pub can_by : (g : Parts) (s : BusView) (l m : Lun) (buffer xs : List ℕ) (r q : Registers) (w : Word) (bursts listed : List Burst) → CanMoveBy g s l buffer r w → EndsWithFive w → m ≡ l → xs ≡ buffer → q ≡ r → bursts_at g m q w ≡ Some bursts → listed ≡ bursts → AllFit (length xs) listed × CanMove s m (all_moves xs listed)
+can_by g s l m buffer xs r q w bursts listed can range lun same registers b is =
+    let a = bursts_are_moves g l buffer r w can.moved bursts range can.inside can.is_moved (ap (λ (k : Lun). bursts_at g k r w) (sym lun) ∙ (ap (λ (p : Registers). bursts_at g m p w) (sym registers) ∙ b)) in
+    let here : AllFit (length buffer) bursts × CanMove s l (all_moves buffer bursts) = (a.fit, subst (CanMove s l) a.moves can.can) in
+    subst (λ (bs : List Burst). AllFit (length xs) bs × CanMove s m (all_moves xs bs)) (sym is)
+    (subst (λ (k : Lun). AllFit (length xs) bursts × CanMove s k (all_moves xs bursts)) (sym lun)
+    (subst (λ (ys : List ℕ). AllFit (length ys) bursts × CanMove s l (all_moves ys bursts)) (sym same) here))
+
+pub moved_by : (g : Parts) (s t : BusView) (l m : Lun) (buffer xs : List ℕ) (r q : Registers) (w : Word) (bursts listed : List Burst) → CanMoveBy g s l buffer r w → EndsWithFive w → m ≡ l → xs ≡ buffer → q ≡ r → bursts_at g m q w ≡ Some bursts → listed ≡ bursts → ((bytes : List ℕ) → length bytes ≡ outputs (all_moves xs listed) → HasMoved s t m.ce (all_moves xs listed) bytes) → (bytes : List ℕ) → length bytes ≡ taken_by w → HasMovedBy g s t l buffer r w bytes
+moved_by g s t l m buffer xs r q w bursts listed can range lun same registers b is h bytes size =
+    let a = bursts_are_moves g l buffer r w can.moved bursts range can.inside can.is_moved (ap (λ (k : Lun). bursts_at g k r w) (sym lun) ∙ (ap (λ (p : Registers). bursts_at g m p w) (sym registers) ∙ b)) in
+    let moves : all_moves xs listed ≡ can.moved = ap (all_moves xs) is ∙ (ap (λ (ys : List ℕ). all_moves ys bursts) same ∙ sym a.moves) in
+    let count : length bytes ≡ outputs (all_moves xs listed) = size ∙ (sym a.count ∙ (ap outputs (sym a.moves) ∙ ap outputs (sym moves))) in
+    record {
+      moved = can.moved;
+      is_moved = can.is_moved;
+      moves = subst (λ (ms : List Move). HasMoved s t l.ce ms bytes) moves (subst (λ (k : Lun). HasMoved s t k.ce (all_moves xs listed) bytes) lun (h bytes count));
+    }
+
+pub bursts_there_by : (g : Parts) (s : BusView) (l m : Lun) (buffer : List ℕ) (r q : Registers) (w : Word) → CanMoveBy g s l buffer r w → m ≡ l → q ≡ r → bursts_at g m q w ≡ None → ⊥
+bursts_there_by g s l m buffer r q w can lun registers b =
+    bursts_there g l buffer r w can.moved can.is_moved (ap (λ (k : Lun). bursts_at g k r w) (sym lun) ∙ (ap (λ (p : Registers). bursts_at g m p w) (sym registers) ∙ b))

@@ -1,5 +1,6 @@
 pub mod Events
 pub mod Making
 pub mod Main
-pub mod Moving
+pub mod Moves
 pub mod Bursts
+pub mod Lives

@@ -1,32 +1,37 @@
 -- What a call of a sequencer on a real bus is: an event, or several, of the world that it keeps.
-use Rattle.std.specs.Prelude.{◌≡◌, ℕ, ◌+◌, ◌==◌, Bool, true, false, ◌&&◌, if◌then◌else◌, List, [], ◌∷◌, ◌++◌, Option, Some, None, length, slice_get}
+use Rattle.std.specs.Prelude.{◌≡◌, ℕ, ◌+◌, ◌<◌, ◌==◌, Bool, true, false, ◌&&◌, if◌then◌else◌, List, [], ◌∷◌, ◌++◌, Option, Some, None, length, slice_get}
 use Rattle.std.specs.Int.RustNames.{bit_and}
 use Rattle.nand_geometry.specs.declared.parts.Parts.{Parts}
 use Rattle.onfi_cycle.specs.declared.lun.Lun.{Lun}
 use Rattle.onfi_cycle.specs.declared.item.Item.{Item}
-use Rattle.onfi_cycle.specs.Channel.{Channel, IsChannel}
+use Rattle.onfi_cycle.specs.Lun.{is_busy}
 use Rattle.onfi_cycle.specs.State.{BusView, Follows}
 use Rattle.micro_word.specs.declared.word.Word.{Word}
 use Rattle.micro_word.specs.declared.word.Word.TheVariants.{Wait, ReadStatus}
 use Rattle.micro_program.specs.Program.{Job, fits, is_ready_status}
-use Rattle.micro_program.specs.Moves.{Move, outputs}
-use Rattle.micro_program.specs.Played.{Played, answered}
+use Rattle.micro_program.specs.Moves.{Move, is_wait}
+use Rattle.micro_program.specs.Played.{answered}
 use Rattle.micro_program.specs.Safe.{MovesAreOwn}
 use Rattle.micro_program.specs.Step.{first_byte}
 use Rattle.target_bus.specs.Bus.{channel_on}
+use Rattle.seq_core.specs.declared.load_fault.LoadFault.{LoadFault}
 use Rattle.seq_core.specs.declared.stepped.Stepped.{Stepped}
 use Rattle.seq_core.specs.declared.slot_state.SlotState.TheVariants as state
 use Rattle.seq_core.specs.World.{World}
-use Rattle.seq_core.specs.Reply.{Reply}
+use Rattle.seq_core.specs.Reply.{Reply, ToStep}
 use Rattle.seq_core.specs.After.{Ran, is_held}
 use Rattle.seq_core.specs.Lawful.{LawfulWorld}
 use Rattle.seq_core.specs.Progress.{Progress, moves_at, status_of, outcome_of, progress_after}
 use Rattle.seq_core.specs.declared.registers.Registers.{Registers}
-use Rattle.seq_core.specs.Calls.{slot_at, slot_state, CanStep}
+use Rattle.seq_core.specs.Calls.{slot_at, slot_state, CanStep, load_fault_at}
 use Rattle.seq_live.specs.Event.{LiveEvent, Step, Ready, ArrayReady}
 use Rattle.seq_live.specs.After.{run_live, AllAnswered}
 use Rattle.seq_live.specs.Headline.{LiveEventsAreOwn}
-use Rattle.seq_live.specs.Burst.{taken_by}
+use Rattle.seq_live.specs.declared.begun.Begun.{Begun}
+use Rattle.seq_live.specs.declared.begun.Begun.TheVariants.{Answered, Going}
+use Rattle.seq_live.specs.declared.burst.Burst.{Burst}
+use Rattle.seq_live.specs.declared.live.StepGoingOn.{StepGoingOn}
+use Rattle.seq_live.specs.Burst.{bursts_at, taken_by}
 use Rattle.seq_live.specs.Kept.{LiveView, channel_at, core_at, IsLiveAt}
 
 -- the run that a call was, from this world on: each step is answered, the run is defined, answered so and adds to the trace what is each event's own;
@@ -123,3 +128,89 @@ shown_by l status =
 
 abbrev pub shown : Lun → Word → List ℕ → List LiveEvent
 shown l word bytes = if is_poll word then shown_by l (first_byte bytes) else []
+
+-- ---- the step that goes on
+
+-- the first fault of a load, by what is kept
+abbrev pub live_load_fault : LiveView → Lun → Job → Option LoadFault
+live_load_fault v l j = load_fault_at (core_at v []) l j
+
+-- a word is the next one of a slot
+pub record NextWordIs (slot : Option Progress) (word : Word) : Type 0 where
+  pub v : Progress
+  pub is_slot : slot ≡ Some v
+  pub here : slice_get v.job.text.words v.at ≡ Some word
+
+abbrev pub HasNextWord : Option Progress → Type 0
+HasNextWord slot = (word : Word) × NextWordIs slot word
+
+-- these are the bursts of its next word
+pub record NextBurstsAre (g : Parts) (slot : Option Progress) (bursts : List Burst) : Type 0 where
+  pub v : Progress
+  pub is_slot : slot ≡ Some v
+  pub word : Word
+  pub here : slice_get v.job.text.words v.at ≡ Some word
+  pub are_bursts : bursts_at g v.job.lun v.registers word ≡ Some bursts
+
+-- the next word of a LUN, and its bursts
+abbrev pub IsNextWord : LiveView → Lun → Word → Type 0
+IsNextWord v l word = NextWordIs (live_slot v l) word
+
+abbrev pub AreNextBursts : LiveView → Lun → List Burst → Type 0
+AreNextBursts v l bursts = NextBurstsAre v.state.geometry (live_slot v l) bursts
+
+-- the moves of the next word of a slot are there
+pub record HasNextMoves (g : Parts) (slot : Option Progress) : Type 0 where
+  pub v : Progress
+  pub is_slot : slot ≡ Some v
+  pub word : Word
+  pub here : slice_get v.job.text.words v.at ≡ Some word
+  pub moved : List Move
+  pub is_moved : moves_at g v.job.lun.lun v.job.buffer v.registers word ≡ Some moved
+
+-- a step begins, or is answered at once and changes nothing
+abbrev pub Begins : LiveView → Lun → Begun → LiveView → Type 0
+Begins v l Going later = MayStep v l × (later ≡ record v { going = Some (record { lun = l; done = 0 }) })
+Begins v l (Answered answer) later = (later ≡ v) × ((bytes : List ℕ) → IsLiveEvent v (Step l bytes) (ToStep answer) v)
+
+-- this burst is to be done now
+pub record IsNextBurst (v : LiveView) (burst : Burst) : Type 0 where
+  pub step : StepGoingOn
+  pub is_step : v.going ≡ Some step
+  pub may : MayStep v step.lun
+  pub bursts : List Burst
+  pub are_next : AreNextBursts v step.lun bursts
+  pub is_burst : slice_get bursts step.done ≡ Some burst
+
+-- the burst that was to be done is done, and nothing else has changed
+pub record IsBurstDone (v later : LiveView) : Type 0 where
+  pub step : StepGoingOn
+  pub is_step : v.going ≡ Some step
+  pub is_later : later ≡ record v { going = Some (record step { done = step.done + 1 }) }
+
+-- the step that went on is finished: after the readies that its poll shows it is an event whose outputs gave these bytes
+pub record HasFinished (v : LiveView) (bytes : List ℕ) (answer : Stepped) (later : LiveView) : Type 0 where
+  pub step : StepGoingOn
+  pub is_step : v.going ≡ Some step
+  pub readies : List LiveEvent
+  pub are_shown : (word : Word) → MayStep v step.lun → IsNextWord v step.lun word → readies ≡ shown step.lun word bytes
+  pub replies : List Reply
+  pub run : IsLiveRun v (readies ++ (Step step.lun bytes ∷ [])) (replies ++ (ToStep answer ∷ [])) later
+  pub is_over : later.going ≡ None
+
+-- ---- what a call leaves
+
+-- the jobs, the LUN that has the bus and the step that goes on are as they were
+pub record KeepsSlots (v later : LiveView) : Type 0 where
+  pub channel : channel_at later ≡ channel_at v
+  pub slots : later.slots ≡ v.slots
+  pub holder : later.holder ≡ v.holder
+  pub going : later.going ≡ v.going
+
+-- a LUN that is there isn't busy after any past that the state follows
+abbrev pub IsReadyNow : BusView → Lun → Type 0
+IsReadyNow s l = (g : Parts) (n : ℕ) (past : List Item) → Follows g n s past → l.ce < n → l.lun < g.luns → is_busy g past l ≡ false
+
+-- a `wait` ends with these bytes
+abbrev pub ends_with : Word → List ℕ → Bool
+ends_with word bytes = is_wait word && is_ready_status (first_byte bytes)

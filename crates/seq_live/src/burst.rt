@@ -39,7 +39,14 @@ pub enum Burst {
     Output { ce: u8, len: usize },
 }
 
-// These bursts in a list.
+impl Default for Burst {
+    /// No output.
+    fn default() -> Burst {
+        Burst::Output { ce: 0, len: 0 }
+    }
+}
+
+// One burst in a list.
 fn one(burst: Burst) -> Bursts
     ensures { result.items ≡ burst ∷ [] }
 {

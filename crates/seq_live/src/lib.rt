@@ -1,8 +1,21 @@
 //! The same sequencer on a real bus, whose chips answer what they answer.
+//!
+//! [`Live`] tells burst by burst what is to be done on the pins and takes what the chips answer. What it may answer is free, but for one thing: bytes that end a
+//! `wait` are of a LUN that is ready. Where a poll says so, the sequencer notes a ready before it, so a chip that shows RDY truly is truthful. The definitions
+//! stand in `specs/`: what happens on a real bus and what it leaves (`Event`, `After`), the laws (`Headline`), the bursts of a word (`Burst`), and what a call is
+//! (`Kept`, `Calls`).
 #![tactic(auto)]
 
+mod begun;
 mod burst;
 pub mod laws;
+mod live;
 mod moving;
+mod out_of_turn;
+mod playing;
+mod slot_steps;
 
+pub use begun::Begun;
 pub use burst::{Burst, Bursts, MAX_BURSTS};
+pub use live::{Live, StepGoingOn};
+pub use out_of_turn::OutOfTurn;

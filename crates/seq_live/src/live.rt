@@ -1,28 +1,36 @@
 //! The sequencer on a real bus: what is to be done on the pins, burst by burst, and what the chips answer.
-ghost use Rattle.std.specs.Prelude.{◌≡◌, ℕ, ◌<◌, ◌≤◌, List, [], ◌∷◌, ◌++◌, Some, None, if◌then◌else◌, IfOk, IfErr, IfSome, IfNone, length};
-ghost use Rattle.nand_geometry.specs.declared.parts.Parts.{Parts};
+ghost use Rattle.std.specs.Prelude.{◌≡◌, ◌↔◌, ℕ, ◌<◌, true, List, [], ◌∷◌, ◌++◌, Some, None, if◌then◌else◌, IsOk, IfOk, IfErr, OnErr, IfSome, IfNone, length};
 ghost use Rattle.onfi_cycle.specs.Channel.{is_there};
-ghost use Rattle.micro_word.specs.declared.word.Word.{Word as WordValue};
-ghost use Rattle.seq_core.specs.declared.slot_state.SlotState.{SlotState as SlotStateValue};
+ghost use Rattle.micro_program.specs.Program.{is_ready_status};
 ghost use Rattle.seq_core.specs.World.{fresh, number};
 ghost use Rattle.seq_core.specs.Event.{IsVerified};
 ghost use Rattle.seq_core.specs.Reply.{Reply, ToLoad, ToStep, ToReady, ToArrayReady, ToUnload, Loaded, NotLoaded, Unloaded, NotUnloaded};
-ghost use Rattle.seq_core.specs.Calls.{slot_state, fault_by};
+ghost use Rattle.seq_core.specs.Calls.{slot_state};
+ghost use Rattle.seq_core.specs.Playing.{EndsWithFive};
 ghost use Rattle.seq_live.specs.Event.{Load, Step, Ready, ArrayReady, Unload};
-ghost use Rattle.seq_live.specs.Kept.{LiveView, channel_at, IsLiveAt, IsLive};
-ghost use Rattle.seq_live.specs.Calls.{IsLiveRun, IsLiveEvent, live_slot, live_load_fault, MayStep, IsTruthful, NextWord, shown};
+ghost use Rattle.seq_live.specs.Burst.{taken_by};
+ghost use Rattle.seq_live.specs.Kept.{channel_at, IsLiveAt, IsLive};
+ghost use Rattle.seq_live.specs.Calls.{IsLiveRun, IsLiveEvent, live_slot, live_load_fault, MayStep, IsNextWord, AreNextBursts, Begins, IsNextBurst, IsBurstDone, HasFinished, KeepsSlots, IsReadyNow, ends_with, shown, shown_by};
 
+use crate::begun::Begun;
+use crate::burst::{Burst, Bursts, taken_by};
+use crate::moving::go_on_if;
 use crate::out_of_turn::OutOfTurn;
-use crate::playing::play_next;
+use crate::slot_steps::{bursts_in, is_poll, status_of, step_in, word_in};
 use arrayvec::ArrayVec;
+use micro_program::is_ready_status;
+use micro_word::Word;
 use nand_geometry::Geometry;
-use onfi_cycle::{BusState, Item, Lun, MAX_CHANNEL_LUNS};
+use onfi_cycle::{BusState, Item, Lun, MAX_CHANNEL_LUNS, Status};
 use seq_core::lun_slots::{
     empty_slots, holder_after, is_held, load_fault, lun_count, number_of, put_in, state_in, take_in,
 };
 use seq_core::{Job, LoadFault, LoadRefused, Slot, SlotState, Stepped, UnloadFault, UnloadedJob};
 use std::alloc::{Allocator, Global};
 use std::marker::Model;
+
+// The bit of a status byte that says that the array is ready (ARDY).
+const ARRAY_READY: u8 = 0x20;
 
 /// A step that goes on on the pins: of which LUN, and how many of its bursts are done.
 #[derive(Clone, Copy, Debug, PartialEq, Eq)]
@@ -63,6 +71,8 @@ impl<A: Allocator> Live<A> {
             return None;
         }
         let slots = empty_slots(lun_count(targets, &geometry));
+        // Its contract says that the geometry is in the limits.
+        let _ = geometry.parts();
         Some(Live {
             state: BusState::new(geometry, targets),
             slots,
@@ -218,7 +228,7 @@ impl<A: Allocator> Live<A> {
     /// needs no call: [`finish`](Live::finish) sees it.
     pub fn ready(&mut self, lun: Lun, fail: bool) -> bool
         ensures came { IsLiveEvent self.old (Ready lun fail) (ToReady result) self.new }
-        ensures truth { (w : World) → IsLiveAt self.new w → is_there (channel_at self.old) lun ≡ true → is_busy self.new.state.geometry w.past lun ≡ false }
+        ensures truth { is_there (channel_at self.old) lun ≡ true → IsReadyNow self.new.state lun }
         ensures stays { KeepsSlots self.old self.new }
     {
         go_on_if(
@@ -234,6 +244,7 @@ impl<A: Allocator> Live<A> {
     /// The array of a LUN becomes ready after a cache read; false, with all as it was, where none goes on.
     pub fn array_ready(&mut self, lun: Lun) -> bool
         ensures came { IsLiveEvent self.old (ArrayReady lun) (ToArrayReady result) self.new }
+        ensures truth { IsReadyNow self.old.state lun → IsReadyNow self.new.state lun }
         ensures stays { KeepsSlots self.old self.new }
     {
         go_on_if(

@@ -80,12 +80,13 @@ pub(crate) fn apply_all(state: &mut BusState, lun: Lun, buffer: &[u8], bursts: &
     ensures { (bytes : List ℕ) → length bytes ≡ outputs (all_moves buffer.now bursts.now)
         → HasMoved state.old state.new lun.ce (all_moves buffer.now bursts.now) bytes }
 {
-    if bursts.is_empty() {
-        return;
+    match bursts {
+        [] => {}
+        [first, rest @ ..] => {
+            apply(state, lun, buffer, *first);
+            apply_all(state, lun, buffer, rest);
+        }
     }
-    let (first, rest) = bursts.split_at(1);
-    apply(state, lun, buffer, first[0]);
-    apply_all(state, lun, buffer, rest);
 }
 
 /// Goes on by a ready where it is permitted; whether it was.

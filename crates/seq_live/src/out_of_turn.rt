@@ -10,6 +10,9 @@ pub enum OutOfTurn {
     /// No step goes on.
     #[error("no step goes on: begin one")]
     NoStep,
+    /// All bursts of the step are done.
+    #[error("all bursts of the step are done: finish it")]
+    NoBurst,
     /// Bursts of the step aren't done yet.
     #[error("bursts of the step are left")]
     BurstsLeft,

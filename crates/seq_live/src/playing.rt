@@ -33,8 +33,9 @@ fn move_on<A: Allocator>(state: &mut BusState, geometry: &Geometry, slot: &Slot<
     ensures { (bytes : List ℕ) → length bytes ≡ taken_by word
         → HasMovedBy geometry.now state.old state.new slot.now.job.lun slot.now.job.buffer slot.now.registers word bytes }
 {
-    match bursts_of(geometry, slot.lun(), slot.registers(), word) {
-        Some(bursts) => apply_all(state, slot.lun(), slot.buffer(), bursts.as_slice()),
+    let lun = slot.lun();
+    match bursts_of(geometry, lun, slot.registers(), word) {
+        Some(bursts) => apply_all(state, lun, slot.buffer(), bursts.as_slice()),
         None => unreachable!(),
     }
 }

@@ -1,9 +1,9 @@
-use Rattle.std.proofs.Common.{length, sym}
-use Rattle.seq_live.proofs.Moving.{can_feed, fed}
+use Rattle.std.proofs.Common.{length, refl}
+use Rattle.seq_live.proofs.Moves.{can_feed, fed}
 use Rattle.seq_live.proofs.moving.feed.Goals as goal
 
 pub apply_inputs-requires : goal.apply_inputs-requires
-apply_inputs-requires c = can_feed c.args.state.now c.args.lun c.args.bytes.now c.len.result (sym c.len.ensures) c.requires
+apply_inputs-requires c = can_feed c.args.state.now c.args.lun c.args.bytes.now (length c.args.bytes.now) refl c.requires
 
 pub returns : goal.returns
-returns c = fed c.args.state.now c.apply_inputs.new.self c.args.lun.ce c.len.result c.args.bytes.now (sym c.len.ensures) c.apply_inputs.ensures.past
+returns c = fed c.args.state.now c.apply_inputs.new.self c.args.lun.ce (length c.args.bytes.now) c.args.bytes.now refl c.apply_inputs.ensures.past

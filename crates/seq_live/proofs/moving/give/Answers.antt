@@ -1,5 +1,5 @@
 use Rattle.std.proofs.Common.{[]}
-use Rattle.seq_live.proofs.Moving.{can_give, given}
+use Rattle.seq_live.proofs.Moves.{can_give, given}
 use Rattle.seq_live.proofs.moving.give.Goals as goal
 
 pub apply-requires : goal.apply-requires

@@ -5,4 +5,4 @@ use Rattle.seq_live.specs.Calls.{HasMoved}
 use Rattle.seq_live.proofs.moving.give_addresses.Given as goal
 
 abbrev pub invariant-loop-byte : goal.invariant-loop-byte
-invariant-loop-byte g l = HasMoved l.fn.state l.state l.fn.lun.ce (gives Adr (take l.byte-index l.fn.bytes)) []
+invariant-loop-byte l = HasMoved l.fn.state l.state l.fn.lun.ce (gives Adr (take l.byte-index l.fn.bytes)) []

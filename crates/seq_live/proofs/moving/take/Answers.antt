@@ -1,4 +1,4 @@
-use Rattle.seq_live.proofs.Moving.{can_take, taken}
+use Rattle.seq_live.proofs.Moves.{can_take, taken}
 use Rattle.seq_live.proofs.moving.take.Goals as goal
 
 pub apply_outputs-requires : goal.apply_outputs-requires

@@ -1,5 +1,5 @@
 -- Moves that are made on a running state, one after another.
-use Rattle.std.proofs.Common.{◌≡◌, ℕ, zero, suc, ◌+◌, ◌<◌, List, [], ◌∷◌, ◌++◌, Option, Some, None, refl, sym, ap, ◌∙◌, subst, length, replicate, take, drop, get_or, take-append-drop, arith, length-take, length-drop}
+use Rattle.std.proofs.Common.{◌≡◌, ℕ, zero, suc, ◌+◌, ◌-◌, ◌<◌, ◌≤◌, List, [], ◌∷◌, ◌++◌, Option, Some, None, refl, sym, ap, ◌∙◌, subst, length, replicate, take, drop, get_or, take-append-drop, arith, length-take, length-drop}
 use Rattle.std.proofs.lemmas.List.{length-replicate}
 use Rattle.std.proofs.lemmas.List.{drop_more}
 use Rattle.nand_geometry.specs.declared.parts.Parts.{Parts}
@@ -21,6 +21,8 @@ use Rattle.micro_program.specs.Safe.{MovesAreOwn}
 use Rattle.target_bus.specs.Bus.{channel_on}
 use Rattle.seq_core.proofs.Plays.{own_first, gives_append, gives_next}
 use Rattle.seq_core.proofs.DataRuns.{own_run, own_inputs}
+use Rattle.seq_live.specs.declared.burst.Burst.{Burst}
+use Rattle.seq_live.specs.Burst.{moves_of, all_moves, AllFit}
 use Rattle.seq_live.specs.Calls.{CanMove, HasMoved}
 
 -- 1. moves that are answered one after another
@@ -144,16 +146,16 @@ fed s t ce len bytes size h g n past f = (with_inputs ce bytes past, feeds_answe
 
 -- 5. bursts, one after another: the bytes of the first and those of the rest
 
+outputs_append : (a b : List Move) → outputs (a ++ b) ≡ outputs a + outputs b
+outputs_append [] b = omega arith
+outputs_append (Give kind byte ∷ a) b = outputs_append a b
+outputs_append (Take ∷ a) b = let rest = outputs_append a b in omega (arith, rest)
+
 pub first_outputs : (a b : List Move) (bytes : List ℕ) → length bytes ≡ outputs (a ++ b) → length (take (outputs a) bytes) ≡ outputs a
 first_outputs a b bytes size = let both = outputs_append a b in omega (arith, length-take (outputs a) bytes, both, size)
 
 pub rest_outputs : (a b : List Move) (bytes : List ℕ) → length bytes ≡ outputs (a ++ b) → length (drop (outputs a) bytes) ≡ outputs b
 rest_outputs a b bytes size = let both = outputs_append a b in omega (arith, length-drop (outputs a) bytes, both, size)
-
-outputs_append : (a b : List Move) → outputs (a ++ b) ≡ outputs a + outputs b
-outputs_append [] b = refl
-outputs_append (Give kind byte ∷ a) b = outputs_append a b
-outputs_append (Take ∷ a) b = let rest = outputs_append a b in omega (arith, rest)
 
 pub moved_both : (a b c : BusView) (ce : ℕ) (m1 m2 : List Move) (bytes : List ℕ) → length bytes ≡ outputs (m1 ++ m2) → ((xs : List ℕ) → length xs ≡ outputs m1 → HasMoved a b ce m1 xs) → ((xs : List ℕ) → length xs ≡ outputs m2 → HasMoved b c ce m2 xs) → HasMoved a c ce (m1 ++ m2) bytes
 moved_both a b c ce m1 m2 bytes size h k =
@@ -163,3 +165,60 @@ moved_both a b c ce m1 m2 bytes size h k =
 -- some bytes of outputs, to name a state in between
 pub some_bytes : (n : ℕ) → (bytes : List ℕ) × (length bytes ≡ n)
 some_bytes n = (replicate n 0, length-replicate n 0)
+
+-- what is given takes no bytes
+pub none_taken : (kind : Kind) (xs bytes : List ℕ) → length bytes ≡ outputs (gives kind xs) → bytes ≡ []
+none_taken kind [] [] size = refl
+none_taken kind [] (byte ∷ bytes) size = cc
+none_taken kind (x ∷ xs) bytes size = none_taken kind xs bytes size
+
+pub given_all : (s t : BusView) (ce : ℕ) (kind : Kind) (xs ys bytes : List ℕ) → ys ≡ xs → HasMoved s t ce (gives kind ys) [] → length bytes ≡ outputs (gives kind xs) → HasMoved s t ce (gives kind xs) bytes
+given_all s t ce kind xs ys bytes same h size =
+    subst (HasMoved s t ce (gives kind xs)) (sym (none_taken kind xs bytes size)) (subst (λ (zs : List ℕ). HasMoved s t ce (gives kind zs) []) same h)
+
+outputs_of_takes : (len : ℕ) → outputs (replicate len Take) ≡ len
+outputs_of_takes zero = refl
+outputs_of_takes (suc len) = let rest = outputs_of_takes len in omega (arith, rest)
+
+pub taken_all : (s t : BusView) (ce len : ℕ) (bytes : List ℕ) → ((xs : List ℕ) → length xs ≡ len → HasMoved s t ce (replicate len Take) xs) → length bytes ≡ outputs (replicate len Take) → HasMoved s t ce (replicate len Take) bytes
+taken_all s t ce len bytes h size = h bytes (size ∙ outputs_of_takes len)
+
+-- by the burst that it is
+pub by_burst : (s t : BusView) (ce : ℕ) (buffer : List ℕ) (b d : Burst) → b ≡ d → ((xs : List ℕ) → length xs ≡ outputs (moves_of buffer d) → HasMoved s t ce (moves_of buffer d) xs) → (bytes : List ℕ) → length bytes ≡ outputs (moves_of buffer b) → HasMoved s t ce (moves_of buffer b) bytes
+by_burst s t ce buffer b d is h bytes size =
+    subst (λ (x : Burst). HasMoved s t ce (moves_of buffer x) bytes) (sym is) (h bytes (subst (λ (x : Burst). length bytes ≡ outputs (moves_of buffer x)) is size))
+
+-- bursts one after another
+pub first_can : (s : BusView) (l : Lun) (buffer : List ℕ) (bursts : List Burst) (first : Burst) (rest : List Burst) → bursts ≡ first ∷ rest → CanMove s l (all_moves buffer bursts) → CanMove s l (moves_of buffer first)
+first_can s l buffer bursts first rest is can = can_first s l (moves_of buffer first) (all_moves buffer rest) (subst (λ (bs : List Burst). CanMove s l (all_moves buffer bs)) is can)
+
+pub rest_can : (s t : BusView) (l : Lun) (buffer : List ℕ) (bursts : List Burst) (first : Burst) (rest : List Burst) → bursts ≡ first ∷ rest → CanMove s l (all_moves buffer bursts) → ((bytes : List ℕ) → length bytes ≡ outputs (moves_of buffer first) → HasMoved s t l.ce (moves_of buffer first) bytes) → CanMove t l (all_moves buffer rest)
+rest_can s t l buffer bursts first rest is can h =
+    let some = some_bytes (outputs (moves_of buffer first)) in
+    can_rest s t l (moves_of buffer first) (all_moves buffer rest) some.0 (subst (λ (bs : List Burst). CanMove s l (all_moves buffer bs)) is can) (h some.0 some.1)
+
+pub all_moved : (s t u : BusView) (ce : ℕ) (buffer : List ℕ) (bursts : List Burst) (first : Burst) (rest : List Burst) → bursts ≡ first ∷ rest → ((bytes : List ℕ) → length bytes ≡ outputs (moves_of buffer first) → HasMoved s t ce (moves_of buffer first) bytes) → ((bytes : List ℕ) → length bytes ≡ outputs (all_moves buffer rest) → HasMoved t u ce (all_moves buffer rest) bytes) → (bytes : List ℕ) → length bytes ≡ outputs (all_moves buffer bursts) → HasMoved s u ce (all_moves buffer bursts) bytes
+all_moved s t u ce buffer bursts first rest is h k bytes size =
+    subst (λ (bs : List Burst). HasMoved s u ce (all_moves buffer bs) bytes) (sym is)
+    (moved_both s t u ce (moves_of buffer first) (all_moves buffer rest) bytes (subst (λ (bs : List Burst). length bytes ≡ outputs (all_moves buffer bs)) is size) h k)
+
+pub none_to_do : (s : BusView) (ce : ℕ) (buffer : List ℕ) (bursts : List Burst) → bursts ≡ [] → (bytes : List ℕ) → length bytes ≡ outputs (all_moves buffer bursts) → HasMoved s s ce (all_moves buffer bursts) bytes
+none_to_do s ce buffer bursts is bytes size = subst (λ (bs : List Burst). length bytes ≡ outputs (all_moves buffer bs) → HasMoved s s ce (all_moves buffer bs) bytes) (sym is) (at bytes) size
+  where
+    at : (xs : List ℕ) → length xs ≡ 0 → HasMoved s s ce [] xs
+    at [] h = none_moved s ce
+    at (x ∷ xs) h = cc
+
+-- a list that isn't empty, by its first and the rest of it
+pub first_and_rest : {X : Type 0} (xs : List X) (d : X) → 1 ≤ length xs → xs ≡ get_or xs 0 d ∷ take (length xs - 1) (drop 1 xs)
+first_and_rest {X = X} [] d h = absurd (omega (arith, h))
+first_and_rest {X = X} (x ∷ xs) d h =
+    let count : length (x ∷ xs) - 1 ≡ length xs = omega arith in
+    ap (λ (ys : List X). x ∷ ys) (sym (ap (λ (n : ℕ). take n xs) count ∙ take_whole xs))
+  where
+    take_whole : (ys : List X) → take (length ys) ys ≡ ys
+    take_whole [] = refl
+    take_whole (y ∷ ys) = ap (λ (zs : List X). y ∷ zs) (take_whole ys)
+
+pub rest_fits : (buffer : ℕ) (bursts : List Burst) (first : Burst) (rest : List Burst) → bursts ≡ first ∷ rest → AllFit buffer bursts → AllFit buffer rest
+rest_fits buffer bursts first rest is fit = (subst (AllFit buffer) is fit).1

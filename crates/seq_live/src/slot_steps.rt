@@ -1,0 +1,82 @@
+//! The next word of the slot of a number: what it is, its bursts, and stepping it.
+ghost use Rattle.std.specs.Prelude.{◌≡◌, ◌<◌, Some, None, length, get_or, set};
+ghost use Rattle.micro_program.specs.Step.{first_byte};
+ghost use Rattle.seq_core.specs.Progress.{Progress};
+ghost use Rattle.seq_core.specs.Playing.{EndsWithFive};
+ghost use Rattle.seq_live.specs.Calls.{CanAnswer, AnsweredSteps, HasNextWord, HasNextMoves, NextBurstsAre, NextWordIs, is_poll};
+
+use crate::burst::{Bursts, bursts_of};
+use crate::playing::play_next;
+use micro_word::Word;
+use nand_geometry::Geometry;
+use onfi_cycle::BusState;
+use seq_core::{Slot, Stepped};
+use std::alloc::Allocator;
+
+/// The word polls the status of its LUN.
+pub(crate) fn is_poll(word: Word) -> bool
+    ensures { result ≡ is_poll word }
+{
+    matches!(word, Word::Wait | Word::ReadStatus)
+}
+
+/// The status that a poll took: its one byte.
+pub(crate) fn status_of(taken: &[u8]) -> u8
+    ensures { result ≡ first_byte taken.now }
+{
+    match taken.first() {
+        Some(status) => *status,
+        None => 0,
+    }
+}
+
+/// The next word of the slot of a number.
+pub(crate) fn word_in<A: Allocator>(slots: &[Option<Slot<A>>], place: usize) -> Word
+    requires inside { place < length slots.now }
+    requires next { HasNextWord (get_or slots.now place None) }
+    ensures next { NextWordIs (get_or slots.now place None) result }
+    ensures range { EndsWithFive result }
+{
+    match &slots[place] {
+        Some(slot) => slot.next_word(),
+        None => unreachable!(),
+    }
+}
+
+/// The bursts of the next word of the slot of a number.
+pub(crate) fn bursts_in<A: Allocator>(
+    geometry: &Geometry,
+    slots: &[Option<Slot<A>>],
+    place: usize,
+) -> Bursts
+    requires inside { place < length slots.now }
+    requires next { HasNextMoves geometry.now (get_or slots.now place None) }
+    ensures { NextBurstsAre geometry.now (get_or slots.now place None) result.items }
+{
+    match &slots[place] {
+        Some(slot) => match bursts_of(geometry, slot.lun(), slot.registers(), slot.next_word()) {
+            Some(bursts) => bursts,
+            None => unreachable!(),
+        },
+        None => unreachable!(),
+    }
+}
+
+/// Steps the next word of the slot of a number, whose outputs gave these bytes.
+pub(crate) fn step_in<A: Allocator>(
+    state: &mut BusState,
+    geometry: &Geometry,
+    slots: &mut [Option<Slot<A>>],
+    place: usize,
+    taken: &[u8],
+) -> Stepped
+    requires inside { place < length slots.old }
+    requires can { (v : Progress) × (get_or slots.old place None ≡ Some v) × CanAnswer geometry.now state.old v (length taken.now) }
+    ensures { (v : Progress) × (u : Progress) × (get_or slots.old place None ≡ Some v)
+        × AnsweredSteps geometry.now state.old state.new v taken.now result u × (slots.new ≡ set slots.old place (Some u)) }
+{
+    match &mut slots[place] {
+        Some(slot) => play_next(state, geometry, slot, taken),
+        None => unreachable!(),
+    }
+}
