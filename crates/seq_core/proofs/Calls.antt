@@ -148,7 +148,7 @@ same_step s x v past later line rest answer u r k limits running is st e =
     }
 
 -- who has the bus after it
-same_holder : (o : Outcome) (l : Lun) → holder_after (answer_of o) l ≡ cond (keeps_bus o) (Some l) None
+pub same_holder : (o : Outcome) (l : Lun) → holder_after (answer_of o) l ≡ cond (keeps_bus o) (Some l) None
 same_holder HasEnded l = refl
 same_holder HasHandedOver l = refl
 same_holder WasNotReady l = refl

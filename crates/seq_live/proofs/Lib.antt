@@ -4,3 +4,6 @@ pub mod Main
 pub mod Moves
 pub mod Bursts
 pub mod Lives
+pub mod Running
+pub mod Truth
+pub mod Stepping

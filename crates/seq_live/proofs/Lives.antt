@@ -1,5 +1,5 @@
 -- What the calls of a sequencer on a real bus do, told of its state, its slots and its holder.
-use Rattle.std.proofs.Common.{◌≡◌, ℕ, ◌*◌, ◌^◌, ◌<◌, ◌≤◌, Bool, true, false, cond, List, [], ◌∷◌, Option, Some, None, is_none, refl, sym, ap, ◌∙◌, subst, length, get_or, set, replicate}
+use Rattle.std.proofs.Common.{◌≡◌, ℕ, ◌*◌, ◌^◌, ◌<◌, ◌≤◌, Bool, true, false, cond, List, [], ◌∷◌, Option, Some, None, is_some, refl, sym, ap, ◌∙◌, subst, length, get_or, set, replicate}
 use Rattle.nand_geometry.specs.declared.parts.Parts.{Parts}
 use Rattle.nand_geometry.specs.Limits.{InLimits}
 use Rattle.onfi_cycle.specs.declared.lun.Lun.{Lun}
@@ -37,7 +37,7 @@ use Rattle.seq_core.proofs.Cores.{place_of, no_slot, has_code, new_is_fresh, ref
 use Rattle.seq_live.specs.Event.{LiveEvent, Load, Step, Ready, ArrayReady, Unload, plain}
 use Rattle.seq_live.specs.After.{after_live, after_answers, after_slot_answers, Answers, IsAnswered}
 use Rattle.seq_live.specs.Kept.{LiveView, channel_at, core_at, IsLiveAt, IsLive}
-use Rattle.seq_live.specs.Calls.{LiveRan, IsLiveRun, IsLiveEvent, live_slot, live_load_fault}
+use Rattle.seq_live.specs.Calls.{LiveRan, IsLiveRun, IsLiveEvent, live_slot, live_load_fault, KeepsSlots}
 
 -- 1. what is kept, as a sequencer on modelled dies would keep it
 
@@ -242,3 +242,12 @@ new_is_live s slots going g targets count limits most f slots_are is =
 
 pub is_of : (g : Parts) (targets : ℕ) (s : BusView) → Follows g targets s [] → (s.geometry ≡ g) × (length s.targets ≡ targets)
 is_of g targets s f = (f.geometry, count_of g targets s [] f)
+
+-- a ready leaves the jobs, the LUN that has the bus and the step that goes on
+pub ready_stays : (v : LiveView) (s : BusView) (i : Item) (came : Bool) → IsLive v → WentOnIf v.state s i came → KeepsSlots v (record v { state = s })
+ready_stays v s i came k h = record { channel = with_state_channel v s k.world i came k.is_at h; slots = refl; holder = refl; going = refl }
+
+pub none_going : (going : Option StepGoingOn) (told : Bool) → told ≡ is_some going → told ≡ false → going ≡ None
+none_going None told h e = refl
+none_going (Some step) true h e = cc
+none_going (Some step) false h e = cc

@@ -1,10 +1,11 @@
 -- What a call of a sequencer on a real bus is: an event, or several, of the world that it keeps.
-use Rattle.std.specs.Prelude.{◌≡◌, ℕ, ◌+◌, ◌<◌, ◌==◌, Bool, true, false, ◌&&◌, if◌then◌else◌, List, [], ◌∷◌, ◌++◌, Option, Some, None, length, slice_get}
+use Rattle.std.specs.Prelude.{◌≡◌, ℕ, ◌+◌, ◌==◌, Bool, true, false, ◌&&◌, if◌then◌else◌, List, [], ◌∷◌, ◌++◌, Option, Some, None, length, slice_get}
 use Rattle.std.specs.Int.RustNames.{bit_and}
 use Rattle.nand_geometry.specs.declared.parts.Parts.{Parts}
 use Rattle.onfi_cycle.specs.declared.lun.Lun.{Lun}
 use Rattle.onfi_cycle.specs.declared.item.Item.{Item}
 use Rattle.onfi_cycle.specs.Lun.{is_busy}
+use Rattle.onfi_cycle.specs.Channel.{is_there}
 use Rattle.onfi_cycle.specs.State.{BusView, Follows}
 use Rattle.micro_word.specs.declared.word.Word.{Word}
 use Rattle.micro_word.specs.declared.word.Word.TheVariants.{Wait, ReadStatus}
@@ -209,7 +210,7 @@ pub record KeepsSlots (v later : LiveView) : Type 0 where
 
 -- a LUN that is there isn't busy after any past that the state follows
 abbrev pub IsReadyNow : BusView → Lun → Type 0
-IsReadyNow s l = (g : Parts) (n : ℕ) (past : List Item) → Follows g n s past → l.ce < n → l.lun < g.luns → is_busy g past l ≡ false
+IsReadyNow s l = (g : Parts) (n : ℕ) (past : List Item) → Follows g n s past → is_there (channel_on g n []) l ≡ true → is_busy g past l ≡ false
 
 -- a `wait` ends with these bytes
 abbrev pub ends_with : Word → List ℕ → Bool

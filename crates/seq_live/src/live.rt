@@ -228,7 +228,7 @@ impl<A: Allocator> Live<A> {
     /// needs no call: [`finish`](Live::finish) sees it.
     pub fn ready(&mut self, lun: Lun, fail: bool) -> bool
         ensures came { IsLiveEvent self.old (Ready lun fail) (ToReady result) self.new }
-        ensures truth { is_there (channel_at self.old) lun ≡ true → IsReadyNow self.new.state lun }
+        ensures truth { IsReadyNow self.new.state lun }
         ensures stays { KeepsSlots self.old self.new }
     {
         go_on_if(
@@ -335,7 +335,6 @@ impl<A: Allocator> Live<A> {
 
     // The readies that the status of a LUN shows.
     fn show(&mut self, lun: Lun, status: u8)
-        requires { is_there (channel_at self.old) lun ≡ true }
         ensures run { (replies : List Reply) × IsLiveRun self.old (shown_by lun status) replies self.new }
         ensures truth { is_ready_status status ≡ true → IsReadyNow self.new.state lun }
         ensures stays { KeepsSlots self.old self.new }
