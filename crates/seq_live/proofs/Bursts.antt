@@ -13,12 +13,12 @@ use Rattle.micro_word.specs.declared.word.Word.TheVariants as word
 use Rattle.micro_program.specs.Program.{fits}
 use Rattle.micro_program.specs.Moves.{Move, Give, Take, and_then, gives, part, outputs}
 use Rattle.seq_core.specs.declared.registers.Registers.{Registers}
-use Rattle.seq_core.specs.Progress.{five_bytes, moves_at, poll_at, put_bytes_at}
+use Rattle.seq_core.specs.Progress.{five_bytes, moves_at, poll_at}
 use Rattle.seq_core.specs.Playing.{EndsWithFive}
 use Rattle.seq_live.specs.declared.burst.Burst.{Burst}
 use Rattle.seq_live.specs.declared.burst.Burst.TheVariants.{Command, Address, Input, Output}
 use Rattle.onfi_cycle.specs.State.{BusView}
-use Rattle.seq_live.specs.Burst.{moves_of, all_moves, BurstFits, AllFit, poll_bursts, bursts_at, taken_by}
+use Rattle.seq_live.specs.Burst.{all_moves, AllFit, poll_bursts, bursts_at, taken_by}
 use Rattle.seq_live.specs.Calls.{CanMove, HasMoved, CanMoveBy, HasMovedBy}
 
 some_same : {X : Type 0} (x y : X) → Some x ≡ Some y → x ≡ y

@@ -1,20 +1,19 @@
 -- Every event of a real bus goes well where its step is answered; the main theorem by induction on the events.
-use Rattle.std.proofs.Common.{◌≡◌, ℕ, Bool, true, false, cond, List, [], ◌∷◌, Option, Some, None, refl, sym, ap, ◌∙◌, subst, length}
+use Rattle.std.proofs.Common.{◌≡◌, ℕ, Bool, true, false, cond, List, [], ◌∷◌, Option, Some, None, refl, sym, ◌∙◌, subst, length}
 use Rattle.onfi_cycle.specs.declared.lun.Lun.{Lun}
 use Rattle.onfi_cycle.specs.Channel.{Channel, IsChannel}
 use Rattle.micro_program.specs.Moves.{and_then}
 use Rattle.micro_program.specs.Step.{answered_step}
 use Rattle.micro_program.specs.Safe.{AddsOwn, AreTruthful}
 use Rattle.seq_core.specs.declared.stepped.Stepped.TheVariants.{Empty, Held, Ended}
-use Rattle.seq_core.specs.World.{Slot, World, slot_of, fresh}
-use Rattle.seq_core.specs.Event.{LoadsVerified, Load as ALoad, Ready as AReady, ArrayReady as AnArrayReady, Unload as AnUnload}
-use Rattle.seq_core.specs.After.{After, Ran, is_held, stands, after_stride}
-use Rattle.seq_core.specs.Live.{taken_next}
+use Rattle.seq_core.specs.World.{Slot, World, slot_of}
+use Rattle.seq_core.specs.Event.{Load as ALoad, Ready as AReady, ArrayReady as AnArrayReady, Unload as AnUnload}
+use Rattle.seq_core.specs.After.{Ran, is_held, stands, after_stride}
 use Rattle.seq_core.specs.Lawful.{LawfulWorld}
 use Rattle.seq_core.proofs.Events.{StepLawful, nothing_done, live_steps_go_well}
-use Rattle.seq_core.proofs.Main.{events_go_well, fresh_is_lawful, lawful_slot}
-use Rattle.seq_live.specs.Event.{LiveEvent, Load, Step, Ready, ArrayReady, Unload, plain, AllLoadVerified}
-use Rattle.seq_live.specs.After.{after_slot_answers, after_answers, after_live, run_live, Answers, IsAnswered, AllAnswered}
+use Rattle.seq_core.proofs.Main.{events_go_well, lawful_slot}
+use Rattle.seq_live.specs.Event.{LiveEvent, Load, Step, Ready, ArrayReady, Unload, AllLoadVerified}
+use Rattle.seq_live.specs.After.{after_slot_answers, after_answers, run_live, Answers, AllAnswered}
 use Rattle.seq_live.specs.Headline.{LiveEventsGoWell, LiveEventsAreOwn}
 
 some_same : {X : Type 0} (x y : X) → Some x ≡ Some y → x ≡ y

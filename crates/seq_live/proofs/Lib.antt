@@ -7,3 +7,4 @@ pub mod Lives
 pub mod Running
 pub mod Truth
 pub mod Stepping
+pub mod Shown

@@ -6,7 +6,7 @@ use Rattle.onfi_cycle.specs.declared.lun.Lun.{Lun}
 use Rattle.onfi_cycle.specs.declared.item.Item.{Item}
 use Rattle.onfi_cycle.specs.declared.item.Item.TheVariants.{Rdy, Ard}
 use Rattle.onfi_cycle.specs.Permitted.{is_permitted}
-use Rattle.onfi_cycle.specs.Channel.{Channel, IsChannel, is_there}
+use Rattle.onfi_cycle.specs.Channel.{Channel, IsChannel}
 use Rattle.onfi_cycle.specs.State.{BusView, Follows}
 use Rattle.onfi_cycle.proofs.Following.{count_of}
 use Rattle.micro_program.specs.Places.{IsShaped}
@@ -29,8 +29,8 @@ use Rattle.target_bus.proofs.Opened.{opened_lengths}
 use Rattle.seq_live.specs.declared.live.StepGoingOn.{StepGoingOn}
 use Rattle.seq_core.specs.Progress.{Progress, fresh_progress}
 use Rattle.seq_core.specs.Shows.{CoreView, Keeps, KeepsAll, IsAt}
-use Rattle.seq_core.specs.Calls.{IsCore, IsEvent, Came, slot_at, slot_state, with_item, load_fault_at}
-use Rattle.seq_core.proofs.Calls.{keeps_lun, has_slot, HasSlot}
+use Rattle.seq_core.specs.Calls.{IsCore, IsEvent, slot_state, with_item}
+use Rattle.seq_core.proofs.Calls.{keeps_lun, has_slot}
 use Rattle.seq_core.proofs.Main.{fresh_is_lawful}
 use Rattle.seq_core.proofs.Replies.{ready_event, array_ready_event}
 use Rattle.seq_core.proofs.Cores.{place_of, no_slot, has_code, new_is_fresh, refused_now, loaded_now, none_unloaded, early_now, unloaded_now}
@@ -132,15 +132,22 @@ ended_rest v l code h bytes w at law =
     ran_at_rest v w l bytes Ended at law (λ x is c free. absurd (never_both x.code (ap (λ (y : Slot). y.code) (some_same x k.x (sym is ∙ k.is)) ∙ k.code_is) c))
     (ap (after_answers (channel_at v) w l bytes) k.is ∙ ap (after_slot_answers (channel_at v) w l bytes k.x) k.code_is)
 
-held_not_free : (b : Bool) → b ≡ true → b ≡ false → ⊥
-held_not_free b a c = cc
+-- what a LUN that may step isn't
+pub not_empty : state.Empty ≡ state.Running → ⊥
+not_empty e = cc
+
+pub not_ended : {code : ℕ} → state.Ended code ≡ state.Running → ⊥
+not_ended e = cc
+
+pub not_held : (b : Bool) → b ≡ true → b ≡ false → ⊥
+not_held b x y = cc
 
 pub held_rest : (v : LiveView) (l : Lun) → state.Running ≡ slot_state (live_slot v l) → is_held v.holder l ≡ true → (bytes : List ℕ) → IsLiveEvent v (Step l bytes) (ToStep Held) v
 held_rest v l h held bytes w at law =
     let s = has_code (live_slot v l) None h in
     let k = known v w l None at s.v s.is s.code_is in
     let taken : is_held w.holder l ≡ true = subst (λ (o : Option Lun). is_held o l ≡ true) at.at.holder held in
-    ran_at_rest v w l bytes Held at law (λ x is c free. absurd (held_not_free (is_held w.holder l) taken free))
+    ran_at_rest v w l bytes Held at law (λ x is c free. absurd (not_held (is_held w.holder l) taken free))
     (ap (after_answers (channel_at v) w l bytes) k.is ∙ (ap (after_slot_answers (channel_at v) w l bytes k.x) k.code_is ∙ rw taken refl))
 
 -- 3. loads and unloads

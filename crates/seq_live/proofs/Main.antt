@@ -1,5 +1,4 @@
 -- The main theorem of a real bus.
-use Rattle.std.proofs.Common.{List}
 use Rattle.seq_core.specs.World.{fresh}
 use Rattle.seq_core.proofs.Main.{fresh_is_lawful, lawful_slot}
 use Rattle.seq_live.specs.Headline.{LiveHeadline}

@@ -8,8 +8,8 @@ use Rattle.onfi_cycle.specs.declared.item.Item.{Item}
 use Rattle.onfi_cycle.specs.declared.item.Kind.{Kind}
 use Rattle.onfi_cycle.specs.declared.item.Kind.TheVariants.{Din, Dout}
 use Rattle.onfi_cycle.specs.Channel.{Channel, cycle}
-use Rattle.onfi_cycle.specs.Outputs.{with_outputs, broken_outputs, judged_outputs}
-use Rattle.onfi_cycle.specs.Inputs.{with_inputs, broken_inputs, judged_inputs}
+use Rattle.onfi_cycle.specs.Outputs.{with_outputs, judged_outputs}
+use Rattle.onfi_cycle.specs.Inputs.{with_inputs, judged_inputs}
 use Rattle.onfi_cycle.specs.State.{BusView, Follows, judged}
 use Rattle.onfi_cycle.proofs.Following.{judged_is_broken}
 use Rattle.onfi_cycle.proofs.Runs.{run_judged}

@@ -10,7 +10,7 @@ use Rattle.seq_live.specs.Event.{LiveEvent}
 use Rattle.seq_live.specs.After.{after_live, with_first, run_live, AllAnswered}
 use Rattle.seq_live.specs.Headline.{LiveEventsAreOwn}
 use Rattle.seq_live.specs.Kept.{LiveView, channel_at}
-use Rattle.seq_live.specs.Calls.{LiveRan, IsLiveRun}
+use Rattle.seq_live.specs.Calls.{IsLiveRun}
 
 same_ran : (r q : Ran) → Some r ≡ Some q → r ≡ q
 same_ran r q e = cc

@@ -1,33 +1,31 @@
 -- A step of a real bus is the event of each world that is kept.
-use Rattle.std.proofs.Common.{◌≡◌, ℕ, Bool, true, false, ◌&&◌, cond, List, [], ◌∷◌, Option, Some, None, refl, sym, ap, ◌∙◌, subst, length, get_or, set}
+use Rattle.std.proofs.Common.{◌≡◌, ℕ, true, false, List, [], ◌∷◌, Option, Some, None, refl, sym, ap, ◌∙◌, subst, length, get_or, set}
 use Rattle.std.specs.List.{slice_get}
 use Rattle.nand_geometry.specs.declared.parts.Parts.{Parts}
 use Rattle.onfi_cycle.specs.declared.lun.Lun.{Lun}
 use Rattle.onfi_cycle.specs.declared.item.Item.{Item}
-use Rattle.onfi_cycle.specs.Lun.{is_busy}
 use Rattle.onfi_cycle.specs.Channel.{Channel, is_there}
-use Rattle.onfi_cycle.specs.State.{BusView, Follows}
+use Rattle.onfi_cycle.specs.State.{Follows}
 use Rattle.micro_word.specs.declared.word.Word.{Word}
 use Rattle.micro_program.specs.Lines.{Line}
-use Rattle.micro_program.specs.Program.{Job, is_ready_status}
-use Rattle.micro_program.specs.Moves.{Move, moves, outputs, is_wait, and_then}
+use Rattle.micro_program.specs.Program.{Job}
+use Rattle.micro_program.specs.Moves.{moves, outputs}
 use Rattle.micro_program.specs.Played.{Played, answered}
-use Rattle.micro_program.specs.Step.{Stride, stride, keeps_bus, first_byte, answered_step}
+use Rattle.micro_program.specs.Step.{Stride, stride, answered_step}
 use Rattle.micro_program.specs.Safe.{LineIsFine, AreTruthful, ends_wait}
 use Rattle.micro_program.proofs.Walk.{answered_count}
 use Rattle.seq_core.specs.declared.stepped.Stepped.{Stepped}
-use Rattle.seq_core.specs.declared.slot_state.SlotState.TheVariants as state
-use Rattle.seq_core.specs.World.{Slot, World, number, slot_of}
-use Rattle.seq_core.specs.Reply.{Reply, ToStep, answer_of}
+use Rattle.seq_core.specs.World.{Slot, number}
+use Rattle.seq_core.specs.Reply.{ToStep}
 use Rattle.seq_core.specs.After.{After, is_held, after_stride}
 use Rattle.seq_core.specs.Lawful.{LawfulSlot, LawfulWorld, has_bus}
 use Rattle.seq_core.specs.Event.{Step as AStep}
 use Rattle.seq_core.specs.Headline.{AddsItsOwn}
 use Rattle.seq_core.specs.Live.{taken_next}
 use Rattle.seq_core.specs.Loops.{StandsAt}
-use Rattle.seq_core.specs.Progress.{Progress, moves_at, progress_after}
-use Rattle.seq_core.specs.Shows.{CoreView, KeepsSlot, KeepsAll, IsAt}
-use Rattle.seq_core.specs.Calls.{CanStep, slot_state, holder_after}
+use Rattle.seq_core.specs.Progress.{Progress}
+use Rattle.seq_core.specs.Shows.{CoreView, KeepsSlot, KeepsAll}
+use Rattle.seq_core.specs.Calls.{CanStep, holder_after}
 use Rattle.seq_core.proofs.Slots.{there_of_slot}
 use Rattle.seq_core.proofs.Calls.{keeps_set, has_slot, HasSlot, same_holder}
 use Rattle.seq_core.proofs.Standing.{first_word}
@@ -40,9 +38,9 @@ use Rattle.seq_live.specs.After.{after_live, after_answers, after_slot_answers, 
 use Rattle.seq_live.specs.declared.burst.Burst.{Burst}
 use Rattle.seq_live.specs.Burst.{taken_by}
 use Rattle.seq_live.specs.Kept.{LiveView, channel_at, core_at, IsLiveAt, IsLive}
-use Rattle.seq_live.specs.Calls.{LiveRan, IsLiveEvent, live_slot, MayStep, NextWordIs, IsNextWord, HasNextWord, NextBurstsAre, AreNextBursts, HasNextMoves, CanAnswer, AnsweredSteps, HasMovedBy, IsReadyNow, ends_with}
+use Rattle.seq_live.specs.Calls.{LiveRan, IsLiveEvent, live_slot, MayStep, NextWordIs, IsNextWord, HasNextWord, NextBurstsAre, AreNextBursts, HasNextMoves, CanAnswer, AnsweredSteps, IsReadyNow, ends_with}
 use Rattle.seq_live.proofs.Events.{live_events_go_well}
-use Rattle.seq_live.proofs.Lives.{live_core, core_now, at_world, ran_one, same_channel}
+use Rattle.seq_live.proofs.Lives.{live_core, at_world, ran_one, same_channel}
 
 some_same : {X : Type 0} (x y : X) → Some x ≡ Some y → x ≡ y
 some_same x y h = cc
@@ -196,3 +194,9 @@ step_ran v later l word bytes answer p u k may slot next truth st slots_are hold
         let is_r : answered_step s.geometry h.x.job bytes w.past h.x.ahead h.x.done ≡ Some (stride (record { at = p.at; word = st.word }) rest h.x.done played st.word) =
         ap (λ (ls : List Line). answered_step s.geometry h.x.job bytes w.past ls h.x.done) ahead_is ∙ rw is_word_moved (rw plays refl) in
         finished line rest (stride (record { at = p.at; word = st.word }) rest h.x.done played st.word) e same_line is_moved is_r (goes_on h.x p st.word rest played h.kept x_running there_word ahead_is)
+
+-- the same by the place of its slot
+pub stepped_now : (v later : LiveView) (l : Lun) (word : Word) (bytes : List ℕ) (answer : Stepped) (p u : Progress) (place : ℕ) (g : Parts) → IsLive v → Some place ≡ place_of (core_at v []) l → MayStep v l → IsNextWord v l word → (ends_with word bytes ≡ true → IsReadyNow v.state l) → g ≡ v.state.geometry → get_or v.slots place None ≡ Some p → AnsweredSteps g v.state later.state p bytes answer u → later.slots ≡ set v.slots place (Some u) → later.holder ≡ holder_after answer l → IsLiveEvent v (Step l bytes) (ToStep answer) later
+stepped_now v later l word bytes answer p u place g k h may next truth geometry found st slots holder =
+    let at = slot_of_place (core_at v []) l place h in
+    step_ran v later l word bytes answer p u k may (at.0 ∙ found) next truth (subst (λ (x : Parts). AnsweredSteps x v.state later.state p bytes answer u) geometry st) (slots ∙ ap (λ (n : ℕ). set v.slots n (Some u)) at.1) holder

@@ -1,5 +1,5 @@
 -- Readies make truth: after the ready that a status shows its LUN isn't busy.
-use Rattle.std.proofs.Common.{◌≡◌, ℕ, Bool, true, false, ◌&&◌, cond, List, [], ◌∷◌, Option, Some, None, refl, sym, ap, ◌∙◌, subst, ltb, length}
+use Rattle.std.proofs.Common.{◌≡◌, ℕ, Bool, true, false, cond, List, [], ◌∷◌, Option, Some, None, refl, sym, ap, ◌∙◌, subst, length}
 use Rattle.nand_geometry.specs.declared.parts.Parts.{Parts}
 use Rattle.onfi_cycle.specs.declared.lun.Lun.{Lun}
 use Rattle.onfi_cycle.specs.declared.lun_state.LunState.{LunState}
@@ -15,7 +15,7 @@ use Rattle.onfi_cycle.proofs.Following.{looked_is_look, count_of}
 use Rattle.target_bus.specs.Bus.{channel_on}
 use Rattle.seq_core.proofs.Below.{readies_leave}
 use Rattle.seq_core.proofs.Alone.{busy_is_permitted, ready_at}
-use Rattle.seq_live.specs.Kept.{LiveView, channel_at, IsLive}
+use Rattle.seq_live.specs.Kept.{LiveView, IsLive}
 use Rattle.seq_live.specs.Calls.{IsReadyNow}
 use Rattle.seq_live.proofs.Lives.{WentOnIf}
 

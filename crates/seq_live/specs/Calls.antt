@@ -1,5 +1,5 @@
 -- What a call of a sequencer on a real bus is: an event, or several, of the world that it keeps.
-use Rattle.std.specs.Prelude.{◌≡◌, ℕ, ◌+◌, ◌==◌, Bool, true, false, ◌&&◌, if◌then◌else◌, List, [], ◌∷◌, ◌++◌, Option, Some, None, length, slice_get}
+use Rattle.std.specs.Prelude.{◌≡◌, ℕ, ◌+◌, ◌<◌, ◌==◌, Bool, true, false, ◌&&◌, if◌then◌else◌, List, [], ◌∷◌, ◌++◌, Option, Some, None, length, slice_get}
 use Rattle.std.specs.Int.RustNames.{bit_and}
 use Rattle.nand_geometry.specs.declared.parts.Parts.{Parts}
 use Rattle.onfi_cycle.specs.declared.lun.Lun.{Lun}
@@ -182,6 +182,10 @@ pub record IsNextBurst (v : LiveView) (burst : Burst) : Type 0 where
   pub bursts : List Burst
   pub are_next : AreNextBursts v step.lun bursts
   pub is_burst : slice_get bursts step.done ≡ Some burst
+
+-- a word has three bursts at most
+abbrev pub AreFewDone : LiveView → Type 0
+AreFewDone v = (step : StepGoingOn) → v.going ≡ Some step → step.done < 3
 
 -- the burst that was to be done is done, and nothing else has changed
 pub record IsBurstDone (v later : LiveView) : Type 0 where

@@ -1,5 +1,5 @@
 -- What a sequencer on a real bus keeps, and of which worlds it is.
-use Rattle.std.specs.Prelude.{◌≡◌, ℕ, ◌≤◌, List, [], Option, Some, None, length}
+use Rattle.std.specs.Prelude.{◌≤◌, List, [], Option, length}
 use Rattle.onfi_cycle.specs.declared.lun.Lun.{Lun}
 use Rattle.onfi_cycle.specs.declared.item.Item.{Item}
 use Rattle.onfi_cycle.specs.Channel.{Channel, IsChannel}

@@ -1,5 +1,5 @@
 //! A burst: what is to be done on the pins in one go.
-ghost use Rattle.std.specs.Prelude.{◌≡◌, ◌+◌, ◌≤◌, [], ◌∷◌, Some, None, IfSome, IfNone};
+ghost use Rattle.std.specs.Prelude.{◌≡◌, ◌+◌, ◌<◌, ◌≤◌, [], ◌∷◌, Some, None, IfSome, IfNone, slice_get};
 ghost use Rattle.seq_core.specs.Playing.{EndsWithFive};
 ghost use Rattle.seq_live.specs.Burst.{bursts_at, poll_bursts, taken_by};
 
@@ -152,4 +152,12 @@ pub(crate) fn taken_by(word: Word) -> usize
         Word::Wait | Word::ReadStatus => 1,
         _ => 0,
     }
+}
+
+/// The burst of this number of a word.
+pub(crate) fn burst_of(bursts: &Bursts, number: usize) -> Option<Burst>
+    ensures value { result ≡ slice_get bursts.now.items number }
+    ensures few { IfSome result (λ burst. number < 3) }
+{
+    bursts.as_slice().get(number).copied()
 }

@@ -10,10 +10,10 @@ ghost use Rattle.seq_core.specs.Playing.{EndsWithFive};
 ghost use Rattle.seq_live.specs.Event.{Load, Step, Ready, ArrayReady, Unload};
 ghost use Rattle.seq_live.specs.Burst.{taken_by};
 ghost use Rattle.seq_live.specs.Kept.{channel_at, IsLiveAt, IsLive};
-ghost use Rattle.seq_live.specs.Calls.{IsLiveRun, IsLiveEvent, live_slot, live_load_fault, MayStep, IsNextWord, AreNextBursts, Begins, IsNextBurst, IsBurstDone, HasFinished, KeepsSlots, IsReadyNow, ends_with, shown, shown_by};
+ghost use Rattle.seq_live.specs.Calls.{IsLiveRun, IsLiveEvent, live_slot, live_load_fault, MayStep, IsNextWord, AreNextBursts, Begins, IsNextBurst, AreFewDone, IsBurstDone, HasFinished, KeepsSlots, IsReadyNow, ends_with, shown, shown_by};
 
 use crate::begun::Begun;
-use crate::burst::{Burst, Bursts, taken_by};
+use crate::burst::{Burst, Bursts, burst_of, taken_by};
 use crate::moving::go_on_if;
 use crate::out_of_turn::OutOfTurn;
 use crate::slot_steps::{bursts_in, is_poll, status_of, step_in, word_in};
@@ -128,6 +128,7 @@ impl<A: Allocator> Live<A> {
     // The answer of a step that changes nothing: the LUN has no program that goes on, or another LUN has the bus.
     fn answer_at_rest(&self, lun: Lun) -> Option<Stepped>
         ensures came { IfSome result (λ answer. (bytes : List ℕ) → IsLiveEvent self.now (Step lun bytes) (ToStep answer) self.now) }
+        ensures rest { IfSome result (λ answer. MayStep self.now lun → ⊥) }
         ensures may { IfNone result (MayStep self.now lun) }
     {
         match self.state_at(lun) {
@@ -303,15 +304,13 @@ impl<A: Allocator> Live<A> {
     /// What is to be done on the pins now; None where no step goes on, or all of its bursts are done.
     pub fn next(&self) -> Option<Burst>
         ensures some { IfSome result (λ burst. IsNextBurst self.now burst) }
+        ensures few { IfSome result (λ burst. AreFewDone self.now) }
     {
         let step = self.going?;
-        if self.answer_at_rest(step.lun).is_some() {
-            return None;
+        match self.answer_at_rest(step.lun) {
+            Some(_) => None,
+            None => burst_of(&self.bursts_at(step.lun), step.done),
         }
-        self.bursts_at(step.lun)
-            .as_slice()
-            .get(step.done)
-            .copied()
     }
 
     /// The burst that [`next`](Live::next) tells is done on the pins. Errors, with all as it was: `NoStep` no step goes on; `NoBurst` all of its bursts are
@@ -323,18 +322,20 @@ impl<A: Allocator> Live<A> {
         let Some(step) = self.going else {
             return Err(OutOfTurn::NoStep);
         };
-        if self.next().is_none() {
-            return Err(OutOfTurn::NoBurst);
+        match self.next() {
+            None => Err(OutOfTurn::NoBurst),
+            Some(_) => {
+                self.going = Some(StepGoingOn {
+                    lun: step.lun,
+                    done: step.done + 1,
+                });
+                Ok(())
+            }
         }
-        self.going = Some(StepGoingOn {
-            lun: step.lun,
-            done: step.done + 1,
-        });
-        Ok(())
     }
 
-    // The readies that the status of a LUN shows.
-    fn show(&mut self, lun: Lun, status: u8)
+    // The readies that a status of a LUN shows.
+    fn show_status(&mut self, lun: Lun, status: u8)
         ensures run { (replies : List Reply) × IsLiveRun self.old (shown_by lun status) replies self.new }
         ensures truth { is_ready_status status ≡ true → IsReadyNow self.new.state lun }
         ensures stays { KeepsSlots self.old self.new }
@@ -347,13 +348,25 @@ impl<A: Allocator> Live<A> {
         }
     }
 
+    // The readies that a word of a LUN shows, whose outputs gave these bytes.
+    fn show(&mut self, lun: Lun, word: Word, taken: &[u8])
+        ensures run { (replies : List Reply) × IsLiveRun self.old (shown lun word taken.now) replies self.new }
+        ensures truth { ends_with word taken.now ≡ true → IsReadyNow self.new.state lun }
+        ensures stays { KeepsSlots self.old self.new }
+    {
+        if is_poll(word) {
+            self.show_status(lun, status_of(taken));
+        }
+    }
+
     // Steps the next word of a LUN, whose outputs gave these bytes.
     fn step_by(&mut self, lun: Lun, word: Word, taken: &[u8]) -> Stepped
         requires may { MayStep self.old lun }
         requires next { IsNextWord self.old lun word }
         requires count { length taken.now ≡ taken_by word }
         requires truth { ends_with word taken.now ≡ true → IsReadyNow self.old.state lun }
-        ensures { IsLiveEvent self.old (Step lun taken.now) (ToStep result) self.new }
+        ensures came { IsLiveEvent self.old (Step lun taken.now) (ToStep result) self.new }
+        ensures over { self.new.going ≡ None }
     {
         let geometry = self.state.geometry();
         match self.place(lun) {
@@ -362,6 +375,7 @@ impl<A: Allocator> Live<A> {
                 let slots = self.slots.as_mut_slice();
                 let answer = step_in(&mut self.state, &geometry, slots, place, taken);
                 self.holder = holder_after(answer, lun);
+                self.going = None;
                 answer
             }
         }
@@ -372,11 +386,10 @@ impl<A: Allocator> Live<A> {
         requires may { MayStep self.old lun }
         requires next { IsNextWord self.old lun word }
         requires count { length taken.now ≡ taken_by word }
-        ensures { (replies : List Reply) × IsLiveRun self.old (shown lun word taken.now ++ (Step lun taken.now ∷ [])) (replies ++ (ToStep result ∷ [])) self.new }
+        ensures run { (replies : List Reply) × IsLiveRun self.old (shown lun word taken.now ++ (Step lun taken.now ∷ [])) (replies ++ (ToStep result ∷ [])) self.new }
+        ensures over { self.new.going ≡ None }
     {
-        if is_poll(word) {
-            self.show(lun, status_of(taken));
-        }
+        self.show(lun, word, taken);
         self.step_by(lun, word, taken)
     }
 
@@ -401,7 +414,6 @@ impl<A: Allocator> Live<A> {
         if taken.len() != taken_by(word) {
             return Err(OutOfTurn::WrongCount);
         }
-        self.going = None;
         Ok(self.step_word(step.lun, word, taken))
     }
 }

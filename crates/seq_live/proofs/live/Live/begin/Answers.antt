@@ -1,5 +1,4 @@
-use Rattle.std.proofs.Common.{◌≡◌, ◌∙◌, refl, sym, ap}
-use Rattle.seq_core.specs.Event.{Event}
+use Rattle.std.proofs.Common.{◌∙◌, refl, sym, ap}
 use Rattle.seq_live.specs.Kept.{LiveView}
 use Rattle.seq_live.proofs.Lives.{none_going}
 use Rattle.seq_live.proofs.live.Live.begin.Goals as goal

@@ -1,4 +1,4 @@
-use Rattle.std.proofs.Common.{◌∙◌, ◌≤◌, [], length, ap, subst}
+use Rattle.std.proofs.Common.{◌∙◌, [], length, ap, subst}
 use Rattle.nand_geometry.specs.declared.parts.Parts.{Parts}
 use Rattle.seq_live.specs.Kept.{LiveView, IsLive, core_at}
 use Rattle.seq_core.proofs.Cores.{luns_place, few_places}

@@ -1,4 +1,4 @@
-use Rattle.std.proofs.Common.{◌≡◌, ◌∙◌, [], List, Option, Some, None, ap, sym, subst, get_or}
+use Rattle.std.proofs.Common.{◌∙◌, List, Option, None, ap, sym, subst, get_or}
 use Rattle.seq_core.specs.Progress.{Progress}
 use Rattle.seq_live.specs.Kept.{LiveView, IsLive}
 use Rattle.seq_live.specs.Calls.{HasNextWord, NextWordIs}
