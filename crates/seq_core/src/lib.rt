@@ -13,12 +13,12 @@ mod job_fault;
 pub mod laws;
 mod load_fault;
 mod loops;
+pub mod lun_slots;
 mod playing;
 mod registers;
 mod sequencer;
 mod slot;
 mod slot_state;
-pub mod lun_slots;
 mod stepped;
 mod unload_fault;
 

@@ -18,12 +18,12 @@ ghost use Rattle.seq_core.specs.Playing.{IsSame, IsUntouched};
 
 use crate::job::Job;
 use crate::load_fault::LoadFault;
-use crate::slot::Slot;
-use crate::slot_state::SlotState;
 use crate::lun_slots::{
     all_are_empty, empty_slots, holder_after, is_held, load_fault, lun_count, number_of, put_in,
     state_in, take_in,
 };
+use crate::slot::Slot;
+use crate::slot_state::SlotState;
 use crate::stepped::Stepped;
 use crate::unload_fault::UnloadFault;
 use arrayvec::ArrayVec;

@@ -41,10 +41,12 @@ pub answered_more : (s : Channel) (es fs : List LiveEvent) (w : World) (ran : Ra
 answered_more s [] fs w ran is first more = subst (λ (r : Ran). AllAnswered s fs r.world) (sym (same_ran (record { world = w; replies = [] }) ran is)) more
 answered_more s (e ∷ es) fs w ran is first more =
     let r = rest_of s e es w ran is in
-    let more_there : AllAnswered s fs r.rest.world = subst (λ (q : Ran). AllAnswered s fs q.world) (sym r.whole) more in
-    (first.0, λ a is_a.
-    let same : r.a ≡ a = same_after r.a a (sym r.is_a ∙ is_a) in
-    subst (λ (b : After). AllAnswered s (es ++ fs) b.world) same (answered_more s es fs r.a.world r.rest r.is_rest (first.1 r.a r.is_a) more_there))
+    let more_there : AllAnswered s fs r.rest.world = subst (λ (q : Ran). AllAnswered s fs q.world) (sym r.whole) more in (
+      first.0,
+      λ a is_a.
+          let same : r.a ≡ a = same_after r.a a (sym r.is_a ∙ is_a) in
+          subst (λ (b : After). AllAnswered s (es ++ fs) b.world) same (answered_more s es fs r.a.world r.rest r.is_rest (first.1 r.a r.is_a) more_there),
+    )
 
 abbrev pub run_of : Ran → Ran → Ran
 run_of first rest = record { world = rest.world; replies = first.replies ++ rest.replies }

@@ -25,7 +25,10 @@ const READ_STATUS_ENHANCED: u8 = 0x78;
 #[derive(Clone, Copy, Debug, PartialEq, Eq)]
 pub enum Burst {
     /// A command cycle: this byte with CLE high.
-    Command { ce: u8, byte: u8 },
+    Command {
+        ce: u8,
+        byte: u8,
+    },
     /// Address cycles: `count` of these five bytes, from number `from` on, with ALE high.
     Address {
         ce: u8,
@@ -34,9 +37,16 @@ pub enum Burst {
         count: u8,
     },
     /// Data input cycles: `len` bytes of the job's buffer, from `place` on.
-    Input { ce: u8, place: usize, len: usize },
+    Input {
+        ce: u8,
+        place: usize,
+        len: usize,
+    },
     /// Data output cycles: so many bytes that the chip gives.
-    Output { ce: u8, len: usize },
+    Output {
+        ce: u8,
+        len: usize,
+    },
 }
 
 impl Default for Burst {
@@ -101,7 +111,13 @@ fn poll(geometry: &Geometry, lun: Lun) -> Option<Bursts>
 }
 
 // The burst of a part of the address that the registers hold, None where its row isn't there.
-fn address(geometry: &Geometry, lun: Lun, registers: Registers, from: u8, count: u8) -> Option<Bursts>
+fn address(
+    geometry: &Geometry,
+    lun: Lun,
+    registers: Registers,
+    from: u8,
+    count: u8,
+) -> Option<Bursts>
     requires { from + count ≤ 5 }
     ensures some { IfSome result (λ bursts. bursts_at geometry.now lun registers (Word.Address from count) ≡ Some bursts.items) }
     ensures none { IfNone result (bursts_at geometry.now lun registers (Word.Address from count) ≡ None) }

@@ -66,7 +66,10 @@ fn apply(state: &mut BusState, lun: Lun, buffer: &[u8], burst: Burst)
     match burst {
         Burst::Command { byte, .. } => give(state, lun, Kind::Cmd, byte),
         Burst::Address {
-            five, from, count, ..
+            five,
+            from,
+            count,
+            ..
         } => give_addresses(state, lun, address_bytes(&five, from, count)),
         Burst::Input { place, len, .. } => feed(state, lun, &buffer[place..place + len]),
         Burst::Output { len, .. } => take(state, lun, len),
