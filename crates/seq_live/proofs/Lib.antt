@@ -1,6 +1,5 @@
 pub mod Events
 pub mod Making
-pub mod Main
 pub mod Moves
 pub mod Bursts
 pub mod Lives
@@ -8,3 +7,4 @@ pub mod Running
 pub mod Truth
 pub mod Stepping
 pub mod Shown
+pub mod Main

@@ -1,5 +1,5 @@
 -- The readies that a status shows, as runs.
-use Rattle.std.proofs.Common.{◌≡◌, ℕ, ◌==◌, Bool, true, false, List, [], ◌∷◌, ◌++◌, Option, Some, None, refl, sym, ap, ◌∙◌, subst, eqb-true, eq-eqb, IfSome, ◌<◌}
+use Rattle.std.proofs.Common.{◌≡◌, ℕ, ◌==◌, Bool, true, false, List, [], ◌∷◌, ◌++◌, Option, Some, None, refl, sym, ap, ◌∙◌, subst, eqb-true, eq-eqb, IfSome, IfOk, IfErr, OnErr, Result, Ok, Err, ◌+◌, ◌<◌}
 use Rattle.std.specs.Int.RustNames.{bit_and}
 use Rattle.onfi_cycle.specs.declared.lun.Lun.{Lun}
 use Rattle.micro_word.specs.declared.word.Word.{Word}
@@ -11,7 +11,9 @@ use Rattle.seq_live.specs.declared.live.StepGoingOn.{StepGoingOn}
 use Rattle.seq_live.specs.declared.burst.Burst.{Burst}
 use Rattle.seq_live.specs.Event.{LiveEvent, Step, Ready, ArrayReady}
 use Rattle.seq_live.specs.Kept.{LiveView}
-use Rattle.seq_live.specs.Calls.{IsLiveRun, IsLiveEvent, MayStep, IsNextWord, AreNextBursts, IsNextBurst, HasFinished, shown_by, shown, has_fail, has_array_ready, is_poll, ends_with, live_slot, NextWordIs, AreFewDone}
+use Rattle.seq_live.specs.Calls.{IsLiveRun, IsLiveEvent, MayStep, IsNextWord, AreNextBursts, IsNextBurst, HasFinished, shown_by, shown, has_fail, has_array_ready, is_poll, ends_with, live_slot, NextWordIs, AreFewDone, IsBurstDone, Begins, HasStepped, GoesOnFor, KeepsStep}
+use Rattle.seq_live.specs.declared.out_of_turn.OutOfTurn.{OutOfTurn}
+use Rattle.seq_live.specs.declared.begun.Begun.TheVariants.{Answered, Going}
 use Rattle.seq_live.proofs.Running.{runs_more, no_run}
 use Rattle.std.proofs.lemmas.Bool.{and_parts}
 use Rattle.std.specs.List.{slice_get}
@@ -110,3 +112,54 @@ next_burst v step bursts (Some burst) is may next h = record { step = step; is_s
 pub few_done : (v : LiveView) (step : StepGoingOn) (found : Option Burst) → v.going ≡ Some step → IfSome found (λ burst. step.done < 3) → IfSome found (λ burst. AreFewDone v)
 few_done v step None is h = tt
 few_done v step (Some burst) is h = λ other e. let same : step ≡ other = some_same step other (sym is ∙ e) in subst (λ (x : StepGoingOn). x.done < 3) same h
+
+-- 6. bursts, one after another
+
+pub one_more_burst : (v u t : LiveView) → IsLiveRun v [] [] u → IsBurstDone u t → IsLiveRun v [] [] t
+one_more_burst v u t run done = subst (IsLiveRun v [] []) (sym done.is_later) (whatever_goes_on v u (Some (record done.step { done = done.step.done + 1 })) [] [] run)
+
+pub begun : (v u : LiveView) (l : Lun) → Begins v l Going u → IsLiveRun v [] [] u
+begun v u l h = subst (IsLiveRun v [] []) (sym h.1) (whatever_goes_on v v (Some (record { lun = l; done = 0 })) [] [] (no_run v))
+
+pub answered_at_once : (v u : LiveView) (l : Lun) (answer : Stepped) → Begins v l (Answered answer) u → HasStepped v l answer u
+answered_at_once v u l answer h = record { readies = []; bytes = []; replies = []; run = subst (λ (x : LiveView). IsLiveRun v (Step l [] ∷ []) (ToStep answer ∷ []) x) (sym h.0) (h.1 []) }
+
+pub begun_for : (v u : LiveView) (l : Lun) → Begins v l Going u → GoesOnFor l u
+begun_for v u l h = subst (GoesOnFor l) (sym h.1) (record { lun = l; done = 0 }, refl, refl)
+
+pub stepped_on : (v u t : LiveView) (l : Lun) (bytes : List ℕ) (answer : Stepped) → IsLiveRun v [] [] u → GoesOnFor l u → HasFinished u bytes answer t → HasStepped v l answer t
+stepped_on v u t l bytes answer run goes f =
+    let same : f.step ≡ goes.0 = some_same f.step goes.0 (sym f.is_step ∙ goes.1) in
+    let here : f.step.lun ≡ l = ap (λ (x : StepGoingOn). x.lun) same ∙ goes.2 in
+    record {
+      readies = f.readies;
+      bytes = bytes;
+      replies = f.replies;
+      run = subst (λ (m : Lun). IsLiveRun v (f.readies ++ (Step m bytes ∷ [])) (f.replies ++ (ToStep answer ∷ [])) t) here (runs_more v u t [] (f.readies ++ (Step f.step.lun bytes ∷ [])) [] (f.replies ++ (ToStep answer ∷ [])) run f.run);
+    }
+
+-- what was begun, and then stepped
+pub begun_stepped : (v u t : LiveView) (l : Lun) (answer : Stepped) → IsLiveRun v [] [] u → HasStepped u l answer t → HasStepped v l answer t
+begun_stepped v u t l answer run h =
+    record { readies = h.readies; bytes = h.bytes; replies = h.replies; run = runs_more v u t [] (h.readies ++ (Step l h.bytes ∷ [])) [] (h.replies ++ (ToStep answer ∷ [])) run h.run }
+
+pub same_view : (v u t : LiveView) → IsLiveRun v [] [] u → t ≡ u → IsLiveRun v [] [] t
+same_view v u t run same = subst (IsLiveRun v [] []) (sym same) run
+
+-- a burst that is done, or one that isn't told
+pub burst_done : (v u t : LiveView) (r : Result (Unit {0}) OutOfTurn) → IsLiveRun v [] [] u → KeepsStep v u → IfOk r (λ x. IsBurstDone u t) → OnErr r (t ≡ u) → IsLiveRun v [] [] t × KeepsStep v t
+burst_done v u t (Ok x) run keeps ok err = (one_more_burst v u t run ok, λ l goes. kept l (keeps l goes))
+  where
+    kept : (l : Lun) → GoesOnFor l u → GoesOnFor l t
+    kept l goes =
+        let same : ok.step ≡ goes.0 = some_same ok.step goes.0 (sym ok.is_step ∙ goes.1) in
+        subst (GoesOnFor l) (sym ok.is_later) (record ok.step { done = ok.step.done + 1 }, refl, ap (λ (s : StepGoingOn). s.lun) same ∙ goes.2)
+burst_done v u t (Err x) run keeps ok err = (same_view v u t run err, λ l goes. subst (GoesOnFor l) (sym err) (keeps l goes))
+
+pub begun_failed : {X : Type 0} (v u t : LiveView) (r : Result X OutOfTurn) → IsLiveRun v [] [] u → IfErr r (λ e. IsLiveRun u [] [] t) → IfErr r (λ e. IsLiveRun v [] [] t)
+begun_failed v u t (Ok x) run h = h
+begun_failed v u t (Err e) run h = runs_more v u t [] [] [] [] run h
+
+pub begun_went : (v u t : LiveView) (l : Lun) (r : Result Stepped OutOfTurn) → IsLiveRun v [] [] u → IfOk r (λ answer. HasStepped u l answer t) → IfOk r (λ answer. HasStepped v l answer t)
+begun_went v u t l (Ok answer) run h = begun_stepped v u t l answer run h
+begun_went v u t l (Err e) run h = h

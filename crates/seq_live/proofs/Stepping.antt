@@ -1,5 +1,5 @@
 -- A step of a real bus is the event of each world that is kept.
-use Rattle.std.proofs.Common.{◌≡◌, ℕ, true, false, List, [], ◌∷◌, Option, Some, None, refl, sym, ap, ◌∙◌, subst, length, get_or, set}
+use Rattle.std.proofs.Common.{◌≡◌, ℕ, true, false, List, [], ◌∷◌, Option, Some, None, refl, sym, ap, ◌∙◌, subst, length, get_or, set, IfSome, Bor}
 use Rattle.std.specs.List.{slice_get}
 use Rattle.nand_geometry.specs.declared.parts.Parts.{Parts}
 use Rattle.onfi_cycle.specs.declared.lun.Lun.{Lun}
@@ -38,7 +38,7 @@ use Rattle.seq_live.specs.After.{after_live, after_answers, after_slot_answers, 
 use Rattle.seq_live.specs.declared.burst.Burst.{Burst}
 use Rattle.seq_live.specs.Burst.{taken_by}
 use Rattle.seq_live.specs.Kept.{LiveView, channel_at, core_at, IsLiveAt, IsLive}
-use Rattle.seq_live.specs.Calls.{LiveRan, IsLiveEvent, live_slot, MayStep, NextWordIs, IsNextWord, HasNextWord, NextBurstsAre, AreNextBursts, HasNextMoves, CanAnswer, AnsweredSteps, IsReadyNow, ends_with}
+use Rattle.seq_live.specs.Calls.{LiveRan, IsLiveEvent, live_slot, MayStep, HasBuffer, NextWordIs, IsNextWord, HasNextWord, NextBurstsAre, AreNextBursts, HasNextMoves, CanAnswer, AnsweredSteps, IsReadyNow, ends_with}
 use Rattle.seq_live.proofs.Events.{live_events_go_well}
 use Rattle.seq_live.proofs.Lives.{live_core, at_world, ran_one, same_channel}
 
@@ -79,6 +79,10 @@ next_word_of v l place word h n = record { v = n.v; is_slot = (slot_of_place (co
 
 pub next_bursts_of : (v : LiveView) (l : Lun) (place : ℕ) (bursts : List Burst) → Some place ≡ place_of (core_at v []) l → NextBurstsAre v.state.geometry (get_or v.slots place None) bursts → AreNextBursts v l bursts
 next_bursts_of v l place bursts h n = record { v = n.v; is_slot = (slot_of_place (core_at v []) l place h).0 ∙ n.is_slot; word = n.word; here = n.here; are_bursts = n.are_bursts }
+
+pub buffer_of : (v : LiveView) (l : Lun) (place : ℕ) (found : Option (Bor (List ℕ))) → Some place ≡ place_of (core_at v []) l → IfSome found (λ buffer. HasBuffer (get_or v.slots place None) buffer.now) → IfSome found (λ buffer. HasBuffer (live_slot v l) buffer.now)
+buffer_of v l place None h b = tt
+buffer_of v l place (Some buffer) h b = record { v = b.v; is_slot = (slot_of_place (core_at v []) l place h).0 ∙ b.is_slot; is_buffer = b.is_buffer }
 
 -- a LUN's next word is the one that can be stepped
 same_word : (v : LiveView) (l : Lun) (place : ℕ) (word : Word) (n : NextThere v l place) → IsNextWord v l word → word ≡ n.can.word

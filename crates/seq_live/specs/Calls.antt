@@ -5,7 +5,7 @@ use Rattle.nand_geometry.specs.declared.parts.Parts.{Parts}
 use Rattle.onfi_cycle.specs.declared.lun.Lun.{Lun}
 use Rattle.onfi_cycle.specs.declared.item.Item.{Item}
 use Rattle.onfi_cycle.specs.Lun.{is_busy}
-use Rattle.onfi_cycle.specs.Channel.{is_there}
+use Rattle.onfi_cycle.specs.Channel.{IsChannel, is_there}
 use Rattle.onfi_cycle.specs.State.{BusView, Follows}
 use Rattle.micro_word.specs.declared.word.Word.{Word}
 use Rattle.micro_word.specs.declared.word.Word.TheVariants.{Wait, ReadStatus}
@@ -18,16 +18,16 @@ use Rattle.target_bus.specs.Bus.{channel_on}
 use Rattle.seq_core.specs.declared.load_fault.LoadFault.{LoadFault}
 use Rattle.seq_core.specs.declared.stepped.Stepped.{Stepped}
 use Rattle.seq_core.specs.declared.slot_state.SlotState.TheVariants as state
-use Rattle.seq_core.specs.World.{World}
+use Rattle.seq_core.specs.World.{World, fresh}
 use Rattle.seq_core.specs.Reply.{Reply, ToStep}
 use Rattle.seq_core.specs.After.{Ran, is_held}
 use Rattle.seq_core.specs.Lawful.{LawfulWorld}
 use Rattle.seq_core.specs.Progress.{Progress, moves_at, status_of, outcome_of, progress_after}
 use Rattle.seq_core.specs.declared.registers.Registers.{Registers}
 use Rattle.seq_core.specs.Calls.{slot_at, slot_state, CanStep, load_fault_at}
-use Rattle.seq_live.specs.Event.{LiveEvent, Step, Ready, ArrayReady}
+use Rattle.seq_live.specs.Event.{LiveEvent, Step, Ready, ArrayReady, AllLoadVerified}
 use Rattle.seq_live.specs.After.{run_live, AllAnswered}
-use Rattle.seq_live.specs.Headline.{LiveEventsAreOwn}
+use Rattle.seq_live.specs.Headline.{LiveEventsAreOwn, LiveGoesWell}
 use Rattle.seq_live.specs.declared.begun.Begun.{Begun}
 use Rattle.seq_live.specs.declared.begun.Begun.TheVariants.{Answered, Going}
 use Rattle.seq_live.specs.declared.burst.Burst.{Burst}
@@ -153,6 +153,12 @@ pub record NextBurstsAre (g : Parts) (slot : Option Progress) (bursts : List Bur
   pub here : slice_get v.job.text.words v.at ≡ Some word
   pub are_bursts : bursts_at g v.job.lun v.registers word ≡ Some bursts
 
+-- this is the buffer of a slot
+pub record HasBuffer (slot : Option Progress) (buffer : List ℕ) : Type 0 where
+  pub v : Progress
+  pub is_slot : slot ≡ Some v
+  pub is_buffer : buffer ≡ v.job.buffer
+
 -- the next word of a LUN, and its bursts
 abbrev pub IsNextWord : LiveView → Lun → Word → Type 0
 IsNextWord v l word = NextWordIs (live_slot v l) word
@@ -203,6 +209,13 @@ pub record HasFinished (v : LiveView) (bytes : List ℕ) (answer : Stepped) (lat
   pub run : IsLiveRun v (readies ++ (Step step.lun bytes ∷ [])) (replies ++ (ToStep answer ∷ [])) later
   pub is_over : later.going ≡ None
 
+-- the step of this LUN, if one goes on, still does
+abbrev pub GoesOnFor : Lun → LiveView → Type 0
+GoesOnFor l v = (step : StepGoingOn) × (v.going ≡ Some step) × (step.lun ≡ l)
+
+abbrev pub KeepsStep : LiveView → LiveView → Type 0
+KeepsStep v later = (l : Lun) → GoesOnFor l v → GoesOnFor l later
+
 -- ---- what a call leaves
 
 -- the jobs, the LUN that has the bus and the step that goes on are as they were
@@ -219,3 +232,23 @@ IsReadyNow s l = (g : Parts) (n : ℕ) (past : List Item) → Follows g n s past
 -- a `wait` ends with these bytes
 abbrev pub ends_with : Word → List ℕ → Bool
 ends_with word bytes = is_wait word && is_ready_status (first_byte bytes)
+
+-- ---- a step on pins
+
+-- a step of a LUN came: after the readies that it shows, with the bytes that the pins gave
+pub record HasStepped (v : LiveView) (l : Lun) (answer : Stepped) (later : LiveView) : Type 0 where
+  pub readies : List LiveEvent
+  pub bytes : List ℕ
+  pub replies : List Reply
+  pub run : IsLiveRun v (readies ++ (Step l bytes ∷ [])) (replies ++ (ToStep answer ∷ [])) later
+
+-- ---- laws
+
+-- the law: one call after another is one run
+abbrev pub CallsGoOn : Type 0
+CallsGoOn = (v u t : LiveView) (es fs : List LiveEvent) (rs ss : List Reply) → IsLiveRun v es rs u → IsLiveRun u fs ss t → IsLiveRun v (es ++ fs) (rs ++ ss) t
+
+-- the law: whatever calls are made of a new sequencer, their events go well, if each job that is loaded is verified. Nothing is asked of the chips
+abbrev pub CallsGoWell : Type 0
+CallsGoWell =
+    (v u : LiveView) (es : List LiveEvent) (rs : List Reply) → IsChannel (channel_at v) → IsLiveAt v (fresh (channel_at v)) → AllLoadVerified es → IsLiveRun v es rs u → LiveGoesWell (channel_at v) es

@@ -12,6 +12,7 @@ pub mod laws;
 mod live;
 mod moving;
 mod out_of_turn;
+mod pins;
 mod playing;
 mod slot_steps;
 
@@ -19,3 +20,4 @@ pub use begun::Begun;
 pub use burst::{Burst, Bursts, MAX_BURSTS};
 pub use live::{Live, StepGoingOn};
 pub use out_of_turn::OutOfTurn;
+pub use pins::{Pins, step_on};

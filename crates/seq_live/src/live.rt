@@ -1,6 +1,7 @@
 //! The sequencer on a real bus: what is to be done on the pins, burst by burst, and what the chips answer.
 ghost use Rattle.std.specs.Prelude.{◌≡◌, ◌↔◌, ℕ, ◌<◌, true, List, [], ◌∷◌, ◌++◌, Some, None, if◌then◌else◌, IsOk, IfOk, IfErr, OnErr, IfSome, IfNone, length};
 ghost use Rattle.onfi_cycle.specs.Channel.{is_there};
+ghost use Rattle.micro_word.specs.declared.word.Word.{Word as WordValue};
 ghost use Rattle.micro_program.specs.Program.{is_ready_status};
 ghost use Rattle.seq_core.specs.World.{fresh, number};
 ghost use Rattle.seq_core.specs.Event.{IsVerified};
@@ -10,13 +11,13 @@ ghost use Rattle.seq_core.specs.Playing.{EndsWithFive};
 ghost use Rattle.seq_live.specs.Event.{Load, Step, Ready, ArrayReady, Unload};
 ghost use Rattle.seq_live.specs.Burst.{taken_by};
 ghost use Rattle.seq_live.specs.Kept.{channel_at, IsLiveAt, IsLive};
-ghost use Rattle.seq_live.specs.Calls.{IsLiveRun, IsLiveEvent, live_slot, live_load_fault, MayStep, IsNextWord, AreNextBursts, Begins, IsNextBurst, AreFewDone, IsBurstDone, HasFinished, KeepsSlots, IsReadyNow, ends_with, shown, shown_by};
+ghost use Rattle.seq_live.specs.Calls.{IsLiveRun, IsLiveEvent, live_slot, live_load_fault, MayStep, IsNextWord, AreNextBursts, Begins, IsNextBurst, AreFewDone, IsBurstDone, HasFinished, HasBuffer, KeepsSlots, IsReadyNow, ends_with, shown, shown_by};
 
 use crate::begun::Begun;
 use crate::burst::{Burst, Bursts, burst_of, taken_by};
 use crate::moving::go_on_if;
 use crate::out_of_turn::OutOfTurn;
-use crate::slot_steps::{bursts_in, is_poll, status_of, step_in, word_in};
+use crate::slot_steps::{buffer_in, bursts_in, is_poll, status_of, step_in, word_in};
 use arrayvec::ArrayVec;
 use micro_program::is_ready_status;
 use micro_word::Word;
@@ -116,6 +117,24 @@ impl<A: Allocator> Live<A> {
         ensures { result ≡ self.now.holder }
     {
         self.holder
+    }
+
+    /// The buffer of a LUN's job as it is now, where the bytes of an [`Input`](crate::Burst::Input) burst stand; None where it has no job or isn't there.
+    pub fn buffer(&self, lun: Lun) -> Option<&[u8]>
+        ensures some { IfSome result (λ buffer. HasBuffer (live_slot self.now lun) buffer.now) }
+    {
+        let place = self.place(lun)?;
+        buffer_in(self.slots.as_slice(), place)
+    }
+
+    /// How many bytes the outputs of a LUN's next word give; 0 where its step would change nothing.
+    pub fn takes(&self, lun: Lun) -> usize
+        ensures { MayStep self.now lun → (word : WordValue) → IsNextWord self.now lun word → result ≡ taken_by word }
+    {
+        match self.answer_at_rest(lun) {
+            Some(_) => 0,
+            None => taken_by(self.word_at(lun)),
+        }
     }
 
     /// The step that goes on on the pins, if one does.

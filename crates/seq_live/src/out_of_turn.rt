@@ -16,6 +16,9 @@ pub enum OutOfTurn {
     /// Bursts of the step aren't done yet.
     #[error("bursts of the step are left")]
     BurstsLeft,
+    /// There is no room for the bytes that the next word takes.
+    #[error("there is no room for the bytes that the next word takes")]
+    NoRoom,
     /// The bytes that were taken aren't as many as the outputs of the step.
     #[error("the bytes taken aren't as many as the outputs of the step")]
     WrongCount,

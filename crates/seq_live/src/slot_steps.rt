@@ -1,9 +1,9 @@
 //! The next word of the slot of a number: what it is, its bursts, and stepping it.
-ghost use Rattle.std.specs.Prelude.{◌≡◌, ◌<◌, Some, None, length, get_or, set};
+ghost use Rattle.std.specs.Prelude.{◌≡◌, ◌<◌, Some, None, IfSome, length, get_or, set};
 ghost use Rattle.micro_program.specs.Step.{first_byte};
 ghost use Rattle.seq_core.specs.Progress.{Progress};
 ghost use Rattle.seq_core.specs.Playing.{EndsWithFive};
-ghost use Rattle.seq_live.specs.Calls.{CanAnswer, AnsweredSteps, HasNextWord, HasNextMoves, NextBurstsAre, NextWordIs, is_poll};
+ghost use Rattle.seq_live.specs.Calls.{CanAnswer, AnsweredSteps, HasBuffer, HasNextWord, HasNextMoves, NextBurstsAre, NextWordIs, is_poll};
 
 use crate::burst::{Bursts, bursts_of};
 use crate::playing::play_next;
@@ -27,6 +27,17 @@ pub(crate) fn status_of(taken: &[u8]) -> u8
     match taken.first() {
         Some(status) => *status,
         None => 0,
+    }
+}
+
+/// The buffer of the slot of a number, if it has a job.
+pub(crate) fn buffer_in<A: Allocator>(slots: &[Option<Slot<A>>], place: usize) -> Option<&[u8]>
+    requires { place < length slots.now }
+    ensures { IfSome result (λ buffer. HasBuffer (get_or slots.now place None) buffer.now) }
+{
+    match &slots[place] {
+        None => None,
+        Some(slot) => Some(slot.buffer()),
     }
 }
 

@@ -1,0 +1,5 @@
+use Rattle.seq_live.proofs.Main.{calls_go_on}
+use Rattle.seq_live.proofs.laws.calls_go_on.Goals as goal
+
+pub returns : goal.returns
+returns c = calls_go_on

@@ -1,0 +1,10 @@
+use Rattle.std.proofs.Common.{[]}
+use Rattle.onfi_cycle.specs.declared.lun.Lun.{Lun}
+use Rattle.seq_live.specs.Calls.{IsLiveRun, KeepsStep}
+use Rattle.seq_live.proofs.pins.do_bursts.Given as goal
+
+abbrev pub invariant-loop : goal.invariant-loop
+invariant-loop g l = record {
+  run : IsLiveRun l.fn.live [] [] l.live;
+  step : KeepsStep l.fn.live l.live;
+}

@@ -1,0 +1,115 @@
+//! A step on pins: whoever drives them gives and takes bytes.
+ghost use Rattle.std.specs.Prelude.{[], IfOk, IfErr};
+ghost use Rattle.seq_live.specs.Calls.{GoesOnFor, HasStepped, IsLiveRun, KeepsStep};
+
+use crate::begun::Begun;
+use crate::burst::{Burst, MAX_BURSTS};
+use crate::live::Live;
+use crate::out_of_turn::OutOfTurn;
+use onfi_cycle::{Kind, Lun};
+use seq_core::Stepped;
+use std::alloc::Allocator;
+
+/// The pins of a channel. Nothing is asked of the bytes that the chips give.
+pub trait Pins {
+    /// Gives these bytes to a target, by cycles of one kind: one command, addresses or data inputs.
+    fn give(&mut self, ce: u8, kind: Kind, bytes: &[u8]);
+
+    /// Takes bytes from a target by data outputs, as many as there is room.
+    fn take(&mut self, ce: u8, bytes: &mut [u8]);
+}
+
+// Does a burst of a LUN on the pins.
+fn do_burst<A: Allocator, P: Pins>(
+    live: &Live<A>,
+    pins: &mut P,
+    lun: Lun,
+    burst: Burst,
+    taken: &mut [u8],
+) {
+    match burst {
+        Burst::Command { ce, byte } => pins.give(ce, Kind::Cmd, &[byte]),
+        Burst::Address {
+            ce,
+            five,
+            from,
+            count,
+        } => {
+            if let Some(bytes) = five.as_slice().get(usize::from(from)..) {
+                if let Some(bytes) = bytes.get(..usize::from(count)) {
+                    pins.give(ce, Kind::Adr, bytes);
+                }
+            }
+        }
+        Burst::Input { ce, place, len } => {
+            if let Some(buffer) = live.buffer(lun) {
+                if let Some(bytes) = buffer.get(place..) {
+                    if let Some(bytes) = bytes.get(..len) {
+                        pins.give(ce, Kind::Din, bytes);
+                    }
+                }
+            }
+        }
+        Burst::Output { ce, .. } => pins.take(ce, taken),
+    }
+}
+
+// Does the bursts of the step of a LUN on the pins, one after another.
+fn do_bursts<A: Allocator, P: Pins>(live: &mut Live<A>, pins: &mut P, lun: Lun, taken: &mut [u8])
+    ensures run { IsLiveRun live.old [] [] live.new }
+    ensures step { KeepsStep live.old live.new }
+{
+    for _ in 0..MAX_BURSTS {
+        match live.next() {
+            None => return,
+            Some(burst) => {
+                do_burst(live, pins, lun, burst, taken);
+                // There was a burst to do, so this isn't out of turn.
+                let _ = live.gave();
+            }
+        }
+    }
+}
+
+// Does what is begun: its bursts on the pins, and what the chip answered.
+fn finish_on<A: Allocator, P: Pins>(
+    live: &mut Live<A>,
+    pins: &mut P,
+    lun: Lun,
+    taken: &mut [u8],
+) -> Result<Stepped, OutOfTurn>
+    ensures ok { GoesOnFor lun live.old → IfOk result (λ answer. HasStepped live.old lun answer live.new) }
+    ensures err { IfErr result (λ e. IsLiveRun live.old [] [] live.new) }
+{
+    do_bursts(live, pins, lun, taken);
+    match live.finish(taken) {
+        Ok(answer) => Ok(answer),
+        Err(fault) => Err(fault),
+    }
+}
+
+/// Steps a LUN on the pins: the bursts of its next word, one after another, and then what the chip answered. `taken` is where the bytes that it gives go, as
+/// long as the longest `get` of its program and 1 at least.
+///
+/// The answers are those of [`Live::begin`] and [`Live::finish`]. Errors, with no event and nothing done on the pins: `StepGoesOn`; `NoRoom` where `taken` is
+/// too short for the next word.
+pub fn step_on<A: Allocator, P: Pins>(
+    live: &mut Live<A>,
+    pins: &mut P,
+    lun: Lun,
+    taken: &mut [u8],
+) -> Result<Stepped, OutOfTurn>
+    ensures ok { IfOk result (λ answer. HasStepped live.old lun answer live.new) }
+    ensures err { IfErr result (λ e. IsLiveRun live.old [] [] live.new) }
+{
+    let count = live.takes(lun);
+    if count > taken.len() {
+        return Err(OutOfTurn::NoRoom);
+    }
+    let (taken, _) = taken.split_at_mut(count);
+    match live.begin(lun) {
+        Err(fault) => Err(fault),
+        Ok(Begun::Answered(answer)) => Ok(answer),
+        Ok(Begun::Going) => finish_on(live, pins, lun, taken),
+    }
+}
