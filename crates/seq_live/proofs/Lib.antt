@@ -8,3 +8,4 @@ pub mod Truth
 pub mod Stepping
 pub mod Shown
 pub mod Main
+pub mod Models

@@ -50,3 +50,14 @@ pub record LiveGoesWell (s : Channel) (events : List LiveEvent) : Type 0 where
 -- the law: every list of events whose loaded jobs are verified and whose steps are answered goes well
 abbrev pub LiveHeadline : Type 0
 LiveHeadline = (s : Channel) (events : List LiveEvent) → IsChannel s → AllLoadVerified events → AllAnswered s events (fresh s) → LiveGoesWell s events
+
+-- a run of a model as a run of a real bus: the same events with bytes that answer each step, here those that the model shows
+pub record IsLiveRunOf (s : Channel) (events : List Event) (ran : Ran) : Type 0 where
+  pub live : List LiveEvent
+  pub same : map plain live ≡ events
+  pub answered : AllAnswered s live (fresh s)
+  pub is_ran : run_live s live (fresh s) ≡ Some ran
+
+-- the law: each run of a model is a run of a real bus. So what is said of these is said of it too
+abbrev pub ModelsAreLive : Type 0
+ModelsAreLive = (s : Channel) (events : List Event) (ran : Ran) → IsChannel s → AllVerified events → run s events (fresh s) ≡ Some ran → IsLiveRunOf s events ran

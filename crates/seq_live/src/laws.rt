@@ -1,6 +1,6 @@
 //! What always holds of a sequencer on a real bus: each function here does nothing, and its contract is a law.
 
-ghost use Rattle.seq_live.specs.Headline.{LiveEventsGoWell, LiveHeadline};
+ghost use Rattle.seq_live.specs.Headline.{LiveEventsGoWell, LiveHeadline, ModelsAreLive};
 ghost use Rattle.seq_live.specs.Calls.{CallsGoOn, CallsGoWell};
 
 /// Every event of a lawful world is defined and leaves a lawful world, if a job that it loads is verified and its step is answered: by as many bytes
@@ -27,4 +27,9 @@ pub fn calls_go_on()
 /// the chips: where a poll says ready, a ready of its LUN is an event before it. So the trace that is judged is that of the pins with the readies that the polls show.
 pub fn calls_go_well()
     ensures { CallsGoWell }
+{}
+
+/// Each run of modelled dies is a run of a real bus, whose chips give the bytes that the model shows.
+pub fn models_are_live()
+    ensures { ModelsAreLive }
 {}

@@ -1,5 +1,4 @@
 use Rattle.std.proofs.Common.{[]}
-use Rattle.onfi_cycle.specs.declared.lun.Lun.{Lun}
 use Rattle.seq_live.specs.Calls.{IsLiveRun, KeepsStep}
 use Rattle.seq_live.proofs.pins.do_bursts.Given as goal
 

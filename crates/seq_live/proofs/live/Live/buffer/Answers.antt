@@ -1,4 +1,4 @@
-use Rattle.std.proofs.Common.{◌∙◌, [], List, Option, None, ap, subst, get_or, IfSome}
+use Rattle.std.proofs.Common.{◌∙◌, List, Option, None, ap, subst, get_or, IfSome}
 use Rattle.seq_core.specs.Progress.{Progress}
 use Rattle.seq_live.specs.Kept.{LiveView}
 use Rattle.seq_live.specs.Calls.{HasBuffer}
