@@ -21,6 +21,9 @@ ENUMS = (
     ("Forbidden", "crates/onfi_cycle/src/forbidden.rt", "an item of a trace", "the item, from 0"),
     ("ImageFault", "crates/die_model/src/refusal.rt", "the image of a die", "0"),
     ("RunFault", "crates/run_file/src/refusal.rt", "a line of a run file", "the line, from 1"),
+    ("DumpFault", "crates/vcd_text/src/fault.rt", "the file of a capture", "the line, from 1"),
+    ("RoleFault", "crates/bus_capture/src/fault.rt", "the signals of a capture", "0"),
+    ("BusFault", "crates/bus_capture/src/fault.rt", "the levels of a capture", "the time, in the unit of the dump"),
 )
 # The notes have no words at their enum but those of their lines, each of which names what it found: the page has the first line of their docstrings.
 NOTES = "crates/micro_lint/src/note.rt"
@@ -42,8 +45,11 @@ def read_enum(name, path):
     text = open(path).read()
     body = re.search(r"pub enum %s \{\n(.*?)\n\}" % name, text, re.S).group(1)
     words = re.findall(r'#\[error\(\s*"((?:[^"\\]|\\.)*)",?\s*\)\]\s*(\w+)', body)
-    codes = dict(re.findall(r'%s::(\w+) => "(\w+)"' % name, text))
-    return [(codes[variant], said.replace('\\"', '"')) for said, variant in words]
+    arms = re.findall(r'((?:\|?\s*%s::\w+\s*)+)=> "(\w+)"' % name, text)
+    codes = {variant: code for variants, code in arms for variant in re.findall(r"::(\w+)", variants)}
+    # A line of the bus without its signal has one code, told where a capture's faults are.
+    of_all = re.search(r'CaptureFault::Role\(_\) => "(\w+)"', text) if name == "RoleFault" else None
+    return [(of_all.group(1) if of_all else codes[variant], said.replace('\\"', '"').replace("{0}", "ROLE")) for said, variant in words]
 
 
 def read_notes():
@@ -55,7 +61,9 @@ def make_page(tables, notes):
     """The page of all codes."""
     parts = [HEAD]
     for (_, _, what, number), rows in tables:
-        lines = ["## %s to %s: %s\n\nN is %s.\n" % (rows[0][0], rows[-1][0], what, number), "| code | what is wrong |", "|---|---|"]
+        first, last = rows[0][0], rows[-1][0]
+        span = first if first == last else "%s to %s" % (first, last)
+        lines = ["## %s: %s\n\nN is %s.\n" % (span, what, number), "| code | what is wrong |", "|---|---|"]
         lines += ["| %s | %s |" % row for row in rows]
         parts.append("\n".join(lines) + "\n")
     lines = ["## %s to %s: a note to a microprogram that is accepted\n" % (notes[0][0], notes[-1][0]), NOTES_HEAD, "| code | what is noted |", "|---|---|"]

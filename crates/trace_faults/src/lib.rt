@@ -19,3 +19,4 @@ pub use completing::complete;
 pub use finding::find_faults;
 pub use readies::Readies;
 pub use recovery::go_on;
+pub use shown_readies::go_on_by_readies;

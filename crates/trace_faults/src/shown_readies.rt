@@ -126,7 +126,7 @@ fn go_on_by_some(state: &mut BusState, ready: Option<Item>)
 }
 
 /// Goes on by the readies that an item shows, in their order: that of the LUN that gives the output, and that of its array.
-pub(crate) fn go_on_by_readies(state: &mut BusState, item: Item) -> (Option<Item>, Option<Item>)
+pub fn go_on_by_readies(state: &mut BusState, item: Item) -> (Option<Item>, Option<Item>)
     ensures ready { result.0 ≡ ready_before state.old item }
     ensures array { result.1 ≡ array_ready_before (with_ready state.old item) item }
     ensures state { state.new ≡ with_readies state.old item }

@@ -1,0 +1,162 @@
+-- A capture as items, each with its time.
+use Rattle.std.specs.Prelude.{◌≡◌, ⊤, ℕ, zero, suc, ◌+◌, ◌*◌, ◌/◌, ◌%◌, ◌==◌, ◌||◌, Bool, true, false, if◌then◌else◌, List, [], ◌∷◌, ◌++◌, map, Option, Some, None, Result, Ok, Err}
+use Rattle.onfi_cycle.specs.declared.item.Item.{Item}
+use Rattle.vcd_text.specs.declared.fault.LineFault.{LineFault}
+use Rattle.vcd_text.specs.declared.tokens.Level.{Level}
+use Rattle.vcd_text.specs.declared.tokens.Level.TheVariants.{Low, High, Unknown}
+use Rattle.vcd_text.specs.Tokens.{◌>>=◌}
+use Rattle.vcd_text.specs.Header.{Read, header}
+use Rattle.vcd_text.specs.Body.{Told, Time, Change, told_from}
+use Rattle.vcd_text.specs.Dumps.{beginning}
+use Rattle.bus_capture.specs.declared.fault.RoleFault.{RoleFault}
+use Rattle.bus_capture.specs.declared.fault.BusFault.{BusFault}
+use Rattle.bus_capture.specs.declared.fault.CaptureFault.{CaptureFault}
+use Rattle.bus_capture.specs.declared.fault.CaptureFault.TheVariants.{File, Bus}
+use Rattle.bus_capture.specs.declared.fault.CaptureFault.TheVariants as fault
+use Rattle.bus_capture.specs.declared.fault.CaptureRefusal.{CaptureRefusal}
+use Rattle.bus_capture.specs.declared.fault.CaptureRefusal.TheVariants.{Fault, OutOfMemory}
+use Rattle.bus_capture.specs.declared.role.Role.{Role}
+use Rattle.bus_capture.specs.declared.role.Role.TheVariants.{We, Re}
+use Rattle.bus_capture.specs.declared.role.Role.TheVariants as role
+use Rattle.bus_capture.specs.declared.mapping.Mapping.{Mapping}
+use Rattle.bus_capture.specs.declared.source.Source.{Source}
+use Rattle.bus_capture.specs.declared.sampling.Seen.{Seen}
+use Rattle.bus_capture.specs.declared.sampling.Strobe.TheVariants.{Write}
+use Rattle.bus_capture.specs.declared.sampling.Strobe.TheVariants as strobe
+use Rattle.bus_capture.specs.declared.sampler.Observation.TheVariants as observation
+use Rattle.bus_capture.specs.declared.sampler.Observed.{Observed}
+use Rattle.bus_capture.specs.declared.sampler.Sampler.{Sampler}
+use Rattle.bus_capture.specs.Roles.{carrier_of, sources_of}
+use Rattle.bus_capture.specs.Sampling.{level, with_change, seen_of, item_of, rises, ready_of}
+
+-- ---- what is seen at a time
+
+-- items with one more of this time, if there is one
+abbrev pub with_item : ℕ → Option Item → List Observed → List Observed
+with_item time None observed = observed
+with_item time (Some item) observed = observed ++ record { time = time; observation = observation.Item item } ∷ []
+
+-- with the rise of R/B# of a target, and of so many from number n on
+abbrev pub with_release : ℕ → (before after : List Level) → ℕ → List Observed → List Observed
+with_release time before after n observed =
+    if rises (level before (role.ReadyBusy n)) (level after (role.ReadyBusy n)) then observed ++ record { time = time; observation = observation.Released n } ∷ [] else observed
+
+abbrev pub with_releases : ℕ → (before after : List Level) → List Observed → (count n : ℕ) → List Observed
+with_releases time before after observed zero n = observed
+with_releases time before after observed (suc count) n = with_releases time before after (with_release time before after n observed) count (n + 1)
+
+-- with the readies of so many LUNs from number n on, of which each target has four
+abbrev pub with_readies : ℕ → (before after : List Level) → List Observed → (count n : ℕ) → List Observed
+with_readies time before after observed zero n = observed
+with_readies time before after observed (suc count) n = with_readies time before after (with_item time (ready_of before after (n / 4) (n % 4)) observed) count (n + 1)
+
+abbrev pub at_time : {A : Type 0} → ℕ → Result A BusFault → Result A CaptureFault
+at_time time (Ok x) = Ok x
+at_time time (Err fault) = Err (Bus fault time)
+
+-- with what strobes and a model tell now
+abbrev pub with_seen : Sampler → (written read : Seen) → List Observed → List Observed
+with_seen s written read observed =
+    with_releases s.time s.before.of s.after.of
+    (with_readies s.time s.before.of s.after.of (with_item s.time (item_of read) (with_item s.time (item_of written) observed)) (4 * s.targets) 0) s.targets 0
+
+-- items with what is seen where the levels before become those of now: of WE#, of RE#, and of a model
+abbrev pub settled : Sampler → List Observed → Result (List Observed) CaptureFault
+settled s observed = do
+  written ← at_time s.time (seen_of s.targets Write s.we_driven s.before.of s.after.of)
+  read ← at_time s.time (seen_of s.targets strobe.Read s.re_driven s.before.of s.after.of)
+  Ok (with_seen s written read observed)
+
+-- ---- from time to time
+
+abbrev pub is_known : Level → Bool
+is_known Low = true
+is_known High = true
+is_known Unknown = false
+
+-- nothing has been seen
+abbrev pub begun : ℕ → List Level → Sampler
+begun targets unknown =
+    record { targets = targets; time = 0; before = record { of = unknown }; after = record { of = unknown }; we_driven = false; re_driven = false }
+
+-- at a later time
+abbrev pub later : Sampler → ℕ → Sampler
+later s time =
+    record s { time = time; before = s.after; we_driven = s.we_driven || is_known (level s.after.of We); re_driven = s.re_driven || is_known (level s.after.of Re) }
+
+-- after a change
+abbrev pub changed : List Source → ℕ → List ℕ → Sampler → Sampler
+changed sources code bits s = record s { after = record { of = with_change sources code bits s.after.of } }
+
+-- the items of what is told, after these
+abbrev pub capturing : List Source → Sampler → List Observed → List Told → Result (List Observed) CaptureFault
+capturing sources s observed [] = settled s observed
+capturing sources s observed (Err f ∷ told) = Err (File f)
+capturing sources s observed (Ok (Change code bits) ∷ told) = capturing sources (changed sources code bits s) observed told
+capturing sources s observed (Ok (Time time) ∷ told) =
+    if time == s.time then capturing sources s observed told else (settled s observed >>= λ more. capturing sources (later s time) more told)
+
+-- ---- a whole capture
+
+abbrev pub in_file : {A : Type 0} → Result A LineFault → Result A CaptureFault
+in_file (Ok x) = Ok x
+in_file (Err f) = Err (File f)
+
+abbrev pub in_roles : {A : Type 0} → Result A RoleFault → Result A CaptureFault
+in_roles (Ok x) = Ok x
+in_roles (Err f) = Err (fault.Role f)
+
+-- 68 lines of which nothing is known
+abbrev pub unknown_from : ℕ → List Level
+unknown_from zero = []
+unknown_from (suc count) = Unknown ∷ unknown_from count
+
+abbrev pub unknown : List Level
+unknown = unknown_from 68
+
+abbrev pub sources_in : ℕ → List Mapping → Read → Result (List Source) CaptureFault
+sources_in targets mappings read = in_roles (sources_of targets (map (carrier_of mappings) read.header.variables))
+
+-- the items of a body
+abbrev pub body_items : ℕ → Read → List Source → Result (List Observed) CaptureFault
+body_items targets read sources = capturing sources (begun targets unknown) [] (told_from read.header.widths beginning read.line read.rest)
+
+-- lines of a model tell when a LUN becomes ready
+abbrev pub is_busy_line : Role → Bool
+is_busy_line (role.Enable n) = false
+is_busy_line role.Cle = false
+is_busy_line role.Ale = false
+is_busy_line role.We = false
+is_busy_line role.Re = false
+is_busy_line (role.Dq bit) = false
+is_busy_line (role.ReadyBusy n) = false
+is_busy_line (role.Busy ce lun) = true
+is_busy_line (role.ArrayBusy ce lun) = false
+is_busy_line (role.Failed ce lun) = false
+
+abbrev pub tells_readies : List Source → Bool
+tells_readies [] = false
+tells_readies (s ∷ sources) = if is_busy_line s.role then true else tells_readies sources
+
+-- what a capture shows: the items, and whether lines of a model tell the readies among them
+pub record Shown : Type 0 where
+  pub observed : List Observed
+  pub tells_readies : Bool
+
+abbrev pub shown_in : ℕ → List Mapping → List ℕ → Result Shown CaptureFault
+shown_in targets mappings text = do
+  read ← in_file (header text)
+  sources ← sources_in targets mappings read
+  observed ← body_items targets read sources
+  Ok (record { observed = observed; tells_readies = tells_readies sources })
+
+-- a refusal is this fault; of memory that was refused nothing is said
+abbrev pub IsRefusalOf : {A : Type 0} → CaptureRefusal → Result A CaptureFault → Type 0
+IsRefusalOf (Fault f) result = result ≡ Err f
+IsRefusalOf OutOfMemory result = ⊤
+
+-- an answer is what this comes to, or a fault
+abbrev pub IsSeen : Result Seen CaptureRefusal → Result Seen CaptureFault → Type 0
+IsSeen (Ok seen) result = result ≡ Ok seen
+IsSeen (Err (Fault f)) result = result ≡ Err f
+IsSeen (Err OutOfMemory) result = ⊥

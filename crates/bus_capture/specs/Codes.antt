@@ -1,0 +1,28 @@
+-- The codes of faults.
+use Rattle.std.specs.Prelude.{ℕ, List, codes}
+use Rattle.vcd_text.specs.Codes.{code}
+use Rattle.bus_capture.specs.declared.fault.CaptureFault.{CaptureFault}
+use Rattle.bus_capture.specs.declared.fault.CaptureFault.TheVariants.{File, Role, Bus}
+use Rattle.bus_capture.specs.declared.fault.BusFault.{BusFault}
+use Rattle.bus_capture.specs.declared.fault.BusFault.TheVariants.{UnknownEnable, UnknownLatch, UnknownData, UnknownStrobe, BothLatches, LatchAtOutput, SeveralEnabled, StrobesTogether}
+
+abbrev pub bus_code : BusFault → List ℕ
+bus_code UnknownEnable = codes "W5"
+bus_code UnknownLatch = codes "W5"
+bus_code UnknownData = codes "W5"
+bus_code UnknownStrobe = codes "W5"
+bus_code BothLatches = codes "W6"
+bus_code LatchAtOutput = codes "W6"
+bus_code SeveralEnabled = codes "W7"
+bus_code StrobesTogether = codes "W8"
+
+abbrev pub capture_code : CaptureFault → List ℕ
+capture_code (File at) = code at.fault
+capture_code (Role fault) = codes "W3"
+capture_code (Bus fault time) = bus_code fault
+
+-- the line of the file, or the time; 0 where a line of the bus has no signal
+abbrev pub capture_number : CaptureFault → ℕ
+capture_number (File at) = at.line
+capture_number (Role fault) = 0
+capture_number (Bus fault time) = time

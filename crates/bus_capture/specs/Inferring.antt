@@ -1,0 +1,114 @@
+-- The readies that a capture without a model shows: by status outputs, and by R/B# of a target of one LUN.
+use Rattle.std.specs.Prelude.{ℕ, ◌==◌, ◌&&◌, not, Bool, true, false, if◌then◌else◌, List, [], ◌∷◌, ◌++◌, map, Option, Some, None, Result, Ok, Err}
+use Rattle.nand_geometry.specs.declared.parts.Parts.{Parts}
+use Rattle.onfi_cycle.specs.declared.item.Kind.{Kind}
+use Rattle.onfi_cycle.specs.declared.item.Kind.TheVariants.{Cmd, Adr, Din, Dout}
+use Rattle.onfi_cycle.specs.declared.item.Cycle.{Cycle}
+use Rattle.onfi_cycle.specs.declared.item.Item.{Item}
+use Rattle.onfi_cycle.specs.declared.item.Item.TheVariants.{Cyc, Rdy, Ard}
+use Rattle.onfi_cycle.specs.declared.forbidden.Forbidden.{Forbidden}
+use Rattle.onfi_cycle.specs.declared.lun_state.LunState.{LunState}
+use Rattle.onfi_cycle.specs.State.{BusView, judged}
+use Rattle.onfi_cycle.specs.Look.{looked}
+use Rattle.trace_faults.specs.Recovery.{gone_on}
+use Rattle.trace_faults.specs.ShownReadies.{ready_before, array_ready_before, with_ready, with_readies, has_fail}
+use Rattle.trace_faults.specs.Faults.{fresh}
+use Rattle.bus_capture.specs.declared.fault.CaptureFault.{CaptureFault}
+use Rattle.bus_capture.specs.declared.mapping.Mapping.{Mapping}
+use Rattle.bus_capture.specs.declared.sampler.Observation.{Observation}
+use Rattle.bus_capture.specs.declared.sampler.Observation.TheVariants as observation
+use Rattle.bus_capture.specs.declared.sampler.Observed.{Observed}
+use Rattle.bus_capture.specs.declared.inferring.Stamped.{Stamped}
+use Rattle.bus_capture.specs.declared.ahead.Ahead.{Ahead}
+use Rattle.bus_capture.specs.declared.ahead.Ahead.TheVariants.{Going, Known}
+use Rattle.vcd_text.specs.Tokens.{◌>>=◌}
+use Rattle.bus_capture.specs.Capturing.{Shown, shown_in}
+
+-- ---- how the work ended that R/B# shows to be done: as the status says that the target is asked for next, by 70h; if it isn't, without failure
+
+abbrev pub ahead_by : Kind → (asked : Bool) → ℕ → Ahead
+ahead_by Cmd asked byte = if byte == 112 then Going true else Known false
+ahead_by Adr asked byte = Going asked
+ahead_by Din asked byte = Going asked
+ahead_by Dout asked byte = if asked then Known (has_fail byte) else Going asked
+
+abbrev pub ahead_in : (asked : Bool) → ℕ → Cycle → Ahead
+ahead_in asked ce c = if c.ce == ce then ahead_by c.kind asked c.byte else Going asked
+
+abbrev pub ahead_of : (asked : Bool) → ℕ → Observation → Ahead
+ahead_of asked ce (observation.Item (Cyc c)) = ahead_in asked ce c
+ahead_of asked ce (observation.Item (Rdy _ _ _)) = Going asked
+ahead_of asked ce (observation.Item (Ard _ _)) = Going asked
+ahead_of asked ce (observation.Released n) = Going asked
+
+abbrev pub fails_by : Ahead → (Bool → Bool) → Bool
+fails_by (Known fail) later = fail
+fails_by (Going asked) later = later asked
+
+-- whether the status tells failure that the target of this number is asked for next
+abbrev pub fails_from : (asked : Bool) → ℕ → List Observed → Bool
+fails_from asked ce [] = false
+fails_from asked ce (o ∷ later) = fails_by (ahead_of asked ce o.observation) (λ asked. fails_from asked ce later)
+
+-- ---- an item, with the readies that its byte shows as long as all before it were permitted
+
+abbrev pub stamps : ℕ → Option Item → List Stamped
+stamps time None = []
+stamps time (Some item) = record { time = time; item = item } ∷ []
+
+abbrev pub with_shown : (sure : Bool) → BusView → ℕ → Item → List Stamped → List Stamped
+with_shown false state time item stamped = stamped ++ stamps time (Some item)
+with_shown true state time item stamped =
+    ((stamped ++ stamps time (ready_before state item)) ++ stamps time (array_ready_before (with_ready state item) item)) ++ stamps time (Some item)
+
+abbrev pub state_after : (sure : Bool) → BusView → Item → BusView
+state_after false state item = state
+state_after true state item = gone_on item (with_readies state item)
+
+abbrev pub is_permitted : Option Forbidden → Bool
+is_permitted None = true
+is_permitted (Some rule) = false
+
+abbrev pub sure_after : (sure : Bool) → BusView → Item → Bool
+sure_after false state item = false
+sure_after true state item = is_permitted (judged (with_readies state item) item)
+
+-- ---- R/B# rises
+
+abbrev pub is_busy : Option LunState → Bool
+is_busy None = false
+is_busy (Some lun) = lun.busy
+
+-- the target has one LUN, which is busy
+abbrev pub is_waiting : BusView → (luns ce : ℕ) → Bool
+is_waiting state luns ce = luns == 1 && is_busy (looked state (record { ce = ce; lun = 0 }))
+
+-- the ready that this shows
+abbrev pub release_of : (sure : Bool) → BusView → (luns ce : ℕ) → List Observed → Option Item
+release_of false state luns ce later = None
+release_of true state luns ce later = if is_waiting state luns ce then Some (Rdy ce 0 (fails_from false ce later)) else None
+
+abbrev pub released : Option Item → BusView → BusView
+released None state = state
+released (Some item) state = gone_on item state
+
+-- ---- all items
+
+abbrev pub inferred_by : Observation → ℕ → (luns : ℕ) → (sure : Bool) → BusView → List Observed → List Stamped → (Bool → BusView → List Stamped → List Stamped) → List Stamped
+inferred_by (observation.Item item) time luns sure state later stamped next = next (sure_after sure state item) (state_after sure state item) (with_shown sure state time item stamped)
+inferred_by (observation.Released ce) time luns sure state later stamped next =
+    next sure (released (release_of sure state luns ce later) state) (stamped ++ stamps time (release_of sure state luns ce later))
+
+-- the items of what is seen, after these, on a channel of targets of so many LUNs; after an item that isn't permitted no ready is inferred
+abbrev pub inferred : (luns : ℕ) → (sure : Bool) → BusView → List Stamped → List Observed → List Stamped
+inferred luns sure state stamped [] = stamped
+inferred luns sure state stamped (o ∷ later) =
+    inferred_by o.observation o.time luns sure state later stamped (λ sure state stamped. inferred luns sure state stamped later)
+
+-- ---- a whole capture: its items, each with its time
+
+abbrev pub items_shown : Parts → ℕ → Shown → List Stamped
+items_shown g targets shown = inferred g.luns (not shown.tells_readies) (fresh g targets) [] shown.observed
+
+abbrev pub captured : Parts → ℕ → List Mapping → List ℕ → Result (List Stamped) CaptureFault
+captured g targets mappings text = shown_in targets mappings text >>= λ shown. Ok (items_shown g targets shown)

@@ -1,0 +1,9 @@
+pub mod Names
+pub mod Spots
+pub mod Roles
+pub mod Sources
+pub mod Sampling
+pub mod Capturing
+pub mod Inferring
+pub mod Recorded
+pub mod Codes

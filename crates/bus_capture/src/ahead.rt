@@ -1,0 +1,81 @@
+//! How work ended that R/B# shows to be done.
+ghost use Rattle.std.specs.Prelude.{◌≡◌, false};
+ghost use Rattle.trace_faults.specs.ShownReadies.{has_fail};
+ghost use Rattle.bus_capture.specs.Inferring.{ahead_by, ahead_in, ahead_of, fails_from};
+
+use crate::sampler::{Observation, Observed};
+use onfi_cycle::{Cycle, Item, Kind, Status};
+
+// What is known of the status that a target is asked for next, after something that is seen.
+#[derive(Clone, Copy)]
+pub(crate) enum Ahead {
+    // Nothing yet; whether it was asked for.
+    Going(bool),
+    // Whether it tells failure.
+    Known(bool),
+}
+
+// A status byte tells failure.
+fn has_fail(byte: u8) -> bool
+    ensures { result ≡ has_fail byte }
+{
+    Status(byte).has_failed()
+}
+
+fn ahead_by(kind: Kind, asked: bool, byte: u8) -> Ahead
+    ensures { result ≡ ahead_by kind asked byte }
+{
+    match kind {
+        Kind::Cmd => {
+            if byte == 0x70 {
+                Ahead::Going(true)
+            } else {
+                Ahead::Known(false)
+            }
+        }
+        Kind::Adr | Kind::Din => Ahead::Going(asked),
+        Kind::Dout => {
+            if asked {
+                Ahead::Known(has_fail(byte))
+            } else {
+                Ahead::Going(asked)
+            }
+        }
+    }
+}
+
+fn ahead_in(asked: bool, ce: u8, cycle: Cycle) -> Ahead
+    ensures { result ≡ ahead_in asked ce cycle }
+{
+    if cycle.ce == ce {
+        ahead_by(cycle.kind, asked, cycle.byte)
+    } else {
+        Ahead::Going(asked)
+    }
+}
+
+fn ahead_of(asked: bool, ce: u8, observation: Observation) -> Ahead
+    ensures { result ≡ ahead_of asked ce observation }
+{
+    match observation {
+        Observation::Item(item) => match item {
+            Item::Cyc(cycle) => ahead_in(asked, ce, cycle),
+            Item::Rdy { .. } | Item::Ard { .. } => Ahead::Going(asked),
+        },
+        Observation::Released(_) => Ahead::Going(asked),
+    }
+}
+
+/// Whether the status tells failure that this target is asked for next, of what is seen later; if it isn't asked for, it doesn't.
+pub(crate) fn fails_ahead(ce: u8, later: &[Observed]) -> bool
+    ensures { result ≡ fails_from false ce later.now }
+{
+    let mut asked = false;
+    for observed in later {
+        match ahead_of(asked, ce, observed.observation) {
+            Ahead::Known(fail) => return fail,
+            Ahead::Going(now) => asked = now,
+        }
+    }
+    false
+}

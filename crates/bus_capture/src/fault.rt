@@ -1,0 +1,133 @@
+//! What is wrong with a capture.
+ghost use Rattle.std.specs.Prelude.{◌≡◌};
+ghost use Rattle.bus_capture.specs.Codes.{bus_code, capture_code, capture_number};
+
+use crate::role::Role;
+use std::fmt;
+use thiserror::Error;
+use vcd_text::LineFault;
+
+impl fmt::Display for Role {
+    fn fmt<W: fmt::Write>(&self, f: &mut fmt::Formatter<W>) -> fmt::Result {
+        match *self {
+            Role::Enable(number) => write!(f, "CE{number}"),
+            Role::Cle => write!(f, "CLE"),
+            Role::Ale => write!(f, "ALE"),
+            Role::We => write!(f, "WE"),
+            Role::Re => write!(f, "RE"),
+            Role::Dq(bit) => write!(f, "DQ{bit}"),
+            Role::ReadyBusy(number) => write!(f, "RB{number}"),
+            Role::Busy { ce, lun } => write!(f, "busy{ce}_{lun}"),
+            Role::ArrayBusy { ce, lun } => write!(f, "array{ce}_{lun}"),
+            Role::Failed { ce, lun } => write!(f, "fail{ce}_{lun}"),
+        }
+    }
+}
+
+/// W3: a line has no signal, or two.
+#[derive(Clone, Copy, Debug, PartialEq, Eq, Error)]
+pub enum RoleFault {
+    #[error("no signal is {0} by its name: say which one it is by --map {0}=NAME")]
+    Missing(Role),
+    #[error("two signals are {0} by their names: say which one it is by --map {0}=NAME")]
+    Twice(Role),
+}
+
+/// Why the lines of a bus aren't found.
+#[derive(Clone, Copy, Debug, PartialEq, Eq, Error)]
+pub enum RoleRefusal {
+    #[error("{0}")]
+    Fault(RoleFault),
+    #[error("out of memory")]
+    OutOfMemory,
+}
+
+/// What is wrong with the levels of a bus at some time.
+#[derive(Clone, Copy, Debug, PartialEq, Eq, Error)]
+pub enum BusFault {
+    /// W5: a chip enable isn't known where a cycle is sampled.
+    #[error("a chip enable is x or z where a strobe rises")]
+    UnknownEnable,
+    /// W5: so is CLE or ALE.
+    #[error("CLE or ALE is x or z where a strobe rises")]
+    UnknownLatch,
+    /// W5: so is a bit of DQ.
+    #[error("a bit of DQ is x or z where a strobe rises")]
+    UnknownData,
+    /// W5: a strobe isn't known while a chip is enabled.
+    #[error("a strobe is x or z while a chip is enabled")]
+    UnknownStrobe,
+    /// W6: CLE and ALE are high where WE# rises.
+    #[error("CLE and ALE are both high where WE# rises")]
+    BothLatches,
+    /// W6: CLE or ALE is high where RE# rises.
+    #[error("CLE or ALE is high where RE# rises")]
+    LatchAtOutput,
+    /// W7: two chips are enabled where a strobe rises.
+    #[error("several chip enables are low where a strobe rises")]
+    SeveralEnabled,
+    /// W8: the other strobe is low.
+    #[error("WE# and RE# are low together")]
+    StrobesTogether,
+}
+
+impl BusFault {
+    /// Its code, W5 to W8.
+    pub fn code(self) -> &'static str
+        ensures { result.now ≡ bus_code self }
+    {
+        match self {
+            BusFault::UnknownEnable
+            | BusFault::UnknownLatch
+            | BusFault::UnknownData
+            | BusFault::UnknownStrobe => "W5",
+            BusFault::BothLatches | BusFault::LatchAtOutput => "W6",
+            BusFault::SeveralEnabled => "W7",
+            BusFault::StrobesTogether => "W8",
+        }
+    }
+}
+
+/// What is wrong with a capture: with a line of its file, with the signal of a line of the bus, or with the levels at some time.
+#[derive(Clone, Copy, Debug, PartialEq, Eq, Error)]
+pub enum CaptureFault {
+    #[error("{0}")]
+    File(LineFault),
+    #[error("{0}")]
+    Role(RoleFault),
+    #[error("time {time}: {fault}")]
+    Bus { fault: BusFault, time: u64 },
+}
+
+impl CaptureFault {
+    /// Its code, W1 to W8.
+    pub fn code(self) -> &'static str
+        ensures { result.now ≡ capture_code self }
+    {
+        match self {
+            CaptureFault::File(at) => at.fault.code(),
+            CaptureFault::Role(_) => "W3",
+            CaptureFault::Bus { fault, .. } => fault.code(),
+        }
+    }
+
+    /// The number of the line in the file, or the time; 0 where a line of the bus has no signal.
+    pub fn number(self) -> usize
+        ensures { result ≡ capture_number self }
+    {
+        match self {
+            CaptureFault::File(at) => at.line,
+            CaptureFault::Role(_) => 0,
+            CaptureFault::Bus { time, .. } => time as usize,
+        }
+    }
+}
+
+/// Why a capture isn't read.
+#[derive(Clone, Copy, Debug, PartialEq, Eq, Error)]
+pub enum CaptureRefusal {
+    #[error("{0}")]
+    Fault(CaptureFault),
+    #[error("out of memory")]
+    OutOfMemory,
+}

@@ -1,0 +1,96 @@
+//! The levels of all lines.
+ghost use Rattle.std.specs.Prelude.{◌≡◌, slice_set};
+ghost use Rattle.bus_capture.specs.Roles.{place_of};
+ghost use Rattle.bus_capture.specs.Capturing.{unknown};
+ghost use Rattle.bus_capture.specs.Sampling.{level, shown_bit, filled, bit_at, with_source, with_change};
+
+use crate::role::Role;
+use crate::source::Source;
+use vcd_text::{Level, level_of};
+
+/// The levels of all lines; of a line that hasn't been seen it is unknown.
+#[derive(Clone, Copy, Debug)]
+pub struct Levels {
+    pub(crate) of: [Level; 68],
+}
+
+// A bit that stands in a change.
+#[inline(always)]
+fn shown_bit(bit: u8) -> Level
+    ensures { result ≡ shown_bit bit }
+{
+    level_of(bit).unwrap_or(Level::Unknown)
+}
+
+// A bit that stands no more.
+#[inline(always)]
+fn filled(first: Level) -> Level
+    ensures { result ≡ filled first }
+{
+    match first {
+        Level::Low | Level::High => Level::Low,
+        Level::Unknown => Level::Unknown,
+    }
+}
+
+// The bit at this place from the right.
+#[inline(always)]
+fn bit_at(bits: &[u8], place: u64) -> Level
+    ensures { result ≡ bit_at bits.now place }
+{
+    let count = bits.len() as u64;
+    if place < count {
+        shown_bit(bits[(count - 1 - place) as usize])
+    } else if bits.is_empty() {
+        Level::Unknown
+    } else {
+        filled(shown_bit(bits[0]))
+    }
+}
+
+impl Levels {
+    /// Nothing has been seen.
+    pub fn unknown() -> Levels
+        ensures { result.of ≡ unknown }
+    {
+        Levels {
+            of: [Level::Unknown; 68],
+        }
+    }
+
+    /// The level of a line.
+    #[inline(always)]
+    pub fn level(&self, role: Role) -> Level
+        ensures { result ≡ level self.now.of role }
+    {
+        self.of.get(role.place()).copied().unwrap_or(Level::Unknown)
+    }
+
+    // A line has this level.
+    #[inline(always)]
+    fn set(&mut self, role: Role, level: Level)
+        ensures { self.new.of ≡ slice_set self.old.of (place_of role) level }
+    {
+        self.of[role.place()] = level;
+    }
+
+    // After a change of a code.
+    #[inline(always)]
+    fn change_one(&mut self, source: Source, code: u64, bits: &[u8])
+        ensures { self.new.of ≡ with_source source code bits.now self.old.of }
+    {
+        if source.code == code {
+            self.set(source.role, bit_at(bits, source.place));
+        }
+    }
+
+    /// After a change of a code.
+    #[inline(always)]
+    pub fn change(&mut self, sources: &[Source], code: u64, bits: &[u8])
+        ensures { self.new.of ≡ with_change sources.now code bits.now self.old.of }
+    {
+        for source in sources {
+            self.change_one(*source, code, bits);
+        }
+    }
+}

@@ -1,0 +1,57 @@
+//! Reading a capture.
+ghost use Rattle.std.specs.Prelude.{◌≡◌, ◌≤◌, Ok, IfOk, IfErr};
+ghost use Rattle.bus_capture.specs.Capturing.{IsRefusalOf};
+ghost use Rattle.bus_capture.specs.Inferring.{captured};
+
+use crate::capturing::observe;
+use crate::fault::CaptureRefusal;
+use crate::inferring::{Stamped, infer};
+use crate::mapping::Mapping;
+use nand_geometry::Geometry;
+use std::alloc::Allocator;
+
+/// A capture, read.
+#[derive(Debug, Drop)]
+pub struct Capture<A: Allocator> {
+    /// The items, in the order of time.
+    pub stamped: Vec<Stamped, A>,
+    /// How many strobes rose with no chip enabled.
+    pub unselected: u64,
+}
+
+/// Reads a capture of the bus of a channel of so many targets of this geometry: a value change dump, of whose signals a caller may say what they are.
+///
+/// A cycle is sampled where a strobe rises and a chip is enabled, by the levels before that time. Where lines of a model are there (`busy0_1`), they tell the
+/// readies; else a ready stands before the status output that shows it, and on a target of one LUN where R/B# rises, as long as all items are permitted.
+///
+/// The faults, in this order: of the header (W1, W2), of the lines' signals (W3), and then of the changes (W4) and of the levels (W5 to W8) in the order of
+/// the file. `OutOfMemory` is answered only where memory was refused, and before a fault was met.
+pub fn read_capture<A: Allocator + Clone>(
+    alloc: A,
+    geometry: &Geometry,
+    targets: u8,
+    mappings: &[Mapping<'_>],
+    text: &[u8],
+) -> Result<Capture<A>, CaptureRefusal>
+    requires few { targets ≤ 4 }
+    ensures ok { IfOk result (λ c. captured geometry.now targets mappings.now text.now ≡ Ok c.stamped.items) }
+    ensures err { IfErr result (λ e. IsRefusalOf e (captured geometry.now targets mappings.now text.now)) }
+{
+    let Ok(copy) = alloc.clone() else {
+        return Err(CaptureRefusal::OutOfMemory);
+    };
+    let seen = observe(copy, targets, mappings, text)?;
+    match infer(
+        alloc,
+        geometry,
+        targets,
+        seen.tells_readies,
+        seen.observed.as_slice(),
+    ) {
+        Ok(stamped) => Ok(Capture {
+            stamped,
+            unselected: seen.unselected,
+        }),
+        Err(_) => Err(CaptureRefusal::OutOfMemory),
+    }
+}

@@ -1,0 +1,281 @@
+//! What is sampled where the levels of a bus change.
+ghost use Rattle.std.specs.Prelude.{◌≡◌, ◌+◌, ◌*◌, ◌/◌, ◌%◌, ◌<◌, ◌≤◌, IfOk, None};
+ghost use Rattle.bus_capture.specs.Sampling.{level, with_enable, enabled_from, written_kind, read_kind, kind_of, line_of, other_line, weighed, byte_of, apart, cycle_of, cycle_if, rises, is_lost, lost_if, seen_of, falls, is_high, is_low, ready_of};
+
+use crate::fault::BusFault;
+use crate::levels::Levels;
+use crate::role::Role;
+use onfi_cycle::{Cycle, Item, Kind};
+use vcd_text::Level;
+
+/// The strobes of a bus: WE#, and RE#.
+#[derive(Clone, Copy, Debug, PartialEq, Eq)]
+pub enum Strobe {
+    Write,
+    Read,
+}
+
+/// What is seen of a strobe.
+#[derive(Clone, Copy, Debug, PartialEq, Eq)]
+pub enum Seen {
+    Nothing,
+    /// It rises, and no chip is enabled.
+    Unselected,
+    Sampled(Cycle),
+}
+
+impl Strobe {
+    #[inline(always)]
+    fn line(self) -> Role
+        ensures { result ≡ line_of self }
+    {
+        match self {
+            Strobe::Write => Role::We,
+            Strobe::Read => Role::Re,
+        }
+    }
+
+    fn other_line(self) -> Role
+        ensures { result ≡ other_line self }
+    {
+        match self {
+            Strobe::Write => Role::Re,
+            Strobe::Read => Role::We,
+        }
+    }
+}
+
+// Whether one more chip is enabled, after some.
+fn with_enable(level: Level, number: u8, enabled: Option<u8>) -> Result<Option<u8>, BusFault>
+    ensures { result ≡ with_enable level number enabled }
+{
+    match level {
+        Level::Unknown => Err(BusFault::UnknownEnable),
+        Level::High => Ok(enabled),
+        Level::Low => match enabled {
+            None => Ok(Some(number)),
+            Some(_) => Err(BusFault::SeveralEnabled),
+        },
+    }
+}
+
+// The one chip that is enabled, of so many from this number on.
+fn enabled_from(
+    levels: &Levels,
+    count: u8,
+    number: u8,
+    enabled: Option<u8>,
+) -> Result<Option<u8>, BusFault>
+    requires few { count + number ≤ 4 }
+    ensures { result ≡ enabled_from levels.now.of count number enabled }
+{
+    if count == 0 {
+        return Ok(enabled);
+    }
+    match with_enable(levels.level(Role::Enable(number)), number, enabled) {
+        Ok(now) => enabled_from(levels, count - 1, number + 1, now),
+        Err(fault) => Err(fault),
+    }
+}
+
+fn written_kind(cle: Level, ale: Level) -> Result<Kind, BusFault>
+    ensures { result ≡ written_kind cle ale }
+{
+    match (cle, ale) {
+        (Level::Unknown, _) | (Level::Low | Level::High, Level::Unknown) => {
+            Err(BusFault::UnknownLatch)
+        }
+        (Level::High, Level::High) => Err(BusFault::BothLatches),
+        (Level::High, Level::Low) => Ok(Kind::Cmd),
+        (Level::Low, Level::High) => Ok(Kind::Adr),
+        (Level::Low, Level::Low) => Ok(Kind::Din),
+    }
+}
+
+fn read_kind(cle: Level, ale: Level) -> Result<Kind, BusFault>
+    ensures { result ≡ read_kind cle ale }
+{
+    match (cle, ale) {
+        (Level::Unknown, _) | (Level::Low | Level::High, Level::Unknown) => {
+            Err(BusFault::UnknownLatch)
+        }
+        (Level::High, Level::High | Level::Low) | (Level::Low, Level::High) => {
+            Err(BusFault::LatchAtOutput)
+        }
+        (Level::Low, Level::Low) => Ok(Kind::Dout),
+    }
+}
+
+fn kind_of(strobe: Strobe, levels: &Levels) -> Result<Kind, BusFault>
+    ensures { result ≡ kind_of strobe levels.now.of }
+{
+    let cle = levels.level(Role::Cle);
+    let ale = levels.level(Role::Ale);
+    match strobe {
+        Strobe::Write => written_kind(cle, ale),
+        Strobe::Read => read_kind(cle, ale),
+    }
+}
+
+// A bit of DQ, by its weight.
+fn weighed(level: Level, weight: u8) -> Result<u8, BusFault>
+    ensures value { result ≡ weighed level weight }
+    ensures most { IfOk result (λ n. n ≤ weight) }
+{
+    match level {
+        Level::Low => Ok(0),
+        Level::High => Ok(weight),
+        Level::Unknown => Err(BusFault::UnknownData),
+    }
+}
+
+fn byte_of(levels: &Levels) -> Result<u8, BusFault>
+    ensures { result ≡ byte_of levels.now.of }
+{
+    let seven = weighed(levels.level(Role::Dq(7)), 128)?;
+    let six = weighed(levels.level(Role::Dq(6)), 64)?;
+    let five = weighed(levels.level(Role::Dq(5)), 32)?;
+    let four = weighed(levels.level(Role::Dq(4)), 16)?;
+    let three = weighed(levels.level(Role::Dq(3)), 8)?;
+    let two = weighed(levels.level(Role::Dq(2)), 4)?;
+    let one = weighed(levels.level(Role::Dq(1)), 2)?;
+    let zeroth = weighed(levels.level(Role::Dq(0)), 1)?;
+    Ok(seven + six + five + four + three + two + one + zeroth)
+}
+
+// The other strobe is high.
+fn apart(level: Level) -> Result<bool, BusFault>
+    ensures { result ≡ apart level }
+{
+    match level {
+        Level::High => Ok(true),
+        Level::Low => Err(BusFault::StrobesTogether),
+        Level::Unknown => Err(BusFault::UnknownStrobe),
+    }
+}
+
+// The cycle of a strobe, by the levels before it rises.
+fn cycle_of(strobe: Strobe, ce: u8, levels: &Levels) -> Result<Seen, BusFault>
+    ensures { result ≡ cycle_of strobe ce levels.now.of }
+{
+    let _apart = apart(levels.level(strobe.other_line()))?;
+    let kind = kind_of(strobe, levels)?;
+    let byte = byte_of(levels)?;
+    Ok(Seen::Sampled(Cycle { ce, kind, byte }))
+}
+
+fn cycle_if(strobe: Strobe, enabled: Option<u8>, levels: &Levels) -> Result<Seen, BusFault>
+    ensures { result ≡ cycle_if strobe enabled levels.now.of }
+{
+    match enabled {
+        None => Ok(Seen::Unselected),
+        Some(ce) => cycle_of(strobe, ce, levels),
+    }
+}
+
+/// The line goes from low to high.
+#[inline(always)]
+pub(crate) fn rises(before: Level, after: Level) -> bool
+    ensures { result ≡ rises before after }
+{
+    match (before, after) {
+        (Level::Low, Level::High) => true,
+        (Level::Low, Level::Low | Level::Unknown) | (Level::High | Level::Unknown, _) => false,
+    }
+}
+
+// It becomes unknown, or was so after somebody had driven it.
+#[inline(always)]
+fn is_lost(driven: bool, before: Level, after: Level) -> bool
+    ensures { result ≡ is_lost driven before after }
+{
+    match (before, after) {
+        (Level::Low, Level::Unknown) => true,
+        (Level::Unknown, Level::High) => driven,
+        (Level::Low, Level::Low | Level::High)
+        | (Level::High, _)
+        | (Level::Unknown, Level::Low | Level::Unknown) => false,
+    }
+}
+
+fn lost_if(enabled: Option<u8>) -> Result<Seen, BusFault>
+    ensures { result ≡ lost_if enabled }
+{
+    match enabled {
+        None => Ok(Seen::Nothing),
+        Some(_) => Err(BusFault::UnknownStrobe),
+    }
+}
+
+/// What is seen of a strobe where the levels before become those after, on a bus of so many targets; somebody may have driven it before.
+#[inline(always)]
+pub fn seen_of(
+    targets: u8,
+    strobe: Strobe,
+    driven: bool,
+    before: &Levels,
+    after: &Levels,
+) -> Result<Seen, BusFault>
+    requires few { targets ≤ 4 }
+    ensures { result ≡ seen_of targets strobe driven before.now.of after.now.of }
+{
+    let was = before.level(strobe.line());
+    let is = after.level(strobe.line());
+    if rises(was, is) {
+        let enabled = enabled_from(before, targets, 0, None)?;
+        return cycle_if(strobe, enabled, before);
+    }
+    if is_lost(driven, was, is) {
+        let enabled = enabled_from(before, targets, 0, None)?;
+        return lost_if(enabled);
+    }
+    Ok(Seen::Nothing)
+}
+
+#[inline(always)]
+fn falls(before: Level, after: Level) -> bool
+    ensures { result ≡ falls before after }
+{
+    match (before, after) {
+        (Level::High, Level::Low) => true,
+        (Level::High, Level::High | Level::Unknown) | (Level::Low | Level::Unknown, _) => false,
+    }
+}
+
+#[inline(always)]
+fn is_high(level: Level) -> bool
+    ensures { result ≡ is_high level }
+{
+    matches!(level, Level::High)
+}
+
+#[inline(always)]
+fn is_low(level: Level) -> bool
+    ensures { result ≡ is_low level }
+{
+    matches!(level, Level::Low)
+}
+
+/// The ready that lines of a model tell of a LUN.
+#[inline(always)]
+pub fn ready_of(before: &Levels, after: &Levels, ce: u8, lun: u8) -> Option<Item>
+    ensures { result ≡ ready_of before.now.of after.now.of ce lun }
+{
+    let was_busy = before.level(Role::Busy { ce, lun });
+    if falls(was_busy, after.level(Role::Busy { ce, lun })) {
+        return Some(Item::Rdy {
+            ce,
+            lun,
+            fail: is_high(after.level(Role::Failed { ce, lun })),
+        });
+    }
+    if is_low(was_busy)
+        && falls(
+            before.level(Role::ArrayBusy { ce, lun }),
+            after.level(Role::ArrayBusy { ce, lun }),
+        )
+    {
+        return Some(Item::Ard { ce, lun });
+    }
+    None
+}

@@ -1,0 +1,13 @@
+//! Captures: worked and spoilt dumps, and what comes of them. Only tests stand here.
+#![tactic(auto)]
+
+#[cfg(test)]
+mod fault_tests;
+#[cfg(test)]
+mod name_tests;
+#[cfg(test)]
+mod reading;
+#[cfg(test)]
+mod ready_tests;
+#[cfg(test)]
+mod round_trip_tests;

@@ -1,0 +1,96 @@
+//! The words of a dump.
+ghost use Rattle.std.specs.Prelude.{◌≡◌, ℕ, ◌+◌, ◌<◌, ◌≤◌, ◌^◌, [], ◌∷◌, length, take, drop, IfSome, IfNone};
+ghost use Rattle.vcd_text.specs.Words.{is_blank, ended, words, words_from, words_left, with_word, StartsWord};
+
+/// What stands between white space, and the number of its line, from 1.
+#[derive(Clone, Copy, Debug)]
+pub struct Word<'a> {
+    pub line: usize,
+    pub text: &'a [u8],
+}
+
+/// The words that are left of a dump.
+#[derive(Clone, Copy, Debug)]
+pub struct Words<'a> {
+    pub(crate) line: usize,
+    pub(crate) rest: &'a [u8],
+}
+
+// White space: a space, or a control character.
+#[inline(always)]
+fn is_blank(byte: u8) -> bool
+    ensures { result ≡ is_blank byte }
+{
+    byte <= b' '
+}
+
+// How many bytes the word has at whose first byte this text begins.
+#[inline(always)]
+fn word_len(text: &[u8]) -> usize
+    requires some { 0 < length text.now }
+    requires starts { StartsWord text.now }
+    ensures some { 0 < result }
+    ensures within { result ≤ length text.now }
+    ensures word { (line : ℕ) → words_from line [] text.now ≡ ended line (take result text.now) (words_from line [] (drop result text.now)) }
+{
+    let mut count = 1;
+    'bytes: while count < text.len() && !is_blank(text[count]) {
+        count += 1;
+    }
+    count
+}
+
+impl<'a> Words<'a> {
+    /// The words of a text.
+    pub fn of(text: &'a [u8]) -> Words<'a>
+        ensures words { words_left result ≡ words text.entry.now }
+        ensures room { result.line + length result.rest.now < 2 ^ 64 }
+    {
+        Words {
+            line: 1,
+            rest: text,
+        }
+    }
+
+    // Goes on to the next word.
+    #[inline(always)]
+    fn skip_blanks(&mut self)
+        requires room { self.old.line + length self.old.rest.now < 2 ^ 64 }
+        ensures words { words_left self.new ≡ words_left self.old }
+        ensures room { self.new.line + length self.new.rest.now ≤ self.old.line + length self.old.rest.now }
+        ensures shorter { length self.new.rest.now ≤ length self.old.rest.now }
+        ensures starts { StartsWord self.new.rest.now }
+    {
+        'blanks: while let [first, rest @ ..] = self.rest {
+            if !is_blank(*first) {
+                return;
+            }
+            if *first == b'\n' {
+                self.line += 1;
+            }
+            self.rest = rest;
+        }
+    }
+
+    /// The next word.
+    #[inline(always)]
+    pub fn next_word(&mut self) -> Option<Word<'a>>
+        requires room { self.old.line + length self.old.rest.now < 2 ^ 64 }
+        ensures words { words_left self.old ≡ with_word result (words_left self.new) }
+        ensures none { IfNone result (words_left self.old ≡ []) }
+        ensures room { self.new.line + length self.new.rest.now ≤ self.old.line + length self.old.rest.now }
+        ensures shorter { IfSome result (λ _. length self.new.rest.now < length self.old.rest.now) }
+    {
+        self.skip_blanks();
+        if self.rest.is_empty() {
+            return None;
+        }
+        let count = word_len(self.rest);
+        let (text, rest) = self.rest.split_at(count);
+        self.rest = rest;
+        Some(Word {
+            line: self.line,
+            text,
+        })
+    }
+}
