@@ -7,18 +7,18 @@ use Rattle.bus_capture.specs.declared.fault.BusFault.{BusFault}
 use Rattle.bus_capture.specs.declared.fault.BusFault.TheVariants.{UnknownEnable, UnknownLatch, UnknownData, UnknownStrobe, BothLatches, LatchAtOutput, SeveralEnabled, StrobesTogether}
 
 abbrev pub bus_code : BusFault → List ℕ
-bus_code UnknownEnable = codes "W5"
-bus_code UnknownLatch = codes "W5"
-bus_code UnknownData = codes "W5"
-bus_code UnknownStrobe = codes "W5"
-bus_code BothLatches = codes "W6"
-bus_code LatchAtOutput = codes "W6"
-bus_code SeveralEnabled = codes "W7"
-bus_code StrobesTogether = codes "W8"
+bus_code UnknownEnable = codes "G5"
+bus_code UnknownLatch = codes "G5"
+bus_code UnknownData = codes "G5"
+bus_code UnknownStrobe = codes "G5"
+bus_code BothLatches = codes "G6"
+bus_code LatchAtOutput = codes "G6"
+bus_code SeveralEnabled = codes "G7"
+bus_code StrobesTogether = codes "G8"
 
 abbrev pub capture_code : CaptureFault → List ℕ
 capture_code (File at) = code at.fault
-capture_code (Role fault) = codes "W3"
+capture_code (Role fault) = codes "G3"
 capture_code (Bus fault time) = bus_code fault
 
 -- the line of the file, or the time; 0 where a line of the bus has no signal

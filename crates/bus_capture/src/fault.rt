@@ -24,7 +24,7 @@ impl fmt::Display for Role {
     }
 }
 
-/// W3: a line has no signal, or two.
+/// G3: a line has no signal, or two.
 #[derive(Clone, Copy, Debug, PartialEq, Eq, Error)]
 pub enum RoleFault {
     #[error("no signal is {0} by its name: say which one it is by --map {0}=NAME")]
@@ -45,34 +45,34 @@ pub enum RoleRefusal {
 /// What is wrong with the levels of a bus at some time.
 #[derive(Clone, Copy, Debug, PartialEq, Eq, Error)]
 pub enum BusFault {
-    /// W5: a chip enable isn't known where a cycle is sampled.
+    /// G5: a chip enable isn't known where a cycle is sampled.
     #[error("a chip enable is x or z where a strobe rises")]
     UnknownEnable,
-    /// W5: so is CLE or ALE.
+    /// G5: so is CLE or ALE.
     #[error("CLE or ALE is x or z where a strobe rises")]
     UnknownLatch,
-    /// W5: so is a bit of DQ.
+    /// G5: so is a bit of DQ.
     #[error("a bit of DQ is x or z where a strobe rises")]
     UnknownData,
-    /// W5: a strobe isn't known while a chip is enabled.
+    /// G5: a strobe isn't known while a chip is enabled.
     #[error("a strobe is x or z while a chip is enabled")]
     UnknownStrobe,
-    /// W6: CLE and ALE are high where WE# rises.
+    /// G6: CLE and ALE are high where WE# rises.
     #[error("CLE and ALE are both high where WE# rises")]
     BothLatches,
-    /// W6: CLE or ALE is high where RE# rises.
+    /// G6: CLE or ALE is high where RE# rises.
     #[error("CLE or ALE is high where RE# rises")]
     LatchAtOutput,
-    /// W7: two chips are enabled where a strobe rises.
+    /// G7: two chips are enabled where a strobe rises.
     #[error("several chip enables are low where a strobe rises")]
     SeveralEnabled,
-    /// W8: the other strobe is low.
+    /// G8: the other strobe is low.
     #[error("WE# and RE# are low together")]
     StrobesTogether,
 }
 
 impl BusFault {
-    /// Its code, W5 to W8.
+    /// Its code, G5 to G8.
     pub fn code(self) -> &'static str
         ensures { result.now ≡ bus_code self }
     {
@@ -80,10 +80,10 @@ impl BusFault {
             BusFault::UnknownEnable
             | BusFault::UnknownLatch
             | BusFault::UnknownData
-            | BusFault::UnknownStrobe => "W5",
-            BusFault::BothLatches | BusFault::LatchAtOutput => "W6",
-            BusFault::SeveralEnabled => "W7",
-            BusFault::StrobesTogether => "W8",
+            | BusFault::UnknownStrobe => "G5",
+            BusFault::BothLatches | BusFault::LatchAtOutput => "G6",
+            BusFault::SeveralEnabled => "G7",
+            BusFault::StrobesTogether => "G8",
         }
     }
 }
@@ -100,13 +100,13 @@ pub enum CaptureFault {
 }
 
 impl CaptureFault {
-    /// Its code, W1 to W8.
+    /// Its code, G1 to G8.
     pub fn code(self) -> &'static str
         ensures { result.now ≡ capture_code self }
     {
         match self {
             CaptureFault::File(at) => at.fault.code(),
-            CaptureFault::Role(_) => "W3",
+            CaptureFault::Role(_) => "G3",
             CaptureFault::Bus { fault, .. } => fault.code(),
         }
     }

@@ -24,7 +24,7 @@ pub struct Capture<A: Allocator> {
 /// A cycle is sampled where a strobe rises and a chip is enabled, by the levels before that time. Where lines of a model are there (`busy0_1`), they tell the
 /// readies; else a ready stands before the status output that shows it, and on a target of one LUN where R/B# rises, as long as all items are permitted.
 ///
-/// The faults, in this order: of the header (W1, W2), of the lines' signals (W3), and then of the changes (W4) and of the levels (W5 to W8) in the order of
+/// The faults, in this order: of the header (G1, G2), of the lines' signals (G3), and then of the changes (G4) and of the levels (G5 to G8) in the order of
 /// the file. `OutOfMemory` is answered only where memory was refused, and before a fault was met.
 pub fn read_capture<A: Allocator + Clone>(
     alloc: A,

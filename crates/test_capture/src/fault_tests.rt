@@ -67,120 +67,120 @@ const AS_GOOD: [Case; 9] = [
 const BAD_HEADERS: [Case; 9] = [
     Case {
         changes: &[("1 ns", "2 ns")],
-        shown: "W1 in line 1",
+        shown: "G1 in line 1",
     },
     Case {
         changes: &[(
             "$enddefinitions $end\n#0\n$dumpvars\n1c 0l 0a 1w 1r bz d 1b\n$end\n",
             "",
         )],
-        shown: "W1 in line 11",
+        shown: "G1 in line 11",
     },
     Case {
         changes: &[("$scope", "$scopes")],
-        shown: "W1 in line 2",
+        shown: "G1 in line 2",
     },
     Case {
         changes: &[("1 l CLE", "1 l")],
-        shown: "W2 in line 4",
+        shown: "G2 in line 4",
     },
     Case {
         changes: &[("1 l CLE", "0 l CLE")],
-        shown: "W2 in line 4",
+        shown: "G2 in line 4",
     },
     Case {
         changes: &[("1 l CLE", "1 l CLE [0] more")],
-        shown: "W2 in line 4",
+        shown: "G2 in line 4",
     },
     Case {
         changes: &[("wire 1 a ALE", "wire 2 c ALE")],
-        shown: "W2 in line 5",
+        shown: "G2 in line 5",
     },
     Case {
         changes: &[("$var wire 1 a ALE $end\n", ""), (" 0a", "")],
-        shown: "W3: no signal is ALE by its name: say which one it is by --map ALE=NAME",
+        shown: "G3: no signal is ALE by its name: say which one it is by --map ALE=NAME",
     },
     Case {
         changes: &[("1 b R/B#", "1 b ALE")],
-        shown: "W3: two signals are ALE by their names: say which one it is by --map ALE=NAME",
+        shown: "G3: two signals are ALE by their names: say which one it is by --map ALE=NAME",
     },
 ];
 
 const BAD_CHANGES: [Case; 9] = [
     Case {
         changes: &[("#60\n", "#60\n1q\n")],
-        shown: "W4 in line 33",
+        shown: "G4 in line 33",
     },
     Case {
         changes: &[("#60\n", "#5\n")],
-        shown: "W4 in line 32",
+        shown: "G4 in line 32",
     },
     Case {
         changes: &[("#60\n", "#6x\n")],
-        shown: "W4 in line 32",
+        shown: "G4 in line 32",
     },
     Case {
         changes: &[("b11100000", "b111100000")],
-        shown: "W4 in line 27",
+        shown: "G4 in line 27",
     },
     Case {
         changes: &[("b11100000", "b1110000q")],
-        shown: "W4 in line 27",
+        shown: "G4 in line 27",
     },
     Case {
         changes: &[("b11100000", "b")],
-        shown: "W4 in line 27",
+        shown: "G4 in line 27",
     },
     Case {
         changes: &[("#60\n", "hello\n")],
-        shown: "W4 in line 32",
+        shown: "G4 in line 32",
     },
     Case {
         changes: &[("#60\n1c\n", "b1\n")],
-        shown: "W4 in line 32",
+        shown: "G4 in line 32",
     },
     Case {
         changes: &[("#60\n1c\n", "$comment\n")],
-        shown: "W1 in line 32",
+        shown: "G1 in line 32",
     },
 ];
 
 const BAD_LEVELS: [Case; 10] = [
     Case {
         changes: &[("b1110000 d", "b111z000 d")],
-        shown: "W5 at 20",
+        shown: "G5 at 20",
     },
     Case {
         changes: &[("b1110000 d", "bx110000 d")],
-        shown: "W5 at 20",
+        shown: "G5 at 20",
     },
     Case {
         changes: &[("0c 1l", "xc 1l")],
-        shown: "W5 at 20",
+        shown: "G5 at 20",
     },
     Case {
         changes: &[("0c 1l", "0c xl")],
-        shown: "W5 at 20",
+        shown: "G5 at 20",
     },
     Case {
         changes: &[("#20\n1w", "#19\nxw\n#20\n1w")],
-        shown: "W5 at 19",
+        shown: "G5 at 19",
     },
     Case {
         changes: &[("#45\nb11100000 d\n#50\n1r", "#50\n1r\n#52\nb11100000 d")],
-        shown: "W5 at 50",
+        shown: "G5 at 50",
     },
     Case {
         changes: &[("0c 1l", "0c 1l 1a")],
-        shown: "W6 at 20",
+        shown: "G6 at 20",
     },
     Case {
         changes: &[("0l bz d", "bz d")],
-        shown: "W6 at 50",
+        shown: "G6 at 50",
     },
     Case {
         changes: &[("0w\n", "0w 0r\n")],
-        shown: "W8 at 20",
+        shown: "G8 at 20",
     },
     // With no chip enabled nothing is sampled.
     Case {

@@ -65,7 +65,7 @@ fn a_name_of_its_own(rt: HostRuntime) -> Result<(), Fail> {
     let unknown = shown(rt.alloc(), 1, &[], dump.as_str().as_bytes())?;
     assert_eq!(rt;
         unknown.as_str(),
-        "W3: no signal is WE by its name: say which one it is by --map WE=NAME"
+        "G3: no signal is WE by its name: say which one it is by --map WE=NAME"
     );
     Ok(())
 }
@@ -99,6 +99,6 @@ fn two_enables(rt: HostRuntime) -> Result<(), Fail> {
     assert_eq!(rt; one.as_str(), "1 C 70\n1 O e0\n");
     let both = with_changes(rt.alloc(), dump.as_str(), &[("bz d 1b", "bz d 0b")])?;
     let both = shown(rt.alloc(), 2, &[], both.as_str().as_bytes())?;
-    assert_eq!(rt; both.as_str(), "W7 at 20");
+    assert_eq!(rt; both.as_str(), "G7 at 20");
     Ok(())
 }

@@ -83,7 +83,7 @@ fn text_of(alloc: Global, items: &[Item]) -> Result<String, Fail> {
 fn words_of(alloc: Global, fault: CaptureFault) -> Result<String, Fail> {
     Ok(match fault {
         CaptureFault::File(at) => format!(in alloc; "{} in line {}", at.fault.code(), at.line)?,
-        CaptureFault::Role(role) => format!(in alloc; "W3: {role}")?,
+        CaptureFault::Role(role) => format!(in alloc; "G3: {role}")?,
         CaptureFault::Bus { fault, time } => format!(in alloc; "{} at {time}", fault.code())?,
     })
 }

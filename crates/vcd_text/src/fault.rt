@@ -7,49 +7,49 @@ use thiserror::Error;
 /// What is wrong with a line of a dump.
 #[derive(Clone, Copy, Debug, PartialEq, Eq, Error)]
 pub enum DumpFault {
-    /// W1: no section of a header has this name.
+    /// G1: no section of a header has this name.
     #[error("no section of a header begins so")]
     UnknownSection,
-    /// W1: the file ends within a section.
+    /// G1: the file ends within a section.
     #[error("the file ends before the $end of a section")]
     SectionNotEnded,
-    /// W1: the file ends before `$enddefinitions`.
+    /// G1: the file ends before `$enddefinitions`.
     #[error("the file ends before $enddefinitions")]
     HeaderNotEnded,
-    /// W1: the timescale isn't 1, 10 or 100 of s, ms, us, ns, ps or fs.
+    /// G1: the timescale isn't 1, 10 or 100 of s, ms, us, ns, ps or fs.
     #[error("a timescale is 1, 10 or 100 of s, ms, us, ns, ps or fs")]
     BadTimescale,
-    /// W2: the section `$var` hasn't a kind, a width from 1 to 65,536, a code of at most eight characters, a name, and perhaps a range.
+    /// G2: the section `$var` hasn't a kind, a width from 1 to 65,536, a code of at most eight characters, a name, and perhaps a range.
     #[error("$var wants a kind, a width from 1 to 65536, a code of 1 to 8 characters, a name and perhaps a range")]
     BadVariable,
-    /// W2: the code is declared with another width.
+    /// G2: the code is declared with another width.
     #[error("the code was declared with another width")]
     TwoWidths,
-    /// W4: the time isn't a decimal number of at most 19 digits.
+    /// G4: the time isn't a decimal number of at most 19 digits.
     #[error("a time is a decimal number of at most 19 digits")]
     BadTime,
-    /// W4: the time is before the last one.
+    /// G4: the time is before the last one.
     #[error("the time goes back")]
     TimeGoesBack,
-    /// W4: a vector has no bits, or one that isn't 0, 1, x or z.
+    /// G4: a vector has no bits, or one that isn't 0, 1, x or z.
     #[error("a vector is b and its bits, each 0, 1, x or z")]
     BadVector,
-    /// W4: the file ends before the code of a value.
+    /// G4: the file ends before the code of a value.
     #[error("the file ends before the code of this value")]
     NoCode,
-    /// W4: the code isn't declared.
+    /// G4: the code isn't declared.
     #[error("the code isn't declared")]
     NotDeclared,
-    /// W4: the vector has more bits than its code.
+    /// G4: the vector has more bits than its code.
     #[error("the vector has more bits than its code was declared with")]
     VectorTooLong,
-    /// W4: the word is no time, no change and no mark.
+    /// G4: the word is no time, no change and no mark.
     #[error("this is no time, no change of a value and no mark")]
     UnknownChange,
 }
 
 impl DumpFault {
-    /// Its code: W1 where the header isn't whole, W2 of a variable, W4 of the changes.
+    /// Its code: G1 where the header isn't whole, G2 of a variable, G4 of the changes.
     pub fn code(self) -> &'static str
         ensures { result.now ≡ code self }
     {
@@ -57,15 +57,15 @@ impl DumpFault {
             DumpFault::UnknownSection
             | DumpFault::SectionNotEnded
             | DumpFault::HeaderNotEnded
-            | DumpFault::BadTimescale => "W1",
-            DumpFault::BadVariable | DumpFault::TwoWidths => "W2",
+            | DumpFault::BadTimescale => "G1",
+            DumpFault::BadVariable | DumpFault::TwoWidths => "G2",
             DumpFault::BadTime
             | DumpFault::TimeGoesBack
             | DumpFault::BadVector
             | DumpFault::NoCode
             | DumpFault::NotDeclared
             | DumpFault::VectorTooLong
-            | DumpFault::UnknownChange => "W4",
+            | DumpFault::UnknownChange => "G4",
         }
     }
 }

@@ -115,7 +115,7 @@ impl<'a, A: Allocator + Clone> Reading<'a, A> {
 }
 
 /// Reads the header of a dump, up to `$end` after `$enddefinitions`: its names, and the widths of their codes. Of a header that isn't as it should be, its
-/// first fault is told, W1 or W2, with the line. `OutOfMemory` is answered only where memory was refused, before a fault was met.
+/// first fault is told, G1 or G2, with the line. `OutOfMemory` is answered only where memory was refused, before a fault was met.
 pub fn read_header<'a, A: Allocator + Clone>(
     alloc: A,
     text: &'a [u8],
