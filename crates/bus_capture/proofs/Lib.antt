@@ -1,3 +1,4 @@
 pub mod Joined
 pub mod Added
 pub mod Carriers
+pub mod Captured

@@ -7,3 +7,4 @@ pub mod Capturing
 pub mod Inferring
 pub mod Recorded
 pub mod Codes
+pub mod Inside

@@ -2,6 +2,7 @@
 ghost use Rattle.std.specs.Prelude.{◌≡◌, ◌≤◌, Ok, IfOk, IfErr};
 ghost use Rattle.bus_capture.specs.Capturing.{IsRefusalOf};
 ghost use Rattle.bus_capture.specs.Inferring.{captured};
+ghost use Rattle.bus_capture.specs.Inside.{AreInside};
 
 use crate::capturing::observe;
 use crate::fault::CaptureRefusal;
@@ -25,7 +26,7 @@ pub struct Capture<A: Allocator> {
 /// readies; else a ready stands before the status output that shows it, and on a target of one LUN where R/B# rises, as long as all items are permitted.
 ///
 /// The faults, in this order: of the header (G1, G2), of the lines' signals (G3), and then of the changes (G4) and of the levels (G5 to G8) in the order of
-/// the file. `OutOfMemory` is answered only where memory was refused, and before a fault was met.
+/// the file. The items are on one of four targets, and of one of four LUNs. `OutOfMemory` is answered only where memory was refused, and before a fault was met.
 pub fn read_capture<A: Allocator + Clone>(
     alloc: A,
     geometry: &Geometry,
@@ -35,6 +36,7 @@ pub fn read_capture<A: Allocator + Clone>(
 ) -> Result<Capture<A>, CaptureRefusal>
     requires few { targets ≤ 4 }
     ensures ok { IfOk result (λ c. captured geometry.now targets mappings.now text.now ≡ Ok c.stamped.items) }
+    ensures inside { IfOk result (λ c. AreInside c.stamped.items) }
     ensures err { IfErr result (λ e. IsRefusalOf e (captured geometry.now targets mappings.now text.now)) }
 {
     let Ok(copy) = alloc.clone() else {

@@ -9,10 +9,11 @@ use Rattle.seq_inputs.specs.Refusals.{line_of}
 use Rattle.seq_commands.specs.Commands.{IsAssembled, SourceIsRefused, IsDisassembled, IsUpgraded, IsAccepted, VerifyRefuses, VerifyLeaves}
 use Rattle.seq_commands.specs.Checks.{ReadingRefuses, IsLegalTrace, CheckRefuses, CheckLeaves}
 use Rattle.seq_commands.specs.Draws.{IsDrawn}
+use Rattle.seq_commands.specs.Captures.{IsCaptured, CaptureRefuses}
 use Rattle.seq_run.specs.Runs.{IsRunDone, RunIsRefused, RunMayLeave}
 use Rattle.seq_cli.specs.Once.{IsProgramRun, ProgramMayBeRefused}
 use Rattle.seq_cli.specs.declared.command.Command.{Command}
-use Rattle.seq_cli.specs.declared.command.Command.TheVariants.{Assemble, Verify, Lint, Once, Run, Check, Draw, Disassemble, Upgrade}
+use Rattle.seq_cli.specs.declared.command.Command.TheVariants.{Assemble, Verify, Lint, Once, Run, Capture, Check, Draw, Disassemble, Upgrade}
 
 -- the command is done: this was its input, where that is known, this is left and this was printed
 abbrev pub IsDone : Command → (input : Option (List ℕ)) → (files later : Option Store) → (printed : List ℕ) → Type 0
@@ -21,6 +22,7 @@ IsDone (Verify page text counter quiet) input files later printed = IsAccepted f
 IsDone (Lint page text output) input files later printed = IsAccepted files page.now text.now × (later ≡ files)
 IsDone (Once base) input files later printed = IfSome input (λ bytes. IsProgramRun base bytes printed) × (later ≡ files)
 IsDone (Run request) input files later printed = IsRunDone files later request printed
+IsDone (Capture request) input files later printed = IsCaptured files later request × (printed ≡ codes "ok\n")
 IsDone (Check request) input files later printed = IsLegalTrace files later request × (printed ≡ codes "legal\n")
 IsDone (Draw request) input files later printed = IsDrawn files later request × (printed ≡ codes "ok\n")
 IsDone (Disassemble file) input files later printed = IsDisassembled files file.now printed × (later ≡ files)
@@ -35,6 +37,7 @@ MayRefuse (Lint page text output) input files later refusal printed =
     Tells (VerifyRefuses files files page.now text.now None) refusal × (later ≡ files) × (printed ≡ line_of refusal)
 MayRefuse (Once base) input files later refusal printed = IfSome input (λ bytes. Tells (ProgramMayBeRefused base bytes) refusal) × (later ≡ files) × (printed ≡ line_of refusal)
 MayRefuse (Run request) input files later refusal printed = RunIsRefused files request refusal × (later ≡ files) × (printed ≡ line_of refusal)
+MayRefuse (Capture request) input files later refusal printed = Tells (CaptureRefuses files request) refusal × (later ≡ files) × (printed ≡ line_of refusal)
 MayRefuse (Check request) input files later refusal printed = CheckRefuses files later request refusal printed
 MayRefuse (Draw request) input files later refusal printed =
     Tells (ReadingRefuses files request.page.now request.input.now) refusal × (later ≡ files) × (printed ≡ line_of refusal)
@@ -48,6 +51,7 @@ MayLeave (Verify page text counter quiet) files later = VerifyLeaves files later
 MayLeave (Lint page text output) files later = later ≡ files
 MayLeave (Once base) files later = later ≡ files
 MayLeave (Run request) files later = RunMayLeave files later request
+MayLeave (Capture request) files later = (later ≡ files) ⊎ IsCaptured files later request
 MayLeave (Check request) files later = CheckLeaves files later request
 MayLeave (Draw request) files later = (later ≡ files) ⊎ IsDrawn files later request
 MayLeave (Disassemble file) files later = later ≡ files

@@ -46,7 +46,7 @@ fn say_mistake<W: Write, E: Write, P>(
 ) -> Exit {
     match mistake {
         Mistake::Words(error) => show(alloc, console, &error),
-        Mistake::NoCommand | Mistake::Base(_) | Mistake::Paths(_) => {
+        Mistake::NoCommand | Mistake::Base(_) | Mistake::Mapping(_) | Mistake::Paths(_) => {
             let _ = write!(&mut console.errors, "{}", Escaped(&mistake));
             Exit::Usage
         }

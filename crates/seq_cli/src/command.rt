@@ -6,8 +6,8 @@ ghost use Rattle.seq_cli.specs.Commands.{IsDone, MayRefuse, MayLeave};
 
 use crate::once::run_program;
 use seq_commands::{
-    CheckRequest, DrawRequest, LintOutput, assemble_file, check_trace, disassemble_file,
-    draw_trace, lint_file, upgrade_file, verify_file,
+    CaptureRequest, CheckRequest, DrawRequest, LintOutput, assemble_file, capture_trace,
+    check_trace, disassemble_file, draw_trace, lint_file, upgrade_file, verify_file,
 };
 use seq_files::Files;
 use seq_inputs::{Console, Exit};
@@ -47,6 +47,8 @@ pub enum Command<'a> {
     },
     /// To run a channel as a run file says.
     Run(RunRequest<'a>),
+    /// To write the trace that a capture of a bus shows.
+    Capture(CaptureRequest<'a>),
     /// To check whether the trace of a text is legal on a channel.
     Check(CheckRequest<'a>),
     /// To draw a trace, as a waveform, as a picture or as a page.
@@ -89,6 +91,10 @@ impl<'a> Command<'a> {
             } => ([Some(page), Some(input)], None),
             Command::Once { .. } => ([None, None], None),
             Command::Run(request) => ([Some(request.path), None], request.trace),
+            Command::Capture(request) => (
+                [Some(request.page), Some(request.input)],
+                Some(request.target),
+            ),
             Command::Check(request) => ([Some(request.page), Some(request.input)], request.copy),
             Command::Draw(request) => (
                 [Some(request.page), Some(request.input)],
@@ -143,6 +149,7 @@ pub fn command_on<
         } => lint_file(alloc, files, console, page, input, output),
         Command::Once { base } => run_program(&alloc, input, console, base),
         Command::Run(request) => run_watched(rt, clock, alloc, files, console, request),
+        Command::Capture(request) => capture_trace(alloc, files, console, request),
         Command::Check(request) => check_trace(alloc, files, console, request),
         Command::Draw(request) => draw_trace(alloc, files, console, request),
         Command::Disassemble { input } => disassemble_file(alloc, files, console, input),

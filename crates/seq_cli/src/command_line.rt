@@ -2,8 +2,9 @@
 
 use crate::command::Command;
 use crate::mistake::{Mistake, PathMistake};
+use bus_capture::{Family, named, plain_of};
 use clap::{Arg, ArgAction, ArgMatches, Error};
-use seq_commands::{CheckRequest, DrawForm, DrawRequest, LintOutput, Targets};
+use seq_commands::{CaptureRequest, CheckRequest, DrawForm, DrawRequest, LintOutput, Targets};
 use seq_run::RunRequest;
 use std::alloc::Global;
 use trace_faults::Readies;
@@ -17,6 +18,7 @@ enum Verb {
     Lint,
     Once,
     Run,
+    Capture,
     Check,
     Wave,
     Draw,
@@ -25,12 +27,13 @@ enum Verb {
 }
 
 // All of them.
-const VERBS: [Verb; 10] = [
+const VERBS: [Verb; 11] = [
     Verb::Assemble,
     Verb::Verify,
     Verb::Lint,
     Verb::Once,
     Verb::Run,
+    Verb::Capture,
     Verb::Check,
     Verb::Wave,
     Verb::Draw,
@@ -47,6 +50,7 @@ impl Verb {
             Verb::Lint => "lint",
             Verb::Once => "once",
             Verb::Run => "run",
+            Verb::Capture => "capture",
             Verb::Check => "check",
             Verb::Wave => "wave",
             Verb::Draw => "draw",
@@ -72,6 +76,7 @@ impl Verb {
             Verb::Lint => lint(alloc),
             Verb::Once => once(alloc),
             Verb::Run => run(alloc),
+            Verb::Capture => capture(alloc),
             Verb::Check => check(alloc),
             Verb::Wave => wave(alloc),
             Verb::Draw => draw(alloc),
@@ -102,6 +107,7 @@ impl Verb {
                 base: read_base(find_word(matches, "base"))?,
             },
             Verb::Run => Command::Run(read_run(matches)),
+            Verb::Capture => Command::Capture(read_capture(matches)?),
             Verb::Check => Command::Check(read_check(matches)),
             Verb::Wave => Command::Draw(read_draw(matches, DrawForm::Waveform)),
             Verb::Draw => Command::Draw(read_draw(matches, form_of(target))),
@@ -248,6 +254,28 @@ fn trace<'a>(alloc: Global) -> Arg<'a> {
     )
 }
 
+fn capture<'a>(alloc: Global) -> Result<clap::Command<'a>, Error> {
+    let map = Arg::new(alloc, "map")
+        .long("map")
+        .value_name("ROLE=NAME,..")
+        .help(
+            "Which signal is what, where its name doesn't tell: CE0 to CE3, CLE, ALE, WE, RE, DQ, DQ0 to DQ7, RB0 to RB3; as WE=P17,RE=P18",
+        );
+    let command = clap::Command::new(alloc, Verb::Capture.word())
+        .about("Writes the trace that a capture of a bus shows, and prints `ok`")
+        .after_help("Example: onfiseq capture die.page 1 bus.vcd bus.trace --map WE=P17,RE=P18")
+        .arg(require(alloc, "PAGE", "The parameter page of each die"))?
+        .arg(targets(alloc))?
+        .arg(require(
+            alloc,
+            "IN",
+            "The capture, a value change dump, as docs/use/CAPTURES.md has it",
+        ))?
+        .arg(require(alloc, "OUT", "The text of the trace to write"))?
+        .arg(map)?;
+    Ok(command)
+}
+
 fn check<'a>(alloc: Global) -> Result<clap::Command<'a>, Error> {
     let all = Arg::new(alloc, "all")
         .long("all")
@@ -367,6 +395,44 @@ fn read_readies(matches: &ArgMatches<'_>) -> Readies {
     } else {
         Readies::Written
     }
+}
+
+// Something is a role that signals may have.
+fn is_role(word: &str) -> bool {
+    named(plain_of(word.as_bytes())).family != Family::Other
+}
+
+// What is said of one signal: of which role it is.
+fn is_mapping(part: &str) -> bool {
+    match part.split_once('=') {
+        Some((role, name)) => is_role(role) && !name.is_empty(),
+        None => false,
+    }
+}
+
+// The first part of a line of mappings that is none.
+fn find_other(line: &str) -> Option<&str> {
+    line.split(',').find(|part| !is_mapping(part))
+}
+
+// What is said of signals.
+fn read_mappings<'a>(matches: &ArgMatches<'a>) -> Result<Option<&'a str>, Mistake<'a>> {
+    let line = matches.get_str("map");
+    match line.and_then(find_other) {
+        Some(part) => Err(Mistake::Mapping(part)),
+        None => Ok(line),
+    }
+}
+
+// What a capture is read for.
+fn read_capture<'a>(matches: &ArgMatches<'a>) -> Result<CaptureRequest<'a>, Mistake<'a>> {
+    Ok(CaptureRequest {
+        page: find_word(matches, "PAGE"),
+        targets: read_targets(find_word(matches, "TARGETS")),
+        input: find_word(matches, "IN"),
+        target: find_word(matches, "OUT"),
+        mappings: read_mappings(matches)?,
+    })
 }
 
 // What a check is asked for.

@@ -61,6 +61,8 @@ pub enum Mistake<'a> {
     NoCommand,
     /// The index of `--base` isn't a number.
     Base(&'a str),
+    /// A part of `--map` isn't a role and the name of a signal.
+    Mapping(&'a str),
     /// The paths don't go together.
     Paths(PathMistake<'a>),
 }
@@ -83,6 +85,11 @@ impl fmt::Display for Mistake<'_> {
                 f,
                 "error: --base takes a row, 0 to 31, as a decimal number or as 0x and hexadecimal digits, and not `{}`",
                 Shown::line(word)
+            ),
+            Mistake::Mapping(part) => writeln!(
+                f,
+                "error: --map takes ROLE=NAME with commas between several, the role one of CE0 to CE3, CLE, ALE, WE, RE, DQ, DQ0 to DQ7 and RB0 to RB3, and not `{}`",
+                Shown::line(part)
             ),
             Mistake::Paths(mistake) => writeln!(f, "error: {mistake}"),
         }

@@ -1,5 +1,5 @@
 -- What a check tells of a trace: its first fault, whether its text can be written, and whether it is legal.
-use Rattle.std.proofs.Common.{◌≡◌, ◌≤◌, ℕ, true, false, Bool, List, [], ◌∷◌, ◌++◌, Option, Some, None, refl, sym, ap, subst, ◌∙◌, arith, take, reverse, cond, append_assoc, suc, zero, ◌<◌, length, not, ◌&&◌}
+use Rattle.std.proofs.Common.{◌≡◌, ℕ, true, false, Bool, List, [], ◌∷◌, ◌++◌, Option, Some, None, refl, sym, ap, subst, ◌∙◌, arith, take, reverse, append_assoc, suc, zero, ◌<◌, length}
 use Rattle.std.specs.List.{All}
 use Rattle.nand_geometry.specs.declared.parts.Parts.{Parts}
 use Rattle.onfi_cycle.specs.declared.item.Item.{Item}
@@ -9,8 +9,10 @@ use Rattle.trace_faults.specs.declared.broken_rule.BrokenRule.{BrokenRule}
 use Rattle.trace_faults.specs.declared.readies.Readies.{Readies}
 use Rattle.trace_faults.specs.declared.readies.Readies.TheVariants.{Written, Shown}
 use Rattle.trace_faults.specs.Recovery.{gone_on}
-use Rattle.trace_faults.specs.ShownReadies.{only_one, lun_drives, driving_lun, ready_before, array_ready_before, ready_at, array_ready_at, ready_of, array_ready_of, with_ready, with_readies, listed, is_status, has_ready, has_array_ready, has_fail, is_output}
+use Rattle.trace_faults.specs.Inside.{IsInside}
+use Rattle.trace_faults.specs.ShownReadies.{ready_before, array_ready_before, with_ready, with_readies, listed}
 use Rattle.trace_faults.specs.Faults.{fresh, faults_of, completed_from, completed}
+use Rattle.trace_faults.proofs.Inside.{ready_inside, array_ready_inside}
 use Rattle.trace_faults.proofs.Judged.{faultless_are_legal, first_broken_is_first}
 use Rattle.trace_faults.proofs.Shown.{completed_are_judged}
 use Rattle.trace_text.specs.Line.{IsPrintable}
@@ -18,9 +20,7 @@ use Rattle.trace_text.specs.Checking.{TellsFirst}
 use Rattle.trace_text.specs.declared.checking.CheckRefusal.{CheckRefusal}
 use Rattle.trace_text.specs.declared.checking.CheckRefusal.TheVariants.{At}
 use Rattle.onfi_cycle.specs.declared.item.Item.TheVariants.{Cyc, Rdy, Ard}
-use Rattle.onfi_cycle.specs.declared.lun_state.LunState.{LunState}
 use Rattle.onfi_cycle.specs.State.{BusView}
-use Rattle.onfi_cycle.specs.Look.{looked}
 use Rattle.seq_files.specs.Store.{Store}
 use Rattle.seq_commands.specs.declared.check_request.CheckRequest.{CheckRequest}
 use Rattle.seq_commands.specs.Commands.{count_of}
@@ -41,10 +41,10 @@ told_at g m n items refusal place rule same is tells = subst (λ k. IsFirstBroke
 
 -- ---- the text of a trace with the readies that it shows can be written, where that of the trace can
 
-none_printable : All IsPrintable []
+pub none_printable : All IsPrintable []
 none_printable k d h = absurd (omega (arith, h))
 
-more_printable : (i : Item) (items : List Item) → IsPrintable i → All IsPrintable items → All IsPrintable (i ∷ items)
+pub more_printable : (i : Item) (items : List Item) → IsPrintable i → All IsPrintable items → All IsPrintable (i ∷ items)
 more_printable i items here rest zero d h = here
 more_printable i items here rest (suc k) d h = rest k d (omega (arith, h))
 
@@ -52,56 +52,21 @@ some_printable : (o : Option Item) (items : List Item) → ((i : Item) → o ≡
 some_printable None items here rest = rest
 some_printable (Some i) items here rest = more_printable i items (here i refl) rest
 
-only_four : (a b c d : Bool) (n : ℕ) → only_one a b c d ≡ Some n → n ≤ 3
-only_four true false false false n h = let same : n ≡ 0 = cc in omega (arith, same)
-only_four false true false false n h = let same : n ≡ 1 = cc in omega (arith, same)
-only_four false false true false n h = let same : n ≡ 2 = cc in omega (arith, same)
-only_four false false false true n h = let same : n ≡ 3 = cc in omega (arith, same)
-only_four true true c d n h = cc
-only_four true false true d n h = cc
-only_four true false false true n h = cc
-only_four false true true d n h = cc
-only_four false true false true n h = cc
-only_four false false true true n h = cc
-only_four false false false false n h = cc
+printable_inside : (i : Item) → IsPrintable i → IsInside i
+printable_inside (Cyc c) p = p
+printable_inside (Rdy ce lun fail) p = p
+printable_inside (Ard ce lun) p = p
 
-only_then : (b : Bool) (o : Option Item) (r : Item) → cond b o None ≡ Some r → o ≡ Some r
-only_then true o r h = h
-only_then false o r h = cc
-
-only_some : (b : Bool) (x r : Item) → cond b (Some x) None ≡ Some r → x ≡ r
-only_some true x r h = cc
-only_some false x r h = cc
+pub inside_printable : (i : Item) → IsInside i → IsPrintable i
+inside_printable (Cyc c) p = p
+inside_printable (Rdy ce lun fail) p = p
+inside_printable (Ard ce lun) p = p
 
 ready_printable : (s : BusView) (i r : Item) → IsPrintable i → ready_before s i ≡ Some r → IsPrintable r
-ready_printable s (Cyc c) r p h = at (driving_lun s c.ce) refl (only_then (is_output c.kind) (ready_at s c.ce (driving_lun s c.ce) c.byte) r h)
-  where
-    of : (number : ℕ) (o : Option LunState) → number ≤ 3 → ready_of o c.ce number c.byte ≡ Some r → IsPrintable r
-    of number None few g = cc
-    of number (Some lun) few g =
-        subst IsPrintable (only_some (is_status lun.latch && (lun.busy && has_ready c.byte)) (Rdy c.ce number (has_fail c.byte)) r g) (p, few)
-
-    at : (o : Option ℕ) → driving_lun s c.ce ≡ o → ready_at s c.ce o c.byte ≡ Some r → IsPrintable r
-    at None e g = cc
-    at (Some number) e g = of number (looked s (record { ce = c.ce; lun = number }))
-        (only_four (lun_drives s c.ce 0) (lun_drives s c.ce 1) (lun_drives s c.ce 2) (lun_drives s c.ce 3) number e) g
-ready_printable s (Rdy ce lun fail) r p h = cc
-ready_printable s (Ard ce lun) r p h = cc
+ready_printable s i r p is = inside_printable r (ready_inside s i r (printable_inside i p) is)
 
 array_ready_printable : (s : BusView) (i r : Item) → IsPrintable i → array_ready_before s i ≡ Some r → IsPrintable r
-array_ready_printable s (Cyc c) r p h = at (driving_lun s c.ce) refl (only_then (is_output c.kind) (array_ready_at s c.ce (driving_lun s c.ce) c.byte) r h)
-  where
-    of : (number : ℕ) (o : Option LunState) → number ≤ 3 → array_ready_of o c.ce number c.byte ≡ Some r → IsPrintable r
-    of number None few g = cc
-    of number (Some lun) few g =
-        subst IsPrintable (only_some (is_status lun.latch && (not lun.busy && (lun.array_busy && (has_ready c.byte && has_array_ready c.byte)))) (Ard c.ce number) r g) (p, few)
-
-    at : (o : Option ℕ) → driving_lun s c.ce ≡ o → array_ready_at s c.ce o c.byte ≡ Some r → IsPrintable r
-    at None e g = cc
-    at (Some number) e g = of number (looked s (record { ce = c.ce; lun = number }))
-        (only_four (lun_drives s c.ce 0) (lun_drives s c.ce 1) (lun_drives s c.ce 2) (lun_drives s c.ce 3) number e) g
-array_ready_printable s (Rdy ce lun fail) r p h = cc
-array_ready_printable s (Ard ce lun) r p h = cc
+array_ready_printable s i r p is = inside_printable r (array_ready_inside s i r (printable_inside i p) is)
 
 completed_from_printable : (items : List Item) (s : BusView) → All IsPrintable items → All IsPrintable (completed_from s items)
 completed_from_printable [] s all = none_printable

@@ -1,3 +1,5 @@
 pub mod Said
 pub mod CountersPrinted
 pub mod Checked
+pub mod Captured
+pub mod Sayings

@@ -6,7 +6,10 @@ use Rattle.seq_inputs.specs.declared.refusal.Refusal.{Refusal}
 use Rattle.seq_inputs.specs.declared.stop.Stop.{Stop}
 use Rattle.seq_inputs.specs.declared.stop.Stop.TheVariants.{Refused, FileFault, ReaderGone, BuffersTooLarge, OutOfMemory}
 use Rattle.seq_inputs.specs.Stops.{refusal_in, Says, SaysElse, Tells}
-use Rattle.seq_commands.specs.Commands.{VerifyRefuses, VerifyLeaves}
+use Rattle.micro_word.specs.Text.{Microprogram}
+use Rattle.nand_geometry.specs.declared.parts.Parts.{Parts}
+use Rattle.seq_inputs.specs.declared.fault.Fault.TheVariants.{Text}
+use Rattle.seq_commands.specs.Commands.{VerifyRefuses, VerifyLeaves, RefusesText}
 
 some_same : (r s : Refusal) → Some r ≡ Some s → r ≡ s
 some_same r s h = cc
@@ -40,3 +43,18 @@ left files later page input counter (FileFault path fault line) h = record { lef
 left files later page input counter ReaderGone h = record { left = inl h }
 left files later page input counter (BuffersTooLarge bytes line) h = record { left = inl h }
 left files later page input counter OutOfMemory h = record { left = inl h }
+
+-- where no path is given for a run, nothing is left
+kept_by : (g : Parts) (x : Microprogram) (files later : Option Store) (f : Fault) → RefusesText g x None files later f → later ≡ files
+kept_by g x files later (Text reason word) h = h.1
+kept_by g x files later _ h = absurd h
+
+kept : (files later : Option Store) (page input : List ℕ) (f : Fault) → VerifyRefuses files later page input None f → later ≡ files
+kept files later page input f (inl h) = h.1
+kept files later page input f (inr (inl h)) = h.1
+kept files later page input f (inr (inr h)) = kept_by h.g h.x files later f h.refuses
+
+pub said_kept : {A : Type 0} (files later : Option Store) (page input : List ℕ) (stop : Stop A) (r : Refusal) → SaysElse (VerifyRefuses files later page input None) (later ≡ files) stop → refusal_in stop ≡ Some r → Tells (VerifyRefuses files files page input None) r
+said_kept files later page input stop r says is =
+    let k = said_else (VerifyRefuses files later page input None) (later ≡ files) stop r says is in
+    (subst (λ z. VerifyRefuses files z page input None r.fault) (kept files later page input r.fault k.0) k.0, k.1)

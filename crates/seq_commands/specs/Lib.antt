@@ -1,3 +1,4 @@
 pub mod Commands
 pub mod Checks
 pub mod Draws
+pub mod Captures

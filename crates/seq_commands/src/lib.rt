@@ -5,12 +5,15 @@
 #![tactic(auto)]
 
 mod assembling;
+mod capture_request;
+mod capturing;
 mod check_request;
 mod checking;
 mod disassembling;
 mod draw_request;
 mod drawing;
 mod linting;
+mod mappings;
 mod noting;
 mod tally;
 mod targets;
@@ -20,6 +23,8 @@ mod upgrading;
 mod verifying;
 
 pub use assembling::assemble_file;
+pub use capture_request::CaptureRequest;
+pub use capturing::capture_trace;
 pub use check_request::CheckRequest;
 pub use checking::check_trace;
 pub use disassembling::disassemble_file;

@@ -2,6 +2,7 @@
 
 use crate::fault::Fault;
 use crate::reading::is_source;
+use bus_capture::CaptureFault;
 use micro_asm::{AsmFault, AsmMessage, AsmRefusal, disassemble};
 use micro_claims::{Fault as TextFault, Reason};
 use micro_explain::{Cause, explain};
@@ -24,6 +25,7 @@ impl fmt::Display for Fault {
             Fault::Job { fault } => write!(f, "{fault}"),
             Fault::Trace { fault, .. } => write!(f, "{fault}"),
             Fault::Item { rule, .. } => write!(f, "{rule}"),
+            Fault::Capture { fault } => write!(f, "{fault}"),
             Fault::Image { fault } => write!(f, "{fault}"),
             Fault::Statement { fault } => write!(f, "{fault}"),
         }
@@ -91,6 +93,28 @@ pub fn words_of_trace<A: Allocator>(
 ) -> Option<String<A>> {
     let message = TraceMessage::new(TraceRefusal::Fault { fault, line }, text);
     format!(in alloc; "{}:{line}: {message}", Shown::path(path)).ok()
+}
+
+/// What is wrong with a capture: of a line with that line, where the file is UTF-8.
+pub fn words_of_capture<A: Allocator>(
+    alloc: A,
+    path: &str,
+    bytes: &[u8],
+    fault: CaptureFault,
+) -> Option<String<A>> {
+    let CaptureFault::File(at) = fault else {
+        return words_of(alloc, path, Fault::Capture { fault });
+    };
+    let path = Shown::path(path);
+    let line = at.line;
+    let code = fault.code();
+    match str::from_utf8(bytes) {
+        Ok(text) => {
+            let shown = Shown::line(line_at(text, line));
+            format!(in alloc; "{path}:{line}: `{shown}`: {} ({code})", at.fault).ok()
+        }
+        Err(_) => format!(in alloc; "{path}:{line}: {} ({code})", at.fault).ok(),
+    }
 }
 
 /// Which rule an item of a trace breaks, whose text has an item a line.

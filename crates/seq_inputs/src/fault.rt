@@ -2,6 +2,7 @@
 ghost use Rattle.std.specs.Prelude.{◌≡◌};
 ghost use Rattle.seq_inputs.specs.Refusals.{code_of, number_in};
 
+use bus_capture::CaptureFault;
 use die_model::ImageFault;
 use micro_asm::AsmFault;
 use micro_claims::Reason;
@@ -29,6 +30,8 @@ pub enum Fault {
     Trace { fault: TraceFault, line: usize },
     /// Its trace isn't legal, by this rule first, at this item, counted from 0.
     Item { rule: Forbidden, item: usize },
+    /// It isn't the capture of a bus, in a line, counted from 1, or at a time.
+    Capture { fault: CaptureFault },
     /// It isn't the content of a die.
     Image { fault: ImageFault },
     /// It is a run file, with a line that doesn't stand.
@@ -48,12 +51,13 @@ impl Fault {
             Fault::Job { fault } => fault.code(),
             Fault::Trace { fault, .. } => fault.code(),
             Fault::Item { rule, .. } => rule.code(),
+            Fault::Capture { fault } => fault.code(),
             Fault::Image { fault } => fault.code(),
             Fault::Statement { fault } => fault.code(),
         }
     }
 
-    /// The number of the line, the word or the item in the file; 0 where there is none.
+    /// The number of the line, the word or the item in the file, or the time of a capture; 0 where there is none.
     pub fn number(self) -> usize
         ensures { result ≡ number_in self }
     {
@@ -65,6 +69,7 @@ impl Fault {
             Fault::Source { line, .. } | Fault::Trace { line, .. } => line,
             Fault::File { word, .. } | Fault::Text { word, .. } => word,
             Fault::Item { item, .. } => item,
+            Fault::Capture { fault } => fault.number(),
         }
     }
 }

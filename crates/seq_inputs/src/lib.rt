@@ -19,7 +19,7 @@ pub use console::Console;
 pub use ending::{end_without_memory, fail, finish, finish_refused, say_words};
 pub use exit::Exit;
 pub use explaining::{
-    words_of, words_of_item, words_of_job, words_of_note, words_of_reason, words_of_trace,
+    words_of, words_of_capture, words_of_item, words_of_job, words_of_note, words_of_reason, words_of_trace,
 };
 pub use fault::Fault;
 pub use lines::push_end_line;

@@ -2,6 +2,8 @@
 #![tactic(auto)]
 
 #[cfg(test)]
+mod capture_tests;
+#[cfg(test)]
 mod check_tests;
 #[cfg(test)]
 mod draw_tests;

@@ -3,7 +3,7 @@
 use crate::once_tests::new_console;
 use clap::error::ErrorKind as UsageKind;
 use seq_cli::{Command, Mistake, PathMistake, once_on, parse};
-use seq_commands::{DrawForm, DrawRequest};
+use seq_commands::{CaptureRequest, DrawForm, DrawRequest, Targets};
 use seq_inputs::Exit;
 use seq_run::RunRequest;
 use std::alloc::{AllocError, Global};
@@ -100,6 +100,60 @@ fn options_of_a_run(rt: HostRuntime) -> Result<(), Fail> {
     Ok(())
 }
 
+// ---- what signals are
+
+const CAPTURE: CaptureRequest<'static> = CaptureRequest {
+    page: "p",
+    targets: Targets::Two,
+    input: "x",
+    target: "t",
+    mappings: None,
+};
+
+#[test]
+fn what_signals_are(rt: HostRuntime) -> Result<(), Fail> {
+    for (line, mappings) in [
+        ("capture p 2 x t", None),
+        ("capture p 2 x t --map WE=P17", Some("WE=P17")),
+        (
+            "capture p 2 --map ce#=CS,R/B#=P3,dq=D x t",
+            Some("ce#=CS,R/B#=P3,dq=D"),
+        ),
+    ] {
+        let words = words_of(rt.alloc(), line)?;
+        let asked = parse(rt.alloc(), words.as_slice());
+        let request = CaptureRequest {
+            mappings,
+            ..CAPTURE
+        };
+        assert!(rt; asked.is_ok_and(|asked| asked == Command::Capture(request)), "{line}");
+    }
+    Ok(())
+}
+
+// The part of `--map` in these words that is none.
+fn find_part(alloc: Global, line: &str) -> Result<String, Fail> {
+    let words = words_of(alloc, line)?;
+    match parse(alloc, words.as_slice()) {
+        Err(Mistake::Mapping(part)) => Ok(String::from_str(alloc, part)?),
+        Ok(_) | Err(_) => Err(Fail::from("the words are taken")),
+    }
+}
+
+#[test]
+fn what_no_signal_is(rt: HostRuntime) -> Result<(), Fail> {
+    for (line, part) in [
+        ("capture p 2 x t --map WE", "WE"),
+        ("capture p 2 x t --map WE=", "WE="),
+        ("capture p 2 x t --map WE=P17,CLK=P1", "CLK=P1"),
+        ("capture p 2 x t --map WE=P17,,RE=P18", ""),
+    ] {
+        let found = find_part(rt.alloc(), line)?;
+        assert_eq!(rt; found.as_str(), part, "{line}");
+    }
+    Ok(())
+}
+
 // ---- each command that is declared
 
 // The text that these words show: that of the help.
@@ -144,6 +198,7 @@ fn name_of(asked: Command<'_>) -> &'static str {
         Command::Upgrade { .. } => "upgrade",
         Command::Verify { .. } => "verify",
         Command::Lint { .. } => "lint",
+        Command::Capture(_) => "capture",
         Command::Check(_) => "check",
         Command::Draw(DrawRequest { form, .. }) => match form {
             DrawForm::Waveform => "wave",
@@ -176,7 +231,7 @@ fn each_command_of_the_help_is_asked_for(rt: HostRuntime) -> Result<(), Fail> {
             count = count.saturating_add(1);
         }
     }
-    assert_eq!(rt; count, 10);
+    assert_eq!(rt; count, 11);
     Ok(())
 }
 
@@ -207,6 +262,9 @@ fn paths_that_are_refused(rt: HostRuntime) -> Result<(), Fail> {
         ),
         ("verify - - --counter p", Some(PathMistake::InputTwice)),
         ("check - 1 -", Some(PathMistake::InputTwice)),
+        ("capture p 1 x x", Some(PathMistake::WrittenOver("x"))),
+        ("capture p 1 x p", Some(PathMistake::WrittenOver("p"))),
+        ("capture - 1 - t", Some(PathMistake::InputTwice)),
         ("run x --trace x", Some(PathMistake::WrittenOver("x"))),
         ("run x --trace -", Some(PathMistake::OutputToStream)),
         ("upgrade x x", None),

@@ -2,3 +2,4 @@ pub mod Recovery
 pub mod ShownReadies
 pub mod Faults
 pub mod Laws
+pub mod Inside

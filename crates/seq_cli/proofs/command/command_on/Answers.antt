@@ -49,6 +49,14 @@ returns-in-Run-clause-refused g c = λ refusal is.
       k.2,
     )
 
+pub returns-in-Capture-clause-refused : goal.returns-in-Capture-clause-refused
+returns-in-Capture-clause-refused g c = λ refusal is.
+    let k = c.capture_trace.ensures.refused refusal is in (
+      line_of refusal,
+      subst (λ (m : Command). MayRefuse m (g.R.Read.remaining c.args.input.now) (g.F.Files.store c.args.files.now) (g.F.Files.store c.capture_trace.new.files) refusal (line_of refusal)) (sym c.in-Capture.is) (k.0, k.1, refl),
+      k.2,
+    )
+
 pub returns-in-Draw-clause-refused : goal.returns-in-Draw-clause-refused
 returns-in-Draw-clause-refused g c = λ refusal is.
     let k = c.draw_trace.ensures.refused refusal is in (

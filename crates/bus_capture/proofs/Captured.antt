@@ -1,0 +1,252 @@
+-- The items of a capture are on one of four targets, and of one of four LUNs.
+use Rattle.std.proofs.Common.{◌≡◌, ◌≤◌, ◌<◌, ◌+◌, ◌*◌, ◌/◌, ◌%◌, ◌&&◌, ℕ, zero, suc, true, false, Bool, List, [], ◌∷◌, ◌++◌, Option, Some, None, Result, Ok, Err, refl, sym, ap, subst, ◌∙◌, arith, cond, not, eqb}
+use Rattle.std.proofs.lemmas.Nat.{mod_below}
+use Rattle.nand_geometry.specs.declared.parts.Parts.{Parts}
+use Rattle.onfi_cycle.specs.declared.item.Item.{Item}
+use Rattle.onfi_cycle.specs.declared.item.Item.TheVariants.{Cyc, Rdy, Ard}
+use Rattle.onfi_cycle.specs.State.{BusView}
+use Rattle.trace_faults.specs.ShownReadies.{ready_before, array_ready_before, with_ready}
+use Rattle.trace_faults.specs.Faults.{fresh}
+use Rattle.trace_faults.specs.Inside.{IsInside}
+use Rattle.trace_faults.proofs.Inside.{ready_inside, array_ready_inside}
+use Rattle.vcd_text.specs.declared.tokens.Level.{Level}
+use Rattle.vcd_text.specs.declared.tokens.Level.TheVariants.{Low, High, Unknown}
+use Rattle.vcd_text.specs.Tokens.{◌>>=◌}
+use Rattle.vcd_text.specs.Header.{header}
+use Rattle.vcd_text.specs.Body.{Told, Time, Change, told_from}
+use Rattle.vcd_text.specs.Dumps.{beginning}
+use Rattle.bus_capture.specs.declared.fault.BusFault.{BusFault}
+use Rattle.bus_capture.specs.declared.fault.CaptureFault.{CaptureFault}
+use Rattle.bus_capture.specs.declared.role.Role.TheVariants as role
+use Rattle.bus_capture.specs.declared.mapping.Mapping.{Mapping}
+use Rattle.bus_capture.specs.declared.source.Source.{Source}
+use Rattle.bus_capture.specs.declared.sampling.Seen.{Seen}
+use Rattle.bus_capture.specs.declared.sampling.Seen.TheVariants.{Nothing, Unselected, Sampled}
+use Rattle.bus_capture.specs.declared.sampling.Strobe.{Strobe}
+use Rattle.bus_capture.specs.declared.sampling.Strobe.TheVariants as strobe
+use Rattle.bus_capture.specs.declared.sampler.Observation.{Observation}
+use Rattle.bus_capture.specs.declared.sampler.Observation.TheVariants as observation
+use Rattle.bus_capture.specs.declared.sampler.Observed.{Observed}
+use Rattle.bus_capture.specs.declared.sampler.Sampler.{Sampler}
+use Rattle.bus_capture.specs.declared.inferring.Stamped.{Stamped}
+use Rattle.bus_capture.specs.Sampling.{level, with_enable, enabled_from, kind_of, byte_of, apart, cycle_of, cycle_if, rises, is_lost, lost_if, line_of, other_line, seen_of, item_of, falls, is_low, is_high, ready_of}
+use Rattle.bus_capture.specs.Capturing.{with_item, with_release, with_releases, with_readies, at_time, with_seen, settled, begun, later, changed, capturing, in_file, unknown, sources_in, body_items, tells_readies, Shown, shown_in}
+use Rattle.bus_capture.specs.Inferring.{stamps, with_shown, state_after, sure_after, is_waiting, release_of, released, inferred_by, inferred, items_shown, captured, fails_from}
+use Rattle.bus_capture.specs.Inside.{AreInside}
+
+-- ---- results
+
+bind_ok : {A B E : Type 0} (x : Result A E) (f : A → Result B E) (r : B) → (x >>= f) ≡ Ok r → (a : A) × (x ≡ Ok a) × (f a ≡ Ok r)
+bind_ok (Ok a) f r h = (a, refl, h)
+bind_ok (Err e) f r h = cc
+
+same_ok : {A E : Type 0} (x y : A) → ◌≡◌ {A = Result A E} (Ok x) (Ok y) → x ≡ y
+same_ok x y h = cc
+
+-- ---- what is seen
+
+abbrev IsFine : Observation → Type 0
+IsFine (observation.Item i) = IsInside i
+IsFine (observation.Released n) = n ≤ 3
+
+abbrev AreFine : List Observed → Type 0
+AreFine [] = Unit {0}
+AreFine (o ∷ os) = IsFine o.observation × AreFine os
+
+fine_more : (os : List Observed) (o : Observed) → AreFine os → IsFine o.observation → AreFine (os ++ o ∷ [])
+fine_more [] o rest here = (here, tt)
+fine_more (x ∷ os) o rest here = (rest.0, fine_more os o rest.1 here)
+
+fine_item : (time : ℕ) (o : Option Item) (os : List Observed) → ((i : Item) → o ≡ Some i → IsInside i) → AreFine os → AreFine (with_item time o os)
+fine_item time None os here rest = rest
+fine_item time (Some i) os here rest = fine_more os (record { time = time; observation = observation.Item i }) rest (here i refl)
+
+fine_if : (b : Bool) (xs ys : List Observed) → AreFine xs → AreFine ys → AreFine (cond b xs ys)
+fine_if true xs ys x y = x
+fine_if false xs ys x y = y
+
+fine_releases : (time : ℕ) (before after : List Level) (os : List Observed) (count n : ℕ) → n + count ≤ 4 → AreFine os → AreFine (with_releases time before after os count n)
+fine_releases time before after os zero n few rest = rest
+fine_releases time before after os (suc count) n few rest =
+    fine_releases time before after (with_release time before after n os) count (n + 1) (omega (arith, few))
+    (fine_if (rises (level before (role.ReadyBusy n)) (level after (role.ReadyBusy n))) (os ++ record { time = time; observation = observation.Released n } ∷ []) os
+    (fine_more os (record { time = time; observation = observation.Released n }) rest (omega (arith, few))) rest)
+
+quarter : (n : ℕ) → n < 16 → n / 4 ≤ 3
+quarter n few = omega (arith, few)
+
+rest_of_four : (n : ℕ) → n % 4 ≤ 3
+rest_of_four n = omega (arith, mod_below n 4 (omega arith))
+
+some_of : (b : Bool) (x i : Item) (o : Option Item) → cond b (Some x) o ≡ Some i → IsInside x → (o ≡ Some i → IsInside i) → IsInside i
+some_of true x i o h here rest = let same : x ≡ i = cc in subst IsInside same here
+some_of false x i o h here rest = rest h
+
+none_is : (i : Item) → None ≡ Some i → IsInside i
+none_is i h = cc
+
+model_ready : (before after : List Level) (ce lun : ℕ) (i : Item) → ce ≤ 3 → lun ≤ 3 → ready_of before after ce lun ≡ Some i → IsInside i
+model_ready before after ce lun i few little h =
+    some_of (falls (level before (role.Busy ce lun)) (level after (role.Busy ce lun))) (Rdy ce lun (is_high (level after (role.Failed ce lun)))) i
+    (cond (is_low (level before (role.Busy ce lun)) && falls (level before (role.ArrayBusy ce lun)) (level after (role.ArrayBusy ce lun))) (Some (Ard ce lun)) None)
+    h (few, little)
+    (λ g. some_of (is_low (level before (role.Busy ce lun)) && falls (level before (role.ArrayBusy ce lun)) (level after (role.ArrayBusy ce lun))) (Ard ce lun) i None g (few, little) (none_is i))
+
+fine_readies : (time : ℕ) (before after : List Level) (os : List Observed) (count n : ℕ) → n + count ≤ 16 → AreFine os → AreFine (with_readies time before after os count n)
+fine_readies time before after os zero n few rest = rest
+fine_readies time before after os (suc count) n few rest =
+    fine_readies time before after (with_item time (ready_of before after (n / 4) (n % 4)) os) count (n + 1) (omega (arith, few))
+    (fine_item time (ready_of before after (n / 4) (n % 4)) os (λ i is. model_ready before after (n / 4) (n % 4) i (quarter n (omega (arith, few))) (rest_of_four n) is) rest)
+
+-- ---- the chip that is enabled
+
+abbrev IsBelow : ℕ → Option ℕ → Type 0
+IsBelow n None = Unit {0}
+IsBelow n (Some m) = m < n
+
+enable_below : (l : Level) (n : ℕ) (enabled now : Option ℕ) → IsBelow n enabled → with_enable l n enabled ≡ Ok now → IsBelow (n + 1) now
+enable_below Unknown n enabled now below h = cc
+enable_below High n None now below h = subst (IsBelow (n + 1)) (same_ok None now h) tt
+enable_below High n (Some m) now below h = subst (IsBelow (n + 1)) (same_ok (Some m) now h) (omega (arith, below))
+enable_below Low n None now below h = subst (IsBelow (n + 1)) (same_ok (Some n) now h) (omega arith)
+enable_below Low n (Some m) now below h = cc
+
+below_more : (n most : ℕ) (o : Option ℕ) → n ≤ most → IsBelow n o → IsBelow most o
+below_more n most None few below = tt
+below_more n most (Some m) few below = omega (arith, few, below)
+
+enabled_below : (levels : List Level) (count n most : ℕ) (enabled now : Option ℕ) → n + count ≤ most → IsBelow n enabled → enabled_from levels count n enabled ≡ Ok now → IsBelow most now
+enabled_below levels zero n most enabled now few below h = below_more n most now (omega (arith, few)) (subst (IsBelow n) (same_ok enabled now h) below)
+enabled_below levels (suc count) n most enabled now few below h =
+    let k = bind_ok (with_enable (level levels (role.Enable n)) n enabled) (λ now. enabled_from levels count (n + 1) now) now h in
+    enabled_below levels count (n + 1) most k.0 now (omega (arith, few)) (enable_below (level levels (role.Enable n)) n enabled k.0 below k.1) k.2
+
+abbrev IsSeenFine : Seen → Type 0
+IsSeenFine Nothing = Unit {0}
+IsSeenFine Unselected = Unit {0}
+IsSeenFine (Sampled c) = c.ce ≤ 3
+
+cycle_fine : (strobe : Strobe) (ce : ℕ) (levels : List Level) (seen : Seen) → ce ≤ 3 → cycle_of strobe ce levels ≡ Ok seen → IsSeenFine seen
+cycle_fine strobe ce levels seen few h =
+    let a = bind_ok (apart (level levels (other_line strobe))) (λ _. kind_of strobe levels >>= λ kind. byte_of levels >>= λ byte. Ok (Sampled (record { ce = ce; kind = kind; byte = byte }))) seen h in
+    let k = bind_ok (kind_of strobe levels) (λ kind. byte_of levels >>= λ byte. Ok (Sampled (record { ce = ce; kind = kind; byte = byte }))) seen a.2 in
+    let b = bind_ok (byte_of levels) (λ byte. Ok (Sampled (record { ce = ce; kind = k.0; byte = byte }))) seen k.2 in
+    subst IsSeenFine (same_ok (Sampled (record { ce = ce; kind = k.0; byte = b.0 })) seen b.2) few
+
+cycle_if_fine : (strobe : Strobe) (n : ℕ) (enabled : Option ℕ) (levels : List Level) (seen : Seen) → n ≤ 4 → IsBelow n enabled → cycle_if strobe enabled levels ≡ Ok seen → IsSeenFine seen
+cycle_if_fine strobe n None levels seen few below h = subst IsSeenFine (same_ok Unselected seen h) tt
+cycle_if_fine strobe n (Some ce) levels seen few below h = cycle_fine strobe ce levels seen (omega (arith, few, below)) h
+
+lost_fine : (enabled : Option ℕ) (seen : Seen) → lost_if enabled ≡ Ok seen → IsSeenFine seen
+lost_fine None seen h = subst IsSeenFine (same_ok Nothing seen h) tt
+lost_fine (Some ce) seen h = cc
+
+choice : (b c : Bool) (x y z : Result Seen BusFault) (seen : Seen) → cond b x (cond c y z) ≡ Ok seen → (x ≡ Ok seen → IsSeenFine seen) → (y ≡ Ok seen → IsSeenFine seen) → (z ≡ Ok seen → IsSeenFine seen) → IsSeenFine seen
+choice true c x y z seen h f g k = f h
+choice false true x y z seen h f g k = g h
+choice false false x y z seen h f g k = k h
+
+seen_fine : (targets : ℕ) (strobe : Strobe) (driven : Bool) (before after : List Level) (seen : Seen) → targets ≤ 4 → seen_of targets strobe driven before after ≡ Ok seen → IsSeenFine seen
+seen_fine targets strobe driven before after seen few h =
+    choice (rises (level before (line_of strobe)) (level after (line_of strobe))) (is_lost driven (level before (line_of strobe)) (level after (line_of strobe)))
+    (enabled_from before targets 0 None >>= λ enabled. cycle_if strobe enabled before) (enabled_from before targets 0 None >>= λ enabled. lost_if enabled) (Ok Nothing) seen h
+    (λ r. let k = bind_ok (enabled_from before targets 0 None) (λ enabled. cycle_if strobe enabled before) seen r in
+      cycle_if_fine strobe targets k.0 before seen few (enabled_below before targets 0 targets None k.0 (omega arith) tt k.1) k.2)
+    (λ r. let k = bind_ok (enabled_from before targets 0 None) (λ enabled. lost_if enabled) seen r in lost_fine k.0 seen k.2)
+    (λ r. subst IsSeenFine (same_ok Nothing seen r) tt)
+
+item_fine : (seen : Seen) (i : Item) → IsSeenFine seen → item_of seen ≡ Some i → IsInside i
+item_fine Nothing i fine h = cc
+item_fine Unselected i fine h = cc
+item_fine (Sampled c) i fine h = let same : Cyc c ≡ i = cc in subst IsInside same fine
+
+-- ---- all that is seen
+
+at_time_ok : {A : Type 0} (time : ℕ) (x : Result A BusFault) (a : A) → at_time time x ≡ Ok a → x ≡ Ok a
+at_time_ok time (Ok x) a h = cc
+at_time_ok time (Err e) a h = cc
+
+settled_fine : (s : Sampler) (os now : List Observed) → s.targets ≤ 4 → AreFine os → settled s os ≡ Ok now → AreFine now
+settled_fine s os now few rest h =
+    let w = bind_ok (at_time s.time (seen_of s.targets strobe.Write s.we_driven s.before.of s.after.of))
+        (λ written. at_time s.time (seen_of s.targets strobe.Read s.re_driven s.before.of s.after.of) >>= λ read. Ok (with_seen s written read os)) now h in
+    let r = bind_ok (at_time s.time (seen_of s.targets strobe.Read s.re_driven s.before.of s.after.of)) (λ read. Ok (with_seen s w.0 read os)) now w.2 in
+    let written = seen_fine s.targets strobe.Write s.we_driven s.before.of s.after.of w.0 few (at_time_ok s.time (seen_of s.targets strobe.Write s.we_driven s.before.of s.after.of) w.0 w.1) in
+    let read = seen_fine s.targets strobe.Read s.re_driven s.before.of s.after.of r.0 few (at_time_ok s.time (seen_of s.targets strobe.Read s.re_driven s.before.of s.after.of) r.0 r.1) in
+    subst AreFine (same_ok (with_seen s w.0 r.0 os) now r.2)
+    (fine_releases s.time s.before.of s.after.of (with_readies s.time s.before.of s.after.of (with_item s.time (item_of r.0) (with_item s.time (item_of w.0) os)) (4 * s.targets) 0) s.targets 0 (omega (arith, few))
+    (fine_readies s.time s.before.of s.after.of (with_item s.time (item_of r.0) (with_item s.time (item_of w.0) os)) (4 * s.targets) 0 (omega (arith, few))
+    (fine_item s.time (item_of r.0) (with_item s.time (item_of w.0) os) (λ i is. item_fine r.0 i read is)
+    (fine_item s.time (item_of w.0) os (λ i is. item_fine w.0 i written is) rest))))
+
+capturing_fine : (sources : List Source) (s : Sampler) (os : List Observed) (told : List Told) (now : List Observed) → s.targets ≤ 4 → AreFine os → capturing sources s os told ≡ Ok now → AreFine now
+capturing_fine sources s os [] now few rest h = settled_fine s os now few rest h
+capturing_fine sources s os (Err f ∷ told) now few rest h = cc
+capturing_fine sources s os (Ok (Change code bits) ∷ told) now few rest h = capturing_fine sources (changed sources code bits s) os told now few rest h
+capturing_fine sources s os (Ok (Time time) ∷ told) now few rest h =
+    at (eqb time s.time) (capturing_fine sources s os told now few rest) (λ more fine. capturing_fine sources (later s time) more told now few fine) h
+  where
+    at : (b : Bool) → (capturing sources s os told ≡ Ok now → AreFine now) → ((more : List Observed) → AreFine more → capturing sources (later s time) more told ≡ Ok now → AreFine now)
+      → cond b (capturing sources s os told) (settled s os >>= λ more. capturing sources (later s time) more told) ≡ Ok now → AreFine now
+    at true same next g = same g
+    at false same next g =
+        let k = bind_ok (settled s os) (λ more. capturing sources (later s time) more told) now g in
+        next k.0 (settled_fine s os k.0 few rest k.1) k.2
+
+-- ---- the items with the readies that they show
+
+inside_append : (xs ys : List Stamped) → AreInside xs → AreInside ys → AreInside (xs ++ ys)
+inside_append [] ys a b = b
+inside_append (x ∷ xs) ys a b = (a.0, inside_append xs ys a.1 b)
+
+stamps_inside : (time : ℕ) (o : Option Item) → ((i : Item) → o ≡ Some i → IsInside i) → AreInside (stamps time o)
+stamps_inside time None here = tt
+stamps_inside time (Some i) here = (here i refl, tt)
+
+some_inside : (i j : Item) → IsInside i → Some i ≡ Some j → IsInside j
+some_inside i j here h = let same : i ≡ j = cc in subst IsInside same here
+
+shown_inside : (sure : Bool) (state : BusView) (time : ℕ) (i : Item) (stamped : List Stamped) → IsInside i → AreInside stamped → AreInside (with_shown sure state time i stamped)
+shown_inside false state time i stamped here rest = inside_append stamped (stamps time (Some i)) rest (stamps_inside time (Some i) (λ j is. some_inside i j here is))
+shown_inside true state time i stamped here rest =
+    inside_append ((stamped ++ stamps time (ready_before state i)) ++ stamps time (array_ready_before (with_ready state i) i)) (stamps time (Some i))
+    (inside_append (stamped ++ stamps time (ready_before state i)) (stamps time (array_ready_before (with_ready state i) i))
+    (inside_append stamped (stamps time (ready_before state i)) rest (stamps_inside time (ready_before state i) (λ r is. ready_inside state i r here is)))
+    (stamps_inside time (array_ready_before (with_ready state i) i) (λ r is. array_ready_inside (with_ready state i) i r here is)))
+    (stamps_inside time (Some i) (λ j is. some_inside i j here is))
+
+release_inside : (sure : Bool) (state : BusView) (luns ce : ℕ) (os : List Observed) (i : Item) → ce ≤ 3 → release_of sure state luns ce os ≡ Some i → IsInside i
+release_inside false state luns ce os i few h = cc
+release_inside true state luns ce os i few h =
+    some_of (is_waiting state luns ce) (Rdy ce 0 (fails_from false ce os)) i None h (few, omega arith) (none_is i)
+
+inferred_inside : (luns : ℕ) (sure : Bool) (state : BusView) (stamped : List Stamped) (os : List Observed) → AreFine os → AreInside stamped → AreInside (inferred luns sure state stamped os)
+inferred_inside luns sure state stamped [] fine rest = rest
+inferred_inside luns sure state stamped (o ∷ os) fine rest = at o.observation (λ sure state stamped. inferred_inside luns sure state stamped os fine.1) fine.0
+  where
+    at : (seen : Observation) → ((sure : Bool) (state : BusView) (stamped : List Stamped) → AreInside stamped → AreInside (inferred luns sure state stamped os)) → IsFine seen
+      → AreInside (inferred_by seen o.time luns sure state os stamped (λ sure state stamped. inferred luns sure state stamped os))
+    at (observation.Item i) next here =
+        next (sure_after sure state i) (state_after sure state i) (with_shown sure state o.time i stamped) (shown_inside sure state o.time i stamped here rest)
+    at (observation.Released ce) next here =
+        next sure (released (release_of sure state luns ce os) state) (stamped ++ stamps o.time (release_of sure state luns ce os))
+        (inside_append stamped (stamps o.time (release_of sure state luns ce os)) rest (stamps_inside o.time (release_of sure state luns ce os) (λ i is. release_inside sure state luns ce os i here is)))
+
+-- ---- a whole capture
+
+captured_inside : (g : Parts) (targets : ℕ) (mappings : List Mapping) (text : List ℕ) (stamped : List Stamped) → targets ≤ 4 → captured g targets mappings text ≡ Ok stamped → AreInside stamped
+captured_inside g targets mappings text stamped few h =
+    let s = bind_ok (shown_in targets mappings text) (λ shown. Ok (items_shown g targets shown)) stamped h in
+    let r = bind_ok (in_file (header text)) (λ read. sources_in targets mappings read >>= λ sources. body_items targets read sources >>= λ observed. Ok (record { observed = observed; tells_readies = tells_readies sources })) s.0 s.1 in
+    let q = bind_ok (sources_in targets mappings r.0) (λ sources. body_items targets r.0 sources >>= λ observed. Ok (record { observed = observed; tells_readies = tells_readies sources })) s.0 r.2 in
+    let b = bind_ok (body_items targets r.0 q.0) (λ observed. Ok (record { observed = observed; tells_readies = tells_readies q.0 })) s.0 q.2 in
+    let fine = capturing_fine q.0 (begun targets unknown) [] (told_from r.0.header.widths beginning r.0.line r.0.rest) b.0 few tt b.1 in
+    let shown : Shown = record { observed = b.0; tells_readies = tells_readies q.0 } in
+    subst AreInside (same_ok (items_shown g targets s.0) stamped s.2)
+    (subst (λ (shown : Shown). AreInside (items_shown g targets shown)) (same_ok shown s.0 b.2)
+    (inferred_inside g.luns (not (tells_readies q.0)) (fresh g targets) [] b.0 fine tt))
+
+-- the same as a capture is read
+pub inferred_are_inside : (g : Parts) (targets : ℕ) (mappings : List Mapping) (text : List ℕ) (shown : Shown) (stamped : List Stamped) → targets ≤ 4 → shown_in targets mappings text ≡ Ok shown → stamped ≡ items_shown g targets shown → AreInside stamped
+inferred_are_inside g targets mappings text shown stamped few is same =
+    captured_inside g targets mappings text stamped few (ap (λ (x : Result Shown CaptureFault). x >>= λ shown. Ok (items_shown g targets shown)) is ∙ ap (λ (xs : List Stamped). Ok xs) (sym same))

@@ -1,0 +1,79 @@
+-- What a capture comes to: which trace is written.
+use Rattle.std.specs.Prelude.{◌≡◌, ◌⊎◌, ◌==◌, ℕ, List, [], map, Option, Some, None, Ok, Err}
+use Rattle.std.specs.List.{before_first, after_first, slice_split}
+use Rattle.std.specs.Option.{option_map}
+use Rattle.seq_files.specs.Store.{Store, Holds, with_file}
+use Rattle.nand_geometry.specs.declared.parts.Parts.{Parts}
+use Rattle.onfi_cycle.specs.declared.item.Item.{Item}
+use Rattle.bus_capture.specs.declared.inferring.Stamped.{Stamped}
+use Rattle.bus_capture.specs.declared.mapping.Mapping.{Mapping}
+use Rattle.bus_capture.specs.Inferring.{captured}
+use Rattle.trace_text.specs.Line.{text}
+use Rattle.seq_inputs.specs.Inputs.{HasPage, PageIsRefused}
+use Rattle.seq_inputs.specs.declared.fault.Fault.{Fault}
+use Rattle.seq_inputs.specs.declared.fault.Fault.TheVariants.{Capture}
+use Rattle.seq_commands.specs.declared.capture_request.CaptureRequest.{CaptureRequest}
+use Rattle.seq_commands.specs.Commands.{count_of}
+
+-- ---- what is said of signals: ROLE=NAME, with commas (44) between several; 61 is the sign between the two
+
+pub record Saying : Type 0 where
+  pub role : List ℕ
+  pub name : List ℕ
+
+abbrev pub saying_of : List ℕ → Saying
+saying_of part = record { role = before_first (λ b. b == 61) part; name = after_first (λ b. b == 61) part }
+
+abbrev pub parts : List ℕ → List (List ℕ)
+parts line = slice_split (λ b. b == 44) line
+
+abbrev pub sayings_in : List ℕ → List Saying
+sayings_in line = map saying_of (parts line)
+
+abbrev pub sayings_of : Option (List ℕ) → List Saying
+sayings_of None = []
+sayings_of (Some line) = sayings_in line
+
+abbrev pub said : Mapping → Saying
+said m = record { role = m.role.now; name = m.name.now }
+
+-- these mappings are what is said
+abbrev pub AreSaid : Option (List ℕ) → List Mapping → Type 0
+AreSaid line mappings = map said mappings ≡ sayings_of line
+
+-- ---- what is written
+
+abbrev pub items_in : List Stamped → List Item
+items_in stamped = map (λ s. s.item) stamped
+
+-- the capture at the path shows these items, and their text is written; no other file changes
+pub record IsCaptured (files later : Option Store) (request : CaptureRequest) : Type 0 where
+  pub g : Parts
+  pub has_page : HasPage files request.page.now g
+  pub capture : List ℕ
+  pub is_there : Holds files request.input.now capture
+  pub mappings : List Mapping
+  pub are_said : AreSaid (option_map (λ line. line.now) request.mappings) mappings
+  pub stamped : List Stamped
+  pub is_captured : captured g (count_of request.targets) mappings capture ≡ Ok stamped
+  pub written : later ≡ with_file files request.target.now (text (items_in stamped))
+
+-- ---- what is refused
+
+-- the first fault of a capture
+abbrev pub RefusesCapture : Parts → ℕ → List Mapping → List ℕ → Fault → Type 0
+RefusesCapture g targets mappings capture (Capture fault) = captured g targets mappings capture ≡ Err fault
+RefusesCapture g targets mappings capture _ = ⊥
+
+pub record CaptureIsRefused (files : Option Store) (request : CaptureRequest) (fault : Fault) : Type 0 where
+  pub g : Parts
+  pub has_page : HasPage files request.page.now g
+  pub capture : List ℕ
+  pub is_there : Holds files request.input.now capture
+  pub mappings : List Mapping
+  pub are_said : AreSaid (option_map (λ line. line.now) request.mappings) mappings
+  pub refuses : RefusesCapture g (count_of request.targets) mappings capture fault
+
+-- the page is refused, or the capture
+abbrev pub CaptureRefuses : Option Store → CaptureRequest → Fault → Type 0
+CaptureRefuses files request fault = PageIsRefused files request.page.now fault ⊎ CaptureIsRefused files request fault

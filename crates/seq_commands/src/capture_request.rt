@@ -1,0 +1,17 @@
+//! What a capture is read for.
+
+use crate::targets::Targets;
+
+/// What a capture is read for. `-` as a path that is read is standard input.
+#[derive(Clone, Copy, Debug, PartialEq, Eq)]
+pub struct CaptureRequest<'a> {
+    /// The parameter page of each die.
+    pub page: &'a str,
+    pub targets: Targets,
+    /// The capture, a value change dump.
+    pub input: &'a str,
+    /// Where the trace is written to.
+    pub target: &'a str,
+    /// What signals are, where their names don't tell: `ROLE=NAME`, with commas between several, as `WE=P17,RE=P18`.
+    pub mappings: Option<&'a str>,
+}

@@ -1,0 +1,145 @@
+//! The command that reads a capture.
+ghost use Rattle.std.specs.Prelude.{◌≡◌, ◌⊎◌, ◌≤◌, List, map, Ok, IfOk, IfErr, OnOk, OnErr, codes};
+ghost use Rattle.std.specs.List.{All};
+ghost use Rattle.std.specs.Option.{option_map};
+ghost use Rattle.std.specs.Io.KnownBytes.{Appends};
+ghost use Rattle.bus_capture.specs.Inferring.{captured};
+ghost use Rattle.bus_capture.specs.Inside.{AreInside};
+ghost use Rattle.trace_text.specs.Line.{IsPrintable};
+ghost use Rattle.seq_inputs.specs.declared.refusal.Refusal.{Refusal};
+ghost use Rattle.seq_inputs.specs.Stops.{Says, Tells};
+ghost use Rattle.seq_inputs.specs.Refusals.{line_of};
+ghost use Rattle.seq_commands.specs.Commands.{count_of};
+ghost use Rattle.seq_commands.specs.Captures.{items_in, RefusesCapture, IsCaptured, CaptureRefuses};
+
+use crate::capture_request::CaptureRequest;
+use crate::mappings::mappings_of;
+use crate::traces::put_items;
+use bus_capture::{Capture, CaptureRefusal, Mapping, Stamped, read_capture};
+use nand_geometry::Geometry;
+use onfi_cycle::Item;
+use seq_files::Files;
+use seq_inputs::{
+    Console, Exit, Fault, Stop, end_without_memory, fail, finish, geometry_at, read_file,
+    words_of_capture,
+};
+use std::alloc::{AllocError, Allocator};
+use std::io::Write;
+
+// How much a capture shows.
+#[derive(Clone, Copy)]
+struct Tally {
+    items: usize,
+    unselected: u64,
+}
+
+// The items of what is seen, without their times.
+fn items_of<A: Allocator>(alloc: A, stamped: &[Stamped]) -> Result<Vec<Item, A>, AllocError>
+    ensures { IfOk result (λ items. items.items ≡ items_in stamped.now) }
+{
+    let mut items = Vec::new(alloc);
+    for seen in stamped {
+        items.push(seen.item)?;
+    }
+    Ok(items)
+}
+
+// Reads the capture of this path.
+fn read_items<'p, A: Allocator + Clone>(
+    alloc: A,
+    path: &'p str,
+    geometry: &Geometry,
+    targets: u8,
+    mappings: &[Mapping<'_>],
+    bytes: &[u8],
+) -> Result<Capture<A>, Stop<'p, A>>
+    requires { targets ≤ 4 }
+    ensures ok { IfOk result (λ c. captured geometry.now targets mappings.now bytes.now ≡ Ok c.stamped.items) }
+    ensures inside { IfOk result (λ c. AreInside c.stamped.items) }
+    ensures err { IfErr result (Says (RefusesCapture geometry.now targets mappings.now bytes.now)) }
+{
+    match read_capture(alloc.clone()?, geometry, targets, mappings, bytes) {
+        Ok(capture) => Ok(capture),
+        Err(CaptureRefusal::Fault(fault)) => {
+            let words = words_of_capture(alloc, path, bytes, fault);
+            Err(Stop::refused(Fault::Capture { fault }, words))
+        }
+        Err(CaptureRefusal::OutOfMemory) => Err(Stop::OutOfMemory),
+    }
+}
+
+// Reads a page and a capture, and writes the trace that it shows: how much that is.
+fn capture_at<'p, A: Allocator + Clone, F: Files>(
+    alloc: A,
+    files: &mut F,
+    request: CaptureRequest<'p>,
+) -> Result<Tally, Stop<'p, A>>
+    ensures ok { OnOk result (IsCaptured (F.store files.old) (F.store files.new) request.entry) }
+    ensures err { IfErr result (Says (CaptureRefuses (F.store files.old) request.entry)) }
+    ensures stays { OnErr result (F.store files.new ≡ F.store files.old) }
+{
+    let geometry = geometry_at(alloc.clone()?, files, request.page)?;
+    let bytes = read_file(alloc.clone()?, files, request.input)?;
+    let mappings = mappings_of(alloc.clone()?, request.mappings)?;
+    let capture = read_items(
+        alloc.clone()?,
+        request.input,
+        &geometry,
+        request.targets.count(),
+        mappings.as_slice(),
+        bytes.as_slice(),
+    )?;
+    let items = items_of(alloc.clone()?, capture.stamped.as_slice())?;
+    put_items(alloc, files, request.target, items.as_slice())?;
+    Ok(Tally {
+        items: items.len(),
+        unselected: capture.unselected,
+    })
+}
+
+// Says how much a capture shows.
+fn say_tally<E: Write>(errors: &mut E, tally: Tally) {
+    let _ = writeln!(errors, "items: {}", tally.items);
+    if tally.unselected != 0 {
+        let _ = writeln!(
+            errors,
+            "strobes left out, as no chip of this channel was enabled: {}",
+            tally.unselected
+        );
+    }
+    let _ = errors.flush();
+}
+
+/// Reads a capture of the bus of a channel of so many targets of the geometry of a parameter page, and writes the trace that it shows.
+///
+/// `Done`: the trace is written, and `ok` is printed; how many items it has is said on the console's errors. `Refused`: the line `refused NAME at N`
+/// is printed, a P fault of the page, or a G fault of the capture with its line or its time, and no file is written. `FileFault`: a file couldn't be read
+/// or written, or the output couldn't be written. However it ends, files are as they were, or that one file is written whole.
+pub fn capture_trace<A: Allocator + Clone, F: Files, W: Write, E: Write, P>(
+    alloc: A,
+    files: &mut F,
+    console: &mut Console<W, E, P>,
+    request: CaptureRequest<'_>,
+) -> Exit
+    ensures done { result ≡ Exit.Done → IsCaptured (F.store files.old) (F.store files.new) request.entry
+        × Appends (W.contents console.old.output) (W.contents console.new.output) (codes "ok\n") }
+    ensures refused { (refusal : Refusal) → result ≡ Exit.Refused refusal
+        → Tells (CaptureRefuses (F.store files.old) request.entry) refusal
+        × (F.store files.new ≡ F.store files.old) × Appends (W.contents console.old.output) (W.contents console.new.output) (line_of refusal) }
+    ensures files { (F.store files.new ≡ F.store files.old) ⊎ IsCaptured (F.store files.old) (F.store files.new) request.entry }
+{
+    let copy = match alloc.clone() {
+        Ok(copy) => copy,
+        Err(_) => return end_without_memory(console),
+    };
+    match capture_at(copy, files, request) {
+        Ok(tally) => {
+            let exit = finish(console, "ok\n");
+            if matches!(exit, Exit::Done) {
+                say_tally(&mut console.errors, tally);
+            }
+            exit
+        }
+        Err(stop) => fail(alloc, console, None, stop),
+    }
+}

@@ -1,0 +1,145 @@
+use nand_geometry::{Geometry, SMALL_CHIP};
+use seq_commands::{CaptureRequest, Targets, capture_trace};
+use seq_files::MapFiles;
+use seq_inputs::Console;
+use std::alloc::Global;
+use std::process::Abort;
+use std::test::Fail;
+use trace_text::NoProgress;
+
+// A status command and its output, as an analyzer records them whose channels have names of their own.
+const CAPTURE: &str = "$timescale 1 ns $end\n\
+$var wire 1 c CS $end\n\
+$var wire 1 l CLE $end\n\
+$var wire 1 a ALE $end\n\
+$var wire 1 w P17 $end\n\
+$var wire 1 r P18 $end\n\
+$var wire 8 d DQ [7:0] $end\n\
+$enddefinitions $end\n\
+#0\n\
+1c 0l 0a 1w 1r bz d\n\
+#2\n\
+0w\n\
+#4\n\
+1w\n\
+#10\n\
+0c 1l b1110000 d\n\
+#12\n\
+0w\n\
+#20\n\
+1w\n\
+#21\n\
+0l bz d\n\
+#40\n\
+0r\n\
+#45\n\
+b11100000 d\n\
+#50\n\
+1r\n\
+#55\n\
+bz d\n";
+
+const REQUEST: CaptureRequest<'static> = CaptureRequest {
+    page: "die.page",
+    targets: Targets::One,
+    input: "bus.vcd",
+    target: "bus.trace",
+    mappings: Some("CE=CS,WE=P17,RE=P18"),
+};
+
+// What comes of a capture: its status, what it prints and says, and the trace that is written.
+#[derive(Drop)]
+struct Seen {
+    status: u8,
+    output: Vec<u8>,
+    errors: Vec<u8>,
+    files: MapFiles,
+}
+
+fn see(alloc: Global, capture: &str, mappings: Option<&'static str>) -> Result<Seen, Fail> {
+    let mut files = MapFiles::new(alloc);
+    files.put("die.page", &Geometry::of(SMALL_CHIP)?.page())?;
+    files.put("bus.vcd", capture.as_bytes())?;
+    let mut console = Console {
+        output: Vec::new(alloc),
+        errors: Vec::new(alloc),
+        progress: NoProgress,
+    };
+    let request = CaptureRequest {
+        mappings,
+        ..REQUEST
+    };
+    let exit = capture_trace(alloc, &mut files, &mut console, request);
+    let Console { output, errors, .. } = console;
+    Ok(Seen {
+        status: exit.status(),
+        output,
+        errors,
+        files,
+    })
+}
+
+// A capture is refused with these lines, and no trace is written.
+fn expect_refused(
+    rt: &(impl Abort + AllocGlobal),
+    capture: &str,
+    mappings: Option<&'static str>,
+    line: &str,
+    words: &str,
+) -> Result<(), Fail> {
+    let seen = see(rt.alloc(), capture, mappings)?;
+    assert_eq!(rt; seen.status, 1);
+    assert_eq!(rt; str::from_utf8(seen.output.as_slice())?, line);
+    assert_eq!(rt; str::from_utf8(seen.errors.as_slice())?, words);
+    assert_eq!(rt; seen.files.get("bus.trace"), None);
+    Ok(())
+}
+
+#[test]
+fn the_trace_of_a_capture(rt: HostRuntime) -> Result<(), Fail> {
+    let seen = see(rt.alloc(), CAPTURE, REQUEST.mappings)?;
+    assert_eq!(rt; seen.status, 0);
+    assert_eq!(rt; str::from_utf8(seen.output.as_slice())?, "ok\n");
+    assert_eq!(rt;
+        str::from_utf8(seen.errors.as_slice())?,
+        "items: 2\nstrobes left out, as no chip of this channel was enabled: 1\n"
+    );
+    assert_eq!(rt;
+        str::from_utf8(seen.files.get("bus.trace").unwrap_or(b""))?,
+        "0 C 70\n0 O e0\n"
+    );
+    Ok(())
+}
+
+#[test]
+fn a_signal_that_is_not_found(rt: HostRuntime) -> Result<(), Fail> {
+    expect_refused(
+        &rt,
+        CAPTURE,
+        Some("CE=CS,WE=P17"),
+        "refused G3 at 0\n",
+        "bus.vcd: no signal is RE by its name: say which one it is by --map RE=NAME (G3)\n",
+    )
+}
+
+#[test]
+fn a_line_that_is_no_change(rt: HostRuntime) -> Result<(), Fail> {
+    expect_refused(
+        &rt,
+        format!(in rt.alloc(); "{CAPTURE}#60\n1!\n")?.as_str(),
+        REQUEST.mappings,
+        "refused G4 at 32\n",
+        "bus.vcd:32: `1!`: the code isn't declared (G4)\n",
+    )
+}
+
+#[test]
+fn levels_that_are_unknown(rt: HostRuntime) -> Result<(), Fail> {
+    expect_refused(
+        &rt,
+        format!(in rt.alloc(); "{CAPTURE}#60\n0w bx d\n#61\n1w\n")?.as_str(),
+        REQUEST.mappings,
+        "refused G5 at 61\n",
+        "bus.vcd: time 61: a bit of DQ is x or z where a strobe rises (G5)\n",
+    )
+}
