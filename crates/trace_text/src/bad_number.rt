@@ -18,9 +18,9 @@ impl Number {
     // Whether the field has the form of this number.
     fn is_well_formed(self, field: &str) -> bool {
         match self {
-            Number::ChipEnable | Number::Lun => place_of(field).is_some(),
-            Number::Fail => fail_of(field).is_some(),
-            Number::Byte => byte_of(field).is_some(),
+            Number::ChipEnable | Number::Lun => place_of(field.as_bytes()).is_some(),
+            Number::Fail => fail_of(field.as_bytes()).is_some(),
+            Number::Byte => byte_of(field.as_bytes()).is_some(),
         }
     }
 
@@ -62,7 +62,7 @@ impl<'a> BadNumber<'a> {
             };
         }
         let third = field_at(line, 2);
-        match letter_of(field_at(line, 1)) {
+        match letter_of(field_at(line, 1).as_bytes()) {
             Some(Letter::Ready) if Number::Lun.is_well_formed(third) => BadNumber {
                 field: field_at(line, 3),
                 number: Number::Fail,

@@ -32,7 +32,7 @@ impl<'a> BadShape<'a> {
         let Some(field) = line.split(' ').nth(1) else {
             return BadShape::NoLetter;
         };
-        match letter_of(field) {
+        match letter_of(field.as_bytes()) {
             Some(letter) => BadShape::FieldCount {
                 layout: layout(letter),
                 count: line.split(' ').count(),
@@ -57,7 +57,7 @@ fn bad_letter(field: &str) -> BadShape<'_> {
 fn letter_in_lower_case(field: &str) -> Option<Letter> {
     for upper in ["C", "A", "I", "O", "R", "Y"] {
         if field.eq_ignore_ascii_case(upper) {
-            return letter_of(upper);
+            return letter_of(upper.as_bytes());
         }
     }
     None
