@@ -12,6 +12,8 @@ mod geometry_tests;
 #[cfg(test)]
 mod page_tests;
 #[cfg(test)]
+mod recorded_tests;
+#[cfg(test)]
 mod run_tests;
 #[cfg(test)]
 mod trace_tests;

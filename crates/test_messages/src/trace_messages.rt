@@ -1,5 +1,5 @@
 use std::test::Fail;
-use trace_text::{TraceMessage, parse};
+use trace_text::{TraceMessage, parse, parse_recorded};
 
 // Texts that are refused, and what is said of them.
 const TEXTS: &[(&str, &str)] = &[
@@ -119,6 +119,70 @@ fn texts_that_are_refused(rt: HostRuntime) -> Result<(), Fail> {
     for (text, message) in TEXTS {
         let refusal = parse(rt.alloc(), text).err().ok_or("the text is read")?;
         let told = format!(in rt.alloc(); "{}", TraceMessage::new(refusal, text))?;
+        assert_eq!(rt; told.as_str(), *message);
+    }
+    Ok(())
+}
+
+// Recorded texts that are refused, and what is said of them.
+const RECORDED: &[(&str, &str)] = &[
+    (
+        "# log\n0 C 60",
+        "`0 C 60`: the last line isn't ended by a line feed (LF) (X1)",
+    ),
+    (
+        "\u{feff}0 C 60\n",
+        "`\u{feff}0 C 60`: the line begins with a UTF-8 byte order mark; save the file without it (X2)",
+    ),
+    (
+        "0\u{a0}C 60 # \u{e9}\n",
+        "`0\u{a0}C 60 # \u{e9}`: column 2 has a no-break space (\\u{a0}), which isn't ASCII (X1)",
+    ),
+    (
+        "@12ns 0 C 60\r\n",
+        "`@12ns 0 C 60\\r`: `@12ns` is no time: a time is `@` and a decimal number below 2^64 (X1)",
+    ),
+    (
+        "@+5 0 C 60\n",
+        "`@+5 0 C 60`: `@+5` is no time: a time is `@` and a decimal number below 2^64 (X1)",
+    ),
+    (
+        "@ 5 0 C 60\n",
+        "`@ 5 0 C 60`: `@` is no time: a time is `@` and a decimal number below 2^64 (X1)",
+    ),
+    (
+        "@1200 # an erase\n",
+        "`@1200 # an erase`: no item stands behind the time (X1)",
+    ),
+    (
+        "@5\n@5 0\t C  D0 ; erase\n",
+        "`@5`: no item stands behind the time (X1)",
+    ),
+    (
+        "@5 0\t C  D0 ; erase\n",
+        "`@5 0\\t C  D0 ; erase`: `D0` is in upper case: XX is two hexadecimal digits in lower case (X2)",
+    ),
+    (
+        "  0   c 60\n",
+        "`  0   c 60`: `c` is in lower case: the line is `CE C XX` (X1)",
+    ),
+    (
+        "@7 0 R 0 # no failure\n",
+        "`@7 0 R 0 # no failure`: the line is `CE R LUN FAIL`, and here it has 3 fields (X1)",
+    ),
+    (
+        "erase\n",
+        "`erase`: a line is CE, one of the letters C, A, I, O, R and Y, and what the letter wants (X1)",
+    ),
+];
+
+#[test]
+fn recorded_texts_that_are_refused(rt: HostRuntime) -> Result<(), Fail> {
+    for (text, message) in RECORDED {
+        let refusal = parse_recorded(rt.alloc(), text)
+            .err()
+            .ok_or("the text is read")?;
+        let told = format!(in rt.alloc(); "{}", TraceMessage::of_recorded(refusal, text))?;
         assert_eq!(rt; told.as_str(), *message);
     }
     Ok(())

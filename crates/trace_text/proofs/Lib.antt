@@ -7,3 +7,5 @@ pub mod Loop
 pub mod Printed
 pub mod Runs
 pub mod FirstBroken
+pub mod RecordedWords
+pub mod RecordedTexts

@@ -33,12 +33,12 @@ printed_all new items i le printable e byte =
 
 -- ---- what can be printed
 
-printable_of : (i : Item) → is_printable_item i ≡ true → IsPrintable i
+pub printable_of : (i : Item) → is_printable_item i ≡ true → IsPrintable i
 printable_of (Cyc c) h = grind (arith, nat_tests)
 printable_of (Rdy ce lun fail) h = grind (arith, nat_tests)
 printable_of (Ard ce lun) h = grind (arith, nat_tests)
 
-is_printable_of : (i : Item) → IsPrintable i → is_printable_item i ≡ true
+pub is_printable_of : (i : Item) → IsPrintable i → is_printable_item i ≡ true
 is_printable_of (Cyc c) h = grind (arith, nat_tests)
 is_printable_of (Rdy ce lun fail) h = grind (arith, nat_tests)
 is_printable_of (Ard ce lun) h = grind (arith, nat_tests)
@@ -74,7 +74,7 @@ fail_ascii : (fail : Bool) → fail_digit fail < 128
 fail_ascii false = omega arith
 fail_ascii true = omega arith
 
-line_ascii : (item : Item) → IsPrintable item → HasByte item → AllByRecursion (λ b. b < 128) (line item)
+pub line_ascii : (item : Item) → IsPrintable item → HasByte item → AllByRecursion (λ b. b < 128) (line item)
 line_ascii (Cyc c) printable byte =
     let small : c.byte < 256 = byte in
     (omega arith, (omega arith, (letter_ascii c.kind, (omega arith, (hex_ascii (c.byte / 16) (omega arith), (hex_ascii (c.byte % 16) (omega arith), (omega arith, tt)))))))

@@ -3,3 +3,5 @@ pub mod Reading
 pub mod Trace
 pub mod Checking
 pub mod Codes
+pub mod Recorded
+pub mod RecordedLines

@@ -1,5 +1,6 @@
 //! A number field that hasn't its form.
 
+use crate::item_fields::ItemFields;
 use crate::line::{Letter, byte_of, fail_of, letter_of, place_of};
 use crate::slip::Slip;
 use shown_text::Shown;
@@ -18,9 +19,9 @@ impl Number {
     // Whether the field has the form of this number.
     fn is_well_formed(self, field: &str) -> bool {
         match self {
-            Number::ChipEnable | Number::Lun => place_of(field).is_some(),
-            Number::Fail => fail_of(field).is_some(),
-            Number::Byte => byte_of(field).is_some(),
+            Number::ChipEnable | Number::Lun => place_of(field.as_bytes()).is_some(),
+            Number::Fail => fail_of(field.as_bytes()).is_some(),
+            Number::Byte => byte_of(field.as_bytes()).is_some(),
         }
     }
 
@@ -52,19 +53,19 @@ pub(crate) struct BadNumber<'a> {
 }
 
 impl<'a> BadNumber<'a> {
-    // The first number field of this line that hasn't its form.
-    pub(crate) fn of(line: &'a str) -> BadNumber<'a> {
-        let ce = field_at(line, 0);
+    // The first number field of a line that hasn't its form.
+    pub(crate) fn of(fields: ItemFields<'a>) -> BadNumber<'a> {
+        let ce = fields.get(0);
         if !Number::ChipEnable.is_well_formed(ce) {
             return BadNumber {
                 field: ce,
                 number: Number::ChipEnable,
             };
         }
-        let third = field_at(line, 2);
-        match letter_of(field_at(line, 1)) {
+        let third = fields.get(2);
+        match letter_of(fields.get(1).as_bytes()) {
             Some(Letter::Ready) if Number::Lun.is_well_formed(third) => BadNumber {
-                field: field_at(line, 3),
+                field: fields.get(3),
                 number: Number::Fail,
             },
             Some(Letter::Ready | Letter::ArrayReady) => BadNumber {
@@ -77,11 +78,6 @@ impl<'a> BadNumber<'a> {
             },
         }
     }
-}
-
-// The field of this number, counted from 0; empty if there is none.
-fn field_at(line: &str, number: usize) -> &str {
-    line.split(' ').nth(number).unwrap_or("")
 }
 
 impl fmt::Display for BadNumber<'_> {

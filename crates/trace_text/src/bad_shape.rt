@@ -1,5 +1,6 @@
 //! A line that hasn't the shape of an item.
 
+use crate::item_fields::ItemFields;
 use crate::line::{Letter, letter_of};
 use onfi_cycle::Kind;
 use shown_text::Shown;
@@ -27,15 +28,17 @@ pub(crate) enum BadShape<'a> {
 }
 
 impl<'a> BadShape<'a> {
-    // Why this line hasn't the shape of an item.
-    pub(crate) fn of(line: &'a str) -> BadShape<'a> {
-        let Some(field) = line.split(' ').nth(1) else {
+    // Why a line with these fields hasn't the shape of an item.
+    pub(crate) fn of(fields: ItemFields<'a>) -> BadShape<'a> {
+        let count = fields.count();
+        if count < 2 {
             return BadShape::NoLetter;
-        };
-        match letter_of(field) {
+        }
+        let field = fields.get(1);
+        match letter_of(field.as_bytes()) {
             Some(letter) => BadShape::FieldCount {
                 layout: layout(letter),
-                count: line.split(' ').count(),
+                count,
             },
             None => bad_letter(field),
         }
@@ -57,7 +60,7 @@ fn bad_letter(field: &str) -> BadShape<'_> {
 fn letter_in_lower_case(field: &str) -> Option<Letter> {
     for upper in ["C", "A", "I", "O", "R", "Y"] {
         if field.eq_ignore_ascii_case(upper) {
-            return letter_of(upper);
+            return letter_of(upper.as_bytes());
         }
     }
     None

@@ -1,4 +1,5 @@
-//! Traces as text: [`print`] writes one line for each item, and [`parse`] reads these lines and nothing else.
+//! Traces as text: [`print`] writes one line for each item, and [`parse`] reads these lines and nothing else. [`parse_recorded`] reads the same lines
+//! out of a person's own log, with comments, blanks and times, and [`print_recorded`] writes them with times.
 //!
 //! A line is ended by a line feed, and its fields stand apart by single spaces:
 //!
@@ -15,6 +16,7 @@ mod bad_number;
 mod bad_shape;
 mod checking;
 mod data_run;
+mod item_fields;
 pub mod laws;
 mod line;
 mod line_advice;
@@ -22,12 +24,22 @@ mod message;
 mod parsing;
 mod printing;
 mod progress;
+mod recorded_advice;
+mod recorded_item;
+mod recorded_lines;
+mod recorded_printing;
+mod recorded_reading;
 mod refusal;
 mod slip;
+mod time;
+mod words;
 
 pub use checking::{CheckRefusal, check, check_watched, first_broken};
 pub use message::TraceMessage;
 pub use parsing::parse;
 pub use printing::{is_printable, print, print_bytes};
 pub use progress::{CheckProgress, NoProgress};
+pub use recorded_item::{RecordedItem, TimedItem};
+pub use recorded_printing::{is_recording_printable, print_recorded};
+pub use recorded_reading::{find_item, parse_recorded};
 pub use refusal::{TraceFault, TraceRefusal};

@@ -2,10 +2,19 @@
 
 use crate::bad_number::BadNumber;
 use crate::bad_shape::BadShape;
+use crate::item_fields::ItemFields;
 use crate::line_advice::LineAdvice;
+use crate::recorded_advice::{RecordedAdvice, item_text};
 use crate::refusal::{TraceFault, TraceRefusal};
 use shown_text::{Shown, line_at};
 use std::fmt;
+
+// The form that a text is to have.
+#[derive(Clone, Copy)]
+enum TraceForm {
+    Strict,
+    Recorded,
+}
 
 /// A refusal beside the text that was refused. It displays what stands in its line, unless that is empty, and what is wanted there:
 /// `` `0 C D0`: `D0` is in upper case: XX is two hexadecimal digits in lower case (X2)``. The file and the number of the line are for the caller to
@@ -14,12 +23,38 @@ use std::fmt;
 pub struct TraceMessage<'a> {
     refusal: TraceRefusal,
     text: &'a str,
+    form: TraceForm,
 }
 
 impl<'a> TraceMessage<'a> {
-    /// A refusal of this text.
+    /// A refusal of this text by [`parse`](crate::parse).
     pub fn new(refusal: TraceRefusal, text: &'a str) -> TraceMessage<'a> {
-        TraceMessage { refusal, text }
+        TraceMessage {
+            refusal,
+            text,
+            form: TraceForm::Strict,
+        }
+    }
+
+    /// A refusal of this text by [`parse_recorded`](crate::parse_recorded).
+    pub fn of_recorded(refusal: TraceRefusal, text: &'a str) -> TraceMessage<'a> {
+        TraceMessage {
+            refusal,
+            text,
+            form: TraceForm::Recorded,
+        }
+    }
+}
+
+// Writes what is wrong with an item that has these fields.
+fn write_fault<W: fmt::Write>(
+    f: &mut fmt::Formatter<W>,
+    fault: TraceFault,
+    fields: ItemFields<'_>,
+) -> fmt::Result {
+    match fault {
+        TraceFault::BadShape => write!(f, "{}", BadShape::of(fields)),
+        TraceFault::BadNumber => write!(f, "{}", BadNumber::of(fields)),
     }
 }
 
@@ -30,12 +65,22 @@ fn write_wanted<W: fmt::Write>(
     line: &str,
     is_ended: bool,
 ) -> fmt::Result {
-    if let Some(advice) = LineAdvice::find(line, is_ended) {
-        return write!(f, "{advice}");
+    match LineAdvice::find(line, is_ended) {
+        Some(advice) => write!(f, "{advice}"),
+        None => write_fault(f, fault, ItemFields::Strict(line)),
     }
-    match fault {
-        TraceFault::BadShape => write!(f, "{}", BadShape::of(line)),
-        TraceFault::BadNumber => write!(f, "{}", BadNumber::of(line)),
+}
+
+// The same of a line of a recorded text.
+fn write_wanted_recorded<W: fmt::Write>(
+    f: &mut fmt::Formatter<W>,
+    fault: TraceFault,
+    line: &str,
+    is_ended: bool,
+) -> fmt::Result {
+    match RecordedAdvice::find(line, is_ended) {
+        Some(advice) => write!(f, "{advice}"),
+        None => write_fault(f, fault, ItemFields::Recorded(item_text(line))),
     }
 }
 
@@ -52,7 +97,11 @@ impl fmt::Display for TraceMessage<'_> {
                 if !stood.is_empty() {
                     write!(f, "`{}`: ", Shown::line(stood))?;
                 }
-                write_wanted(f, fault, stood, is_ended(self.text, line))?;
+                let is_ended = is_ended(self.text, line);
+                match self.form {
+                    TraceForm::Strict => write_wanted(f, fault, stood, is_ended)?,
+                    TraceForm::Recorded => write_wanted_recorded(f, fault, stood, is_ended)?,
+                }
                 write!(f, " ({})", fault.code())
             }
             TraceRefusal::OutOfMemory => f.write_str("out of memory"),

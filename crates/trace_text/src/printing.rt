@@ -12,7 +12,7 @@ use onfi_cycle::{Cycle, Item, Kind};
 use std::alloc::{AllocError, Allocator};
 
 // How many bytes the line of an item has at most.
-const LONGEST_LINE: usize = 8;
+pub(crate) const LONGEST_LINE: usize = 8;
 
 // The letter of a cycle.
 fn kind_letter(kind: Kind) -> u8
@@ -100,7 +100,7 @@ fn push_array_ready<A: Allocator>(text: &mut Vec<u8, A>, ce: u8, lun: u8)
 }
 
 // Adds the line of an item to a text that has places for it.
-fn push_line<A: Allocator>(text: &mut Vec<u8, A>, item: Item)
+pub(crate) fn push_line<A: Allocator>(text: &mut Vec<u8, A>, item: Item)
     requires printable { IsPrintable item }
     requires places { vec_len text.old + 8 ≤ vec_capacity text.old }
     ensures value { text.new.items ≡ text.old.items ++ line item }
@@ -117,7 +117,7 @@ fn push_line<A: Allocator>(text: &mut Vec<u8, A>, item: Item)
 }
 
 // Whether its chip enable and its LUN are at most 3.
-fn is_printable_item(item: Item) -> bool
+pub(crate) fn is_printable_item(item: Item) -> bool
     ensures { result ≡ is_printable_item item }
 {
     match item {
