@@ -151,7 +151,7 @@ seen_fine targets strobe driven before after seen few h =
     choice (rises (level before (line_of strobe)) (level after (line_of strobe))) (is_lost driven (level before (line_of strobe)) (level after (line_of strobe)))
     (enabled_from before targets 0 None >>= λ enabled. cycle_if strobe enabled before) (enabled_from before targets 0 None >>= λ enabled. lost_if enabled) (Ok Nothing) seen h
     (λ r. let k = bind_ok (enabled_from before targets 0 None) (λ enabled. cycle_if strobe enabled before) seen r in
-      cycle_if_fine strobe targets k.0 before seen few (enabled_below before targets 0 targets None k.0 (omega arith) tt k.1) k.2)
+    cycle_if_fine strobe targets k.0 before seen few (enabled_below before targets 0 targets None k.0 (omega arith) tt k.1) k.2)
     (λ r. let k = bind_ok (enabled_from before targets 0 None) (λ enabled. lost_if enabled) seen r in lost_fine k.0 seen k.2)
     (λ r. subst IsSeenFine (same_ok Nothing seen r) tt)
 
@@ -169,7 +169,7 @@ at_time_ok time (Err e) a h = cc
 settled_fine : (s : Sampler) (os now : List Observed) → s.targets ≤ 4 → AreFine os → settled s os ≡ Ok now → AreFine now
 settled_fine s os now few rest h =
     let w = bind_ok (at_time s.time (seen_of s.targets strobe.Write s.we_driven s.before.of s.after.of))
-        (λ written. at_time s.time (seen_of s.targets strobe.Read s.re_driven s.before.of s.after.of) >>= λ read. Ok (with_seen s written read os)) now h in
+    (λ written. at_time s.time (seen_of s.targets strobe.Read s.re_driven s.before.of s.after.of) >>= λ read. Ok (with_seen s written read os)) now h in
     let r = bind_ok (at_time s.time (seen_of s.targets strobe.Read s.re_driven s.before.of s.after.of)) (λ read. Ok (with_seen s w.0 read os)) now w.2 in
     let written = seen_fine s.targets strobe.Write s.we_driven s.before.of s.after.of w.0 few (at_time_ok s.time (seen_of s.targets strobe.Write s.we_driven s.before.of s.after.of) w.0 w.1) in
     let read = seen_fine s.targets strobe.Read s.re_driven s.before.of s.after.of r.0 few (at_time_ok s.time (seen_of s.targets strobe.Read s.re_driven s.before.of s.after.of) r.0 r.1) in
@@ -187,7 +187,7 @@ capturing_fine sources s os (Ok (Time time) ∷ told) now few rest h =
     at (eqb time s.time) (capturing_fine sources s os told now few rest) (λ more fine. capturing_fine sources (later s time) more told now few fine) h
   where
     at : (b : Bool) → (capturing sources s os told ≡ Ok now → AreFine now) → ((more : List Observed) → AreFine more → capturing sources (later s time) more told ≡ Ok now → AreFine now)
-      → cond b (capturing sources s os told) (settled s os >>= λ more. capturing sources (later s time) more told) ≡ Ok now → AreFine now
+        → cond b (capturing sources s os told) (settled s os >>= λ more. capturing sources (later s time) more told) ≡ Ok now → AreFine now
     at true same next g = same g
     at false same next g =
         let k = bind_ok (settled s os) (λ more. capturing sources (later s time) more told) now g in
@@ -225,7 +225,7 @@ inferred_inside luns sure state stamped [] fine rest = rest
 inferred_inside luns sure state stamped (o ∷ os) fine rest = at o.observation (λ sure state stamped. inferred_inside luns sure state stamped os fine.1) fine.0
   where
     at : (seen : Observation) → ((sure : Bool) (state : BusView) (stamped : List Stamped) → AreInside stamped → AreInside (inferred luns sure state stamped os)) → IsFine seen
-      → AreInside (inferred_by seen o.time luns sure state os stamped (λ sure state stamped. inferred luns sure state stamped os))
+        → AreInside (inferred_by seen o.time luns sure state os stamped (λ sure state stamped. inferred luns sure state stamped os))
     at (observation.Item i) next here =
         next (sure_after sure state i) (state_after sure state i) (with_shown sure state o.time i stamped) (shown_inside sure state o.time i stamped here rest)
     at (observation.Released ce) next here =

@@ -18,7 +18,7 @@ use Rattle.seq_cli.specs.declared.command.Command.TheVariants.{Assemble, Verify,
 -- the command is done: this was its input, where that is known, this is left and this was printed
 abbrev pub IsDone : Command → (input : Option (List ℕ)) → (files later : Option Store) → (printed : List ℕ) → Type 0
 IsDone (Assemble text target) input files later printed = IsAssembled files later text.now target.now × (printed ≡ codes "ok\n")
-IsDone (Verify page text counter quiet) input files later printed = IsAccepted files page.now text.now × (later ≡ files) × (printed ≡ codes "accepted\n")
+IsDone (Verify page text counter quiet style) input files later printed = IsAccepted files page.now text.now × (later ≡ files) × (printed ≡ codes "accepted\n")
 IsDone (Lint page text output) input files later printed = IsAccepted files page.now text.now × (later ≡ files)
 IsDone (Once base) input files later printed = IfSome input (λ bytes. IsProgramRun base bytes printed) × (later ≡ files)
 IsDone (Run request) input files later printed = IsRunDone files later request printed
@@ -31,7 +31,7 @@ IsDone (Upgrade file target) input files later printed = IsUpgraded files later 
 -- what a command may refuse, and what it leaves and prints then: one line, but for all faults of a trace
 abbrev pub MayRefuse : Command → (input : Option (List ℕ)) → (files later : Option Store) → Refusal → (printed : List ℕ) → Type 0
 MayRefuse (Assemble text target) input files later refusal printed = Tells (SourceIsRefused files text.now) refusal × (later ≡ files) × (printed ≡ line_of refusal)
-MayRefuse (Verify page text counter quiet) input files later refusal printed =
+MayRefuse (Verify page text counter quiet style) input files later refusal printed =
     Tells (VerifyRefuses files later page.now text.now (option_map (λ path. path.now) counter)) refusal × (printed ≡ line_of refusal)
 MayRefuse (Lint page text output) input files later refusal printed =
     Tells (VerifyRefuses files files page.now text.now None) refusal × (later ≡ files) × (printed ≡ line_of refusal)
@@ -40,14 +40,14 @@ MayRefuse (Run request) input files later refusal printed = RunIsRefused files r
 MayRefuse (Capture request) input files later refusal printed = Tells (CaptureRefuses files request) refusal × (later ≡ files) × (printed ≡ line_of refusal)
 MayRefuse (Check request) input files later refusal printed = CheckRefuses files later request refusal printed
 MayRefuse (Draw request) input files later refusal printed =
-    Tells (ReadingRefuses files request.page.now request.input.now) refusal × (later ≡ files) × (printed ≡ line_of refusal)
+    Tells (ReadingRefuses files request.lines request.page.now request.input.now) refusal × (later ≡ files) × (printed ≡ line_of refusal)
 MayRefuse (Disassemble file) input files later refusal printed = Tells (FileIsRefused files file.now) refusal × (later ≡ files) × (printed ≡ line_of refusal)
 MayRefuse (Upgrade file target) input files later refusal printed = Tells (FileIsRefused files file.now) refusal × (later ≡ files) × (printed ≡ line_of refusal)
 
 -- what a command may leave, however it ends: the files as they were, or what it writes when it is done
 abbrev pub MayLeave : Command → (files later : Option Store) → Type 0
 MayLeave (Assemble text target) files later = (later ≡ files) ⊎ IsAssembled files later text.now target.now
-MayLeave (Verify page text counter quiet) files later = VerifyLeaves files later page.now text.now (option_map (λ path. path.now) counter)
+MayLeave (Verify page text counter quiet style) files later = VerifyLeaves files later page.now text.now (option_map (λ path. path.now) counter)
 MayLeave (Lint page text output) files later = later ≡ files
 MayLeave (Once base) files later = later ≡ files
 MayLeave (Run request) files later = RunMayLeave files later request

@@ -10,7 +10,7 @@ use seq_commands::{
     check_trace, disassemble_file, draw_trace, lint_file, upgrade_file, verify_file,
 };
 use seq_files::Files;
-use seq_inputs::{Console, Exit};
+use seq_inputs::{Console, Exit, Style};
 use seq_run::{RunProgress, RunRequest, run_watched};
 use std::alloc::Global;
 use std::io::{Read, Write};
@@ -28,12 +28,13 @@ pub enum Command<'a> {
         target: &'a str,
     },
     /// To verify a microprogram, as a word file or an assembly text, for the geometry of a parameter page. Where a refusal has its run, the trace of
-    /// the run may be written to a file. The notes to one that is accepted are said on standard error, unless it is to be quiet.
+    /// the run may be written to a file. The notes to one that is accepted are said on standard error, unless it is to be quiet. What is said there is in a style.
     Verify {
         page: &'a str,
         input: &'a str,
         counter: Option<&'a str>,
         is_quiet: bool,
+        style: Style,
     },
     /// To print the notes to a microprogram that is accepted, or the header that is enough for it.
     Lint {
@@ -83,6 +84,7 @@ impl<'a> Command<'a> {
                 input,
                 counter,
                 is_quiet: _,
+                style: _,
             } => ([Some(page), Some(input)], counter),
             Command::Lint {
                 page,
@@ -141,7 +143,8 @@ pub fn command_on<
             input,
             counter,
             is_quiet,
-        } => verify_file(alloc, files, console, page, input, counter, is_quiet),
+            style,
+        } => verify_file(alloc, files, console, page, input, counter, is_quiet, style),
         Command::Lint {
             page,
             input,

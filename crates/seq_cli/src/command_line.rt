@@ -5,9 +5,11 @@ use crate::mistake::{Mistake, PathMistake};
 use bus_capture::{Family, named, plain_of};
 use clap::{Arg, ArgAction, ArgMatches, Error};
 use seq_commands::{CaptureRequest, CheckRequest, DrawForm, DrawRequest, LintOutput, Targets};
+use seq_inputs::Style;
 use seq_run::RunRequest;
 use std::alloc::Global;
 use trace_faults::Readies;
+use trace_text::TraceForm;
 
 /// The commands by their words, in the order in which an author uses them. One that is declared here is declared to the parser, and read, or
 /// nothing of it compiles.
@@ -97,6 +99,7 @@ impl Verb {
                 input,
                 counter: matches.get_str("counter"),
                 is_quiet: matches.get_flag("quiet"),
+                style: read_style(matches),
             },
             Verb::Lint => Command::Lint {
                 page,
@@ -159,7 +162,8 @@ fn verify<'a>(alloc: Global) -> Result<clap::Command<'a>, Error> {
             "The assembly text, or a word file of either format",
         ))?
         .arg(counter)?
-        .arg(quiet)?;
+        .arg(quiet)?
+        .arg(json(alloc, JSON_ERRORS))?;
     Ok(command)
 }
 
@@ -177,7 +181,8 @@ fn lint<'a>(alloc: Global) -> Result<clap::Command<'a>, Error> {
             "IN",
             "The assembly text, or a word file of either format",
         ))?
-        .arg(fix)?;
+        .arg(fix)?
+        .arg(json(alloc, JSON_NOTES))?;
     Ok(command)
 }
 
@@ -245,6 +250,30 @@ fn targets<'a>(alloc: Global) -> Arg<'a> {
     ].as_slice())
 }
 
+// A trace with more in its lines than items.
+fn recorded<'a>(alloc: Global) -> Arg<'a> {
+    Arg::new(alloc, "recorded")
+        .long("recorded")
+        .action(ArgAction::SetTrue)
+        .help(
+            "For a trace with blanks, comments, CR LF or times in its lines, as docs/use/TRACES.md has it",
+        )
+}
+
+const JSON_ERRORS: &str =
+    "Says on standard error what is wrong as JSON, one object a line: code, file, line, word or item, message";
+
+const JSON_NOTES: &str =
+    "Prints the notes as JSON, one object a line, and says so what is wrong: code, file, line, word, message";
+
+// What is told to a tool.
+fn json<'a>(alloc: Global, help: &'a str) -> Arg<'a> {
+    Arg::new(alloc, "json")
+        .long("json")
+        .action(ArgAction::SetTrue)
+        .help(help)
+}
+
 // The trace.
 fn trace<'a>(alloc: Global) -> Arg<'a> {
     require(
@@ -261,6 +290,12 @@ fn capture<'a>(alloc: Global) -> Result<clap::Command<'a>, Error> {
         .help(
             "Which signal is what, where its name doesn't tell: CE0 to CE3, CLE, ALE, WE, RE, DQ, DQ0 to DQ7, RB0 to RB3; as WE=P17,RE=P18",
         );
+    let times = Arg::new(alloc, "times")
+        .long("times")
+        .action(ArgAction::SetTrue)
+        .help(
+            "Writes the time of each item in front of it, as @1200; `check --recorded` reads that, and names the times",
+        );
     let command = clap::Command::new(alloc, Verb::Capture.word())
         .about("Writes the trace that a capture of a bus shows, and prints `ok`")
         .after_help("Example: onfiseq capture die.page 1 bus.vcd bus.trace --map WE=P17,RE=P18")
@@ -272,7 +307,8 @@ fn capture<'a>(alloc: Global) -> Result<clap::Command<'a>, Error> {
             "The capture, a value change dump, as docs/use/CAPTURES.md has it",
         ))?
         .arg(require(alloc, "OUT", "The text of the trace to write"))?
-        .arg(map)?;
+        .arg(map)?
+        .arg(times)?;
     Ok(command)
 }
 
@@ -300,8 +336,10 @@ fn check<'a>(alloc: Global) -> Result<clap::Command<'a>, Error> {
         .arg(targets(alloc))?
         .arg(trace(alloc))?
         .arg(all)?
+        .arg(recorded(alloc))?
         .arg(readies)?
-        .arg(copy)?;
+        .arg(copy)?
+        .arg(json(alloc, JSON_ERRORS))?;
     Ok(command)
 }
 
@@ -312,7 +350,8 @@ fn wave<'a>(alloc: Global) -> Result<clap::Command<'a>, Error> {
         .arg(require(alloc, "PAGE", "The parameter page of each die"))?
         .arg(targets(alloc))?
         .arg(trace(alloc))?
-        .arg(require(alloc, "OUT", "The value change dump to write"))?;
+        .arg(require(alloc, "OUT", "The value change dump to write"))?
+        .arg(recorded(alloc))?;
     Ok(command)
 }
 
@@ -327,7 +366,8 @@ fn draw<'a>(alloc: Global) -> Result<clap::Command<'a>, Error> {
             alloc,
             "OUT",
             "The SVG to write; with a name that ends in .html a page, with the trace beside the picture",
-        ))?;
+        ))?
+        .arg(recorded(alloc))?;
     Ok(command)
 }
 
@@ -383,8 +423,28 @@ fn read_targets(word: &str) -> Targets {
 fn read_lint_output(matches: &ArgMatches<'_>) -> LintOutput {
     if matches.get_flag("fix") {
         LintOutput::Header
+    } else if matches.get_flag("json") {
+        LintOutput::Json
     } else {
         LintOutput::Notes
+    }
+}
+
+// How what is wrong is said.
+fn read_style(matches: &ArgMatches<'_>) -> Style {
+    if matches.get_flag("json") {
+        Style::Json
+    } else {
+        Style::Plain
+    }
+}
+
+// The form of a trace.
+fn read_form(matches: &ArgMatches<'_>) -> TraceForm {
+    if matches.get_flag("recorded") {
+        TraceForm::Recorded
+    } else {
+        TraceForm::Strict
     }
 }
 
@@ -432,6 +492,7 @@ fn read_capture<'a>(matches: &ArgMatches<'a>) -> Result<CaptureRequest<'a>, Mist
         input: find_word(matches, "IN"),
         target: find_word(matches, "OUT"),
         mappings: read_mappings(matches)?,
+        has_times: matches.get_flag("times"),
     })
 }
 
@@ -443,6 +504,8 @@ fn read_check<'a>(matches: &ArgMatches<'a>) -> CheckRequest<'a> {
         input: find_word(matches, "TRACE"),
         tells_all: matches.get_flag("all"),
         readies: read_readies(matches),
+        form: read_form(matches),
+        style: read_style(matches),
         copy: matches.get_str("write"),
     }
 }
@@ -462,6 +525,7 @@ fn read_draw<'a>(matches: &ArgMatches<'a>, form: DrawForm) -> DrawRequest<'a> {
         form,
         page: find_word(matches, "PAGE"),
         targets: read_targets(find_word(matches, "TARGETS")),
+        lines: read_form(matches),
         input: find_word(matches, "TRACE"),
         target: find_word(matches, "OUT"),
     }

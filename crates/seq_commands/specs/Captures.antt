@@ -1,5 +1,5 @@
 -- What a capture comes to: which trace is written.
-use Rattle.std.specs.Prelude.{◌≡◌, ◌⊎◌, ◌==◌, ℕ, List, [], map, Option, Some, None, Ok, Err}
+use Rattle.std.specs.Prelude.{◌≡◌, ◌⊎◌, ◌==◌, ℕ, Bool, true, false, List, [], map, Option, Some, None, Ok, Err}
 use Rattle.std.specs.List.{before_first, after_first, slice_split}
 use Rattle.std.specs.Option.{option_map}
 use Rattle.seq_files.specs.Store.{Store, Holds, with_file}
@@ -9,6 +9,8 @@ use Rattle.bus_capture.specs.declared.inferring.Stamped.{Stamped}
 use Rattle.bus_capture.specs.declared.mapping.Mapping.{Mapping}
 use Rattle.bus_capture.specs.Inferring.{captured}
 use Rattle.trace_text.specs.Line.{text}
+use Rattle.trace_text.specs.declared.recorded_item.TimedItem.{TimedItem}
+use Rattle.trace_text.specs.Recorded.{timed_text}
 use Rattle.seq_inputs.specs.Inputs.{HasPage, PageIsRefused}
 use Rattle.seq_inputs.specs.declared.fault.Fault.{Fault}
 use Rattle.seq_inputs.specs.declared.fault.Fault.TheVariants.{Capture}
@@ -46,6 +48,17 @@ AreSaid line mappings = map said mappings ≡ sayings_of line
 abbrev pub items_in : List Stamped → List Item
 items_in stamped = map (λ s. s.item) stamped
 
+abbrev pub timed : Stamped → TimedItem
+timed s = record { time = s.time; item = s.item }
+
+abbrev pub timed_in : List Stamped → List TimedItem
+timed_in stamped = map timed stamped
+
+-- the text of what is seen, with the times or without
+abbrev pub seen_text : (has_times : Bool) → List Stamped → List ℕ
+seen_text false stamped = text (items_in stamped)
+seen_text true stamped = timed_text (timed_in stamped)
+
 -- the capture at the path shows these items, and their text is written; no other file changes
 pub record IsCaptured (files later : Option Store) (request : CaptureRequest) : Type 0 where
   pub g : Parts
@@ -56,7 +69,7 @@ pub record IsCaptured (files later : Option Store) (request : CaptureRequest) : 
   pub are_said : AreSaid (option_map (λ line. line.now) request.mappings) mappings
   pub stamped : List Stamped
   pub is_captured : captured g (count_of request.targets) mappings capture ≡ Ok stamped
-  pub written : later ≡ with_file files request.target.now (text (items_in stamped))
+  pub written : later ≡ with_file files request.target.now (seen_text request.has_times stamped)
 
 -- ---- what is refused
 

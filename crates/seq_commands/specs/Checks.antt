@@ -7,8 +7,8 @@ use Rattle.onfi_cycle.specs.declared.item.Item.{Item}
 use Rattle.onfi_cycle.specs.Permitted.{is_legal}
 use Rattle.trace_text.specs.declared.refusal.TraceRefusal.TheVariants.{Fault as TraceFaultAt}
 use Rattle.trace_text.specs.Line.{text}
-use Rattle.trace_text.specs.Trace.{IsTextOf}
-use Rattle.trace_text.specs.Reading.{reading as trace_reading}
+use Rattle.trace_text.specs.declared.form.TraceForm.{TraceForm}
+use Rattle.trace_text.specs.Forms.{IsTraceText, read_as}
 use Rattle.trace_faults.specs.declared.broken_rule.BrokenRule.{BrokenRule}
 use Rattle.trace_faults.specs.declared.readies.Readies.{Readies}
 use Rattle.trace_faults.specs.declared.readies.Readies.TheVariants.{Written, Shown}
@@ -53,7 +53,7 @@ IsCopied files later request g items =
 -- of the trace of a text these faults are told, and it is written where a path is given for it
 pub record IsJudgedText (files later : Option Store) (request : CheckRequest) (g : Parts) (bytes : List ℕ) (told : List BrokenRule) : Type 0 where
   pub items : List Item
-  pub is_text : IsTextOf bytes items
+  pub is_text : IsTraceText request.form bytes items
   pub told_is : told ≡ told_faults request g items
   pub copied : IsCopied files later request g items
 
@@ -72,25 +72,25 @@ pub record IsLegalTrace (files later : Option Store) (request : CheckRequest) : 
   pub text : List ℕ
   pub is_there : Holds files request.input.now text
   pub items : List Item
-  pub is_text : IsTextOf text items
+  pub is_text : IsTraceText request.form text items
   pub legal : is_legal g (count_of request.targets) (reverse (judged_trace request.readies g (count_of request.targets) items)) ≡ true
   pub copied : IsCopied files later request g items
 
--- the first fault of the text of a trace
-abbrev pub RefusesTrace : List ℕ → Fault → Type 0
-RefusesTrace bytes (Trace fault line) = trace_reading bytes ≡ Err (TraceFaultAt fault line)
-RefusesTrace bytes _ = ⊥
+-- the first fault of the text of a trace, which is to have this form
+abbrev pub RefusesTrace : TraceForm → List ℕ → Fault → Type 0
+RefusesTrace form bytes (Trace fault line) = read_as form bytes ≡ Err (TraceFaultAt fault line)
+RefusesTrace form bytes _ = ⊥
 
-pub record TraceIsRefused (files : Option Store) (page input : List ℕ) (fault : Fault) : Type 0 where
+pub record TraceIsRefused (files : Option Store) (form : TraceForm) (page input : List ℕ) (fault : Fault) : Type 0 where
   pub g : Parts
   pub has_page : HasPage files page g
   pub text : List ℕ
   pub is_there : Holds files input text
-  pub refuses : RefusesTrace text fault
+  pub refuses : RefusesTrace form text fault
 
 -- the page is refused, or the text of the trace
-abbrev pub ReadingRefuses : Option Store → (page input : List ℕ) → Fault → Type 0
-ReadingRefuses files page input fault = PageIsRefused files page fault ⊎ TraceIsRefused files page input fault
+abbrev pub ReadingRefuses : Option Store → TraceForm → (page input : List ℕ) → Fault → Type 0
+ReadingRefuses files form page input fault = PageIsRefused files page fault ⊎ TraceIsRefused files form page input fault
 
 -- faults are told, the first of which is what is refused
 pub record TraceIsFaulty (files later : Option Store) (request : CheckRequest) (refusal : Refusal) (printed : List ℕ) : Type 0 where
@@ -103,7 +103,7 @@ pub record TraceIsFaulty (files later : Option Store) (request : CheckRequest) (
 -- what a check refuses, and what it prints and leaves then
 abbrev pub CheckRefuses : (files later : Option Store) → CheckRequest → Refusal → (printed : List ℕ) → Type 0
 CheckRefuses files later request refusal printed =
-    (Tells (ReadingRefuses files request.page.now request.input.now) refusal × (later ≡ files) × (printed ≡ line_of refusal)) ⊎ TraceIsFaulty files later request refusal printed
+    (Tells (ReadingRefuses files request.form request.page.now request.input.now) refusal × (later ≡ files) × (printed ≡ line_of refusal)) ⊎ TraceIsFaulty files later request refusal printed
 
 -- files are as they were, or the trace that is judged is written
 abbrev pub CheckLeaves : (files later : Option Store) → CheckRequest → Type 0

@@ -3,7 +3,7 @@ use Rattle.std.specs.Prelude.{◌≡◌, ℕ, ⊤, List, Option}
 use Rattle.seq_files.specs.Store.{Store, Holds, with_file}
 use Rattle.nand_geometry.specs.declared.parts.Parts.{Parts}
 use Rattle.onfi_cycle.specs.declared.item.Item.{Item}
-use Rattle.trace_text.specs.Trace.{IsTextOf}
+use Rattle.trace_text.specs.Forms.{IsTraceText}
 use Rattle.trace_wave.specs.Wave.{dump}
 use Rattle.seq_inputs.specs.Inputs.{HasPage}
 use Rattle.seq_commands.specs.declared.draw_request.DrawForm.{DrawForm}
@@ -24,7 +24,7 @@ pub record IsDrawn (files later : Option Store) (request : DrawRequest) : Type 0
   pub text : List ℕ
   pub is_there : Holds files request.input.now text
   pub items : List Item
-  pub is_text : IsTextOf text items
+  pub is_text : IsTraceText request.lines text items
   pub bytes : List ℕ
   pub is_form : IsFormOf request.form g (count_of request.targets) items bytes
   pub written : later ≡ with_file files request.target.now bytes

@@ -14,4 +14,6 @@ pub struct CaptureRequest<'a> {
     pub target: &'a str,
     /// What signals are, where their names don't tell: `ROLE=NAME`, with commas between several, as `WE=P17,RE=P18`.
     pub mappings: Option<&'a str>,
+    /// Whether the time of each item stands in front of it.
+    pub has_times: bool,
 }

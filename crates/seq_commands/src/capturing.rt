@@ -1,16 +1,15 @@
 //! The command that reads a capture.
-ghost use Rattle.std.specs.Prelude.{◌≡◌, ◌⊎◌, ◌≤◌, List, map, Ok, IfOk, IfErr, OnOk, OnErr, codes};
-ghost use Rattle.std.specs.List.{All};
+ghost use Rattle.std.specs.Prelude.{true, false, ◌≡◌, ◌⊎◌, ◌≤◌, List, map, Ok, IfOk, IfErr, OnOk, OnErr, codes};
 ghost use Rattle.std.specs.Option.{option_map};
 ghost use Rattle.std.specs.Io.KnownBytes.{Appends};
+ghost use Rattle.seq_files.specs.Store.{with_file};
 ghost use Rattle.bus_capture.specs.Inferring.{captured};
 ghost use Rattle.bus_capture.specs.Inside.{AreInside};
-ghost use Rattle.trace_text.specs.Line.{IsPrintable};
 ghost use Rattle.seq_inputs.specs.declared.refusal.Refusal.{Refusal};
-ghost use Rattle.seq_inputs.specs.Stops.{Says, Tells};
+ghost use Rattle.seq_inputs.specs.Stops.{RefusesNothing, Says, Tells};
 ghost use Rattle.seq_inputs.specs.Refusals.{line_of};
 ghost use Rattle.seq_commands.specs.Commands.{count_of};
-ghost use Rattle.seq_commands.specs.Captures.{items_in, RefusesCapture, IsCaptured, CaptureRefuses};
+ghost use Rattle.seq_commands.specs.Captures.{items_in, timed_in, seen_text, RefusesCapture, IsCaptured, CaptureRefuses};
 
 use crate::capture_request::CaptureRequest;
 use crate::mappings::mappings_of;
@@ -21,10 +20,11 @@ use onfi_cycle::Item;
 use seq_files::Files;
 use seq_inputs::{
     Console, Exit, Fault, Stop, end_without_memory, fail, finish, geometry_at, read_file,
-    words_of_capture,
+    words_of_capture, write_file,
 };
 use std::alloc::{AllocError, Allocator};
 use std::io::Write;
+use trace_text::{TimedItem, print_recorded};
 
 // How much a capture shows.
 #[derive(Clone, Copy)]
@@ -42,6 +42,73 @@ fn items_of<A: Allocator>(alloc: A, stamped: &[Stamped]) -> Result<Vec<Item, A>,
         items.push(seen.item)?;
     }
     Ok(items)
+}
+
+// The same with their times.
+fn timed_of<A: Allocator>(alloc: A, stamped: &[Stamped]) -> Result<Vec<TimedItem, A>, AllocError>
+    ensures { IfOk result (λ items. items.items ≡ timed_in stamped.now) }
+{
+    let mut items = Vec::new(alloc);
+    for seen in stamped {
+        items.push(TimedItem {
+            time: seen.time,
+            item: seen.item,
+        })?;
+    }
+    Ok(items)
+}
+
+// Writes what is seen as the text of a trace.
+fn put_plain<'p, A: Allocator + Clone, F: Files>(
+    alloc: A,
+    files: &mut F,
+    path: &'p str,
+    stamped: &[Stamped],
+) -> Result<(), Stop<'p, A>>
+    requires { AreInside stamped.now }
+    ensures ok { OnOk result (F.store files.new ≡ with_file (F.store files.old) path.now (seen_text false stamped.now)) }
+    ensures nothing { IfErr result (λ e. RefusesNothing e) }
+    ensures stays { OnErr result (F.store files.new ≡ F.store files.old) }
+{
+    let items = items_of(alloc.clone()?, stamped)?;
+    put_items(alloc, files, path, items.as_slice())
+}
+
+// Writes what is seen as a recorded text, with the times.
+fn put_timed<'p, A: Allocator + Clone, F: Files>(
+    alloc: A,
+    files: &mut F,
+    path: &'p str,
+    stamped: &[Stamped],
+) -> Result<(), Stop<'p, A>>
+    requires { AreInside stamped.now }
+    ensures ok { OnOk result (F.store files.new ≡ with_file (F.store files.old) path.now (seen_text true stamped.now)) }
+    ensures nothing { IfErr result (λ e. RefusesNothing e) }
+    ensures stays { OnErr result (F.store files.new ≡ F.store files.old) }
+{
+    let items = timed_of(alloc.clone()?, stamped)?;
+    let text = print_recorded(alloc, items.as_slice())?;
+    write_file(files, path, text.as_str().as_bytes())
+}
+
+// Writes what is seen, with the times or without.
+fn put_seen<'p, A: Allocator + Clone, F: Files>(
+    alloc: A,
+    files: &mut F,
+    path: &'p str,
+    has_times: bool,
+    stamped: &[Stamped],
+) -> Result<(), Stop<'p, A>>
+    requires { AreInside stamped.now }
+    ensures ok { OnOk result (F.store files.new ≡ with_file (F.store files.old) path.now (seen_text has_times stamped.now)) }
+    ensures nothing { IfErr result (λ e. RefusesNothing e) }
+    ensures stays { OnErr result (F.store files.new ≡ F.store files.old) }
+{
+    if has_times {
+        put_timed(alloc, files, path, stamped)
+    } else {
+        put_plain(alloc, files, path, stamped)
+    }
 }
 
 // Reads the capture of this path.
@@ -89,10 +156,15 @@ fn capture_at<'p, A: Allocator + Clone, F: Files>(
         mappings.as_slice(),
         bytes.as_slice(),
     )?;
-    let items = items_of(alloc.clone()?, capture.stamped.as_slice())?;
-    put_items(alloc, files, request.target, items.as_slice())?;
+    put_seen(
+        alloc,
+        files,
+        request.target,
+        request.has_times,
+        capture.stamped.as_slice(),
+    )?;
     Ok(Tally {
-        items: items.len(),
+        items: capture.stamped.len(),
         unselected: capture.unselected,
     })
 }

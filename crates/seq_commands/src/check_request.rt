@@ -1,7 +1,9 @@
 //! What a check is asked for.
 
 use crate::targets::Targets;
+use seq_inputs::Style;
 use trace_faults::Readies;
+use trace_text::TraceForm;
 
 /// What a check is asked for. `-` as a path that is read is standard input.
 #[derive(Clone, Copy, Debug, PartialEq, Eq)]
@@ -14,6 +16,10 @@ pub struct CheckRequest<'a> {
     /// Whether all faults are told, or the first alone.
     pub tells_all: bool,
     pub readies: Readies,
+    /// The form of the text.
+    pub form: TraceForm,
+    /// How what is wrong is said on standard error.
+    pub style: Style,
     /// Where the trace that is judged is written to.
     pub copy: Option<&'a str>,
 }

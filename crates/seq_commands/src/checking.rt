@@ -11,6 +11,7 @@ ghost use Rattle.seq_commands.specs.Commands.{count_of};
 ghost use Rattle.seq_commands.specs.Checks.{told_faults, judged_trace, with_copy, IsJudgedText, IsJudged, RefusesTrace, ReadingRefuses, IsLegalTrace, CheckRefuses, CheckLeaves};
 
 use crate::check_request::CheckRequest;
+use crate::tally::Tally;
 use crate::targets::Targets;
 use crate::telling::{say_summary, tell_faults};
 use crate::traces::{items_of, put_items};
@@ -18,7 +19,7 @@ use nand_geometry::Geometry;
 use onfi_cycle::Item;
 use seq_files::Files;
 use seq_inputs::{
-    Console, Exit, Stop, end_without_memory, fail, finish, geometry_at, read_file, text_of,
+    Console, Exit, Stop, end_without_memory, fail_as, finish, geometry_at, read_file, text_of,
 };
 use std::alloc::{AllocError, Allocator};
 use std::io::Write;
@@ -94,7 +95,7 @@ fn copy_trace<'p, A: Allocator + Clone, F: Files>(
     }
 }
 
-// Judges the trace of a text, and copies it: the faults that are told.
+// Judges the trace of a text, and copies it: what it has, and the faults that are told.
 fn judge_text<'p, A: Allocator + Clone, F: Files, P: CheckProgress>(
     alloc: A,
     files: &mut F,
@@ -102,12 +103,12 @@ fn judge_text<'p, A: Allocator + Clone, F: Files, P: CheckProgress>(
     request: CheckRequest<'p>,
     geometry: &Geometry,
     text: &str,
-) -> Result<Vec<BrokenRule, A>, Stop<'p, A>>
-    ensures ok { IfOk result (λ told. IsJudgedText (F.store files.old) (F.store files.new) request.entry geometry.now text.now told.items) }
-    ensures err { IfErr result (Says (RefusesTrace text.now)) }
+) -> Result<(Tally, Vec<BrokenRule, A>), Stop<'p, A>>
+    ensures ok { IfOk result (λ found. IsJudgedText (F.store files.old) (F.store files.new) request.entry geometry.now text.now found.1.items) }
+    ensures err { IfErr result (Says (RefusesTrace request.entry.form text.now)) }
     ensures stays { OnErr result (F.store files.new ≡ F.store files.old) }
 {
-    let items = items_of(alloc.clone()?, request.input, text)?;
+    let items = items_of(alloc.clone()?, request.input, text, request.form)?;
     let told = find_told(
         alloc.clone()?,
         progress,
@@ -116,7 +117,15 @@ fn judge_text<'p, A: Allocator + Clone, F: Files, P: CheckProgress>(
         items.as_slice(),
     )?;
     copy_trace(alloc, files, request, geometry, items.as_slice())?;
-    Ok(told)
+    Ok((Tally::of(items.as_slice()), told))
+}
+
+// What a check has found.
+#[derive(Drop)]
+struct Found<A: Allocator> {
+    text: Vec<u8, A>,
+    tally: Tally,
+    told: Vec<BrokenRule, A>,
 }
 
 // Reads a page and the text of a trace, and judges that: what was read, and the faults that are told.
@@ -125,16 +134,20 @@ fn check_at<'p, A: Allocator + Clone, F: Files, P: CheckProgress>(
     files: &mut F,
     progress: &mut P,
     request: CheckRequest<'p>,
-) -> Result<(Vec<u8, A>, Vec<BrokenRule, A>), Stop<'p, A>>
-    ensures ok { IfOk result (λ found. IsJudged (F.store files.old) (F.store files.new) request.entry found.1.items) }
-    ensures err { IfErr result (Says (ReadingRefuses (F.store files.old) request.entry.page.now request.entry.input.now)) }
+) -> Result<Found<A>, Stop<'p, A>>
+    ensures ok { IfOk result (λ found. IsJudged (F.store files.old) (F.store files.new) request.entry found.told.items) }
+    ensures err { IfErr result (Says (ReadingRefuses (F.store files.old) request.entry.form request.entry.page.now request.entry.input.now)) }
     ensures stays { OnErr result (F.store files.new ≡ F.store files.old) }
 {
     let geometry = geometry_at(alloc.clone()?, files, request.page)?;
     let bytes = read_file(alloc.clone()?, files, request.input)?;
     let text = text_of(request.input, bytes.as_slice())?;
-    let told = judge_text(alloc, files, progress, request, &geometry, text)?;
-    Ok((bytes, told))
+    let (tally, told) = judge_text(alloc, files, progress, request, &geometry, text)?;
+    Ok(Found {
+        text: bytes,
+        tally,
+        told,
+    })
 }
 
 /// Checks whether the trace of a text is legal on a channel of so many targets of the geometry of a parameter page.
@@ -163,21 +176,21 @@ pub fn check_trace<A: Allocator + Clone, F: Files, W: Write, E: Write, P: CheckP
         Err(_) => return end_without_memory(console),
     };
     match check_at(copy, files, &mut console.progress, request) {
-        Ok((text, told)) => match told.as_slice() {
+        Ok(Found { text, tally, told }) => match told.as_slice() {
             [] => {
-                say_summary(&mut console.errors, request.tells_all, text.as_slice(), 0);
+                say_summary(&mut console.errors, request, tally, 0);
                 finish(console, "legal\n")
             }
             [first, ..] => tell_faults(
                 alloc,
                 console,
-                request.input,
+                request,
                 text.as_slice(),
+                tally,
                 *first,
                 told.as_slice(),
-                request.tells_all,
             ),
         },
-        Err(stop) => fail(alloc, console, None, stop),
+        Err(stop) => fail_as(alloc, console, request.style, stop),
     }
 }

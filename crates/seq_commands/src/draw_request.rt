@@ -1,6 +1,7 @@
 //! What a drawing is asked for.
 
 use crate::targets::Targets;
+use trace_text::TraceForm;
 
 /// As what a trace is drawn.
 #[derive(Clone, Copy, Debug, PartialEq, Eq)]
@@ -20,6 +21,8 @@ pub struct DrawRequest<'a> {
     /// The parameter page of each die.
     pub page: &'a str,
     pub targets: Targets,
+    /// The form of the text.
+    pub lines: TraceForm,
     /// The text of the trace.
     pub input: &'a str,
     /// Where the drawing is written to.

@@ -22,6 +22,7 @@ use std::alloc::{AllocError, Allocator};
 use std::io::Write;
 use trace_page::write_page;
 use trace_picture::draw;
+use trace_text::print;
 use trace_wave::write_dump;
 
 // The bytes of a drawing of items, which have this text.
@@ -51,20 +52,21 @@ fn draw_at<'p, A: Allocator + Clone, F: Files>(
     request: DrawRequest<'p>,
 ) -> Result<(), Stop<'p, A>>
     ensures ok { OnOk result (IsDrawn (F.store files.old) (F.store files.new) request.entry) }
-    ensures err { IfErr result (Says (ReadingRefuses (F.store files.old) request.entry.page.now request.entry.input.now)) }
+    ensures err { IfErr result (Says (ReadingRefuses (F.store files.old) request.entry.lines request.entry.page.now request.entry.input.now)) }
     ensures stays { OnErr result (F.store files.new ≡ F.store files.old) }
 {
     let geometry = geometry_at(alloc.clone()?, files, request.page)?;
     let bytes = read_file(alloc.clone()?, files, request.input)?;
     let text = text_of(request.input, bytes.as_slice())?;
-    let items = items_of(alloc.clone()?, request.input, text)?;
+    let items = items_of(alloc.clone()?, request.input, text, request.lines)?;
+    let lines = print(alloc.clone()?, items.as_slice())?;
     let drawing = make_drawing(
         alloc,
         request.form,
         &geometry,
         request.targets,
         items.as_slice(),
-        text,
+        lines.as_str(),
     )?;
     write_file(files, request.target, drawing.as_slice())
 }
@@ -84,7 +86,7 @@ pub fn draw_trace<A: Allocator + Clone, F: Files, W: Write, E: Write, P>(
     ensures done { result ≡ Exit.Done → IsDrawn (F.store files.old) (F.store files.new) request.entry
         × Appends (W.contents console.old.output) (W.contents console.new.output) (codes "ok\n") }
     ensures refused { (refusal : Refusal) → result ≡ Exit.Refused refusal
-        → Tells (ReadingRefuses (F.store files.old) request.entry.page.now request.entry.input.now) refusal
+        → Tells (ReadingRefuses (F.store files.old) request.entry.lines request.entry.page.now request.entry.input.now) refusal
         × (F.store files.new ≡ F.store files.old) × Appends (W.contents console.old.output) (W.contents console.new.output) (line_of refusal) }
     ensures files { (F.store files.new ≡ F.store files.old) ⊎ IsDrawn (F.store files.old) (F.store files.new) request.entry }
 {

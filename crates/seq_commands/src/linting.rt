@@ -6,11 +6,11 @@ ghost use Rattle.seq_inputs.specs.Stops.{Tells};
 ghost use Rattle.seq_inputs.specs.Refusals.{line_of};
 ghost use Rattle.seq_commands.specs.Commands.{IsAccepted, VerifyRefuses};
 
-use crate::noting::{lines_of_header, lines_of_notes};
+use crate::noting::{lines_of_header, lines_of_notes, notes_of};
 use crate::verifying::verify_at;
 use micro_program::Verified;
 use seq_files::Files;
-use seq_inputs::{Console, Exit, end_without_memory, fail, finish};
+use seq_inputs::{Console, Exit, Style, end_without_memory, fail_as, finish};
 use std::alloc::{AllocError, Allocator};
 use std::io::Write;
 
@@ -19,11 +19,21 @@ use std::io::Write;
 pub enum LintOutput {
     /// The notes to it, a line each, and how many they are.
     Notes,
+    /// The notes to it as JSON, one object a line.
+    Json,
     /// The three header lines with the least numbers that are enough.
     Header,
 }
 
 impl LintOutput {
+    // How what is wrong is said.
+    fn style(self) -> Style {
+        match self {
+            LintOutput::Notes | LintOutput::Header => Style::Plain,
+            LintOutput::Json => Style::Json,
+        }
+    }
+
     // What is printed of a microprogram that was read from these bytes.
     fn lines<A: Allocator + Clone>(
         self,
@@ -34,6 +44,7 @@ impl LintOutput {
     ) -> Result<String<A>, AllocError> {
         match self {
             LintOutput::Notes => lines_of_notes(alloc, path, bytes, verified),
+            LintOutput::Json => notes_of(alloc, Style::Json, path, bytes, verified),
             LintOutput::Header => lines_of_header(alloc, verified),
         }
     }
@@ -67,6 +78,6 @@ pub fn lint_file<'p, A: Allocator + Clone, F: Files, W: Write, E: Write, P>(
             Ok(lines) => finish(console, lines.as_str()),
             Err(_) => end_without_memory(console),
         },
-        Err(stop) => fail(alloc, console, None, stop),
+        Err(stop) => fail_as(alloc, console, output.style(), stop),
     }
 }

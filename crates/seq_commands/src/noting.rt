@@ -3,7 +3,7 @@
 use micro_asm::disassemble;
 use micro_lint::{Header, Note, least_header, lint};
 use micro_program::Verified;
-use seq_inputs::{say_words, words_of_note};
+use seq_inputs::{Place, Style, Told, Words, say_words, words_of_note};
 use std::alloc::{AllocError, Allocator};
 use std::io::Write;
 
@@ -16,10 +16,41 @@ fn push_count<A: Allocator>(lines: &mut String<A>, count: usize) -> Result<(), A
     }
 }
 
+// Where a note stands.
+fn place_of(note: Note) -> Option<Place> {
+    match note.word() {
+        Some(word) => Some(Place::Word(word)),
+        None => None,
+    }
+}
+
+// The line of a note in this style.
+fn push_said<A: Allocator>(
+    lines: &mut String<A>,
+    style: Style,
+    note: Note,
+    words: &Words<'_, A>,
+) -> Result<(), AllocError> {
+    match style {
+        Style::Plain => writeln!(lines, "{words}"),
+        Style::Json => {
+            let told = Told {
+                code: Some(note.code()),
+                path: words.path,
+                line: words.line,
+                place: place_of(note),
+                message: &words.text,
+            };
+            writeln!(lines, "{told}")
+        }
+    }
+}
+
 // The line of a note to a microprogram of this path, which was read from these bytes and has this text as assembly.
 fn push_note<A: Allocator + Clone>(
     lines: &mut String<A>,
     alloc: A,
+    style: Style,
     path: &str,
     bytes: &[u8],
     assembly: &str,
@@ -28,10 +59,7 @@ fn push_note<A: Allocator + Clone>(
     let words = words_of_note(alloc, path, bytes, assembly, note.word(), note, note.code());
     match words {
         None => Err(AllocError),
-        Some(words) => {
-            lines.push_str(words.as_str())?;
-            lines.push_str("\n")
-        }
+        Some(words) => push_said(lines, style, note, &words),
     }
 }
 
@@ -39,6 +67,7 @@ fn push_note<A: Allocator + Clone>(
 fn push_notes<A: Allocator + Clone>(
     lines: &mut String<A>,
     alloc: A,
+    style: Style,
     path: &str,
     bytes: &[u8],
     verified: &Verified<A>,
@@ -46,7 +75,15 @@ fn push_notes<A: Allocator + Clone>(
     let notes = lint(alloc.clone()?, verified.text(), verified.geometry())?;
     let assembly = disassemble(alloc.clone()?, verified.text())?;
     for note in notes.as_slice() {
-        push_note(lines, alloc.clone()?, path, bytes, assembly.as_str(), *note)?;
+        push_note(
+            lines,
+            alloc.clone()?,
+            style,
+            path,
+            bytes,
+            assembly.as_str(),
+            *note,
+        )?;
     }
     Ok(notes.len())
 }
@@ -59,7 +96,7 @@ pub(crate) fn lines_of_notes<A: Allocator + Clone>(
     verified: &Verified<A>,
 ) -> Result<String<A>, AllocError> {
     let mut lines = String::new(alloc.clone()?);
-    let count = push_notes(&mut lines, alloc, path, bytes, verified)?;
+    let count = push_notes(&mut lines, alloc, Style::Plain, path, bytes, verified)?;
     push_count(&mut lines, count)?;
     Ok(lines)
 }
@@ -83,27 +120,29 @@ pub(crate) fn lines_of_header<A: Allocator + Clone>(
     Ok(lines)
 }
 
-// The notes to a microprogram that was read from these bytes, a line each, and nothing else.
-fn notes_of<A: Allocator + Clone>(
+/// The notes to a microprogram that was read from these bytes, a line each in this style, and nothing else.
+pub(crate) fn notes_of<A: Allocator + Clone>(
     alloc: A,
+    style: Style,
     path: &str,
     bytes: &[u8],
     verified: &Verified<A>,
 ) -> Result<String<A>, AllocError> {
     let mut lines = String::new(alloc.clone()?);
-    push_notes(&mut lines, alloc, path, bytes, verified)?;
+    push_notes(&mut lines, alloc, style, path, bytes, verified)?;
     Ok(lines)
 }
 
-/// Says the notes to a microprogram in words.
+/// Says the notes to a microprogram in this style.
 pub(crate) fn say_notes<A: Allocator + Clone, E: Write>(
     alloc: A,
     errors: &mut E,
+    style: Style,
     path: &str,
     bytes: &[u8],
     verified: &Verified<A>,
 ) {
-    match notes_of(alloc, path, bytes, verified) {
+    match notes_of(alloc, style, path, bytes, verified) {
         Ok(lines) => say_words(errors, lines.as_str()),
         Err(_) => say_words(errors, "no notes are told: out of memory\n"),
     }

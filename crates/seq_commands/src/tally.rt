@@ -1,8 +1,9 @@
-//! What stands in the text of a trace.
+//! What a trace has.
 
+use onfi_cycle::{Cycle, Item, Kind};
 use std::fmt;
 
-/// How many items of each kind the text of a trace has.
+/// How many items of each kind a trace has.
 #[derive(Clone, Copy, Debug, PartialEq, Eq)]
 pub(crate) struct Tally {
     commands: u64,
@@ -18,20 +19,21 @@ fn count(number: &mut u64) {
 }
 
 impl Tally {
-    // Counts the item of a line, whose third byte says of which kind it is.
-    fn count_line(&mut self, line: &[u8]) {
-        match line.get(2) {
-            Some(b'C') => count(&mut self.commands),
-            Some(b'A') => count(&mut self.addresses),
-            Some(b'I') => count(&mut self.inputs),
-            Some(b'O') => count(&mut self.outputs),
-            Some(b'R' | b'Y') => count(&mut self.readies),
-            Some(_) | None => {}
+    // Counts an item.
+    fn count_item(&mut self, item: Item) {
+        match item {
+            Item::Cyc(Cycle { kind, .. }) => match kind {
+                Kind::Cmd => count(&mut self.commands),
+                Kind::Adr => count(&mut self.addresses),
+                Kind::Din => count(&mut self.inputs),
+                Kind::Dout => count(&mut self.outputs),
+            },
+            Item::Rdy { .. } | Item::Ard { .. } => count(&mut self.readies),
         }
     }
 
-    /// What stands in the text of a trace.
-    pub(crate) fn of(text: &[u8]) -> Tally {
+    /// What these items are.
+    pub(crate) fn of(items: &[Item]) -> Tally {
         let mut tally = Tally {
             commands: 0,
             addresses: 0,
@@ -39,8 +41,8 @@ impl Tally {
             outputs: 0,
             readies: 0,
         };
-        for line in text.split(|byte| *byte == b'\n') {
-            tally.count_line(line);
+        for item in items {
+            tally.count_item(*item);
         }
         tally
     }

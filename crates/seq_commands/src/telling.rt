@@ -7,9 +7,11 @@ ghost use Rattle.seq_inputs.specs.declared.refusal.Refusal.{Refusal as Refused};
 ghost use Rattle.seq_inputs.specs.Refusals.{refusal_of};
 ghost use Rattle.seq_commands.specs.Checks.{fault_lines};
 
+use crate::check_request::CheckRequest;
 use crate::tally::Tally;
 use seq_inputs::{
-    Console, Exit, Fault, Refusal, end_without_memory, finish_refused, say_words, words_of_item,
+    Console, Exit, Fault, Refusal, Style, Told, end_without_memory, finish_refused, say_words,
+    words_of_item,
 };
 use std::alloc::{AllocError, Allocator};
 use std::io::Write;
@@ -40,78 +42,107 @@ fn lines_of<A: Allocator>(alloc: A, told: &[BrokenRule]) -> Result<String<A>, Al
     Ok(lines)
 }
 
-// Adds the words of one fault of the trace of this text.
+// Adds what is said of one fault of the trace of this text.
 fn push_words<A: Allocator>(
-    words: &mut String<A>,
+    lines: &mut String<A>,
     alloc: A,
-    path: &str,
+    request: CheckRequest<'_>,
     text: &str,
     fault: BrokenRule,
 ) -> Result<(), AllocError> {
-    match words_of_item(alloc, path, text, fault.rule, fault.item) {
+    let CheckRequest {
+        input,
+        form,
+        style,
+        ..
+    } = request;
+    match words_of_item(alloc, input, text, form, fault.rule, fault.item) {
         None => Err(AllocError),
-        Some(said) => {
-            words.push_str(said.as_str())?;
-            words.push_str("\n")
-        }
+        Some(words) => match style {
+            Style::Plain => writeln!(lines, "{words}"),
+            Style::Json => writeln!(lines, "{}", Told::of(refusal_of(fault).fault, &words)),
+        },
     }
 }
 
-// The words of the first faults, and how many more there are.
+// What is said of how many faults more there are.
+fn push_more<A: Allocator>(
+    lines: &mut String<A>,
+    alloc: A,
+    style: Style,
+    more: usize,
+) -> Result<(), AllocError> {
+    let words = format!(in alloc; "and {more} faults more: standard output names them")?;
+    push_message(lines, style, words.as_str())
+}
+
+// Adds a message.
+fn push_message<A: Allocator>(
+    lines: &mut String<A>,
+    style: Style,
+    message: &str,
+) -> Result<(), AllocError> {
+    match style {
+        Style::Plain => writeln!(lines, "{message}"),
+        Style::Json => writeln!(lines, "{}", Told::message(&message)),
+    }
+}
+
+// What is said of the first faults, and how many more there are.
 fn words_of<A: Allocator + Clone>(
     alloc: A,
-    path: &str,
+    request: CheckRequest<'_>,
     text: &str,
     told: &[BrokenRule],
 ) -> Result<String<A>, AllocError> {
-    let mut words = String::new(alloc.clone()?);
+    let mut lines = String::new(alloc.clone()?);
     for fault in told.iter().take(MOST_SAID) {
-        push_words(&mut words, alloc.clone()?, path, text, *fault)?;
+        push_words(&mut lines, alloc.clone()?, request, text, *fault)?;
     }
     if MOST_SAID < told.len() {
-        writeln!(
-            &mut words,
-            "and {} faults more: standard output names them",
-            told.len() - MOST_SAID
-        )?;
+        push_more(&mut lines, alloc, request.style, told.len() - MOST_SAID)?;
     }
-    Ok(words)
+    Ok(lines)
 }
 
-// Says faults in words, unless there is no memory for that.
+// Says faults, unless there is no memory for that.
 fn say_faults<A: Allocator + Clone, E: Write>(
     alloc: A,
     errors: &mut E,
-    path: &str,
+    request: CheckRequest<'_>,
     text: &[u8],
     told: &[BrokenRule],
 ) {
     if let Ok(text) = str::from_utf8(text) {
-        if let Ok(words) = words_of(alloc, path, text, told) {
+        if let Ok(words) = words_of(alloc, request, text, told) {
             say_words(errors, words.as_str());
         }
     }
 }
 
-/// Says in words what was judged, where all faults are told: the trace of this text, which has so many.
-pub(crate) fn say_summary<E: Write>(errors: &mut E, tells_all: bool, text: &[u8], faults: usize) {
-    if tells_all {
-        let tally = Tally::of(text);
+/// Says in words what was judged, where all faults are told: how many they are.
+pub(crate) fn say_summary<E: Write>(
+    errors: &mut E,
+    request: CheckRequest<'_>,
+    tally: Tally,
+    faults: usize,
+) {
+    if request.tells_all && request.style == Style::Plain {
         let _ = writeln!(errors, "{tally}; {faults} faults");
         let _ = errors.flush();
     }
 }
 
-/// Ends a check of the text of this path that has faults: their lines are printed, and said in words, with what was
-/// judged where all faults are told.
+/// Ends a check of a text that has faults: their lines are printed, and said on the errors, with what was judged where all
+/// faults are told.
 pub(crate) fn tell_faults<A: Allocator + Clone, W: Write, E: Write, P>(
     alloc: A,
     console: &mut Console<W, E, P>,
-    path: &str,
+    request: CheckRequest<'_>,
     text: &[u8],
+    tally: Tally,
     first: BrokenRule,
     told: &[BrokenRule],
-    tells_all: bool,
 ) -> Exit
     ensures done { result ≡ Exit.Done → ⊥ }
     ensures refused { (refusal : Refused) → result ≡ Exit.Refused refusal → (refusal ≡ refusal_of (ItemAt first.rule first.item))
@@ -126,8 +157,8 @@ pub(crate) fn tell_faults<A: Allocator + Clone, W: Write, E: Write, P>(
     };
     let exit = finish_refused(console, refusal_of(first), lines.as_str());
     if matches!(exit, Exit::Refused(_)) {
-        say_faults(alloc, &mut console.errors, path, text, told);
-        say_summary(&mut console.errors, tells_all, text, told.len());
+        say_faults(alloc, &mut console.errors, request, text, told);
+        say_summary(&mut console.errors, request, tally, told.len());
     }
     exit
 }

@@ -3,7 +3,7 @@ ghost use Rattle.std.specs.Prelude.{◌≡◌, IfOk, IfErr, OnOk, OnErr};
 ghost use Rattle.std.specs.List.{All};
 ghost use Rattle.seq_files.specs.Store.{with_file};
 ghost use Rattle.trace_text.specs.Line.{text, IsPrintable};
-ghost use Rattle.trace_text.specs.Trace.{IsTextOf};
+ghost use Rattle.trace_text.specs.Forms.{IsTraceText};
 ghost use Rattle.seq_inputs.specs.Stops.{RefusesNothing, Says};
 ghost use Rattle.seq_commands.specs.Checks.{RefusesTrace};
 
@@ -11,21 +11,23 @@ use onfi_cycle::Item;
 use seq_files::Files;
 use seq_inputs::{Fault, Stop, words_of_trace, write_file};
 use std::alloc::Allocator;
-use trace_text::{TraceRefusal, parse, print};
+use trace_text::{TraceForm, TraceRefusal, parse_as, print};
 
-/// The items of the text of this path.
+/// The items of the text of this path, which is to have this form.
 pub(crate) fn items_of<'p, A: Allocator + Clone>(
     alloc: A,
     path: &'p str,
     text: &str,
+    form: TraceForm,
 ) -> Result<Vec<Item, A>, Stop<'p, A>>
-    ensures ok { IfOk result (λ items. IsTextOf text.now items.items) }
-    ensures err { IfErr result (Says (RefusesTrace text.now)) }
+    ensures ok { IfOk result (λ items. IsTraceText form text.now items.items) }
+    ensures printable { IfOk result (λ items. All IsPrintable items.items) }
+    ensures err { IfErr result (Says (RefusesTrace form text.now)) }
 {
-    match parse(alloc.clone()?, text) {
+    match parse_as(alloc.clone()?, text, form) {
         Ok(items) => Ok(items),
         Err(TraceRefusal::Fault { fault, line }) => {
-            let words = words_of_trace(alloc, path, text, fault, line);
+            let words = words_of_trace(alloc, path, text, form, fault, line);
             Err(Stop::refused(Fault::Trace { fault, line }, words))
         }
         Err(TraceRefusal::OutOfMemory) => Err(Stop::OutOfMemory),

@@ -24,7 +24,7 @@ use nand_geometry::Geometry;
 use onfi_cycle::Item;
 use seq_files::Files;
 use seq_inputs::{
-    Console, Exit, Fault, Stop, end_without_memory, fail, finish, geometry_at, read_file,
+    Console, Exit, Fault, Stop, Style, end_without_memory, fail_as, finish, geometry_at, read_file,
     read_program, words_of_reason,
 };
 use std::alloc::Allocator;
@@ -146,6 +146,7 @@ pub(crate) fn verify_at<'p, A: Allocator + Clone, F: Files>(
 /// is given for it, the text of the run stands there before the line is printed: what happens up to the refused word, and the cycle that
 /// isn't permitted then, so that `check` of it names the rule. `FileFault`: a file couldn't be read or written, or the output couldn't be
 /// written. No other file is written. After `accepted` the notes to it, if there are some, are said on the console's errors, unless it is to be quiet.
+/// What is said there is in this style.
 pub fn verify_file<A: Allocator + Clone, F: Files, W: Write, E: Write, P>(
     alloc: A,
     files: &mut F,
@@ -154,6 +155,7 @@ pub fn verify_file<A: Allocator + Clone, F: Files, W: Write, E: Write, P>(
     input: &str,
     counter: Option<&str>,
     is_quiet: bool,
+    style: Style,
 ) -> Exit
     ensures done { result ≡ Exit.Done → IsAccepted (F.store files.old) page.now input.now × (F.store files.new ≡ F.store files.old)
         × Appends (W.contents console.old.output) (W.contents console.new.output) (codes "accepted\n") }
@@ -173,6 +175,7 @@ pub fn verify_file<A: Allocator + Clone, F: Files, W: Write, E: Write, P>(
                 say_notes(
                     alloc,
                     &mut console.errors,
+                    style,
                     input,
                     bytes.as_slice(),
                     &verified,
@@ -180,6 +183,6 @@ pub fn verify_file<A: Allocator + Clone, F: Files, W: Write, E: Write, P>(
             }
             exit
         }
-        Err(stop) => fail(alloc, console, None, stop),
+        Err(stop) => fail_as(alloc, console, style, stop),
     }
 }

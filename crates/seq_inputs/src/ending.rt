@@ -10,6 +10,9 @@ use crate::console::Console;
 use crate::exit::Exit;
 use crate::refusal::Refusal;
 use crate::stop::{MOST_BUFFER_BYTES, Stop};
+use crate::style::Style;
+use crate::told::Told;
+use crate::words::Words;
 use seq_files::{FileError, FileFault, write_text};
 use shown_text::Shown;
 use std::alloc::{Allocator, Global};
@@ -48,7 +51,7 @@ impl fmt::Display for NamedBy<'_> {
 fn say_refusal<A: Allocator, E: Write>(
     errors: &mut E,
     named: NamedBy<'_>,
-    words: Option<String<A>>,
+    words: Option<Words<'_, A>>,
 ) -> io::Result<()> {
     match words {
         Some(words) => writeln!(errors, "{named}{words}"),
@@ -107,18 +110,94 @@ fn say<A: Allocator, E: Write>(
     errors.flush()
 }
 
-// Says in words why a command isn't done, and how it ends.
-fn tell<A: Allocator, E: Write>(errors: &mut E, run: Option<&str>, stop: Stop<'_, A>) -> Exit
+// Says a refusal to a tool, unless there was no memory for its words.
+fn say_refusal_as_json<A: Allocator, E: Write>(
+    errors: &mut E,
+    refusal: Refusal,
+    words: Option<Words<'_, A>>,
+) -> io::Result<()> {
+    match words {
+        Some(words) => writeln!(errors, "{}", Told::of(refusal.fault, &words)),
+        None => Ok(()),
+    }
+}
+
+// Says of a file or a stream to a tool that it couldn't be read or written.
+fn say_file_fault_as_json<E: Write>(
+    errors: &mut E,
+    path: &str,
+    fault: FileFault,
+) -> io::Result<()> {
+    let told = Told {
+        path: Some(path),
+        ..Told::message(&fault)
+    };
+    writeln!(errors, "{told}")
+}
+
+// Says to a tool why a command isn't done, as one JSON object in a line.
+fn say_as_json<A: Allocator, E: Write>(errors: &mut E, stop: Stop<'_, A>) -> io::Result<()> {
+    match stop {
+        Stop::Refused { refusal, words } => say_refusal_as_json(errors, refusal, words)?,
+        Stop::FileFault { path, fault, .. } => say_file_fault_as_json(errors, path, fault)?,
+        Stop::ReaderGone => {}
+        Stop::BuffersTooLarge { .. } | Stop::OutOfMemory => {
+            writeln!(errors, "{}", Told::message(&"out of memory"))?;
+        }
+    }
+    errors.flush()
+}
+
+// How a command tells why it isn't done: in this style, and of this run file where it is a run.
+#[derive(Clone, Copy)]
+struct Manner<'a> {
+    style: Style,
+    run: Option<&'a str>,
+}
+
+// A manner of words, of no run file.
+const PLAIN: Manner<'static> = Manner {
+    style: Style::Plain,
+    run: None,
+};
+
+// Says why a command isn't done, and how it ends.
+fn tell<A: Allocator, E: Write>(errors: &mut E, manner: Manner<'_>, stop: Stop<'_, A>) -> Exit
     ensures { result ≡ exit_of stop.entry }
 {
     let exit = stop.exit();
-    let _ = say(errors, run, stop);
+    let _ = match manner.style {
+        Style::Plain => say(errors, manner.run, stop),
+        Style::Json => say_as_json(errors, stop),
+    };
     exit
+}
+
+// Ends a command that isn't done: the line of what is refused is written to the output, and what there is to say to the errors.
+#[tactic(auto, using(crate::proofs::Refusing::told_is, crate::proofs::Refusing::none_told))]
+fn fail_in<A: Allocator, W: Write, E: Write, P>(
+    alloc: A,
+    console: &mut Console<W, E, P>,
+    manner: Manner<'_>,
+    stop: Stop<'_, A>,
+) -> Exit
+    ensures done { result ≡ Exit.Done → ⊥ }
+    ensures refused { (refusal : Refusal) → result ≡ Exit.Refused refusal → (refusal_in stop.entry ≡ Some refusal)
+        × Appends (W.contents console.old.output) (W.contents console.new.output) (line_of refusal) }
+    ensures other { refusal_in stop.entry ≡ None → result ≡ exit_of stop.entry }
+    ensures unwritten { (refusal : Refusal) → refusal_in stop.entry ≡ Some refusal → (result ≡ Exit.Refused refusal) ⊎ IsUnwritten result }
+{
+    let Some(refusal) = stop.refusal() else {
+        return tell(&mut console.errors, manner, stop);
+    };
+    match refuse(alloc, &mut console.output, refusal) {
+        Ok(()) => tell(&mut console.errors, manner, stop),
+        Err(error) => tell(&mut console.errors, manner, Stop::<A>::of_file("-", error)),
+    }
 }
 
 /// Ends a command that isn't done, of this run file where it is a run: the line of what is refused is written to the output, and what there is to
 /// say in words to the errors.
-#[tactic(auto, using(crate::proofs::Refusing::told_is, crate::proofs::Refusing::none_told))]
 pub fn fail<A: Allocator, W: Write, E: Write, P>(
     alloc: A,
     console: &mut Console<W, E, P>,
@@ -131,20 +210,34 @@ pub fn fail<A: Allocator, W: Write, E: Write, P>(
     ensures other { refusal_in stop.entry ≡ None → result ≡ exit_of stop.entry }
     ensures unwritten { (refusal : Refusal) → refusal_in stop.entry ≡ Some refusal → (result ≡ Exit.Refused refusal) ⊎ IsUnwritten result }
 {
-    let Some(refusal) = stop.refusal() else {
-        return tell(&mut console.errors, run, stop);
+    let manner = Manner {
+        style: Style::Plain,
+        run,
     };
-    match refuse(alloc, &mut console.output, refusal) {
-        Ok(()) => tell(&mut console.errors, run, stop),
-        Err(error) => tell(&mut console.errors, run, Stop::<A>::of_file("-", error)),
-    }
+    fail_in(alloc, console, manner, stop)
+}
+
+/// The same in a style, of a command that is no run.
+pub fn fail_as<A: Allocator, W: Write, E: Write, P>(
+    alloc: A,
+    console: &mut Console<W, E, P>,
+    style: Style,
+    stop: Stop<'_, A>,
+) -> Exit
+    ensures done { result ≡ Exit.Done → ⊥ }
+    ensures refused { (refusal : Refusal) → result ≡ Exit.Refused refusal → (refusal_in stop.entry ≡ Some refusal)
+        × Appends (W.contents console.old.output) (W.contents console.new.output) (line_of refusal) }
+    ensures other { refusal_in stop.entry ≡ None → result ≡ exit_of stop.entry }
+    ensures unwritten { (refusal : Refusal) → refusal_in stop.entry ≡ Some refusal → (result ≡ Exit.Refused refusal) ⊎ IsUnwritten result }
+{
+    fail_in(alloc, console, Manner { style, run: None }, stop)
 }
 
 /// Ends a command for which memory was refused.
 pub fn end_without_memory<W: Write, E: Write, P>(console: &mut Console<W, E, P>) -> Exit
     ensures { result ≡ Exit.OutOfMemory }
 {
-    tell(&mut console.errors, None, Stop::<Global>::OutOfMemory)
+    tell(&mut console.errors, PLAIN, Stop::<Global>::OutOfMemory)
 }
 
 /// Ends a command that is done: it prints what the command has to say.
@@ -157,7 +250,7 @@ pub fn finish<W: Write, E: Write, P>(console: &mut Console<W, E, P>, text: &str)
         Ok(()) => Exit::Done,
         Err(error) => tell(
             &mut console.errors,
-            None,
+            PLAIN,
             Stop::<Global>::of_file("-", error),
         ),
     }
@@ -179,7 +272,7 @@ pub fn finish_refused<W: Write, E: Write, P>(
         Ok(()) => Exit::Refused(refusal),
         Err(error) => tell(
             &mut console.errors,
-            None,
+            PLAIN,
             Stop::<Global>::of_file("-", error),
         ),
     }

@@ -1,7 +1,8 @@
-//! What is wrong with a file, in words for whoever wrote it: `FILE:LINE: word N, `WORD`: what is wrong (CODE)`, as far as there is a line and a word.
+//! What is wrong with a file, in words for whoever wrote it: ``word N, `WORD`: what is wrong (CODE)``, with its line, as far as there is a line and a word.
 
 use crate::fault::Fault;
 use crate::reading::is_source;
+use crate::words::Words;
 use bus_capture::CaptureFault;
 use micro_asm::{AsmFault, AsmMessage, AsmRefusal, disassemble};
 use micro_claims::{Fault as TextFault, Reason};
@@ -11,9 +12,9 @@ use nand_geometry::Geometry;
 use onfi_cycle::Forbidden;
 use seq_core::JobFault;
 use shown_text::{Shown, line_at};
-use std::alloc::Allocator;
+use std::alloc::{AllocError, Allocator};
 use std::fmt;
-use trace_text::{TraceFault, TraceMessage, TraceRefusal};
+use trace_text::{TraceFault, TraceForm, TraceMessage, TraceRefusal, find_item};
 
 impl fmt::Display for Fault {
     fn fmt<W: fmt::Write>(&self, f: &mut fmt::Formatter<W>) -> fmt::Result {
@@ -33,8 +34,8 @@ impl fmt::Display for Fault {
 }
 
 /// What is wrong with the file of this path as a whole, in words, unless there is no memory for them.
-pub fn words_of<A: Allocator>(alloc: A, path: &str, fault: Fault) -> Option<String<A>> {
-    format!(in alloc; "{}: {fault} ({})", Shown::path(path), fault.code()).ok()
+pub fn words_of<A: Allocator>(alloc: A, path: &str, fault: Fault) -> Option<Words<'_, A>> {
+    Words::at(path, None, format!(in alloc; "{fault} ({})", fault.code()))
 }
 
 // What the number of a word file's fault is of, if it is of something.
@@ -51,88 +52,102 @@ fn place_of(fault: WordFault, word: usize) -> Option<&'static str> {
 }
 
 /// What is wrong with a word file.
-pub fn words_of_file<A: Allocator>(
+pub fn words_of_file<'p, A: Allocator>(
     alloc: A,
-    path: &str,
+    path: &'p str,
     bytes: &[u8],
     fault: WordFault,
     word: usize,
-) -> Option<String<A>> {
-    let path = Shown::path(path);
+) -> Option<Words<'p, A>> {
     let code = fault.code();
     if is_source(bytes) {
-        return format!(in alloc;
-            "{path}: it is an assembly text, where a word file is wanted: `onfiseq asm` makes one ({code})"
-        ).ok();
+        let text = format!(in alloc;
+            "it is an assembly text, where a word file is wanted: `onfiseq asm` makes one ({code})"
+        );
+        return Words::at(path, None, text);
     }
-    match place_of(fault, word) {
-        Some(place) => format!(in alloc; "{path}: {place} {word}: {fault} ({code})").ok(),
-        None => format!(in alloc; "{path}: {fault} ({code})").ok(),
-    }
+    let text = match place_of(fault, word) {
+        Some(place) => format!(in alloc; "{place} {word}: {fault} ({code})"),
+        None => format!(in alloc; "{fault} ({code})"),
+    };
+    Words::at(path, None, text)
 }
 
 /// What is wrong with a line of an assembly text.
-pub fn words_of_source<A: Allocator>(
+pub fn words_of_source<'p, A: Allocator>(
     alloc: A,
-    path: &str,
+    path: &'p str,
     text: &str,
     fault: AsmFault,
     line: usize,
-) -> Option<String<A>> {
+) -> Option<Words<'p, A>> {
     let message = AsmMessage::new(AsmRefusal::Fault { fault, line }, text);
-    format!(in alloc; "{}:{line}: {message}", Shown::path(path)).ok()
+    Words::at(path, Some(line), format!(in alloc; "{message}"))
 }
 
 /// What is wrong with a line of the text of a trace.
-pub fn words_of_trace<A: Allocator>(
+pub fn words_of_trace<'p, A: Allocator>(
     alloc: A,
-    path: &str,
+    path: &'p str,
     text: &str,
+    form: TraceForm,
     fault: TraceFault,
     line: usize,
-) -> Option<String<A>> {
-    let message = TraceMessage::new(TraceRefusal::Fault { fault, line }, text);
-    format!(in alloc; "{}:{line}: {message}", Shown::path(path)).ok()
+) -> Option<Words<'p, A>> {
+    let message = TraceMessage::new(TraceRefusal::Fault { fault, line }, text, form);
+    Words::at(path, Some(line), format!(in alloc; "{message}"))
 }
 
 /// What is wrong with a capture: of a line with that line, where the file is UTF-8.
-pub fn words_of_capture<A: Allocator>(
+pub fn words_of_capture<'p, A: Allocator>(
     alloc: A,
-    path: &str,
+    path: &'p str,
     bytes: &[u8],
     fault: CaptureFault,
-) -> Option<String<A>> {
+) -> Option<Words<'p, A>> {
     let CaptureFault::File(at) = fault else {
         return words_of(alloc, path, Fault::Capture { fault });
     };
-    let path = Shown::path(path);
-    let line = at.line;
     let code = fault.code();
-    match str::from_utf8(bytes) {
+    let text = match str::from_utf8(bytes) {
         Ok(text) => {
-            let shown = Shown::line(line_at(text, line));
-            format!(in alloc; "{path}:{line}: `{shown}`: {} ({code})", at.fault).ok()
+            let shown = Shown::line(line_at(text, at.line));
+            format!(in alloc; "`{shown}`: {} ({code})", at.fault)
         }
-        Err(_) => format!(in alloc; "{path}:{line}: {} ({code})", at.fault).ok(),
+        Err(_) => format!(in alloc; "{} ({code})", at.fault),
+    };
+    Words::at(path, Some(at.line), text)
+}
+
+// The line of an item, counted from 1, and its time, if it has one.
+fn find_line(text: &str, form: TraceForm, item: usize) -> (usize, Option<u64>) {
+    let found = match form {
+        TraceForm::Strict => None,
+        TraceForm::Recorded => find_item(text, item),
+    };
+    match found {
+        Some(found) => (found.line, found.time),
+        None => (item.saturating_add(1), None),
     }
 }
 
-/// Which rule an item of a trace breaks, whose text has an item a line.
-pub fn words_of_item<A: Allocator>(
+/// Which rule an item of a trace breaks.
+pub fn words_of_item<'p, A: Allocator>(
     alloc: A,
-    path: &str,
+    path: &'p str,
     text: &str,
+    form: TraceForm,
     rule: Forbidden,
     item: usize,
-) -> Option<String<A>> {
-    let path = Shown::path(path);
-    let line = item.saturating_add(1);
+) -> Option<Words<'p, A>> {
+    let (line, time) = find_line(text, form, item);
     let shown = Shown::line(line_at(text, line));
-    format!(in alloc;
-        "{path}:{line}: item {item}, `{shown}`: {rule} ({})",
-        rule.code()
-    )
-    .ok()
+    let code = rule.code();
+    let words = match time {
+        Some(time) => { format!(in alloc; "item {item} at {time}, `{shown}`: {rule} ({code})") }
+        None => format!(in alloc; "item {item}, `{shown}`: {rule} ({code})"),
+    };
+    Words::at(path, Some(line), words)
 }
 
 // What a line of an assembly text says, its comment left out.
@@ -164,10 +179,9 @@ fn find_word(assembly: &str, word: usize) -> Option<(usize, &str)> {
     None
 }
 
-// A word of a microprogram: its file and the line there, its number, and what stands there, as far as that is known.
+// A word of a microprogram: its line, its number, and what stands there, as far as that is known.
 #[derive(Clone, Copy)]
 struct Named<'a> {
-    path: &'a str,
     line: Option<usize>,
     word: usize,
     shown: Option<&'a str>,
@@ -175,11 +189,7 @@ struct Named<'a> {
 
 impl fmt::Display for Named<'_> {
     fn fmt<W: fmt::Write>(&self, f: &mut fmt::Formatter<W>) -> fmt::Result {
-        write!(f, "{}", Shown::path(self.path))?;
-        if let Some(line) = self.line {
-            write!(f, ":{line}")?;
-        }
-        write!(f, ": word {}", self.word)?;
+        write!(f, "word {}", self.word)?;
         match self.shown {
             Some(shown) => write!(f, ", `{}`", Shown::line(shown)),
             None => Ok(()),
@@ -193,60 +203,60 @@ fn say_reason<A: Allocator>(
     named: Named<'_>,
     reason: Reason,
     cause: Option<Cause>,
-) -> Option<String<A>> {
+) -> Result<String<A>, AllocError> {
     let code = reason.code();
     let Some(cause) = cause else {
-        return format!(in alloc; "{named}: {reason} ({code})").ok();
+        return format!(in alloc; "{named}: {reason} ({code})");
     };
     match cause.rule() {
-        None => format!(in alloc; "{named}: {reason}: {cause} ({code})").ok(),
-        Some(rule) => {
-            format!(in alloc; "{named}: {reason}: {cause} ({code}, {})", rule.code()).ok()
-        }
+        None => format!(in alloc; "{named}: {reason}: {cause} ({code})"),
+        Some(rule) => { format!(in alloc; "{named}: {reason}: {cause} ({code}, {})", rule.code()) }
     }
 }
 
 /// What is against a word of a microprogram that was read from these bytes: an assembly text, or a word file, whose word is shown as assembly.
-pub fn words_of_reason<A: Allocator + Clone>(
+pub fn words_of_reason<'p, A: Allocator + Clone>(
     alloc: A,
-    path: &str,
+    path: &'p str,
     bytes: &[u8],
     text: &Text<A>,
     geometry: &Geometry,
     word: usize,
     reason: Reason,
-) -> Option<String<A>> {
+) -> Option<Words<'p, A>> {
     if reason == Reason::NoWords {
         return words_of(alloc, path, Fault::Text { reason, word });
     }
     let alloc_of_words = alloc.clone().ok()?;
     let assembly = disassemble(alloc, text).ok()?;
-    let named = name_word(path, bytes, assembly.as_str(), word);
+    let named = name_word(bytes, assembly.as_str(), word);
     let cause = explain(text, geometry, TextFault { word, reason });
-    say_reason(alloc_of_words, named, reason, cause)
+    let words = say_reason(alloc_of_words, named, reason, cause);
+    Words::at(path, named.line, words)
 }
 
 /// A note to a microprogram that was read from these bytes and has this text as assembly: to one of its words, or to its header.
-pub fn words_of_note<A: Allocator, M: fmt::Display + Drop>(
+pub fn words_of_note<'p, A: Allocator, M: fmt::Display + Drop>(
     alloc: A,
-    path: &str,
+    path: &'p str,
     bytes: &[u8],
     assembly: &str,
     word: Option<usize>,
     note: M,
     code: &'static str,
-) -> Option<String<A>> {
+) -> Option<Words<'p, A>> {
     match word {
         Some(word) => {
-            let named = name_word(path, bytes, assembly, word);
-            format!(in alloc; "{named}: {note} ({code})").ok()
+            let named = name_word(bytes, assembly, word);
+            let words = format!(in alloc; "{named}: {note} ({code})");
+            Words::at(path, named.line, words)
         }
-        None => format!(in alloc; "{}: {note} ({code})", Shown::path(path)).ok(),
+        None => Words::at(path, None, format!(in alloc; "{note} ({code})")),
     }
 }
 
 // A word of a microprogram that has these bytes, and this text as assembly.
-fn name_word<'a>(path: &'a str, bytes: &'a [u8], assembly: &'a str, word: usize) -> Named<'a> {
+fn name_word<'a>(bytes: &'a [u8], assembly: &'a str, word: usize) -> Named<'a> {
     let source = match str::from_utf8(bytes) {
         Ok(source) if is_source(bytes) => Some(source),
         Ok(_) | Err(_) => None,
@@ -255,38 +265,31 @@ fn name_word<'a>(path: &'a str, bytes: &'a [u8], assembly: &'a str, word: usize)
         Some(source) => find_word(source, word).unzip(),
         None => (None, find_word(assembly, word).map(|found| found.1)),
     };
-    Named {
-        path,
-        line,
-        word,
-        shown,
-    }
+    Named { line, word, shown }
 }
 
 /// What is wrong with the job of a program of so many rows, counted from this index, on a die of this geometry.
-pub fn words_of_job<A: Allocator>(
+pub fn words_of_job<'p, A: Allocator>(
     alloc: A,
-    path: &str,
+    path: &'p str,
     fault: JobFault,
     geometry: &Geometry,
     base: u32,
     rows: u16,
-) -> Option<String<A>> {
-    let path = Shown::path(path);
+) -> Option<Words<'p, A>> {
     let code = fault.code();
-    match fault {
+    let text = match fault {
         JobFault::RowsOutside => format!(in alloc;
-            "{path}: {fault}: {base} and {rows}, where a plane has {} ({code})",
+            "{fault}: {base} and {rows}, where a plane has {} ({code})",
             geometry.indices()
-        )
-        .ok(),
+        ),
         JobFault::NotAtBlock => format!(in alloc;
-            "{path}: {fault}: {base}, where a block has {} rows ({code})",
+            "{fault}: {base}, where a block has {} rows ({code})",
             geometry.parts().pages
-        )
-        .ok(),
+        ),
         JobFault::NoSuchLun | JobFault::BufferLength | JobFault::OtherGeometry => {
-            format!(in alloc; "{path}: {fault} ({code})").ok()
+            format!(in alloc; "{fault} ({code})")
         }
-    }
+    };
+    Words::at(path, None, text)
 }

@@ -14,12 +14,16 @@ mod lines;
 mod reading;
 mod refusal;
 mod stop;
+mod style;
+mod told;
+mod words;
 
 pub use console::Console;
-pub use ending::{end_without_memory, fail, finish, finish_refused, say_words};
+pub use ending::{end_without_memory, fail, fail_as, finish, finish_refused, say_words};
 pub use exit::Exit;
 pub use explaining::{
-    words_of, words_of_capture, words_of_item, words_of_job, words_of_note, words_of_reason, words_of_trace,
+    words_of, words_of_capture, words_of_item, words_of_job, words_of_note, words_of_reason,
+    words_of_trace,
 };
 pub use fault::Fault;
 pub use lines::push_end_line;
@@ -29,3 +33,6 @@ pub use reading::{
 };
 pub use refusal::Refusal;
 pub use stop::{MOST_BUFFER_BYTES, Stop};
+pub use style::Style;
+pub use told::{Place, Told};
+pub use words::Words;

@@ -6,6 +6,7 @@ ghost use Rattle.seq_inputs.specs.Stops.{RefusesNothing, IsRefusal, stop_at, ref
 use crate::exit::Exit;
 use crate::fault::Fault;
 use crate::refusal::Refusal;
+use crate::words::Words;
 use seq_files::{FileError, FileFault};
 use std::alloc::{AllocError, AllocFailed, Allocator, Global};
 
@@ -18,7 +19,7 @@ pub enum Stop<'a, A: Allocator = Global> {
     /// What was read is refused; the words say it to a person, unless there was no memory for them.
     Refused {
         refusal: Refusal,
-        words: Option<String<A>>,
+        words: Option<Words<'a, A>>,
     },
     /// What has this path can't be read or written, `-` for a stream, and the line of the run file that names it, if one does.
     FileFault {
@@ -64,7 +65,7 @@ impl<'a, A: Allocator> Stop<'a, A> {
     }
 
     /// A file has this fault, which these words say.
-    pub fn refused(fault: Fault, words: Option<String<A>>) -> Stop<'a, A>
+    pub fn refused(fault: Fault, words: Option<Words<'a, A>>) -> Stop<'a, A>
         ensures { IsRefusal fault result }
     {
         Stop::Refused {

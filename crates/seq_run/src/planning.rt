@@ -20,7 +20,9 @@ use onfi_cycle::Lun;
 use run_file::{Numbered, RunFault, RunRefusal, RunText, Statement};
 use seq_core::Job;
 use seq_files::Files;
-use seq_inputs::{Fault, MOST_BUFFER_BYTES, Refusal, Stop, geometry_at, verified_at, words_of_job};
+use seq_inputs::{
+    Fault, MOST_BUFFER_BYTES, Refusal, Stop, Words, geometry_at, verified_at, words_of_job,
+};
 use std::alloc::Global;
 
 // A line doesn't stand where it is.
@@ -48,7 +50,7 @@ fn refuse_lun<'a>(
         luns.saturating_sub(1),
         fault.code()
     );
-    Stop::refused(Fault::Statement { fault }, words.ok())
+    Stop::refused(Fault::Statement { fault }, Words::of(words))
 }
 
 // The LUN of a channel that has these numbers.

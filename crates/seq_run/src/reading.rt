@@ -12,7 +12,7 @@ use die_model::{ImageRefusal, LunDie};
 use nand_geometry::Geometry;
 use run_file::RunFault;
 use seq_files::Files;
-use seq_inputs::{Fault, Stop, read_file, words_of};
+use seq_inputs::{Fault, Stop, Words, read_file, words_of};
 use shown_text::Shown;
 use std::alloc::Global;
 
@@ -52,7 +52,7 @@ fn refuse_input<'a>(alloc: Global, path: &str, bytes: usize, buffer: usize) -> S
         Shown::path(path),
         fault.code()
     );
-    Stop::refused(Fault::Statement { fault }, words.ok())
+    Stop::refused(Fault::Statement { fault }, Words::of(words))
 }
 
 /// A buffer of this length that begins with the bytes of a file, if there is one, and is 00 beyond them.

@@ -19,7 +19,7 @@ use crate::summary::{Stats, Summary};
 use crate::writing::write_run;
 use run_file::{RunMessage, RunRefusal, parse_run};
 use seq_files::Files;
-use seq_inputs::{Console, Exit, Fault, Refusal, Stop, fail, read_file, text_of};
+use seq_inputs::{Console, Exit, Fault, Refusal, Stop, Words, fail, read_file, text_of};
 use std::alloc::Global;
 use std::io::Write;
 use std::sync::Wait;
@@ -81,13 +81,13 @@ fn tell_stats<C: Clock, E: Write>(errors: &mut E, summary: Summary, times: &Time
 }
 
 // What is wrong with a line of a run file, as far as the file alone tells it.
-fn words_of_line(alloc: Global, text: &str, refusal: Refusal) -> Option<String> {
+fn words_of_line<'a>(alloc: Global, text: &str, refusal: Refusal) -> Option<Words<'a, Global>> {
     let Fault::Statement { fault } = refusal.fault else {
         return None;
     };
     let line = refusal.line?;
     let message = RunMessage::new(RunRefusal { fault, line }, text);
-    format!(in alloc; "{message}").ok()
+    Words::of(format!(in alloc; "{message}"))
 }
 
 // Says of a line of a run file that is refused what stands there.

@@ -126,7 +126,10 @@ fn what_signals_are(rt: HostRuntime) -> Result<(), Fail> {
             mappings,
             ..CAPTURE
         };
-        assert!(rt; asked.is_ok_and(|asked| asked == Command::Capture(request)), "{line}");
+        assert!(rt;
+            asked.is_ok_and(|asked| asked == Command::Capture(request)),
+            "{line}"
+        );
     }
     Ok(())
 }

@@ -9,3 +9,4 @@ pub mod Runs
 pub mod FirstBroken
 pub mod RecordedWords
 pub mod RecordedTexts
+pub mod RecordedItems

@@ -82,7 +82,7 @@ four_take ce l third fourth (Some Ready) item is e = ready_takes ce l third four
 four_take ce l third fourth (Some ArrayReady) item is e = absurd cc
 four_take ce l third fourth None item is e = absurd cc
 
-item_takes : (fs : List (List ℕ)) (item : Item) → item_of fs ≡ Ok item → IsLineOf (join_with_byte 32 fs) item
+pub item_takes : (fs : List (List ℕ)) (item : Item) → item_of fs ≡ Ok item → IsLineOf (join_with_byte 32 fs) item
 item_takes [] item e = absurd cc
 item_takes (a ∷ []) item e = absurd cc
 item_takes (a ∷ b ∷ []) item e = absurd cc

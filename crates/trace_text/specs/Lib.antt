@@ -5,3 +5,4 @@ pub mod Checking
 pub mod Codes
 pub mod Recorded
 pub mod RecordedLines
+pub mod Forms

@@ -16,6 +16,7 @@ mod bad_number;
 mod bad_shape;
 mod checking;
 mod data_run;
+mod form;
 mod item_fields;
 pub mod laws;
 mod line;
@@ -35,6 +36,7 @@ mod time;
 mod words;
 
 pub use checking::{CheckRefusal, check, check_watched, first_broken};
+pub use form::{TraceForm, parse_as};
 pub use message::TraceMessage;
 pub use parsing::parse;
 pub use printing::{is_printable, print, print_bytes};

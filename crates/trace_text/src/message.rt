@@ -2,19 +2,13 @@
 
 use crate::bad_number::BadNumber;
 use crate::bad_shape::BadShape;
+use crate::form::TraceForm;
 use crate::item_fields::ItemFields;
 use crate::line_advice::LineAdvice;
 use crate::recorded_advice::{RecordedAdvice, item_text};
 use crate::refusal::{TraceFault, TraceRefusal};
 use shown_text::{Shown, line_at};
 use std::fmt;
-
-// The form that a text is to have.
-#[derive(Clone, Copy)]
-enum TraceForm {
-    Strict,
-    Recorded,
-}
 
 /// A refusal beside the text that was refused. It displays what stands in its line, unless that is empty, and what is wanted there:
 /// `` `0 C D0`: `D0` is in upper case: XX is two hexadecimal digits in lower case (X2)``. The file and the number of the line are for the caller to
@@ -27,21 +21,12 @@ pub struct TraceMessage<'a> {
 }
 
 impl<'a> TraceMessage<'a> {
-    /// A refusal of this text by [`parse`](crate::parse).
-    pub fn new(refusal: TraceRefusal, text: &'a str) -> TraceMessage<'a> {
+    /// A refusal of this text, which was to have this form.
+    pub fn new(refusal: TraceRefusal, text: &'a str, form: TraceForm) -> TraceMessage<'a> {
         TraceMessage {
             refusal,
             text,
-            form: TraceForm::Strict,
-        }
-    }
-
-    /// A refusal of this text by [`parse_recorded`](crate::parse_recorded).
-    pub fn of_recorded(refusal: TraceRefusal, text: &'a str) -> TraceMessage<'a> {
-        TraceMessage {
-            refusal,
-            text,
-            form: TraceForm::Recorded,
+            form,
         }
     }
 }

@@ -1,10 +1,11 @@
 //! Reading a recorded text.
 
 ghost use Rattle.std.specs.Prelude.{◌≡◌, ◌++◌, ◌∷◌, [], List, Ok, OnOk, IfOk, IfErr, IfSome, MatchResult};
-ghost use Rattle.std.specs.List.{slice_get};
+ghost use Rattle.std.specs.List.{All, slice_get};
 ghost use Rattle.std.specs.Option.{option_map};
 ghost use Rattle.onfi_cycle.specs.declared.item.Item.{Item};
 ghost use Rattle.trace_text.specs.declared.refusal.TraceRefusal.TheVariants.{OutOfMemory};
+ghost use Rattle.trace_text.specs.Line.{IsPrintable};
 ghost use Rattle.trace_text.specs.Reading.{reading, IsRefusalOf};
 ghost use Rattle.trace_text.specs.Recorded.{told, recorded, found_in, first_fault, IsFault};
 
@@ -64,6 +65,8 @@ pub fn parse_recorded<A: Allocator>(alloc: A, text: &str) -> Result<Vec<Item, A>
     // Which items, and which fault of which line.
     ensures ok { IfOk result (λ v. recorded text.now ≡ Ok v.items) }
     ensures err { IfErr result (λ e. IsRefusalOf e (recorded text.now)) }
+    // Each chip enable and each LUN is at most 3.
+    ensures printable { IfOk result (λ v. All IsPrintable v.items) }
     // What `parse` reads is read so.
     ensures strict { (items : List Item) → reading text.now ≡ Ok items → MatchResult result (λ v. v.items ≡ items) (λ e. e ≡ OutOfMemory) }
 {

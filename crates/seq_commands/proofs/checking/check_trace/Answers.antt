@@ -16,6 +16,6 @@ pub returns-in-Err-check_at-clause-refused : goal.returns-in-Err-check_at-clause
 returns-in-Err-check_at-clause-refused g c = λ refusal is.
     let k = c.fail.ensures.refused refusal is in (
       line_of refusal,
-      inl (said (ReadingRefuses (g.F.Files.store c.args.files.now) c.args.request.page.now c.args.request.input.now) c.in-Err-check_at.stop refusal c.in-Err-check_at.ensures.err k.0, c.in-Err-check_at.ensures.stays, refl),
+      inl (said (ReadingRefuses (g.F.Files.store c.args.files.now) c.args.request.form c.args.request.page.now c.args.request.input.now) c.in-Err-check_at.stop refusal c.in-Err-check_at.ensures.err k.0, c.in-Err-check_at.ensures.stays, refl),
       k.1,
     )

@@ -3,7 +3,7 @@ use Rattle.std.specs.Io.KnownBytes.{Appends}
 use Rattle.seq_inputs.specs.declared.refusal.Refusal.{Refusal}
 use Rattle.seq_inputs.specs.Refusals.{line_of}
 use Rattle.seq_inputs.proofs.Refusing.{told_is, refused_ends}
-use Rattle.seq_inputs.proofs.ending.fail.Goals as goal
+use Rattle.seq_inputs.proofs.ending.fail_in.Goals as goal
 
 pub returns-in-Ok-clause-refused : goal.returns-in-Ok-clause-refused
 returns-in-Ok-clause-refused g c = λ refusal is.
