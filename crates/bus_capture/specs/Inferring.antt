@@ -1,5 +1,5 @@
 -- The readies that a capture without a model shows: by status outputs, and by R/B# of a target of one LUN.
-use Rattle.std.specs.Prelude.{ℕ, ◌==◌, ◌&&◌, not, Bool, true, false, if◌then◌else◌, List, [], ◌∷◌, ◌++◌, map, Option, Some, None, Result, Ok, Err}
+use Rattle.std.specs.Prelude.{ℕ, ◌==◌, ◌&&◌, not, Bool, true, false, if◌then◌else◌, List, [], ◌∷◌, ◌++◌, Option, Some, None, Result, Ok}
 use Rattle.nand_geometry.specs.declared.parts.Parts.{Parts}
 use Rattle.onfi_cycle.specs.declared.item.Kind.{Kind}
 use Rattle.onfi_cycle.specs.declared.item.Kind.TheVariants.{Cmd, Adr, Din, Dout}
@@ -22,7 +22,7 @@ use Rattle.bus_capture.specs.declared.inferring.Stamped.{Stamped}
 use Rattle.bus_capture.specs.declared.ahead.Ahead.{Ahead}
 use Rattle.bus_capture.specs.declared.ahead.Ahead.TheVariants.{Going, Known}
 use Rattle.vcd_text.specs.Tokens.{◌>>=◌}
-use Rattle.bus_capture.specs.Capturing.{Shown, shown_in}
+use Rattle.bus_capture.specs.Capturing.{Shown, shown_in, shown_in_csv}
 
 -- ---- how the work ended that R/B# shows to be done: as the status says that the target is asked for next, by 70h; if it isn't, without failure
 
@@ -112,3 +112,7 @@ items_shown g targets shown = inferred g.luns (not shown.tells_readies) (fresh g
 
 abbrev pub captured : Parts → ℕ → List Mapping → List ℕ → Result (List Stamped) CaptureFault
 captured g targets mappings text = shown_in targets mappings text >>= λ shown. Ok (items_shown g targets shown)
+
+-- the same of a CSV
+abbrev pub captured_csv : Parts → ℕ → List Mapping → List ℕ → Result (List Stamped) CaptureFault
+captured_csv g targets mappings text = shown_in_csv targets mappings text >>= λ shown. Ok (items_shown g targets shown)
