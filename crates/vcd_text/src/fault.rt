@@ -53,7 +53,7 @@ pub enum DumpFault {
     #[error("the row has another number of fields than the row of names")]
     OtherFieldCount,
     /// G9: the time isn't a number of its form.
-    #[error("a time is a decimal number: of seconds with a point, below 18446744, or of a unit of its own without one, of at most 19 digits")]
+    #[error("a time is a decimal number without a sign: of seconds with a point, below 18446744, or of a unit of its own without one, of at most 19 digits")]
     BadRowTime,
     /// G9: the time is before that of the row above.
     #[error("the time is before that of the row above")]
