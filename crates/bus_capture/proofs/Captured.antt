@@ -1,6 +1,7 @@
 -- The items of a capture are on one of four targets, and of one of four LUNs.
-use Rattle.std.proofs.Common.{◌≡◌, ◌≤◌, ◌<◌, ◌+◌, ◌*◌, ◌/◌, ◌%◌, ◌&&◌, ℕ, zero, suc, true, false, Bool, List, [], ◌∷◌, ◌++◌, Option, Some, None, Result, Ok, Err, refl, sym, ap, subst, ◌∙◌, arith, cond, not, eqb}
+use Rattle.std.proofs.Common.{◌≡◌, ◌≤◌, ◌<◌, ◌+◌, ◌*◌, ◌/◌, ◌%◌, ◌&&◌, ℕ, zero, suc, true, false, Bool, List, [], ◌∷◌, ◌++◌, Option, Some, None, Result, Ok, Err, refl, subst, arith, cond, not, eqb, map}
 use Rattle.std.proofs.lemmas.Nat.{mod_below}
+use Rattle.std.specs.Prelude.{IfOk}
 use Rattle.nand_geometry.specs.declared.parts.Parts.{Parts}
 use Rattle.onfi_cycle.specs.declared.item.Item.{Item}
 use Rattle.onfi_cycle.specs.declared.item.Item.TheVariants.{Cyc, Rdy, Ard}
@@ -16,7 +17,7 @@ use Rattle.vcd_text.specs.Header.{header}
 use Rattle.vcd_text.specs.Body.{Told, Time, Change, told_from}
 use Rattle.vcd_text.specs.Dumps.{beginning}
 use Rattle.bus_capture.specs.declared.fault.BusFault.{BusFault}
-use Rattle.bus_capture.specs.declared.fault.CaptureFault.{CaptureFault}
+use Rattle.bus_capture.specs.declared.fault.CaptureRefusal.{CaptureRefusal}
 use Rattle.bus_capture.specs.declared.role.Role.TheVariants as role
 use Rattle.bus_capture.specs.declared.mapping.Mapping.{Mapping}
 use Rattle.bus_capture.specs.declared.source.Source.{Source}
@@ -30,8 +31,12 @@ use Rattle.bus_capture.specs.declared.sampler.Observed.{Observed}
 use Rattle.bus_capture.specs.declared.sampler.Sampler.{Sampler}
 use Rattle.bus_capture.specs.declared.inferring.Stamped.{Stamped}
 use Rattle.bus_capture.specs.Sampling.{level, with_enable, enabled_from, kind_of, byte_of, apart, cycle_of, cycle_if, rises, is_lost, lost_if, line_of, other_line, seen_of, item_of, falls, is_low, is_high, ready_of}
-use Rattle.bus_capture.specs.Capturing.{with_item, with_release, with_releases, with_readies, at_time, with_seen, settled, begun, later, changed, capturing, in_file, unknown, sources_in, body_items, tells_readies, Shown, shown_in}
-use Rattle.bus_capture.specs.Inferring.{stamps, with_shown, state_after, sure_after, is_waiting, release_of, released, inferred_by, inferred, items_shown, captured, fails_from}
+use Rattle.bus_capture.specs.Capturing.{with_item, with_release, with_releases, with_readies, at_time, with_seen, settled, begun, later, changed, capturing, in_file, unknown, sources_in, body_items, tells_readies, Shown, shown_in, in_roles, told_items, shown_in_csv}
+use Rattle.bus_capture.specs.Roles.{carrier_of, sources_of}
+use Rattle.csv_text.specs.Rows.{rows}
+use Rattle.csv_text.specs.Table.{table_of}
+use Rattle.csv_text.specs.Body.{told}
+use Rattle.bus_capture.specs.Inferring.{stamps, with_shown, state_after, sure_after, is_waiting, release_of, released, inferred_by, inferred, items_shown, fails_from}
 use Rattle.bus_capture.specs.Inside.{AreInside}
 
 -- ---- results
@@ -234,19 +239,37 @@ inferred_inside luns sure state stamped (o ∷ os) fine rest = at o.observation 
 
 -- ---- a whole capture
 
-captured_inside : (g : Parts) (targets : ℕ) (mappings : List Mapping) (text : List ℕ) (stamped : List Stamped) → targets ≤ 4 → captured g targets mappings text ≡ Ok stamped → AreInside stamped
-captured_inside g targets mappings text stamped few h =
-    let s = bind_ok (shown_in targets mappings text) (λ shown. Ok (items_shown g targets shown)) stamped h in
-    let r = bind_ok (in_file (header text)) (λ read. sources_in targets mappings read >>= λ sources. body_items targets read sources >>= λ observed. Ok (record { observed = observed; tells_readies = tells_readies sources })) s.0 s.1 in
-    let q = bind_ok (sources_in targets mappings r.0) (λ sources. body_items targets r.0 sources >>= λ observed. Ok (record { observed = observed; tells_readies = tells_readies sources })) s.0 r.2 in
-    let b = bind_ok (body_items targets r.0 q.0) (λ observed. Ok (record { observed = observed; tells_readies = tells_readies q.0 })) s.0 q.2 in
-    let fine = capturing_fine q.0 (begun targets unknown) [] (told_from r.0.header.widths beginning r.0.line r.0.rest) b.0 few tt b.1 in
-    let shown : Shown = record { observed = b.0; tells_readies = tells_readies q.0 } in
-    subst AreInside (same_ok (items_shown g targets s.0) stamped s.2)
-    (subst (λ (shown : Shown). AreInside (items_shown g targets shown)) (same_ok shown s.0 b.2)
-    (inferred_inside g.luns (not (tells_readies q.0)) (fresh g targets) [] b.0 fine tt))
+items_inside : (g : Parts) (targets : ℕ) (shown : Shown) → AreFine shown.observed → AreInside (items_shown g targets shown)
+items_inside g targets shown fine = inferred_inside g.luns (not shown.tells_readies) (fresh g targets) [] shown.observed fine tt
+
+-- what the sources of a capture show of what is told
+told_fine : (targets : ℕ) (sources : List Source) (ts : List Told) (shown : Shown) → targets ≤ 4 → (told_items targets sources ts >>= λ observed. Ok (record { observed = observed; tells_readies = tells_readies sources })) ≡ Ok shown → AreFine shown.observed
+told_fine targets sources ts shown few h =
+    let b = bind_ok (told_items targets sources ts) (λ observed. Ok (record { observed = observed; tells_readies = tells_readies sources })) shown h in
+    let seen : Shown = record { observed = b.0; tells_readies = tells_readies sources } in
+    subst (λ (shown : Shown). AreFine shown.observed) (same_ok seen shown b.2) (capturing_fine sources (begun targets unknown) [] ts b.0 few tt b.1)
+
+dump_fine : (targets : ℕ) (mappings : List Mapping) (text : List ℕ) (shown : Shown) → targets ≤ 4 → shown_in targets mappings text ≡ Ok shown → AreFine shown.observed
+dump_fine targets mappings text shown few h =
+    let r = bind_ok (in_file (header text)) (λ read. sources_in targets mappings read >>= λ sources. body_items targets read sources >>= λ observed. Ok (record { observed = observed; tells_readies = tells_readies sources })) shown h in
+    let q = bind_ok (sources_in targets mappings r.0) (λ sources. body_items targets r.0 sources >>= λ observed. Ok (record { observed = observed; tells_readies = tells_readies sources })) shown r.2 in
+    told_fine targets q.0 (told_from r.0.header.widths beginning r.0.line r.0.rest) shown few q.2
+
+table_fine : (targets : ℕ) (mappings : List Mapping) (text : List ℕ) (shown : Shown) → targets ≤ 4 → shown_in_csv targets mappings text ≡ Ok shown → AreFine shown.observed
+table_fine targets mappings text shown few h =
+    let r = bind_ok (in_file (table_of (rows text))) (λ table. in_roles (sources_of targets (map (carrier_of mappings) table.columns.variables)) >>= λ sources. told_items targets sources (told table) >>= λ observed. Ok (record { observed = observed; tells_readies = tells_readies sources })) shown h in
+    let q = bind_ok (in_roles (sources_of targets (map (carrier_of mappings) r.0.columns.variables))) (λ sources. told_items targets sources (told r.0) >>= λ observed. Ok (record { observed = observed; tells_readies = tells_readies sources })) shown r.2 in
+    told_fine targets q.0 (told r.0) shown few q.2
 
 -- the same as a capture is read
-pub inferred_are_inside : (g : Parts) (targets : ℕ) (mappings : List Mapping) (text : List ℕ) (shown : Shown) (stamped : List Stamped) → targets ≤ 4 → shown_in targets mappings text ≡ Ok shown → stamped ≡ items_shown g targets shown → AreInside stamped
-inferred_are_inside g targets mappings text shown stamped few is same =
-    captured_inside g targets mappings text stamped few (ap (λ (x : Result Shown CaptureFault). x >>= λ shown. Ok (items_shown g targets shown)) is ∙ ap (λ (xs : List Stamped). Ok xs) (sym same))
+stamped_inside : {X : Type 0} (view : X → List Stamped) (g : Parts) (targets : ℕ) (shown : Shown) (r : Result X CaptureRefusal) → AreFine shown.observed → IfOk r (λ c. items_shown g targets shown ≡ view c) → IfOk r (λ c. AreInside (view c))
+stamped_inside view g targets shown (Ok c) fine is = subst AreInside is (items_inside g targets shown fine)
+stamped_inside view g targets shown (Err e) fine is = tt
+
+pub dump_inside : {X : Type 0} (view : X → List Stamped) (g : Parts) (targets : ℕ) (mappings : List Mapping) (text : List ℕ) (shown : Shown) (r : Result X CaptureRefusal) → targets ≤ 4 → shown_in targets mappings text ≡ Ok shown
+    → IfOk r (λ c. items_shown g targets shown ≡ view c) → IfOk r (λ c. AreInside (view c))
+dump_inside view g targets mappings text shown r few h is = stamped_inside view g targets shown r (dump_fine targets mappings text shown few h) is
+
+pub table_inside : {X : Type 0} (view : X → List Stamped) (g : Parts) (targets : ℕ) (mappings : List Mapping) (text : List ℕ) (shown : Shown) (r : Result X CaptureRefusal) → targets ≤ 4 → shown_in_csv targets mappings text ≡ Ok shown
+    → IfOk r (λ c. items_shown g targets shown ≡ view c) → IfOk r (λ c. AreInside (view c))
+table_inside view g targets mappings text shown r few h is = stamped_inside view g targets shown r (table_fine targets mappings text shown few h) is

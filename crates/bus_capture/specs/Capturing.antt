@@ -8,6 +8,9 @@ use Rattle.vcd_text.specs.Tokens.{◌>>=◌}
 use Rattle.vcd_text.specs.Header.{Read, header}
 use Rattle.vcd_text.specs.Body.{Told, Time, Change, told_from}
 use Rattle.vcd_text.specs.Dumps.{beginning}
+use Rattle.csv_text.specs.Rows.{rows}
+use Rattle.csv_text.specs.Table.{table_of}
+use Rattle.csv_text.specs.Body.{told}
 use Rattle.bus_capture.specs.declared.fault.RoleFault.{RoleFault}
 use Rattle.bus_capture.specs.declared.fault.BusFault.{BusFault}
 use Rattle.bus_capture.specs.declared.fault.CaptureFault.{CaptureFault}
@@ -117,9 +120,13 @@ unknown = unknown_from 68
 abbrev pub sources_in : ℕ → List Mapping → Read → Result (List Source) CaptureFault
 sources_in targets mappings read = in_roles (sources_of targets (map (carrier_of mappings) read.header.variables))
 
+-- the items of what is told
+abbrev pub told_items : ℕ → List Source → List Told → Result (List Observed) CaptureFault
+told_items targets sources told = capturing sources (begun targets unknown) [] told
+
 -- the items of a body
 abbrev pub body_items : ℕ → Read → List Source → Result (List Observed) CaptureFault
-body_items targets read sources = capturing sources (begun targets unknown) [] (told_from read.header.widths beginning read.line read.rest)
+body_items targets read sources = told_items targets sources (told_from read.header.widths beginning read.line read.rest)
 
 -- lines of a model tell when a LUN becomes ready
 abbrev pub is_busy_line : Role → Bool
@@ -148,6 +155,14 @@ shown_in targets mappings text = do
   read ← in_file (header text)
   sources ← sources_in targets mappings read
   observed ← body_items targets read sources
+  Ok (record { observed = observed; tells_readies = tells_readies sources })
+
+-- the same of a CSV
+abbrev pub shown_in_csv : ℕ → List Mapping → List ℕ → Result Shown CaptureFault
+shown_in_csv targets mappings text = do
+  table ← in_file (table_of (rows text))
+  sources ← in_roles (sources_of targets (map (carrier_of mappings) table.columns.variables))
+  observed ← told_items targets sources (told table)
   Ok (record { observed = observed; tells_readies = tells_readies sources })
 
 -- a refusal is this fault; of memory that was refused nothing is said

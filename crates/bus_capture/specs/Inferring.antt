@@ -19,10 +19,12 @@ use Rattle.bus_capture.specs.declared.sampler.Observation.{Observation}
 use Rattle.bus_capture.specs.declared.sampler.Observation.TheVariants as observation
 use Rattle.bus_capture.specs.declared.sampler.Observed.{Observed}
 use Rattle.bus_capture.specs.declared.inferring.Stamped.{Stamped}
+use Rattle.bus_capture.specs.declared.reading.CaptureForm.{CaptureForm}
+use Rattle.bus_capture.specs.declared.reading.CaptureForm.TheVariants.{Dump, Table}
 use Rattle.bus_capture.specs.declared.ahead.Ahead.{Ahead}
 use Rattle.bus_capture.specs.declared.ahead.Ahead.TheVariants.{Going, Known}
 use Rattle.vcd_text.specs.Tokens.{◌>>=◌}
-use Rattle.bus_capture.specs.Capturing.{Shown, shown_in}
+use Rattle.bus_capture.specs.Capturing.{Shown, shown_in, shown_in_csv}
 
 -- ---- how the work ended that R/B# shows to be done: as the status says that the target is asked for next, by 70h; if it isn't, without failure
 
@@ -112,3 +114,12 @@ items_shown g targets shown = inferred g.luns (not shown.tells_readies) (fresh g
 
 abbrev pub captured : Parts → ℕ → List Mapping → List ℕ → Result (List Stamped) CaptureFault
 captured g targets mappings text = shown_in targets mappings text >>= λ shown. Ok (items_shown g targets shown)
+
+-- the same of a CSV
+abbrev pub captured_csv : Parts → ℕ → List Mapping → List ℕ → Result (List Stamped) CaptureFault
+captured_csv g targets mappings text = shown_in_csv targets mappings text >>= λ shown. Ok (items_shown g targets shown)
+
+-- the same of a capture of this form
+abbrev pub captured_as : CaptureForm → Parts → ℕ → List Mapping → List ℕ → Result (List Stamped) CaptureFault
+captured_as Dump g targets mappings text = captured g targets mappings text
+captured_as Table g targets mappings text = captured_csv g targets mappings text

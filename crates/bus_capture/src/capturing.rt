@@ -49,7 +49,7 @@ fn next_of<'a, A: Allocator>(
 
 // Goes on by what a body tells.
 #[inline(always)]
-fn take_event<A: Allocator>(
+pub(crate) fn take_event<A: Allocator>(
     sampler: &mut Sampler,
     observed: &mut Vec<Observed, A>,
     unselected: &mut u64,
@@ -122,7 +122,7 @@ fn header_of<'a, A: Allocator + Clone>(
 }
 
 // Where the lines of a channel of so many targets are among these signals.
-fn find_sources<A: Allocator + Clone>(
+pub(crate) fn find_sources<A: Allocator + Clone>(
     alloc: A,
     targets: u8,
     mappings: &[Mapping<'_>],
@@ -151,7 +151,7 @@ fn is_busy_line(role: Role) -> bool
 }
 
 // Lines of a model tell when a LUN becomes ready.
-fn tells_readies(sources: &[Source]) -> bool
+pub(crate) fn tells_readies(sources: &[Source]) -> bool
     ensures { result ≡ tells_readies sources.now }
 {
     for source in sources {

@@ -4,6 +4,7 @@
 mod ahead;
 mod capturing;
 mod carrier;
+mod csv_capturing;
 mod fault;
 mod inferring;
 mod levels;
@@ -22,7 +23,7 @@ pub use inferring::Stamped;
 pub use levels::Levels;
 pub use mapping::Mapping;
 pub use names::{Family, Meaning, named, plain_of};
-pub use reading::{Capture, read_capture};
+pub use reading::{Capture, CaptureForm, read_capture, read_capture_as, read_capture_csv};
 pub use role::Role;
 pub use sampler::{Observation, Observed};
 pub use sampling::{Seen, Strobe};

@@ -2,7 +2,7 @@
 
 use crate::command::Command;
 use crate::mistake::{Mistake, PathMistake};
-use bus_capture::{Family, named, plain_of};
+use bus_capture::{CaptureForm, Family, named, plain_of};
 use clap::{Arg, ArgAction, ArgMatches, Error};
 use seq_commands::{CaptureRequest, CheckRequest, DrawForm, DrawRequest, LintOutput, Targets};
 use seq_inputs::Style;
@@ -290,6 +290,12 @@ fn capture<'a>(alloc: Global) -> Result<clap::Command<'a>, Error> {
         .help(
             "Which signal is what, where its name doesn't tell: CE0 to CE3, CLE, ALE, WE, RE, DQ, DQ0 to DQ7, RB0 to RB3; as WE=P17,RE=P18",
         );
+    let csv = Arg::new(alloc, "csv")
+        .long("csv")
+        .action(ArgAction::SetTrue)
+        .help(
+            "The capture is a CSV, as Saleae Logic 2 and sigrok-cli export it; so is one whose name ends in .csv",
+        );
     let times = Arg::new(alloc, "times")
         .long("times")
         .action(ArgAction::SetTrue)
@@ -304,10 +310,11 @@ fn capture<'a>(alloc: Global) -> Result<clap::Command<'a>, Error> {
         .arg(require(
             alloc,
             "IN",
-            "The capture, a value change dump, as docs/use/CAPTURES.md has it",
+            "The capture, a value change dump or a CSV, as docs/use/CAPTURES.md has it",
         ))?
         .arg(require(alloc, "OUT", "The text of the trace to write"))?
         .arg(map)?
+        .arg(csv)?
         .arg(times)?;
     Ok(command)
 }
@@ -484,12 +491,23 @@ fn read_mappings<'a>(matches: &ArgMatches<'a>) -> Result<Option<&'a str>, Mistak
     }
 }
 
+// As what a capture of this name is read.
+fn form_of_capture(matches: &ArgMatches<'_>, input: &str) -> CaptureForm {
+    if matches.get_flag("csv") || input.ends_with(".csv") {
+        CaptureForm::Table
+    } else {
+        CaptureForm::Dump
+    }
+}
+
 // What a capture is read for.
 fn read_capture<'a>(matches: &ArgMatches<'a>) -> Result<CaptureRequest<'a>, Mistake<'a>> {
+    let input = find_word(matches, "IN");
     Ok(CaptureRequest {
         page: find_word(matches, "PAGE"),
         targets: read_targets(find_word(matches, "TARGETS")),
-        input: find_word(matches, "IN"),
+        input,
+        form: form_of_capture(matches, input),
         target: find_word(matches, "OUT"),
         mappings: read_mappings(matches)?,
         has_times: matches.get_flag("times"),

@@ -7,7 +7,8 @@ use Rattle.nand_geometry.specs.declared.parts.Parts.{Parts}
 use Rattle.onfi_cycle.specs.declared.item.Item.{Item}
 use Rattle.bus_capture.specs.declared.inferring.Stamped.{Stamped}
 use Rattle.bus_capture.specs.declared.mapping.Mapping.{Mapping}
-use Rattle.bus_capture.specs.Inferring.{captured}
+use Rattle.bus_capture.specs.declared.reading.CaptureForm.{CaptureForm}
+use Rattle.bus_capture.specs.Inferring.{captured_as}
 use Rattle.trace_text.specs.Line.{text}
 use Rattle.trace_text.specs.declared.recorded_item.TimedItem.{TimedItem}
 use Rattle.trace_text.specs.Recorded.{timed_text}
@@ -68,15 +69,15 @@ pub record IsCaptured (files later : Option Store) (request : CaptureRequest) : 
   pub mappings : List Mapping
   pub are_said : AreSaid (option_map (λ line. line.now) request.mappings) mappings
   pub stamped : List Stamped
-  pub is_captured : captured g (count_of request.targets) mappings capture ≡ Ok stamped
+  pub is_captured : captured_as request.form g (count_of request.targets) mappings capture ≡ Ok stamped
   pub written : later ≡ with_file files request.target.now (seen_text request.has_times stamped)
 
 -- ---- what is refused
 
 -- the first fault of a capture
-abbrev pub RefusesCapture : Parts → ℕ → List Mapping → List ℕ → Fault → Type 0
-RefusesCapture g targets mappings capture (Capture fault) = captured g targets mappings capture ≡ Err fault
-RefusesCapture g targets mappings capture _ = ⊥
+abbrev pub RefusesCapture : CaptureForm → Parts → ℕ → List Mapping → List ℕ → Fault → Type 0
+RefusesCapture form g targets mappings capture (Capture fault) = captured_as form g targets mappings capture ≡ Err fault
+RefusesCapture form g targets mappings capture _ = ⊥
 
 pub record CaptureIsRefused (files : Option Store) (request : CaptureRequest) (fault : Fault) : Type 0 where
   pub g : Parts
@@ -85,7 +86,7 @@ pub record CaptureIsRefused (files : Option Store) (request : CaptureRequest) (f
   pub is_there : Holds files request.input.now capture
   pub mappings : List Mapping
   pub are_said : AreSaid (option_map (λ line. line.now) request.mappings) mappings
-  pub refuses : RefusesCapture g (count_of request.targets) mappings capture fault
+  pub refuses : RefusesCapture request.form g (count_of request.targets) mappings capture fault
 
 -- the page is refused, or the capture
 abbrev pub CaptureRefuses : Option Store → CaptureRequest → Fault → Type 0

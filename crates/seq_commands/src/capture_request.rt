@@ -1,6 +1,7 @@
 //! What a capture is read for.
 
 use crate::targets::Targets;
+use bus_capture::CaptureForm;
 
 /// What a capture is read for. `-` as a path that is read is standard input.
 #[derive(Clone, Copy, Debug, PartialEq, Eq)]
@@ -8,8 +9,9 @@ pub struct CaptureRequest<'a> {
     /// The parameter page of each die.
     pub page: &'a str,
     pub targets: Targets,
-    /// The capture, a value change dump.
+    /// The capture.
     pub input: &'a str,
+    pub form: CaptureForm,
     /// Where the trace is written to.
     pub target: &'a str,
     /// What signals are, where their names don't tell: `ROLE=NAME`, with commas between several, as `WE=P17,RE=P18`.

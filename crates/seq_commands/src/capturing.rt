@@ -3,7 +3,7 @@ ghost use Rattle.std.specs.Prelude.{true, false, ◌≡◌, ◌⊎◌, ◌≤◌
 ghost use Rattle.std.specs.Option.{option_map};
 ghost use Rattle.std.specs.Io.KnownBytes.{Appends};
 ghost use Rattle.seq_files.specs.Store.{with_file};
-ghost use Rattle.bus_capture.specs.Inferring.{captured};
+ghost use Rattle.bus_capture.specs.Inferring.{captured_as};
 ghost use Rattle.bus_capture.specs.Inside.{AreInside};
 ghost use Rattle.seq_inputs.specs.declared.refusal.Refusal.{Refusal};
 ghost use Rattle.seq_inputs.specs.Stops.{RefusesNothing, Says, Tells};
@@ -14,7 +14,7 @@ ghost use Rattle.seq_commands.specs.Captures.{items_in, timed_in, seen_text, Ref
 use crate::capture_request::CaptureRequest;
 use crate::mappings::mappings_of;
 use crate::traces::put_items;
-use bus_capture::{Capture, CaptureRefusal, Mapping, Stamped, read_capture};
+use bus_capture::{Capture, CaptureForm, CaptureRefusal, Mapping, Stamped, read_capture_as};
 use nand_geometry::Geometry;
 use onfi_cycle::Item;
 use seq_files::Files;
@@ -119,13 +119,14 @@ fn read_items<'p, A: Allocator + Clone>(
     targets: u8,
     mappings: &[Mapping<'_>],
     bytes: &[u8],
+    form: CaptureForm,
 ) -> Result<Capture<A>, Stop<'p, A>>
     requires { targets ≤ 4 }
-    ensures ok { IfOk result (λ c. captured geometry.now targets mappings.now bytes.now ≡ Ok c.stamped.items) }
+    ensures ok { IfOk result (λ c. captured_as form geometry.now targets mappings.now bytes.now ≡ Ok c.stamped.items) }
     ensures inside { IfOk result (λ c. AreInside c.stamped.items) }
-    ensures err { IfErr result (Says (RefusesCapture geometry.now targets mappings.now bytes.now)) }
+    ensures err { IfErr result (Says (RefusesCapture form geometry.now targets mappings.now bytes.now)) }
 {
-    match read_capture(alloc.clone()?, geometry, targets, mappings, bytes) {
+    match read_capture_as(alloc.clone()?, geometry, targets, mappings, bytes, form) {
         Ok(capture) => Ok(capture),
         Err(CaptureRefusal::Fault(fault)) => {
             let words = words_of_capture(alloc, path, bytes, fault);
@@ -155,6 +156,7 @@ fn capture_at<'p, A: Allocator + Clone, F: Files>(
         request.targets.count(),
         mappings.as_slice(),
         bytes.as_slice(),
+        request.form,
     )?;
     put_seen(
         alloc,

@@ -2,6 +2,10 @@
 #![tactic(auto)]
 
 #[cfg(test)]
+mod csv_tests;
+#[cfg(test)]
+mod csv_text_tests;
+#[cfg(test)]
 mod fault_tests;
 #[cfg(test)]
 mod name_tests;

@@ -80,7 +80,7 @@ fn text_of(alloc: Global, items: &[Item]) -> Result<String, Fail> {
 }
 
 // What is wrong, and where.
-fn words_of(alloc: Global, fault: CaptureFault) -> Result<String, Fail> {
+pub(crate) fn words_of(alloc: Global, fault: CaptureFault) -> Result<String, Fail> {
     Ok(match fault {
         CaptureFault::File(at) => format!(in alloc; "{} in line {}", at.fault.code(), at.line)?,
         CaptureFault::Role(role) => format!(in alloc; "G3: {role}")?,

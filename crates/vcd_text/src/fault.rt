@@ -4,7 +4,7 @@ ghost use Rattle.vcd_text.specs.Codes.{code};
 
 use thiserror::Error;
 
-/// What is wrong with a line of a dump.
+/// What is wrong with a line of a dump: of a value change dump, or of a CSV (G9).
 #[derive(Clone, Copy, Debug, PartialEq, Eq, Error)]
 pub enum DumpFault {
     /// G1: no section of a header has this name.
@@ -46,10 +46,25 @@ pub enum DumpFault {
     /// G4: the word is no time, no change and no mark.
     #[error("this is no time, no change of a value and no mark")]
     UnknownChange,
+    /// G9: the first row of a CSV has values, or there is no row.
+    #[error("the first row of a CSV has to name its columns, as CE0,CLE,ALE")]
+    NoColumnNames,
+    /// G9: the row hasn't a field for each column.
+    #[error("the row has another number of fields than the row of names")]
+    OtherFieldCount,
+    /// G9: the time isn't a number of its form.
+    #[error("a time is a decimal number without a sign: of seconds with a point, below 18446744, or of a unit of its own without one, of at most 19 digits")]
+    BadRowTime,
+    /// G9: the time is before that of the row above.
+    #[error("the time is before that of the row above")]
+    RowGoesBack,
+    /// G9: a signal is something else.
+    #[error("a signal is 0, 1, x or z, or its field is empty")]
+    BadSignal,
 }
 
 impl DumpFault {
-    /// Its code: G1 where the header isn't whole, G2 of a variable, G4 of the changes.
+    /// Its code: G1 where the header isn't whole, G2 of a variable, G4 of the changes, G9 in a CSV.
     pub fn code(self) -> &'static str
         ensures { result.now ≡ code self }
     {
@@ -66,6 +81,11 @@ impl DumpFault {
             | DumpFault::NotDeclared
             | DumpFault::VectorTooLong
             | DumpFault::UnknownChange => "G4",
+            DumpFault::NoColumnNames
+            | DumpFault::OtherFieldCount
+            | DumpFault::BadRowTime
+            | DumpFault::RowGoesBack
+            | DumpFault::BadSignal => "G9",
         }
     }
 }

@@ -1,0 +1,93 @@
+-- Rows, fields and files in memory.
+use Rattle.std.specs.Prelude.{◌≡◌, ⊤, ℕ, ◌+◌, ◌*◌, ◌<◌, ◌≤◌, ◌^◌, false, List, [], ◌∷◌, length, Option, Some, None, Result, Ok, Err}
+use Rattle.std.specs.Option.{option_copied}
+use Rattle.vcd_text.specs.declared.fault.DumpFault.{DumpFault}
+use Rattle.vcd_text.specs.declared.fault.LineFault.{LineFault}
+use Rattle.vcd_text.specs.declared.fault.HeaderRefusal.{HeaderRefusal}
+use Rattle.vcd_text.specs.declared.fault.HeaderRefusal.TheVariants as refusal
+use Rattle.vcd_text.specs.Body.{Told}
+use Rattle.vcd_text.specs.Sections.{shown_variables}
+use Rattle.csv_text.specs.declared.rows.Row.{Row}
+use Rattle.csv_text.specs.declared.rows.Rows.{Rows}
+use Rattle.csv_text.specs.declared.body.Body.{Body}
+use Rattle.csv_text.specs.declared.body.Judged.{Judged}
+use Rattle.csv_text.specs.declared.table.Table.{Table}
+use Rattle.csv_text.specs.Rows as rows
+use Rattle.csv_text.specs.Fields.{fields_from, fields}
+use Rattle.csv_text.specs.Table as table
+use Rattle.csv_text.specs.Body as told
+
+-- ---- rows
+
+abbrev pub row_of : Row → rows.Row
+row_of r = record { line = r.line; text = r.text.now }
+
+abbrev pub rows_left : Rows → List rows.Row
+rows_left r = rows.rows_from r.line [] r.rest.now
+
+abbrev pub with_row : Option Row → List rows.Row → List rows.Row
+with_row None later = later
+with_row (Some r) later = row_of r ∷ later
+
+-- ---- fields
+
+abbrev pub fields_in : Option (List ℕ) → List (List ℕ)
+fields_in None = []
+fields_in (Some text) = fields_from false [] text
+
+abbrev pub with_field : Option (List ℕ) → List (List ℕ) → List (List ℕ)
+with_field None later = later
+with_field (Some field) later = field ∷ later
+
+-- a bound of how many fields are left
+abbrev pub room_in : Option (List ℕ) → ℕ
+room_in None = 0
+room_in (Some text) = length text + 1
+
+-- ---- a file
+
+abbrev pub shown_judged : Judged → told.Judged
+shown_judged j = record { time = j.time; signals = fields_in (option_copied j.signals.rest) }
+
+-- an answer is this row, or this fault
+abbrev pub IsJudged : Result Judged DumpFault → Result told.Judged DumpFault → Type 0
+IsJudged (Ok j) judged = judged ≡ Ok (shown_judged j)
+IsJudged (Err e) judged = judged ≡ Err e
+
+abbrev pub place_of : Body → told.Place
+place_of b = record { time = b.time; count = b.count; before = fields_in (option_copied b.last.rest) }
+
+-- what the rows that are left tell
+abbrev pub told_rows : Body → List Told
+told_rows b = told.told_from b.has_times (fields b.names.now) (place_of b) (rows_left b.rows)
+
+-- what is left of a row, in front of what is told later
+abbrev pub with_row_left : Body → List Told → List Told
+with_row_left b later = told.with_changes b.code (fields_in (option_copied b.before.rest)) (fields_in (option_copied b.row.rest)) later
+
+-- what is left to be told
+abbrev pub told_left : Body → List Told
+told_left b = with_row_left b (told_rows b)
+
+-- lines, rows and columns can be counted
+pub record HasRoom (b : Body) : Type 0 where
+  pub first : 1 ≤ b.rows.line
+  pub lines : b.rows.line + length b.rows.rest.now < 2 ^ 64
+  pub rows : b.count + length b.rows.rest.now < 2 ^ 64
+  pub columns : b.code + room_in (option_copied b.row.rest) < 2 ^ 64
+
+-- how much is left of a file
+abbrev pub bytes_left : Body → ℕ
+bytes_left b = 3 * length b.rows.rest.now + room_in (option_copied b.row.rest)
+
+abbrev pub shown_table : {A : Type 0} → Table A → table.Table
+shown_table t = record {
+  columns = record { has_times = t.body.has_times; variables = shown_variables t.variables.items };
+  names = t.body.names.now;
+  rows = rows_left t.body.rows;
+}
+
+-- a refusal is the fault that reading tells; of memory that was refused nothing is said
+abbrev pub IsRefusalOf : {A : Type 0} → HeaderRefusal → Result A LineFault → Type 0
+IsRefusalOf (refusal.Fault f) read = read ≡ Err f
+IsRefusalOf refusal.OutOfMemory read = ⊤

@@ -1,0 +1,15 @@
+//! Captures of logic analyzers as CSV, read as changes of signals: the export of Saleae Logic 2, with a row at each change, and that of sigrok-cli, with a
+//! row at each sample.
+#![tactic(auto)]
+
+mod body;
+mod fields;
+mod rows;
+mod table;
+mod times;
+
+pub use body::Body;
+pub use fields::Fields;
+pub use rows::{Row, Rows};
+pub use table::{Table, read_table};
+pub use times::time_of;

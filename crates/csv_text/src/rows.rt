@@ -1,0 +1,119 @@
+//! The rows of a CSV.
+ghost use Rattle.std.specs.Prelude.{◌≡◌, ℕ, ◌+◌, ◌<◌, ◌≤◌, ◌^◌, [], length, take, drop, IfSome, IfNone};
+ghost use Rattle.std.specs.Str.Lines.{strip_carriage_return};
+ghost use Rattle.csv_text.specs.Fields.{is_blank, trim_front};
+ghost use Rattle.csv_text.specs.Rows.{is_row, ended, rows_from, rows};
+ghost use Rattle.csv_text.specs.Shown.{rows_left, with_row};
+
+use crate::fields::trim_front;
+
+/// A line that is neither empty nor a comment, and its number, from 1.
+#[derive(Clone, Copy, Debug)]
+pub struct Row<'a> {
+    pub line: usize,
+    pub text: &'a [u8],
+}
+
+/// The rows that are left of a CSV.
+#[derive(Clone, Copy, Debug)]
+pub struct Rows<'a> {
+    pub(crate) line: usize,
+    pub(crate) rest: &'a [u8],
+}
+
+// A line is a row if it has more than blanks, and no semicolon in front.
+fn is_row(text: &[u8]) -> bool
+    ensures { result ≡ is_row text.now }
+{
+    match trim_front(text) {
+        [] => false,
+        [first, ..] => *first != b';',
+    }
+}
+
+// The line without the carriage return that may stand at its end.
+fn strip_carriage_return(line: &[u8]) -> &[u8]
+    ensures { result.now ≡ strip_carriage_return line.entry.now }
+{
+    match line.split_last() {
+        Some((b'\r', front)) => front,
+        _ => line,
+    }
+}
+
+// How many bytes stand in front of the first line feed, or in the whole text.
+fn line_len(text: &[u8]) -> usize
+    ensures within { result ≤ length text.now }
+    ensures ended { (line : ℕ) → rows_from line [] text.now ≡ ended line (take result text.now) (rows_from (line + 1) [] (drop 1 (drop result text.now))) }
+{
+    let mut count = 0;
+    'bytes: while count < text.len() && text[count] != b'\n' {
+        count += 1;
+    }
+    count
+}
+
+// The text without its first byte, if it has one.
+fn without_first(text: &[u8]) -> &[u8]
+    ensures { result.now ≡ drop 1 text.entry.now }
+{
+    match text {
+        [] => text,
+        [_, after @ ..] => after,
+    }
+}
+
+impl<'a> Rows<'a> {
+    /// The rows of a text.
+    pub fn of(text: &'a [u8]) -> Rows<'a>
+        ensures rows { rows_left result ≡ rows text.entry.now }
+        ensures room { result.line + length result.rest.now < 2 ^ 64 }
+        ensures first { result.line ≡ 1 }
+    {
+        Rows {
+            line: 1,
+            rest: text,
+        }
+    }
+
+    // Takes the first line, if there is one: a row, or none.
+    fn take_line(&mut self) -> Option<Row<'a>>
+        requires some { 0 < length self.old.rest.now }
+        requires room { self.old.line + length self.old.rest.now < 2 ^ 64 }
+        ensures rows { rows_left self.old ≡ with_row result (rows_left self.new) }
+        ensures room { self.new.line + length self.new.rest.now ≤ self.old.line + length self.old.rest.now }
+        ensures line { self.old.line ≤ self.new.line }
+        ensures shorter { length self.new.rest.now < length self.old.rest.now }
+        ensures within { IfSome result (λ r. length r.text.now + length self.new.rest.now ≤ length self.old.rest.now) }
+    {
+        let line = self.line;
+        let count = line_len(self.rest);
+        let (front, rest) = self.rest.split_at(count);
+        self.rest = without_first(rest);
+        self.line += 1;
+        let text = strip_carriage_return(front);
+        if is_row(text) {
+            Some(Row { line, text })
+        } else {
+            None
+        }
+    }
+
+    /// The next row.
+    pub fn next_row(&mut self) -> Option<Row<'a>>
+        requires room { self.old.line + length self.old.rest.now < 2 ^ 64 }
+        ensures rows { rows_left self.old ≡ with_row result (rows_left self.new) }
+        ensures none { IfNone result (rows_left self.old ≡ []) }
+        ensures room { self.new.line + length self.new.rest.now ≤ self.old.line + length self.old.rest.now }
+        ensures line { self.old.line ≤ self.new.line }
+        ensures shorter { IfSome result (λ _. length self.new.rest.now < length self.old.rest.now) }
+        ensures within { IfSome result (λ r. length r.text.now + length self.new.rest.now ≤ length self.old.rest.now) }
+    {
+        'lines: while !self.rest.is_empty() {
+            if let Some(row) = self.take_line() {
+                return Some(row);
+            }
+        }
+        None
+    }
+}
