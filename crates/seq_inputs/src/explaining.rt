@@ -141,7 +141,7 @@ pub fn words_of_item<'p, A: Allocator>(
     item: usize,
 ) -> Option<Words<'p, A>> {
     let (line, time) = find_line(text, form, item);
-    let shown = Shown::line(line_at(text, line));
+    let shown = Shown::line(line_at(text, line).trim_end());
     let code = rule.code();
     let words = match time {
         Some(time) => { format!(in alloc; "item {item} at {time}, `{shown}`: {rule} ({code})") }

@@ -1,3 +1,4 @@
+use bus_capture::CaptureForm;
 use nand_geometry::{Geometry, SMALL_CHIP};
 use seq_commands::{CaptureRequest, Targets, capture_trace};
 use seq_files::MapFiles;
@@ -43,8 +44,10 @@ const REQUEST: CaptureRequest<'static> = CaptureRequest {
     page: "die.page",
     targets: Targets::One,
     input: "bus.vcd",
+    form: CaptureForm::Dump,
     target: "bus.trace",
     mappings: Some("CE=CS,WE=P17,RE=P18"),
+    has_times: false,
 };
 
 // What comes of a capture: its status, what it prints and says, and the trace that is written.
@@ -57,6 +60,14 @@ struct Seen {
 }
 
 fn see(alloc: Global, capture: &str, mappings: Option<&'static str>) -> Result<Seen, Fail> {
+    let request = CaptureRequest {
+        mappings,
+        ..REQUEST
+    };
+    see_as(alloc, capture, request)
+}
+
+fn see_as(alloc: Global, capture: &str, request: CaptureRequest<'_>) -> Result<Seen, Fail> {
     let mut files = MapFiles::new(alloc);
     files.put("die.page", &Geometry::of(SMALL_CHIP)?.page())?;
     files.put("bus.vcd", capture.as_bytes())?;
@@ -64,10 +75,6 @@ fn see(alloc: Global, capture: &str, mappings: Option<&'static str>) -> Result<S
         output: Vec::new(alloc),
         errors: Vec::new(alloc),
         progress: NoProgress,
-    };
-    let request = CaptureRequest {
-        mappings,
-        ..REQUEST
     };
     let exit = capture_trace(alloc, &mut files, &mut console, request);
     let Console { output, errors, .. } = console;
@@ -142,4 +149,47 @@ fn levels_that_are_unknown(rt: HostRuntime) -> Result<(), Fail> {
         "refused G5 at 61\n",
         "bus.vcd: time 61: a bit of DQ is x or z where a strobe rises (G5)\n",
     )
+}
+
+// The time of each item in front of it, in the unit of the dump.
+#[test]
+fn times_in_front_of_items(rt: HostRuntime) -> Result<(), Fail> {
+    let request = CaptureRequest {
+        has_times: true,
+        ..REQUEST
+    };
+    let seen = see_as(rt.alloc(), CAPTURE, request)?;
+    assert_eq!(rt; seen.status, 0);
+    assert_eq!(rt;
+        str::from_utf8(seen.files.get("bus.trace").unwrap_or(b""))?,
+        "@20 0 C 70\n@50 0 O e0\n"
+    );
+    Ok(())
+}
+
+// The same cycles as Saleae Logic exports them: a row at each change, in seconds.
+const TABLE: &str = "Time [s],CS,CLE,ALE,P17,P18,DQ0,DQ1,DQ2,DQ3,DQ4,DQ5,DQ6,DQ7\n\
+0.000000000,1,0,0,1,1,0,0,0,0,0,0,0,0\n\
+0.000000010,0,1,0,1,1,0,0,0,0,1,1,1,0\n\
+0.000000012,0,1,0,0,1,0,0,0,0,1,1,1,0\n\
+0.000000020,0,1,0,1,1,0,0,0,0,1,1,1,0\n\
+0.000000040,0,0,0,1,0,0,0,0,0,0,0,0,0\n\
+0.000000045,0,0,0,1,0,0,0,0,0,0,1,1,1\n\
+0.000000050,0,0,0,1,1,0,0,0,0,0,1,1,1\n";
+
+// Times are in picoseconds.
+#[test]
+fn a_capture_as_csv(rt: HostRuntime) -> Result<(), Fail> {
+    let request = CaptureRequest {
+        form: CaptureForm::Table,
+        has_times: true,
+        ..REQUEST
+    };
+    let seen = see_as(rt.alloc(), TABLE, request)?;
+    assert_eq!(rt; str::from_utf8(seen.errors.as_slice())?, "items: 2\n");
+    assert_eq!(rt;
+        str::from_utf8(seen.files.get("bus.trace").unwrap_or(b""))?,
+        "@20000 0 C 70\n@50000 0 O e0\n"
+    );
+    Ok(())
 }

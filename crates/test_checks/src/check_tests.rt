@@ -1,12 +1,12 @@
 use nand_geometry::{Geometry, SMALL_CHIP};
 use seq_commands::{CheckRequest, Targets, check_trace};
 use seq_files::MapFiles;
-use seq_inputs::{Console, Exit};
+use seq_inputs::{Console, Exit, Style};
 use std::alloc::Global;
 use std::process::Abort;
 use std::test::Fail;
 use trace_faults::Readies;
-use trace_text::NoProgress;
+use trace_text::{NoProgress, TraceForm};
 
 // An erase as it stands on a bus, then a command that is none of the model's, and a program that isn't ended.
 const RECORDED: &str =
@@ -21,6 +21,8 @@ const REQUEST: CheckRequest<'static> = CheckRequest {
     input: "bus.trace",
     tells_all: false,
     readies: Readies::Written,
+    form: TraceForm::Strict,
+    style: Style::Plain,
     copy: None,
 };
 
@@ -160,5 +162,117 @@ fn a_text_that_is_no_trace(rt: HostRuntime) -> Result<(), Fail> {
         "refused X1 at 2\n"
     );
     assert_eq!(rt; seen.files.get("whole.trace"), None);
+    Ok(())
+}
+
+// ---- recorded texts
+
+// The same faults, in a log with times, comments and blanks.
+const LOG: &str = "# an erase, and then a feature\r\n\
+@100 0 C 60\r\n\
+@110 0 A 04 ; the row\r\n\
+@120 0 A 00\r\n\
+@130 0 A 00\r\n\
+@140 0 C d0\r\n\
+\r\n\
+@900   0 C ef\r\n";
+
+const LOGGED: CheckRequest<'static> = CheckRequest {
+    form: TraceForm::Recorded,
+    ..REQUEST
+};
+
+// What is said of an item names its line in the log and its time.
+#[test]
+fn a_fault_of_a_log(rt: HostRuntime) -> Result<(), Fail> {
+    expect(
+        &rt,
+        &see(rt.alloc(), LOG, LOGGED)?,
+        1,
+        "refused F2 at 5\n",
+        "bus.trace:8: item 5 at 900, `@900   0 C ef`: the command is unknown, or the parameter page doesn't declare it (F2)\n",
+    )
+}
+
+// Without the option it is no trace.
+#[test]
+fn a_log_as_a_strict_text(rt: HostRuntime) -> Result<(), Fail> {
+    let seen = see(rt.alloc(), LOG, REQUEST)?;
+    assert_eq!(rt; seen.exit.status(), 1);
+    assert_eq!(rt;
+        str::from_utf8(seen.output.as_slice())?,
+        "refused X1 at 1\n"
+    );
+    Ok(())
+}
+
+// A line of a log that is no item is refused with its number.
+#[test]
+fn a_line_of_a_log(rt: HostRuntime) -> Result<(), Fail> {
+    let seen = see(rt.alloc(), "# a log\n@1 0 C 70\n@2 0 O E0\n", LOGGED)?;
+    assert_eq!(rt; seen.exit.status(), 1);
+    assert_eq!(rt;
+        str::from_utf8(seen.output.as_slice())?,
+        "refused X2 at 3\n"
+    );
+    Ok(())
+}
+
+// What is judged is written in the strict form.
+#[test]
+fn a_log_is_written_as_a_strict_text(rt: HostRuntime) -> Result<(), Fail> {
+    let request = CheckRequest {
+        copy: Some("whole.trace"),
+        ..LOGGED
+    };
+    let seen = see(rt.alloc(), "@5 0 C 70 # status\n\n@9\t0 O e0\n", request)?;
+    expect(&rt, &seen, 0, "legal\n", "")?;
+    expect_written(&rt, &seen, "0 C 70\n0 O e0\n")
+}
+
+// ---- what is told to a tool
+
+#[test]
+fn faults_as_json(rt: HostRuntime) -> Result<(), Fail> {
+    let request = CheckRequest {
+        tells_all: true,
+        readies: Readies::Shown,
+        style: Style::Json,
+        ..REQUEST
+    };
+    expect(
+        &rt,
+        &see(rt.alloc(), RECORDED, request)?,
+        1,
+        "refused F2 at 8\nrefused F3 at 11\n",
+        "{\"code\":\"F2\",\"file\":\"bus.trace\",\"line\":9,\"item\":8,\"message\":\"item 8, `0 C ef`: the command is unknown, or the parameter page doesn't declare it (F2)\"}\n{\"code\":\"F3\",\"file\":\"bus.trace\",\"line\":12,\"item\":11,\"message\":\"item 11, `0 C 60`: a sequence is open on the target, so none may begin (F3)\"}\n",
+    )
+}
+
+#[test]
+fn files_that_are_refused_as_json(rt: HostRuntime) -> Result<(), Fail> {
+    let request = CheckRequest {
+        style: Style::Json,
+        ..REQUEST
+    };
+    let seen = see(rt.alloc(), "0 C 70\n0 \"\n", request)?;
+    assert_eq!(rt; seen.exit.status(), 1);
+    let said = str::from_utf8(seen.errors.as_slice())?;
+    assert!(rt;
+        said.starts_with(
+            "{\"code\":\"X1\",\"file\":\"bus.trace\",\"line\":2,\"message\":\"`0 \\\"`: "
+        ),
+        "{said}"
+    );
+    let missing = CheckRequest {
+        input: "other.trace",
+        ..request
+    };
+    let seen = see(rt.alloc(), "", missing)?;
+    assert_eq!(rt; seen.exit.status(), 2);
+    assert_eq!(rt;
+        str::from_utf8(seen.errors.as_slice())?,
+        "{\"file\":\"other.trace\",\"message\":\"there is no such file\"}\n"
+    );
     Ok(())
 }

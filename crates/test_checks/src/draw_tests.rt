@@ -5,7 +5,7 @@ use seq_inputs::Console;
 use std::alloc::Global;
 use std::process::Abort;
 use std::test::Fail;
-use trace_text::NoProgress;
+use trace_text::{NoProgress, TraceForm};
 
 // An erase up to its first address; a second opener breaks a rule.
 const TRACE: &str = "0 C 60\n0 A 04\n0 C 60\n";
@@ -14,6 +14,7 @@ const REQUEST: DrawRequest<'static> = DrawRequest {
     form: DrawForm::Waveform,
     page: "die.page",
     targets: Targets::One,
+    lines: TraceForm::Strict,
     input: "bus.trace",
     target: "out",
 };

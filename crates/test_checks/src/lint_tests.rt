@@ -1,7 +1,7 @@
 use nand_geometry::{Geometry, SMALL_CHIP};
 use seq_commands::{LintOutput, lint_file, verify_file};
 use seq_files::MapFiles;
-use seq_inputs::{Console, Exit};
+use seq_inputs::{Console, Exit, Style};
 use std::alloc::Global;
 use std::process::Abort;
 use std::test::Fail;
@@ -71,6 +71,7 @@ fn see_verify(alloc: Global, text: &str, is_quiet: bool) -> Result<Seen, Fail> {
         "read.asm",
         None,
         is_quiet,
+        Style::Plain,
     );
     let Console { output, errors, .. } = console;
     Ok(Seen {
@@ -133,5 +134,39 @@ fn a_text_that_is_refused(rt: HostRuntime) -> Result<(), Fail> {
     let other = see_verify(rt.alloc(), text, false)?;
     assert_eq!(rt; seen.output.as_slice(), other.output.as_slice());
     assert_eq!(rt; seen.errors.as_slice(), other.errors.as_slice());
+    Ok(())
+}
+
+// What is told to a tool: a note, and a refusal, with the line of its word.
+#[test]
+fn notes_as_json(rt: HostRuntime) -> Result<(), Fail> {
+    let seen = see_lint(rt.alloc(), NO_DATA, LintOutput::Json)?;
+    assert_eq!(rt; seen.exit, Exit::Done);
+    let printed = str::from_utf8(seen.output.as_slice())?;
+    assert_eq!(rt; printed.lines().count(), 3);
+    for line in printed.lines() {
+        assert!(rt; line.starts_with("{\"code\":\"N"), "{line}");
+        assert!(rt; line.contains("\"file\":\"read.asm\","), "{line}");
+        assert!(rt; line.ends_with(")\"}"), "{line}");
+    }
+    Ok(())
+}
+
+#[test]
+fn a_refusal_as_json(rt: HostRuntime) -> Result<(), Fail> {
+    let text = "rows 1\nbuffer 0\nbudget 9\ncmd 60\naddr 2 3\ncmd d0\nend 0\n";
+    let seen = see_lint(rt.alloc(), text, LintOutput::Json)?;
+    assert_eq!(rt; seen.exit.status(), 1);
+    assert_eq!(rt;
+        str::from_utf8(seen.output.as_slice())?,
+        "refused V14 at 3\n"
+    );
+    let said = str::from_utf8(seen.errors.as_slice())?;
+    assert!(rt;
+        said.starts_with(
+            "{\"code\":\"V14\",\"file\":\"read.asm\",\"line\":7,\"word\":3,\"message\":\"word 3, `end 0`: "
+        ),
+        "{said}"
+    );
     Ok(())
 }

@@ -8,7 +8,7 @@ use seq_cli::{Command, answer, command_on, run_program};
 use seq_commands::{CheckRequest, Targets};
 use seq_core::JobFault;
 use seq_files::{MapFiles, SlowReader, SlowWriter};
-use seq_inputs::{Console, Exit, Fault};
+use seq_inputs::{Console, Exit, Fault, Style};
 use seq_run::{NoClock, RunRequest};
 use std::alloc::{AllocError, Global};
 use std::io::{self, Write};
@@ -17,7 +17,7 @@ use std::sync::Wait;
 use std::test::Fail;
 use std::thread::Threads;
 use trace_faults::Readies;
-use trace_text::NoProgress;
+use trace_text::{NoProgress, TraceForm};
 
 // What the program answers: its status, and what it writes on standard output and on standard error.
 #[derive(Drop)]
@@ -562,6 +562,7 @@ const COMMANDS: [(Command<'static>, u8, &str); 7] = [
             input: "a",
             counter: None,
             is_quiet: false,
+            style: Style::Plain,
         },
         0,
         "accepted\n",
@@ -585,6 +586,8 @@ const COMMANDS: [(Command<'static>, u8, &str); 7] = [
             input: "a",
             tells_all: false,
             readies: Readies::Written,
+            form: TraceForm::Strict,
+            style: Style::Plain,
             copy: None,
         }),
         1,

@@ -1,6 +1,7 @@
 // What the words of the command line ask for: each option of a run, and each command that the help lists. And an input of `once` without an
 // end.
 use crate::once_tests::new_console;
+use bus_capture::CaptureForm;
 use clap::error::ErrorKind as UsageKind;
 use seq_cli::{Command, Mistake, PathMistake, once_on, parse};
 use seq_commands::{CaptureRequest, DrawForm, DrawRequest, Targets};
@@ -106,8 +107,10 @@ const CAPTURE: CaptureRequest<'static> = CaptureRequest {
     page: "p",
     targets: Targets::Two,
     input: "x",
+    form: CaptureForm::Dump,
     target: "t",
     mappings: None,
+    has_times: false,
 };
 
 #[test]

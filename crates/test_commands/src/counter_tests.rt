@@ -6,16 +6,18 @@ use onfi_cycle::Forbidden;
 use seq_cli::Command;
 use seq_commands::{CheckRequest, Targets};
 use seq_files::{FileError, FileFault, MapFiles};
-use seq_inputs::{Exit, Fault};
+use seq_inputs::{Exit, Fault, Style};
 use std::process::Abort;
 use std::test::Fail;
 use trace_faults::Readies;
+use trace_text::TraceForm;
 
 const VERIFY: Command<'static> = Command::Verify {
     page: "die.page",
     input: "out",
     counter: Some("run"),
     is_quiet: false,
+    style: Style::Plain,
 };
 
 const CHECK: Command<'static> = Command::Check(CheckRequest {
@@ -24,6 +26,8 @@ const CHECK: Command<'static> = Command::Check(CheckRequest {
     input: "run",
     tells_all: false,
     readies: Readies::Written,
+    form: TraceForm::Strict,
+    style: Style::Plain,
     copy: None,
 });
 

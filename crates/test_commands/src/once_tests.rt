@@ -5,13 +5,13 @@ use seq_cli::{Command, Mistake, once_on, parse};
 use seq_commands::{CheckRequest, Targets};
 use seq_core::JobFault;
 use seq_files::{SlowReader, SlowWriter};
-use seq_inputs::{Console, Exit, Fault, Refusal};
+use seq_inputs::{Console, Exit, Fault, Refusal, Style};
 use std::alloc::{AllocError, Global};
 use std::io::{self, sink};
 use std::process::Abort;
 use std::test::Fail;
 use trace_faults::Readies;
-use trace_text::NoProgress;
+use trace_text::{NoProgress, TraceForm};
 
 // The erase of one block: cmd 60, addr 2 3, cmd d0, wait, end 0; rows 1, budget 5.
 pub(crate) const ERASE: [u8; 36] = [
@@ -217,7 +217,7 @@ fn kind_of(mistake: &Mistake<'_>) -> UsageKind {
     match mistake {
         Mistake::Words(error) => error.kind(),
         Mistake::NoCommand => UsageKind::MissingSubcommand,
-        Mistake::Base(_) => UsageKind::ValueValidation,
+        Mistake::Base(_) | Mistake::Mapping(_) => UsageKind::ValueValidation,
         Mistake::Paths(_) => UsageKind::ArgumentConflict,
     }
 }
@@ -299,6 +299,7 @@ fn command_lines_of_files(rt: HostRuntime) -> Result<(), Fail> {
                 input: "b",
                 counter: None,
                 is_quiet: false,
+                style: Style::Plain,
             },
         ),
     ];
@@ -313,6 +314,7 @@ fn command_lines_of_files(rt: HostRuntime) -> Result<(), Fail> {
             input: "b",
             counter: Some("c"),
             is_quiet: false,
+            style: Style::Plain,
         }),
     )?;
     expect_asked(
@@ -332,6 +334,8 @@ fn command_lines_of_files(rt: HostRuntime) -> Result<(), Fail> {
             input: "b",
             tells_all: false,
             readies: Readies::Written,
+            form: TraceForm::Strict,
+            style: Style::Plain,
             copy: None,
         });
         expect_asked(&rt, &["onfiseq", "check", "a", word, "b"], Ok(command))?;

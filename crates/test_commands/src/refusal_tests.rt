@@ -9,7 +9,7 @@ use nand_geometry::{Geometry, Parts};
 use seq_cli::Command;
 use seq_core::JobFault;
 use seq_files::MapFiles;
-use seq_inputs::{Exit, Fault, Refusal, words_of};
+use seq_inputs::{Exit, Fault, Refusal, Style, words_of};
 use std::alloc::Global;
 use std::process::Abort;
 use std::test::Fail;
@@ -373,6 +373,7 @@ fn verified(
         input: "out",
         counter: None,
         is_quiet: false,
+        style: Style::Plain,
     };
     let seen = do_command(rt.alloc(), &mut files, command);
     Ok((seen.exit, seen.output, seen.errors))
@@ -537,10 +538,9 @@ fn refusals_of_jobs(rt: HostRuntime) -> Result<(), Fail> {
     let fault = Fault::Job {
         fault: JobFault::NoSuchLun,
     };
+    let words = words_of(rt.alloc(), "in", fault).ok_or("no words")?;
     assert_eq!(rt;
-        words_of(rt.alloc(), "in", fault)
-            .ok_or("no words")?
-            .as_str(),
+        format!(in rt.alloc(); "{words}")?.as_str(),
         "in: there is no such LUN (S2)"
     );
     for (line, text) in [(None, "refused S2 at 0\n"), (Some(7), "refused S2 at 7\n")] {

@@ -2,17 +2,17 @@ use micro_claims::Reason;
 use nand_geometry::{Geometry, Parts, SMALL_CHIP};
 use seq_cli::Command;
 use seq_commands::{
-    CheckRequest, Targets, assemble_file, check_trace, disassemble_file, draw_trace, lint_file,
-    upgrade_file, verify_file,
+    CheckRequest, Targets, assemble_file, capture_trace, check_trace, disassemble_file, draw_trace,
+    lint_file, upgrade_file, verify_file,
 };
 use seq_files::MapFiles;
-use seq_inputs::{Console, Exit, Fault, Refusal};
+use seq_inputs::{Console, Exit, Fault, Refusal, Style};
 use std::alloc::{AllocError, Allocator, Global};
 use std::io::Write;
 use std::process::Abort;
 use std::test::Fail;
 use trace_faults::Readies;
-use trace_text::NoProgress;
+use trace_text::{NoProgress, TraceForm};
 
 // One LUN of 8 blocks of 4 pages of 512 + 16 bytes, in one plane.
 pub(crate) const ONE_LUN: Parts = SMALL_CHIP;
@@ -51,6 +51,7 @@ pub(crate) const VERIFY: Command<'static> = Command::Verify {
     input: "in",
     counter: None,
     is_quiet: true,
+    style: Style::Plain,
 };
 
 pub(crate) const CHECK: Command<'static> = Command::Check(CheckRequest {
@@ -59,6 +60,8 @@ pub(crate) const CHECK: Command<'static> = Command::Check(CheckRequest {
     input: "in",
     tells_all: false,
     readies: Readies::Written,
+    form: TraceForm::Strict,
+    style: Style::Plain,
     copy: None,
 });
 
@@ -102,12 +105,14 @@ pub(crate) fn carry_out<A: Allocator + Clone, W: Write, E: Write>(
             input,
             counter,
             is_quiet,
-        } => verify_file(alloc, files, console, page, input, counter, is_quiet),
+            style,
+        } => verify_file(alloc, files, console, page, input, counter, is_quiet, style),
         Command::Lint {
             page,
             input,
             output,
         } => lint_file(alloc, files, console, page, input, output),
+        Command::Capture(request) => capture_trace(alloc, files, console, request),
         Command::Check(request) => check_trace(alloc, files, console, request),
         Command::Draw(request) => draw_trace(alloc, files, console, request),
         Command::Disassemble { input } => disassemble_file(alloc, files, console, input),
@@ -229,6 +234,8 @@ fn checks(rt: HostRuntime) -> Result<(), Fail> {
             input: "in",
             tells_all: false,
             readies: Readies::Written,
+            form: TraceForm::Strict,
+            style: Style::Plain,
             copy: None,
         });
         let mut files = files_of(rt.alloc(), ONE_LUN, b"1 C 60\n")?;

@@ -1,7 +1,7 @@
 use crate::tests::{ASSEMBLE, ONE_LUN, TWO_LUNS, do_command, files_of};
 use nand_geometry::Parts;
 use seq_cli::Command;
-use seq_inputs::Exit;
+use seq_inputs::{Exit, Style};
 use std::process::Abort;
 use std::test::Fail;
 
@@ -34,6 +34,7 @@ fn expect(
         input: "out",
         counter: None,
         is_quiet: false,
+        style: Style::Plain,
     };
     let seen = do_command(rt.alloc(), &mut files, command);
     assert_eq!(rt; str::from_utf8(seen.output.as_slice())?, line, "{text}");

@@ -1,5 +1,5 @@
 use std::test::Fail;
-use trace_text::{TraceMessage, parse, parse_recorded};
+use trace_text::{TraceForm, TraceMessage, parse, parse_recorded};
 
 // Texts that are refused, and what is said of them.
 const TEXTS: &[(&str, &str)] = &[
@@ -118,7 +118,7 @@ const TEXTS: &[(&str, &str)] = &[
 fn texts_that_are_refused(rt: HostRuntime) -> Result<(), Fail> {
     for (text, message) in TEXTS {
         let refusal = parse(rt.alloc(), text).err().ok_or("the text is read")?;
-        let told = format!(in rt.alloc(); "{}", TraceMessage::new(refusal, text))?;
+        let told = format!(in rt.alloc(); "{}", TraceMessage::new(refusal, text, TraceForm::Strict))?;
         assert_eq!(rt; told.as_str(), *message);
     }
     Ok(())
@@ -182,7 +182,7 @@ fn recorded_texts_that_are_refused(rt: HostRuntime) -> Result<(), Fail> {
         let refusal = parse_recorded(rt.alloc(), text)
             .err()
             .ok_or("the text is read")?;
-        let told = format!(in rt.alloc(); "{}", TraceMessage::of_recorded(refusal, text))?;
+        let told = format!(in rt.alloc(); "{}", TraceMessage::new(refusal, text, TraceForm::Recorded))?;
         assert_eq!(rt; told.as_str(), *message);
     }
     Ok(())
