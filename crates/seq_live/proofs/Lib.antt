@@ -7,5 +7,6 @@ pub mod Running
 pub mod Truth
 pub mod Stepping
 pub mod Shown
+pub mod Faults
 pub mod Main
 pub mod Models

@@ -31,6 +31,8 @@ use Rattle.seq_live.specs.Headline.{LiveEventsAreOwn, LiveGoesWell}
 use Rattle.seq_live.specs.declared.begun.Begun.{Begun}
 use Rattle.seq_live.specs.declared.begun.Begun.TheVariants.{Answered, Going}
 use Rattle.seq_live.specs.declared.burst.Burst.{Burst}
+use Rattle.seq_live.specs.declared.out_of_turn.OutOfTurn.{OutOfTurn}
+use Rattle.seq_live.specs.declared.out_of_turn.OutOfTurn.TheVariants.{StepGoesOn, NoStep, NoBurst, BurstsLeft, NoRoom, WrongCount}
 use Rattle.seq_live.specs.declared.live.StepGoingOn.{StepGoingOn}
 use Rattle.seq_live.specs.Burst.{bursts_at, taken_by}
 use Rattle.seq_live.specs.Kept.{LiveView, channel_at, core_at, IsLiveAt}
@@ -189,6 +191,10 @@ pub record IsNextBurst (v : LiveView) (burst : Burst) : Type 0 where
   pub are_next : AreNextBursts v step.lun bursts
   pub is_burst : slice_get bursts step.done ≡ Some burst
 
+-- no burst is to be done now
+abbrev pub HasNoBurst : LiveView → Type 0
+HasNoBurst v = (burst : Burst) → IsNextBurst v burst → ⊥
+
 -- a word has three bursts at most
 abbrev pub AreFewDone : LiveView → Type 0
 AreFewDone v = (step : StepGoingOn) → v.going ≡ Some step → step.done < 3
@@ -208,6 +214,34 @@ pub record HasFinished (v : LiveView) (bytes : List ℕ) (answer : Stepped) (lat
   pub replies : List Reply
   pub run : IsLiveRun v (readies ++ (Step step.lun bytes ∷ [])) (replies ++ (ToStep answer ∷ [])) later
   pub is_over : later.going ≡ None
+
+-- so many bytes were taken, and the outputs of the next word, all of whose bursts are done, are not as many
+pub record IsMiscounted (v : LiveView) (count : ℕ) : Type 0 where
+  pub step : StepGoingOn
+  pub is_step : v.going ≡ Some step
+  pub done : HasNoBurst v
+  pub may : MayStep v step.lun
+  pub word : Word
+  pub is_word : IsNextWord v step.lun word
+  pub differs : count ≡ taken_by word → ⊥
+
+-- why a burst isn't told to be done
+abbrev pub IsGaveFault : LiveView → OutOfTurn → Type 0
+IsGaveFault v NoStep = v.going ≡ None
+IsGaveFault v NoBurst = (step : StepGoingOn) × (v.going ≡ Some step) × HasNoBurst v
+IsGaveFault v StepGoesOn = ⊥
+IsGaveFault v BurstsLeft = ⊥
+IsGaveFault v NoRoom = ⊥
+IsGaveFault v WrongCount = ⊥
+
+-- why a step isn't finished by so many bytes
+abbrev pub IsFinishFault : LiveView → ℕ → OutOfTurn → Type 0
+IsFinishFault v count NoStep = v.going ≡ None
+IsFinishFault v count BurstsLeft = (burst : Burst) × IsNextBurst v burst
+IsFinishFault v count WrongCount = IsMiscounted v count
+IsFinishFault v count StepGoesOn = ⊥
+IsFinishFault v count NoBurst = ⊥
+IsFinishFault v count NoRoom = ⊥
 
 -- the step of this LUN, if one goes on, still does
 abbrev pub GoesOnFor : Lun → LiveView → Type 0

@@ -11,7 +11,7 @@ ghost use Rattle.seq_core.specs.Playing.{EndsWithFive};
 ghost use Rattle.seq_live.specs.Event.{Load, Step, Ready, ArrayReady, Unload};
 ghost use Rattle.seq_live.specs.Burst.{taken_by};
 ghost use Rattle.seq_live.specs.Kept.{channel_at, IsLiveAt, IsLive};
-ghost use Rattle.seq_live.specs.Calls.{IsLiveRun, IsLiveEvent, live_slot, live_load_fault, MayStep, IsNextWord, AreNextBursts, Begins, IsNextBurst, AreFewDone, IsBurstDone, HasFinished, HasBuffer, KeepsSlots, IsReadyNow, ends_with, shown, shown_by};
+ghost use Rattle.seq_live.specs.Calls.{IsLiveRun, IsLiveEvent, live_slot, live_load_fault, MayStep, IsNextWord, AreNextBursts, Begins, IsNextBurst, HasNoBurst, AreFewDone, IsBurstDone, IsGaveFault, IsFinishFault, HasFinished, HasBuffer, KeepsSlots, IsReadyNow, ends_with, shown, shown_by};
 
 use crate::begun::Begun;
 use crate::burst::{Burst, Bursts, burst_of, taken_by};
@@ -122,6 +122,7 @@ impl<A: Allocator> Live<A> {
     /// The buffer of a LUN's job as it is now, where the bytes of an [`Input`](crate::Burst::Input) burst stand; None where it has no job or isn't there.
     pub fn buffer(&self, lun: Lun) -> Option<&[u8]>
         ensures some { IfSome result (λ buffer. HasBuffer (live_slot self.now lun) buffer.now) }
+        ensures none { IfNone result (live_slot self.now lun ≡ None) }
     {
         let place = self.place(lun)?;
         buffer_in(self.slots.as_slice(), place)
@@ -129,7 +130,8 @@ impl<A: Allocator> Live<A> {
 
     /// How many bytes the outputs of a LUN's next word give; 0 where its step would change nothing.
     pub fn takes(&self, lun: Lun) -> usize
-        ensures { MayStep self.now lun → (word : WordValue) → IsNextWord self.now lun word → result ≡ taken_by word }
+        ensures may { MayStep self.now lun → (word : WordValue) → IsNextWord self.now lun word → result ≡ taken_by word }
+        ensures rest { (MayStep self.now lun → ⊥) → result ≡ 0 }
     {
         match self.answer_at_rest(lun) {
             Some(_) => 0,
@@ -324,6 +326,7 @@ impl<A: Allocator> Live<A> {
     pub fn next(&self) -> Option<Burst>
         ensures some { IfSome result (λ burst. IsNextBurst self.now burst) }
         ensures few { IfSome result (λ burst. AreFewDone self.now) }
+        ensures none { IfNone result (HasNoBurst self.now) }
     {
         let step = self.going?;
         match self.answer_at_rest(step.lun) {
@@ -336,7 +339,7 @@ impl<A: Allocator> Live<A> {
     /// done.
     pub fn gave(&mut self) -> Result<(), OutOfTurn>
         ensures ok { IfOk result (λ _. IsBurstDone self.old self.new) }
-        ensures err { OnErr result (self.new ≡ self.old) }
+        ensures err { IfErr result (λ e. IsGaveFault self.old e × (self.new ≡ self.old)) }
     {
         let Some(step) = self.going else {
             return Err(OutOfTurn::NoStep);
@@ -417,19 +420,20 @@ impl<A: Allocator> Live<A> {
     /// besides that its array has. The answer is how the step went. Errors, with all as it was: `NoStep` no step goes on; `BurstsLeft`; `WrongCount`.
     pub fn finish(&mut self, taken: &[u8]) -> Result<Stepped, OutOfTurn>
         ensures ok { IfOk result (λ answer. HasFinished self.old taken.now answer self.new) }
-        ensures err { OnErr result (self.new ≡ self.old) }
+        ensures all { IfOk result (λ answer. HasNoBurst self.old) }
+        ensures err { IfErr result (λ e. IsFinishFault self.old (length taken.now) e × (self.new ≡ self.old)) }
     {
         let Some(step) = self.going else {
             return Err(OutOfTurn::NoStep);
+        };
+        let None = self.next() else {
+            return Err(OutOfTurn::BurstsLeft);
         };
         if let Some(answer) = self.answer_at_rest(step.lun) {
             self.going = None;
             return Ok(answer);
         }
         let word = self.word_at(step.lun);
-        if step.done < self.bursts_at(step.lun).len() {
-            return Err(OutOfTurn::BurstsLeft);
-        }
         if taken.len() != taken_by(word) {
             return Err(OutOfTurn::WrongCount);
         }
