@@ -8,5 +8,6 @@ pub mod Truth
 pub mod Stepping
 pub mod Shown
 pub mod Faults
+pub mod Pinned
 pub mod Main
 pub mod Models

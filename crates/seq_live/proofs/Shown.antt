@@ -88,7 +88,7 @@ pub finished_at_rest : (v : LiveView) (bytes : List ℕ) (answer : Stepped) (ste
 finished_at_rest v bytes answer step is rest run =
     record { step = step; is_step = is; readies = []; are_shown = λ word may next. absurd (rest may); replies = []; run = whatever_goes_on v v None (Step step.lun bytes ∷ []) (ToStep answer ∷ []) run; is_over = refl }
 
-same_next : (o : Option Progress) (word other : Word) → NextWordIs o word → NextWordIs o other → word ≡ other
+pub same_next : (o : Option Progress) (word other : Word) → NextWordIs o word → NextWordIs o other → word ≡ other
 same_next o word other a b =
     let same : a.v ≡ b.v = some_same a.v b.v (sym a.is_slot ∙ b.is_slot) in
     some_same word other (sym a.here ∙ (ap (λ (q : Progress). slice_get q.job.text.words q.at) same ∙ b.here))
@@ -115,9 +115,6 @@ few_done v step (Some burst) is h = λ other e. let same : step ≡ other = some
 
 -- 6. bursts, one after another
 
-pub one_more_burst : (v u t : LiveView) → IsLiveRun v [] [] u → IsBurstDone u t → IsLiveRun v [] [] t
-one_more_burst v u t run done = subst (IsLiveRun v [] []) (sym done.is_later) (whatever_goes_on v u (Some (record done.step { done = done.step.done + 1 })) [] [] run)
-
 pub begun : (v u : LiveView) (l : Lun) → Begins v l Going u → IsLiveRun v [] [] u
 begun v u l h = subst (IsLiveRun v [] []) (sym h.1) (whatever_goes_on v v (Some (record { lun = l; done = 0 })) [] [] (no_run v))
 
@@ -142,23 +139,6 @@ stepped_on v u t l bytes answer run goes f =
 pub begun_stepped : (v u t : LiveView) (l : Lun) (answer : Stepped) → IsLiveRun v [] [] u → HasStepped u l answer t → HasStepped v l answer t
 begun_stepped v u t l answer run h =
     record { readies = h.readies; bytes = h.bytes; replies = h.replies; run = runs_more v u t [] (h.readies ++ (Step l h.bytes ∷ [])) [] (h.replies ++ (ToStep answer ∷ [])) run h.run }
-
-pub same_view : (v u t : LiveView) → IsLiveRun v [] [] u → t ≡ u → IsLiveRun v [] [] t
-same_view v u t run same = subst (IsLiveRun v [] []) (sym same) run
-
--- a burst that is done, or one that isn't told
-pub burst_done : (v u t : LiveView) (r : Result (Unit {0}) OutOfTurn) → IsLiveRun v [] [] u → KeepsStep v u → IfOk r (λ x. IsBurstDone u t) → OnErr r (t ≡ u) → IsLiveRun v [] [] t × KeepsStep v t
-burst_done v u t (Ok x) run keeps ok err = (one_more_burst v u t run ok, λ l goes. kept l (keeps l goes))
-  where
-    kept : (l : Lun) → GoesOnFor l u → GoesOnFor l t
-    kept l goes =
-        let same : ok.step ≡ goes.0 = some_same ok.step goes.0 (sym ok.is_step ∙ goes.1) in
-        subst (GoesOnFor l) (sym ok.is_later) (record ok.step { done = ok.step.done + 1 }, refl, ap (λ (s : StepGoingOn). s.lun) same ∙ goes.2)
-burst_done v u t (Err x) run keeps ok err = (same_view v u t run err, λ l goes. subst (GoesOnFor l) (sym err) (keeps l goes))
-
-pub begun_failed : {X : Type 0} (v u t : LiveView) (r : Result X OutOfTurn) → IsLiveRun v [] [] u → IfErr r (λ e. IsLiveRun u [] [] t) → IfErr r (λ e. IsLiveRun v [] [] t)
-begun_failed v u t (Ok x) run h = h
-begun_failed v u t (Err e) run h = runs_more v u t [] [] [] [] run h
 
 pub begun_went : (v u t : LiveView) (l : Lun) (r : Result Stepped OutOfTurn) → IsLiveRun v [] [] u → IfOk r (λ answer. HasStepped u l answer t) → IfOk r (λ answer. HasStepped v l answer t)
 begun_went v u t l (Ok answer) run h = begun_stepped v u t l answer run h

@@ -1,5 +1,5 @@
 -- What a call of a sequencer on a real bus is: an event, or several, of the world that it keeps.
-use Rattle.std.specs.Prelude.{◌≡◌, ℕ, ◌+◌, ◌<◌, ◌==◌, Bool, true, false, ◌&&◌, if◌then◌else◌, List, [], ◌∷◌, ◌++◌, Option, Some, None, length, slice_get}
+use Rattle.std.specs.Prelude.{◌≡◌, ℕ, ◌+◌, ◌<◌, ◌==◌, ◌⊎◌, Bool, true, false, ◌&&◌, if◌then◌else◌, List, [], ◌∷◌, ◌++◌, Option, Some, None, length, slice_get}
 use Rattle.std.specs.Int.RustNames.{bit_and}
 use Rattle.nand_geometry.specs.declared.parts.Parts.{Parts}
 use Rattle.onfi_cycle.specs.declared.lun.Lun.{Lun}
@@ -243,6 +243,17 @@ IsFinishFault v count StepGoesOn = ⊥
 IsFinishFault v count NoBurst = ⊥
 IsFinishFault v count NoRoom = ⊥
 
+-- the outputs of a LUN's next word give so many bytes
+pub record NextTakes (v : LiveView) (l : Lun) (count : ℕ) : Type 0 where
+  pub may : MayStep v l
+  pub word : Word
+  pub is_word : IsNextWord v l word
+  pub is_count : count ≡ taken_by word
+
+-- so many bytes, none where a step of the LUN would change nothing
+abbrev pub Takes : LiveView → Lun → ℕ → Type 0
+Takes v l count = NextTakes v l count ⊎ ((MayStep v l → ⊥) × (count ≡ 0))
+
 -- the step of this LUN, if one goes on, still does
 abbrev pub GoesOnFor : Lun → LiveView → Type 0
 GoesOnFor l v = (step : StepGoingOn) × (v.going ≡ Some step) × (step.lun ≡ l)
@@ -268,6 +279,23 @@ abbrev pub ends_with : Word → List ℕ → Bool
 ends_with word bytes = is_wait word && is_ready_status (first_byte bytes)
 
 -- ---- a step on pins
+
+-- a step of this LUN has begun, and none of its bursts is done
+abbrev pub HasBegun : LiveView → Lun → Type 0
+HasBegun v l = v.going ≡ Some (record { lun = l; done = 0 })
+
+-- nothing has changed but how far the step that goes on is
+abbrev pub KeepsAllButStep : LiveView → LiveView → Type 0
+KeepsAllButStep v later = later ≡ record v { going = later.going }
+
+-- why a step on pins isn't made, with room for so many bytes
+abbrev pub IsStepFault : LiveView → Lun → ℕ → OutOfTurn → Type 0
+IsStepFault v l room StepGoesOn = (step : StepGoingOn) × (v.going ≡ Some step)
+IsStepFault v l room NoRoom = (count : ℕ) × NextTakes v l count × (room < count)
+IsStepFault v l room NoStep = ⊥
+IsStepFault v l room NoBurst = ⊥
+IsStepFault v l room BurstsLeft = ⊥
+IsStepFault v l room WrongCount = ⊥
 
 -- a step of a LUN came: after the readies that it shows, with the bytes that the pins gave
 pub record HasStepped (v : LiveView) (l : Lun) (answer : Stepped) (later : LiveView) : Type 0 where

@@ -1,7 +1,6 @@
 //! The sequencer on a real bus: what is to be done on the pins, burst by burst, and what the chips answer.
 ghost use Rattle.std.specs.Prelude.{◌≡◌, ◌↔◌, ℕ, ◌<◌, true, List, [], ◌∷◌, ◌++◌, Some, None, if◌then◌else◌, IsOk, IfOk, IfErr, OnErr, IfSome, IfNone, length};
 ghost use Rattle.onfi_cycle.specs.Channel.{is_there};
-ghost use Rattle.micro_word.specs.declared.word.Word.{Word as WordValue};
 ghost use Rattle.micro_program.specs.Program.{is_ready_status};
 ghost use Rattle.seq_core.specs.World.{fresh, number};
 ghost use Rattle.seq_core.specs.Event.{IsVerified};
@@ -11,7 +10,7 @@ ghost use Rattle.seq_core.specs.Playing.{EndsWithFive};
 ghost use Rattle.seq_live.specs.Event.{Load, Step, Ready, ArrayReady, Unload};
 ghost use Rattle.seq_live.specs.Burst.{taken_by};
 ghost use Rattle.seq_live.specs.Kept.{channel_at, IsLiveAt, IsLive};
-ghost use Rattle.seq_live.specs.Calls.{IsLiveRun, IsLiveEvent, live_slot, live_load_fault, MayStep, IsNextWord, AreNextBursts, Begins, IsNextBurst, HasNoBurst, AreFewDone, IsBurstDone, IsGaveFault, IsFinishFault, HasFinished, HasBuffer, KeepsSlots, IsReadyNow, ends_with, shown, shown_by};
+ghost use Rattle.seq_live.specs.Calls.{IsLiveRun, IsLiveEvent, live_slot, live_load_fault, MayStep, IsNextWord, AreNextBursts, Begins, IsNextBurst, HasNoBurst, AreFewDone, Takes, IsBurstDone, IsGaveFault, IsFinishFault, HasFinished, HasBuffer, KeepsSlots, IsReadyNow, ends_with, shown, shown_by};
 
 use crate::begun::Begun;
 use crate::burst::{Burst, Bursts, burst_of, taken_by};
@@ -130,8 +129,7 @@ impl<A: Allocator> Live<A> {
 
     /// How many bytes the outputs of a LUN's next word give; 0 where its step would change nothing.
     pub fn takes(&self, lun: Lun) -> usize
-        ensures may { MayStep self.now lun → (word : WordValue) → IsNextWord self.now lun word → result ≡ taken_by word }
-        ensures rest { (MayStep self.now lun → ⊥) → result ≡ 0 }
+        ensures { Takes self.now lun result }
     {
         match self.answer_at_rest(lun) {
             Some(_) => 0,
