@@ -9,5 +9,6 @@ pub mod Stepping
 pub mod Shown
 pub mod Faults
 pub mod Pinned
+pub mod Turns
 pub mod Main
 pub mod Models

@@ -212,6 +212,8 @@ pub record HasFinished (v : LiveView) (bytes : List ℕ) (answer : Stepped) (lat
   pub readies : List LiveEvent
   pub are_shown : (word : Word) → MayStep v step.lun → IsNextWord v step.lun word → readies ≡ shown step.lun word bytes
   pub replies : List Reply
+  pub paired : length replies ≡ length readies
+  pub verified : AllLoadVerified readies
   pub run : IsLiveRun v (readies ++ (Step step.lun bytes ∷ [])) (replies ++ (ToStep answer ∷ [])) later
   pub is_over : later.going ≡ None
 
@@ -302,6 +304,8 @@ pub record HasStepped (v : LiveView) (l : Lun) (answer : Stepped) (later : LiveV
   pub readies : List LiveEvent
   pub bytes : List ℕ
   pub replies : List Reply
+  pub paired : length replies ≡ length readies
+  pub verified : AllLoadVerified readies
   pub run : IsLiveRun v (readies ++ (Step l bytes ∷ [])) (replies ++ (ToStep answer ∷ [])) later
 
 -- ---- laws

@@ -4,3 +4,4 @@ pub mod Headline
 pub mod Burst
 pub mod Kept
 pub mod Calls
+pub mod Jobs

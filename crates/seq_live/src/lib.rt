@@ -10,14 +10,18 @@ mod begun;
 mod burst;
 pub mod laws;
 mod live;
+mod live_job;
 mod moving;
 mod out_of_turn;
 mod pins;
 mod playing;
+mod run;
 mod slot_steps;
 
 pub use begun::Begun;
 pub use burst::{Burst, Bursts, MAX_BURSTS};
 pub use live::{Live, StepGoingOn};
+pub use live_job::{LiveJob, OnLun};
 pub use out_of_turn::OutOfTurn;
 pub use pins::{Pins, step_on};
+pub use run::{RunEnd, RunLimits, run_live};

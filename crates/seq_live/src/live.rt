@@ -82,7 +82,7 @@ impl<A: Allocator> Live<A> {
     }
 
     // The number of a LUN, if it is there.
-    fn place(&self, lun: Lun) -> Option<usize>
+    pub(crate) fn place(&self, lun: Lun) -> Option<usize>
         ensures value { result ≡ (if is_there (channel_at self.now) lun then Some (number (channel_at self.now) lun) else None) }
         ensures inside { IfSome result (λ k. (k < length self.now.slots) × (k < 16)) }
     {

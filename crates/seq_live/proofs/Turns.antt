@@ -1,0 +1,296 @@
+-- Turns of jobs on pins: the events that came, and what becomes of each job.
+use Rattle.std.proofs.Common.{◌≡◌, ℕ, zero, suc, ◌+◌, ◌<◌, ◌≤◌, ◌==◌, Bool, true, false, cond, ◌⊎◌, inl, inr, List, [], ◌∷◌, ◌++◌, Option, Some, None, refl, sym, ap, ◌∙◌, subst, eq-eqb, length, length-append, map, get_or, set, lit<, Contains, Result, Ok, Err, IfErr, arith}
+use Rattle.std.proofs.lemmas.List.{map-append}
+use Rattle.std.proofs.lemmas.List.Elements.{Contains-append_left, Contains-append_right}
+use Rattle.onfi_cycle.specs.declared.lun.Lun.{Lun}
+use Rattle.micro_program.specs.Program.{Job}
+use Rattle.seq_core.specs.declared.load_fault.LoadFault.{LoadFault}
+use Rattle.seq_core.specs.declared.sequencer.LoadRefused.{LoadRefused}
+use Rattle.seq_core.specs.declared.sequencer.UnloadedJob.{UnloadedJob}
+use Rattle.seq_core.specs.declared.stepped.Stepped.{Stepped}
+use Rattle.seq_core.specs.declared.stepped.Stepped.TheVariants.{NotReady}
+use Rattle.seq_core.specs.Event.{LoadsVerified, IsVerified}
+use Rattle.seq_core.specs.Reply.{Reply, ToLoad, ToStep, ToUnload, Loaded, NotLoaded, Unloaded}
+use Rattle.seq_live.specs.Event.{LiveEvent, Load, Step, Ready, ArrayReady, Unload, plain, AllLoadVerified}
+use Rattle.seq_live.specs.Kept.{LiveView}
+use Rattle.seq_live.specs.Calls.{IsLiveRun, IsLiveEvent, HasStepped, IsStepFault}
+use Rattle.seq_live.specs.declared.out_of_turn.OutOfTurn.{OutOfTurn}
+use Rattle.seq_live.specs.declared.live_job.OnLun.{OnLun}
+use Rattle.seq_live.specs.declared.live_job.LiveJob.{LiveJob}
+use Rattle.seq_live.specs.declared.live_job.LiveJob.TheVariants.{Waiting, Running, Done, Abandoned, Refused}
+use Rattle.seq_live.specs.Jobs.{is_back, place_on, Told, events_of, replies_of, HasRun, busy_step, busy_polls, loaded, refused, ended, StandsOn, HasEnded, Goes, AllGo, HasTurned, HaveTurned}
+use Rattle.seq_live.proofs.Running.{runs_more, no_run}
+
+-- 1. runs with their replies
+
+abbrev told : LiveEvent → Reply → Told
+told e reply = record { event = e; reply = reply }
+
+pub no_calls : (v : LiveView) → HasRun v [] v
+no_calls v = record { verified = tt; run = no_run v }
+
+pub one_call : (v u : LiveView) (e : LiveEvent) (reply : Reply) → LoadsVerified (plain e) → IsLiveEvent v e reply u → HasRun v (told e reply ∷ []) u
+one_call v u e reply verified event = record { verified = (verified, tt); run = event }
+
+verified_more : (es fs : List LiveEvent) → AllLoadVerified es → AllLoadVerified fs → AllLoadVerified (es ++ fs)
+verified_more [] fs first more = more
+verified_more (e ∷ es) fs first more = (first.0, verified_more es fs first.1 more)
+
+pub more_calls : (v u t : LiveView) (log more : List Told) → HasRun v log u → HasRun u more t → HasRun v (log ++ more) t
+more_calls v u t log more first second =
+    record {
+      verified = subst AllLoadVerified (sym (map-append (λ (t : Told). t.event) log more)) (verified_more (events_of log) (events_of more) first.verified second.verified);
+      run = subst (λ (es : List LiveEvent). IsLiveRun v es (replies_of (log ++ more)) t) (sym (map-append (λ (t : Told). t.event) log more))
+          (subst (λ (rs : List Reply). IsLiveRun v (events_of log ++ events_of more) rs t) (sym (map-append (λ (t : Told). t.reply) log more))
+          (runs_more v u t (events_of log) (events_of more) (replies_of log) (replies_of more) first.run second.run));
+    }
+
+-- events with a reply to each
+record Zipped (es : List LiveEvent) (rs : List Reply) : Type 0 where
+  log : List Told
+  events : events_of log ≡ es
+  replies : replies_of log ≡ rs
+
+zipped : (es : List LiveEvent) (rs : List Reply) → length rs ≡ length es → Zipped es rs
+zipped [] [] h = record { log = []; events = refl; replies = refl }
+zipped [] (r ∷ rs) h = absurd (omega (arith, h))
+zipped (e ∷ es) [] h = absurd (omega (arith, h))
+zipped (e ∷ es) (r ∷ rs) h =
+    let rest = zipped es rs (omega (arith, h)) in
+    record { log = told e r ∷ rest.log; events = ap (λ (xs : List LiveEvent). e ∷ xs) rest.events; replies = ap (λ (xs : List Reply). r ∷ xs) rest.replies }
+
+-- 2. polls that say busy
+
+pub busy_more : (l : Lun) (log more : List Told) → busy_polls l (log ++ more) ≡ busy_polls l log + busy_polls l more
+busy_more l [] more = omega arith
+busy_more l (t ∷ log) more = let rest = busy_more l log more in omega (arith, rest)
+
+busy_now : (l : Lun) (bytes : List ℕ) → busy_polls l (told (Step l bytes) (ToStep NotReady) ∷ []) ≡ 1
+busy_now l bytes = rw (eq-eqb l.ce l.ce refl, eq-eqb l.lun l.lun refl) refl
+
+-- 3. a step on pins, as such a run
+
+pub record SteppedRun (v u : LiveView) (l : Lun) (answer : Stepped) : Type 0 where
+  pub log : List Told
+  pub ran : HasRun v log u
+  pub busy : answer ≡ NotReady → 1 ≤ busy_polls l log
+
+pub stepped_run : (v u : LiveView) (l : Lun) (answer : Stepped) → HasStepped v l answer u → SteppedRun v u l answer
+stepped_run v u l answer h =
+    record {
+      log = z.log ++ (last ∷ []);
+      ran = record {
+        verified = subst AllLoadVerified (sym events) (verified_more h.readies (Step l h.bytes ∷ []) h.verified (tt, tt));
+        run = subst (λ (es : List LiveEvent). IsLiveRun v es (replies_of (z.log ++ (last ∷ []))) u) (sym events)
+            (subst (λ (rs : List Reply). IsLiveRun v (h.readies ++ (Step l h.bytes ∷ [])) rs u) (sym replies) h.run);
+      };
+      busy = λ not_ready.
+          let one : busy_polls l (last ∷ []) ≡ 1 = ap (λ (a : Stepped). busy_polls l (told (Step l h.bytes) (ToStep a) ∷ [])) not_ready ∙ busy_now l h.bytes in
+          let both = busy_more l z.log (last ∷ []) in
+          omega (arith, one, both);
+    }
+  where
+    z : Zipped h.readies h.replies
+    z = zipped h.readies h.replies h.paired
+
+    last : Told
+    last = told (Step l h.bytes) (ToStep answer)
+
+    events : events_of (z.log ++ (last ∷ [])) ≡ h.readies ++ (Step l h.bytes ∷ [])
+    events = map-append (λ (t : Told). t.event) z.log (last ∷ []) ∙ ap (λ (es : List LiveEvent). es ++ (Step l h.bytes ∷ [])) z.events
+
+    replies : replies_of (z.log ++ (last ∷ [])) ≡ h.replies ++ (ToStep answer ∷ [])
+    replies = map-append (λ (t : Told). t.reply) z.log (last ∷ []) ∙ ap (λ (rs : List Reply). rs ++ (ToStep answer ∷ [])) z.replies
+
+-- 4. what becomes of a job
+
+pub goes_same : {A : Type 0} (most : ℕ) (x : LiveJob A) (log : List Told) → Goes most x x log
+goes_same most (Waiting j) log = refl
+goes_same most (Running on) log = (refl, omega arith)
+goes_same most (Done d) log = inl refl
+goes_same most (Abandoned on) log = inl refl
+goes_same most (Refused r) log = inl refl
+
+-- it stands on its LUN still, after more polls
+pub stands_more : {A : Type 0} (x : LiveJob A) (on later : OnLun) (log more : List Told) → on.lun ≡ later.lun → later.busy_polls ≤ on.busy_polls + busy_polls later.lun more → StandsOn x on log → StandsOn x later (log ++ more)
+stands_more (Waiting j) on later log more same polls h =
+    let few : on.busy_polls ≤ busy_polls later.lun log = subst (λ (l : Lun). on.busy_polls ≤ busy_polls l log) same h.2 in
+    let both = busy_more later.lun log more in
+    (h.0 ∙ same, Contains-append_left log more (loaded j) h.1, omega (arith, few, both, polls))
+stands_more (Running o) on later log more same polls h =
+    let few : on.busy_polls ≤ o.busy_polls + busy_polls later.lun log = subst (λ (l : Lun). on.busy_polls ≤ o.busy_polls + busy_polls l log) same h.1 in
+    let both = busy_more later.lun log more in
+    (h.0 ∙ same, omega (arith, few, both, polls))
+stands_more (Done d) on later log more same polls h = h
+stands_more (Abandoned o) on later log more same polls h = h
+stands_more (Refused r) on later log more same polls h = h
+
+-- it came to its LUN later, or was there
+stands_on : {A : Type 0} (most : ℕ) (x y : LiveJob A) (on : OnLun) (log more : List Told) → Goes most x y log → StandsOn y on more → StandsOn x on (log ++ more)
+stands_on {A} most x (Waiting j) on log more g h =
+    let both = busy_more on.lun log more in
+    let few = h.2 in
+    let here : StandsOn {A = A} (Waiting j) on (log ++ more) = (h.0, Contains-append_right log more (loaded j) h.1, omega (arith, few, both)) in
+    subst (λ (z : LiveJob A). StandsOn z on (log ++ more)) (sym g) here
+stands_on most x (Running o) on log more g h = stands_more x o on log more h.0 h.1 g
+stands_on most x (Done d) on log more g h = absurd h
+stands_on most x (Abandoned o) on log more g h = absurd h
+stands_on most x (Refused r) on log more g h = absurd h
+
+ended_more : {A : Type 0} (x : LiveJob A) (d : UnloadedJob A) (log more : List Told) → HasEnded x d log → HasEnded x d (log ++ more)
+ended_more (Waiting j) d log more h = (Contains-append_left log more (loaded j) h.0, Contains-append_left log more (ended j.lun d) h.1)
+ended_more (Running on) d log more h = Contains-append_left log more (ended on.lun d) h
+ended_more (Done e) d log more h = h
+ended_more (Abandoned on) d log more h = h
+ended_more (Refused r) d log more h = h
+
+-- one that stood on its LUN ended there
+ended_there : {A : Type 0} (x : LiveJob A) (on : OnLun) (d : UnloadedJob A) (log more : List Told) → StandsOn x on log → Contains more (ended on.lun d) → HasEnded x d (log ++ more)
+ended_there (Waiting j) on d log more h c = (Contains-append_left log more (loaded j) h.1, Contains-append_right log more (ended j.lun d) (subst (λ (l : Lun). Contains more (ended l d)) (sym h.0) c))
+ended_there (Running o) on d log more h c = Contains-append_right log more (ended o.lun d) (subst (λ (l : Lun). Contains more (ended l d)) (sym h.0) c)
+ended_there (Done e) on d log more h c = h
+ended_there (Abandoned o) on d log more h c = h
+ended_there (Refused r) on d log more h c = h
+
+ended_later : {A : Type 0} (most : ℕ) (x y : LiveJob A) (d : UnloadedJob A) (log more : List Told) → Goes most x y log → HasEnded y d more → HasEnded x d (log ++ more)
+ended_later {A} most x (Waiting j) d log more g h =
+    let here : HasEnded {A = A} (Waiting j) d (log ++ more) = (Contains-append_right log more (loaded j) h.0, Contains-append_right log more (ended j.lun d) h.1) in
+    subst (λ (z : LiveJob A). HasEnded z d (log ++ more)) (sym g) here
+ended_later most x (Running on) d log more g h = ended_there x on d log more g h
+ended_later most x (Done e) d log more g h = absurd h
+ended_later most x (Abandoned on) d log more g h = absurd h
+ended_later most x (Refused r) d log more g h = absurd h
+
+stands_still : {A : Type 0} (x : LiveJob A) (on : OnLun) (log more : List Told) → StandsOn x on log → StandsOn x on (log ++ more)
+stands_still x on log more h = stands_more x on on log more refl (omega arith) h
+
+-- a job that is back stays so
+stays_back : {A : Type 0} (most : ℕ) (x z : LiveJob A) (log more : List Told) → is_back z ≡ true → Goes most x z log → Goes most x z (log ++ more)
+stays_back most x (Waiting j) log more back g = g
+stays_back most x (Running on) log more back g = stands_still x on log more g
+stays_back most x (Done d) log more back (inl same) = inl same
+stays_back most x (Done d) log more back (inr h) = inr (ended_more x d log more h)
+stays_back most x (Abandoned on) log more back (inl same) = inl same
+stays_back most x (Abandoned on) log more back (inr h) = inr (stands_still x on log more h.0, h.1)
+stays_back most x (Refused r) log more back (inl same) = inl same
+stays_back most x (Refused r) log more back (inr h) = inr (h.0, Contains-append_left log more (refused r) h.1)
+
+pub goes_on : {A : Type 0} (most : ℕ) (x y z : LiveJob A) (log more : List Told) → Goes most x y log → Goes most y z more → Goes most x z (log ++ more)
+goes_on {A} most x y (Waiting j) log more g h = subst (λ (w : LiveJob A). Goes most x w log) h g
+goes_on most x y (Running on) log more g h = stands_on most x y on log more g h
+goes_on {A} most x y (Done d) log more g (inl same) = stays_back most x (Done d) log more refl (subst (λ (w : LiveJob A). Goes most x w log) same g)
+goes_on most x y (Done d) log more g (inr h) = inr (ended_later most x y d log more g h)
+goes_on {A} most x y (Abandoned on) log more g (inl same) = stays_back most x (Abandoned on) log more refl (subst (λ (w : LiveJob A). Goes most x w log) same g)
+goes_on most x y (Abandoned on) log more g (inr h) = inr (stands_on most x y on log more g h.0, h.1)
+goes_on {A} most x y (Refused r) log more g (inl same) = stays_back most x (Refused r) log more refl (subst (λ (w : LiveJob A). Goes most x w log) same g)
+goes_on {A} most x y (Refused r) log more g (inr h) = inr (subst (λ (w : LiveJob A). Goes most x w log) h.0 g, Contains-append_right log more (refused r) h.1)
+
+-- 5. of each job of a list
+
+pub all_same : {A : Type 0} (most : ℕ) (xs : List (LiveJob A)) (log : List Told) → AllGo most xs xs log
+all_same most [] log = tt
+all_same most (x ∷ xs) log = (goes_same most x log, all_same most xs log)
+
+pub all_go_on : {A : Type 0} (most : ℕ) (xs ys zs : List (LiveJob A)) (log more : List Told) → AllGo most xs ys log → AllGo most ys zs more → AllGo most xs zs (log ++ more)
+all_go_on most [] [] [] log more g h = tt
+all_go_on most [] [] (z ∷ zs) log more g h = h
+all_go_on most [] (y ∷ ys) zs log more g h = absurd g
+all_go_on most (x ∷ xs) [] zs log more g h = absurd g
+all_go_on most (x ∷ xs) (y ∷ ys) [] log more g h = h
+all_go_on most (x ∷ xs) (y ∷ ys) (z ∷ zs) log more g h = (goes_on most x y z log more g.0 h.0, all_go_on most xs ys zs log more g.1 h.1)
+
+-- one of them had a turn
+pub one_goes : {A : Type 0} (most : ℕ) (xs : List (LiveJob A)) (k : ℕ) (d y : LiveJob A) (log : List Told) → Goes most (get_or xs k d) y log → AllGo most xs (set xs k y) log
+one_goes most [] k d y log g = tt
+one_goes most (x ∷ xs) zero d y log g = (g, all_same most xs log)
+one_goes most (x ∷ xs) (suc k) d y log g = (goes_same most x log, one_goes most xs k d y log g)
+
+-- 6. turns
+
+pub no_turn : {A : Type 0} (most : ℕ) (v : LiveView) (x : LiveJob A) → HasTurned most v v x x
+no_turn most v x = record { log = []; ran = no_calls v; goes = goes_same most x [] }
+
+pub same_turn : {A : Type 0} (most : ℕ) (v u : LiveView) (x y : LiveJob A) → u ≡ v → y ≡ x → HasTurned most v u x y
+same_turn most v u x y same job = subst (λ (t : LiveView). HasTurned most v t x y) (sym same) (subst (HasTurned most v v x) (sym job) (no_turn most v x))
+
+pub more_turns : {A : Type 0} (most : ℕ) (v u t : LiveView) (x y z : LiveJob A) → HasTurned most v u x y → HasTurned most u t y z → HasTurned most v t x z
+more_turns most v u t x y z a b = record { log = a.log ++ b.log; ran = more_calls v u t a.log b.log a.ran b.ran; goes = goes_on most x y z a.log b.log a.goes b.goes }
+
+just_one : (t : Told) → Contains (t ∷ []) t
+just_one t = (0, lit< tt, refl)
+
+-- a job is loaded
+pub started : {A : Type 0} (most : ℕ) (v u : LiveView) (j : Job) (l : Lun) → IsVerified j → l ≡ j.lun → IsLiveEvent v (Load l j) (ToLoad Loaded) u → HasTurned {A = A} most v u (Waiting j) (Running (record { lun = l; busy_polls = 0 }))
+started most v u j l verified lun event =
+    record {
+      log = loaded j ∷ [];
+      ran = one_call v u (Load j.lun j) (ToLoad Loaded) verified (subst (λ (m : Lun). IsLiveEvent v (Load m j) (ToLoad Loaded) u) lun event);
+      goes = (sym lun, just_one (loaded j), omega arith);
+    }
+
+-- it isn't
+pub handed_back : {A : Type 0} (most : ℕ) (v u : LiveView) (j : Job) (l : Lun) (r : LoadRefused A) → IsVerified j → l ≡ j.lun → r.job ≡ j → IsLiveEvent v (Load l j) (ToLoad (NotLoaded r.fault j)) u → HasTurned most v u (Waiting j) (Refused r)
+handed_back {A} most v u j l r verified lun job event =
+    let here : IsLiveEvent v (Load j.lun j) (ToLoad (NotLoaded r.fault j)) u = subst (λ (m : Lun). IsLiveEvent v (Load m j) (ToLoad (NotLoaded r.fault j)) u) lun event in
+    record {
+      log = refused r ∷ [];
+      ran = one_call v u (Load r.job.lun r.job) (ToLoad (NotLoaded r.fault r.job)) (subst IsVerified (sym job) verified)
+          (subst (λ (k : Job). IsLiveEvent v (Load k.lun k) (ToLoad (NotLoaded r.fault k)) u) (sym job) here);
+      goes = inr (ap (λ (k : Job). let z : LiveJob A = Waiting k in z) (sym job), just_one (refused r));
+    }
+
+-- a job that has ended is taken away
+pub taken_away : {A : Type 0} (most : ℕ) (v u : LiveView) (on : OnLun) (d : UnloadedJob A) → IsLiveEvent v (Unload on.lun) (ToUnload (Unloaded d.job d.code)) u → HasTurned most v u (Running on) (Done d)
+taken_away most v u on d event =
+    record { log = ended on.lun d ∷ []; ran = one_call v u (Unload on.lun) (ToUnload (Unloaded d.job d.code)) tt event; goes = inr (just_one (ended on.lun d)) }
+
+-- a step, and what becomes of its job then
+pub stepped_turn : {A : Type 0} (most : ℕ) (v u : LiveView) (on : OnLun) (answer : Stepped) (y : LiveJob A) → HasStepped v on.lun answer u → ((log : List Told) → (answer ≡ NotReady → 1 ≤ busy_polls on.lun log) → Goes most (Running on) y log) → HasTurned most v u (Running on) y
+stepped_turn most v u on answer y h goes =
+    let r = stepped_run v u on.lun answer h in
+    record { log = r.log; ran = r.ran; goes = goes r.log r.busy }
+
+-- the polls begin anew
+pub polls_anew : (A : Type 0) (most : ℕ) (on : OnLun) (log : List Told) → Goes {A = A} most (Running on) (Running (record { lun = on.lun; busy_polls = 0 })) log
+polls_anew A most on log = (refl, omega arith)
+
+-- one poll more said busy
+pub one_poll_more : (A : Type 0) (most : ℕ) (on : OnLun) (polls : ℕ) (log : List Told) → polls ≤ on.busy_polls + 1 → 1 ≤ busy_polls on.lun log → Goes {A = A} most (Running on) (Running (record { lun = on.lun; busy_polls = polls })) log
+one_poll_more A most on polls log more busy = (refl, omega (arith, more, busy))
+
+pub one_poll_too_many : (A : Type 0) (most : ℕ) (on : OnLun) (polls : ℕ) (log : List Told) → polls ≤ on.busy_polls + 1 → most ≤ polls → 1 ≤ busy_polls on.lun log → Goes {A = A} most (Running on) (Abandoned (record { lun = on.lun; busy_polls = polls })) log
+one_poll_too_many A most on polls log more enough busy = inr ((refl, omega (arith, more, busy)), enough)
+
+-- 7. turns of a list
+
+pub no_turns : {A : Type 0} (most : ℕ) (v : LiveView) (xs : List (LiveJob A)) → HaveTurned most v v xs xs
+no_turns most v xs = record { log = []; ran = no_calls v; go = all_same most xs [] }
+
+pub turn_more : {A : Type 0} (most : ℕ) (v u t : LiveView) (xs ys zs : List (LiveJob A)) (k : ℕ) (d y : LiveJob A) → HaveTurned most v u xs ys → HasTurned most u t (get_or ys k d) y → zs ≡ set ys k y → HaveTurned most v t xs zs
+turn_more {A} most v u t xs ys zs k d y a b is =
+    record {
+      log = a.log ++ b.log;
+      ran = more_calls v u t a.log b.log a.ran b.ran;
+      go = subst (λ (ws : List (LiveJob A)). AllGo most xs ws (a.log ++ b.log)) (sym is) (all_go_on most xs ys (set ys k y) a.log b.log a.go (one_goes most ys k d y b.log b.goes));
+    }
+
+pub round_more : {A : Type 0} (most : ℕ) (v u t : LiveView) (xs ys zs : List (LiveJob A)) → HaveTurned most v u xs ys → HaveTurned most u t ys zs → HaveTurned most v t xs zs
+round_more most v u t xs ys zs a b = record { log = a.log ++ b.log; ran = more_calls v u t a.log b.log a.ran b.ran; go = all_go_on most xs ys zs a.log b.log a.go b.go }
+
+-- 8. what a job is
+
+pub place_is : {A : Type 0} (x : LiveJob A) (on : OnLun) → place_on x ≡ Some on → x ≡ Running on
+place_is (Waiting j) on h = cc
+place_is (Running o) on h = cc
+place_is (Done d) on h = cc
+place_is (Abandoned o) on h = cc
+place_is (Refused r) on h = cc
+
+-- 9. why a turn isn't had
+
+pub fault_somewhere : {X : Type 0} (v : LiveView) (l : Lun) (room : ℕ) (r : Result X OutOfTurn) → IfErr r (λ e. IsStepFault v l room e) → IfErr r (λ e. (m : Lun) × IsStepFault v m room e)
+fault_somewhere v l room (Ok x) h = h
+fault_somewhere v l room (Err e) h = (l, h)
+
+pub fault_with_room : (v : LiveView) (room other : ℕ) (e : OutOfTurn) → room ≡ other → (l : Lun) × IsStepFault v l room e → (l : Lun) × IsStepFault v l other e
+fault_with_room v room other e same h = (h.0, subst (λ (n : ℕ). IsStepFault v h.0 n e) same h.1)

@@ -1,0 +1,123 @@
+-- A list of jobs on pins: what becomes of each, by the events that came and how they were answered.
+use Rattle.std.specs.Prelude.{◌≡◌, ℕ, ◌+◌, ◌≤◌, ◌==◌, ◌⊎◌, Bool, true, false, ◌&&◌, not, if◌then◌else◌, List, [], ◌∷◌, Option, Some, None, map, length, Contains}
+use Rattle.onfi_cycle.specs.declared.lun.Lun.{Lun}
+use Rattle.micro_program.specs.Program.{Job}
+use Rattle.seq_core.specs.declared.sequencer.LoadRefused.{LoadRefused}
+use Rattle.seq_core.specs.declared.sequencer.UnloadedJob.{UnloadedJob}
+use Rattle.seq_core.specs.declared.stepped.Stepped.TheVariants.{NotReady}
+use Rattle.seq_core.specs.World.{fresh}
+use Rattle.seq_core.specs.Reply.{Reply, ToLoad, ToStep, ToUnload, Loaded, NotLoaded, Unloaded}
+use Rattle.seq_live.specs.Event.{LiveEvent, Load, Step, Unload, AllLoadVerified}
+use Rattle.seq_live.specs.Headline.{LiveGoesWell}
+use Rattle.seq_live.specs.Kept.{LiveView, channel_at, IsLiveAt}
+use Rattle.seq_live.specs.Calls.{IsLiveRun}
+use Rattle.seq_live.specs.declared.live_job.OnLun.{OnLun}
+use Rattle.seq_live.specs.declared.live_job.LiveJob.{LiveJob}
+use Rattle.seq_live.specs.declared.live_job.LiveJob.TheVariants.{Waiting, Running, Done, Abandoned, Refused}
+
+-- nothing more becomes of it
+abbrev pub is_back : {A : Type 0} → LiveJob A → Bool
+is_back (Waiting j) = false
+is_back (Running on) = false
+is_back (Done d) = true
+is_back (Abandoned on) = true
+is_back (Refused r) = true
+
+-- the LUN that it waits for or runs on
+abbrev pub lun_of : {A : Type 0} → LiveJob A → Option Lun
+lun_of (Waiting j) = Some j.lun
+lun_of (Running on) = Some on.lun
+lun_of (Done d) = None
+lun_of (Abandoned on) = None
+lun_of (Refused r) = None
+
+-- where it runs
+abbrev pub place_on : {A : Type 0} → LiveJob A → Option OnLun
+place_on (Waiting j) = None
+place_on (Running on) = Some on
+place_on (Done d) = None
+place_on (Abandoned on) = None
+place_on (Refused r) = None
+
+-- an event, and how it was answered
+pub record Told : Type 0 where
+  pub event : LiveEvent
+  pub reply : Reply
+
+abbrev pub events_of : List Told → List LiveEvent
+events_of log = map (λ (t : Told). t.event) log
+
+abbrev pub replies_of : List Told → List Reply
+replies_of log = map (λ (t : Told). t.reply) log
+
+-- calls came to these events, one after another and each answered so; each job that they load is verified
+pub record HasRun (v : LiveView) (log : List Told) (later : LiveView) : Type 0 where
+  pub verified : AllLoadVerified (events_of log)
+  pub run : IsLiveRun v (events_of log) (replies_of log) later
+
+-- a `wait` of this LUN was stepped, and its poll said busy
+abbrev pub busy_step : Lun → LiveEvent → Reply → Bool
+busy_step l (Step m bytes) (ToStep NotReady) = (l.ce == m.ce) && (l.lun == m.lun)
+busy_step l _ _ = false
+
+abbrev pub busy_polls : Lun → List Told → ℕ
+busy_polls l [] = 0
+busy_polls l (t ∷ log) = (if busy_step l t.event t.reply then 1 else 0) + busy_polls l log
+
+-- a job was loaded onto its LUN, was refused by it, or had ended there with its code and was taken away
+abbrev pub loaded : Job → Told
+loaded j = record { event = Load j.lun j; reply = ToLoad Loaded }
+
+abbrev pub refused : {A : Type 0} → LoadRefused A → Told
+refused r = record { event = Load r.job.lun r.job; reply = ToLoad (NotLoaded r.fault r.job) }
+
+abbrev pub ended : {A : Type 0} → Lun → UnloadedJob A → Told
+ended l d = record { event = Unload l; reply = ToUnload (Unloaded d.job d.code) }
+
+-- a job that came in so is on a LUN: loaded there, or it was there. No more polls were counted than said busy
+abbrev pub StandsOn : {A : Type 0} → LiveJob A → OnLun → List Told → Type 0
+StandsOn (Waiting j) on log = (j.lun ≡ on.lun) × Contains log (loaded j) × (on.busy_polls ≤ busy_polls on.lun log)
+StandsOn (Running o) on log = (o.lun ≡ on.lun) × (on.busy_polls ≤ o.busy_polls + busy_polls on.lun log)
+StandsOn (Done d) on log = ⊥
+StandsOn (Abandoned o) on log = ⊥
+StandsOn (Refused r) on log = ⊥
+
+-- a job that came in so was on its LUN and has ended there
+abbrev pub HasEnded : {A : Type 0} → LiveJob A → UnloadedJob A → List Told → Type 0
+HasEnded (Waiting j) d log = Contains log (loaded j) × Contains log (ended j.lun d)
+HasEnded (Running on) d log = Contains log (ended on.lun d)
+HasEnded (Done e) d log = ⊥
+HasEnded (Abandoned on) d log = ⊥
+HasEnded (Refused r) d log = ⊥
+
+-- what becomes of a job, where so many busy polls one after another are the most
+abbrev pub Goes : {A : Type 0} → ℕ → LiveJob A → LiveJob A → List Told → Type 0
+Goes most x (Waiting j) log = x ≡ Waiting j
+Goes most x (Running on) log = StandsOn x on log
+Goes most x (Done d) log = (x ≡ Done d) ⊎ HasEnded x d log
+Goes most x (Abandoned on) log = (x ≡ Abandoned on) ⊎ (StandsOn x on log × (most ≤ on.busy_polls))
+Goes most x (Refused r) log = (x ≡ Refused r) ⊎ ((x ≡ Waiting r.job) × Contains log (refused r))
+
+-- the same of each job of a list, none of which is lost
+abbrev pub AllGo : {A : Type 0} → ℕ → List (LiveJob A) → List (LiveJob A) → List Told → Type 0
+AllGo most [] [] log = Unit {0}
+AllGo most (x ∷ xs) (y ∷ ys) log = Goes most x y log × AllGo most xs ys log
+AllGo most [] (y ∷ ys) log = ⊥
+AllGo most (x ∷ xs) [] log = ⊥
+
+-- a job had a turn, or several
+pub record HasTurned {A : Type 0} (most : ℕ) (v later : LiveView) (x y : LiveJob A) : Type 0 where
+  pub log : List Told
+  pub ran : HasRun v log later
+  pub goes : Goes most x y log
+
+-- the jobs of a list had turns
+pub record HaveTurned {A : Type 0} (most : ℕ) (v later : LiveView) (xs ys : List (LiveJob A)) : Type 0 where
+  pub log : List Told
+  pub ran : HasRun v log later
+  pub go : AllGo most xs ys log
+
+-- and of a new sequencer the events go well, as the main theorem says
+pub record RunsWell {A : Type 0} (most : ℕ) (v later : LiveView) (xs ys : List (LiveJob A)) : Type 0 where
+  pub turned : HaveTurned most v later xs ys
+  pub well : IsLiveAt v (fresh (channel_at v)) → LiveGoesWell (channel_at v) (events_of turned.log)
