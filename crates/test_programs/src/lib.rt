@@ -14,6 +14,8 @@ mod core_tests;
 mod counter_tests;
 pub mod laws;
 #[cfg(test)]
+mod live_run_tests;
+#[cfg(test)]
 mod live_tests;
 #[cfg(test)]
 mod plain_tests;
