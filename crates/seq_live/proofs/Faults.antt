@@ -10,7 +10,7 @@ use Rattle.seq_live.specs.declared.live.StepGoingOn.{StepGoingOn}
 use Rattle.seq_live.specs.declared.burst.Burst.{Burst}
 use Rattle.seq_live.specs.Burst.{bursts_at, taken_by}
 use Rattle.seq_live.specs.Kept.{LiveView, core_at}
-use Rattle.seq_live.specs.Calls.{MayStep, IsNextWord, NextBurstsAre, AreNextBursts, IsNextBurst, HasNoBurst, IsMiscounted, live_slot}
+use Rattle.seq_live.specs.Calls.{MayStep, IsNextWord, NextBurstsAre, AreNextBursts, HasNoBurst, IsMiscounted, live_slot}
 
 some_same : {X : Type 0} (x y : X) → Some x ≡ Some y → x ≡ y
 some_same x y h = cc

@@ -1,5 +1,5 @@
 -- A step on pins: all of its bursts are done, and so it is finished.
-use Rattle.std.proofs.Common.{◌≡◌, ℕ, ◌+◌, ◌<◌, Bool, true, false, cond, ltb, List, [], ◌∷◌, ◌++◌, Option, Some, None, refl, sym, ap, ◌∙◌, subst, ◌⊎◌, inl, inr, Result, Ok, Err, IfOk, IfErr, length, arith}
+use Rattle.std.proofs.Common.{◌≡◌, ℕ, ◌+◌, ◌<◌, Bool, true, false, cond, ltb, List, [], ◌∷◌, Option, Some, None, refl, sym, ap, ◌∙◌, subst, inl, inr, Result, Ok, Err, IfOk, IfErr, arith}
 use Rattle.std.specs.List.{slice_get}
 use Rattle.nand_geometry.specs.declared.parts.Parts.{Parts}
 use Rattle.nand_geometry.specs.Row.{row_bytes_of}
@@ -18,10 +18,10 @@ use Rattle.seq_live.specs.declared.out_of_turn.OutOfTurn.TheVariants.{StepGoesOn
 use Rattle.seq_live.specs.declared.begun.Begun.TheVariants.{Going}
 use Rattle.seq_live.specs.Burst.{bursts_at, poll_bursts, taken_by}
 use Rattle.seq_live.specs.Kept.{LiveView}
-use Rattle.seq_live.specs.Calls.{IsLiveRun, MayStep, IsNextWord, IsNextBurst, HasNoBurst, IsBurstDone, IsGaveFault, IsFinishFault, Begins, HasBegun, HasFinished, HasStepped, GoesOnFor, KeepsStep, KeepsAllButStep, NextTakes, Takes, IsStepFault, live_slot}
+use Rattle.seq_live.specs.Calls.{IsLiveRun, MayStep, IsNextWord, IsNextBurst, HasNoBurst, IsBurstDone, IsGaveFault, IsFinishFault, Begins, HasBegun, GoesOnFor, KeepsStep, KeepsAllButStep, Takes, IsStepFault, live_slot}
 use Rattle.seq_live.proofs.Running.{no_run}
 use Rattle.seq_live.proofs.Faults.{none_without_step}
-use Rattle.seq_live.proofs.Shown.{whatever_goes_on, stepped_on, same_next}
+use Rattle.seq_live.proofs.Shown.{whatever_goes_on, same_next}
 
 some_same : {X : Type 0} (x y : X) → Some x ≡ Some y → x ≡ y
 some_same x y h = cc

@@ -1,5 +1,5 @@
 -- The readies that a status shows, as runs.
-use Rattle.std.proofs.Common.{◌≡◌, ℕ, ◌==◌, Bool, true, false, cond, List, [], ◌∷◌, ◌++◌, Option, Some, None, refl, sym, ap, ◌∙◌, subst, eqb-true, eq-eqb, IfSome, IfOk, IfErr, OnErr, Result, Ok, Err, ◌+◌, ◌<◌, length, length-append, arith}
+use Rattle.std.proofs.Common.{◌≡◌, ℕ, ◌==◌, Bool, true, false, cond, List, [], ◌∷◌, ◌++◌, Option, Some, None, refl, sym, ap, ◌∙◌, subst, eqb-true, eq-eqb, IfSome, IfOk, Result, Ok, Err, ◌<◌, length, length-append, arith}
 use Rattle.std.specs.Int.RustNames.{bit_and}
 use Rattle.onfi_cycle.specs.declared.lun.Lun.{Lun}
 use Rattle.micro_word.specs.declared.word.Word.{Word}
@@ -11,7 +11,7 @@ use Rattle.seq_live.specs.declared.live.StepGoingOn.{StepGoingOn}
 use Rattle.seq_live.specs.declared.burst.Burst.{Burst}
 use Rattle.seq_live.specs.Event.{LiveEvent, Step, Ready, ArrayReady, AllLoadVerified}
 use Rattle.seq_live.specs.Kept.{LiveView, IsLive}
-use Rattle.seq_live.specs.Calls.{IsLiveRun, IsLiveEvent, MayStep, IsNextWord, AreNextBursts, IsNextBurst, HasFinished, shown_by, shown, has_fail, has_array_ready, is_poll, ends_with, live_slot, NextWordIs, AreFewDone, IsBurstDone, Begins, HasStepped, GoesOnFor, KeepsStep}
+use Rattle.seq_live.specs.Calls.{IsLiveRun, IsLiveEvent, MayStep, IsNextWord, AreNextBursts, IsNextBurst, HasFinished, shown_by, shown, has_fail, has_array_ready, is_poll, ends_with, live_slot, NextWordIs, AreFewDone, Begins, HasStepped, GoesOnFor}
 use Rattle.seq_live.specs.declared.out_of_turn.OutOfTurn.{OutOfTurn}
 use Rattle.seq_live.specs.declared.begun.Begun.TheVariants.{Answered, Going}
 use Rattle.seq_live.proofs.Running.{runs_more, no_run, answered_each}

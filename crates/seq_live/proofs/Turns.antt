@@ -1,25 +1,34 @@
 -- Turns of jobs on pins: the events that came, and what becomes of each job.
-use Rattle.std.proofs.Common.{◌≡◌, ℕ, zero, suc, ◌+◌, ◌<◌, ◌≤◌, ◌==◌, Bool, true, false, cond, ◌⊎◌, inl, inr, List, [], ◌∷◌, ◌++◌, Option, Some, None, refl, sym, ap, ◌∙◌, subst, eq-eqb, length, length-append, map, get_or, set, lit<, Contains, Result, Ok, Err, IfErr, arith}
-use Rattle.std.proofs.lemmas.List.{map-append}
+use Rattle.std.proofs.Common.{◌≡◌, ℕ, zero, suc, ◌+◌, ◌<◌, ◌≤◌, Bool, true, false, ◌⊎◌, inl, inr, List, [], ◌∷◌, ◌++◌, Option, Some, None, refl, sym, ap, ◌∙◌, subst, eq-eqb, length, length-append, below_more, get_or, set, lit<, replicate, Contains, Result, Ok, Err, IfOk, is_some, arith}
+use Rattle.std.specs.List.{list_all}
+use Rattle.std.proofs.lemmas.Bool.{and_from}
+use Rattle.std.proofs.lemmas.List.{map-append, set-get_or, get_or_default}
 use Rattle.std.proofs.lemmas.List.Elements.{Contains-append_left, Contains-append_right}
 use Rattle.onfi_cycle.specs.declared.lun.Lun.{Lun}
 use Rattle.micro_program.specs.Program.{Job}
-use Rattle.seq_core.specs.declared.load_fault.LoadFault.{LoadFault}
 use Rattle.seq_core.specs.declared.sequencer.LoadRefused.{LoadRefused}
 use Rattle.seq_core.specs.declared.sequencer.UnloadedJob.{UnloadedJob}
+use Rattle.seq_core.specs.declared.unload_fault.UnloadFault.{UnloadFault}
 use Rattle.seq_core.specs.declared.stepped.Stepped.{Stepped}
 use Rattle.seq_core.specs.declared.stepped.Stepped.TheVariants.{NotReady}
 use Rattle.seq_core.specs.Event.{LoadsVerified, IsVerified}
-use Rattle.seq_core.specs.Reply.{Reply, ToLoad, ToStep, ToUnload, Loaded, NotLoaded, Unloaded}
-use Rattle.seq_live.specs.Event.{LiveEvent, Load, Step, Ready, ArrayReady, Unload, plain, AllLoadVerified}
-use Rattle.seq_live.specs.Kept.{LiveView}
-use Rattle.seq_live.specs.Calls.{IsLiveRun, IsLiveEvent, HasStepped, IsStepFault}
+use Rattle.seq_core.specs.Reply.{Reply, ToLoad, ToStep, ToUnload, Loaded, NotLoaded, Unloaded, NotUnloaded}
+use Rattle.seq_live.specs.Event.{LiveEvent, Load, Step, Unload, plain, AllLoadVerified}
+use Rattle.seq_live.specs.Headline.{LiveGoesWell}
+use Rattle.seq_live.specs.Kept.{LiveView, channel_at, IsLiveAt, IsLive}
+use Rattle.seq_core.specs.World.{fresh}
+use Rattle.seq_live.specs.Calls.{IsLiveRun, IsLiveEvent, HasStepped}
 use Rattle.seq_live.specs.declared.out_of_turn.OutOfTurn.{OutOfTurn}
+use Rattle.seq_live.specs.declared.out_of_turn.OutOfTurn.TheVariants.{StepGoesOn}
+use Rattle.seq_live.specs.declared.live.StepGoingOn.{StepGoingOn}
+use Rattle.seq_live.specs.declared.run.RunEnd.{RunEnd}
+use Rattle.seq_live.specs.declared.run.RunLimits.{RunLimits}
 use Rattle.seq_live.specs.declared.live_job.OnLun.{OnLun}
 use Rattle.seq_live.specs.declared.live_job.LiveJob.{LiveJob}
 use Rattle.seq_live.specs.declared.live_job.LiveJob.TheVariants.{Waiting, Running, Done, Abandoned, Refused}
-use Rattle.seq_live.specs.Jobs.{is_back, place_on, Told, events_of, replies_of, HasRun, busy_step, busy_polls, loaded, refused, ended, StandsOn, HasEnded, Goes, AllGo, HasTurned, HaveTurned}
+use Rattle.seq_live.specs.Jobs.{is_back, lun_of, place_on, Told, events_of, replies_of, HasRun, busy_polls, loaded, refused, ended, StandsOn, HasEnded, Goes, AllGo, HasTurned, NoneHad, HasNoTurn, HaveTurned, HaveStopped, IsRunFault, EndsSo, RunsJobs}
 use Rattle.seq_live.proofs.Running.{runs_more, no_run}
+use Rattle.seq_live.proofs.Main.{calls_go_well}
 
 -- 1. runs with their replies
 
@@ -74,6 +83,7 @@ pub record SteppedRun (v u : LiveView) (l : Lun) (answer : Stepped) : Type 0 whe
   pub log : List Told
   pub ran : HasRun v log u
   pub busy : answer ≡ NotReady → 1 ≤ busy_polls l log
+  pub some : 0 < length log
 
 pub stepped_run : (v u : LiveView) (l : Lun) (answer : Stepped) → HasStepped v l answer u → SteppedRun v u l answer
 stepped_run v u l answer h =
@@ -88,6 +98,7 @@ stepped_run v u l answer h =
           let one : busy_polls l (last ∷ []) ≡ 1 = ap (λ (a : Stepped). busy_polls l (told (Step l h.bytes) (ToStep a) ∷ [])) not_ready ∙ busy_now l h.bytes in
           let both = busy_more l z.log (last ∷ []) in
           omega (arith, one, both);
+      some = let both = length-append z.log (last ∷ []) in omega (arith, both);
     }
   where
     z : Zipped h.readies h.replies
@@ -207,14 +218,11 @@ one_goes most (x ∷ xs) (suc k) d y log g = (goes_same most x log, one_goes mos
 
 -- 6. turns
 
-pub no_turn : {A : Type 0} (most : ℕ) (v : LiveView) (x : LiveJob A) → HasTurned most v v x x
-no_turn most v x = record { log = []; ran = no_calls v; goes = goes_same most x [] }
-
-pub same_turn : {A : Type 0} (most : ℕ) (v u : LiveView) (x y : LiveJob A) → u ≡ v → y ≡ x → HasTurned most v u x y
-same_turn most v u x y same job = subst (λ (t : LiveView). HasTurned most v t x y) (sym same) (subst (HasTurned most v v x) (sym job) (no_turn most v x))
-
 pub more_turns : {A : Type 0} (most : ℕ) (v u t : LiveView) (x y z : LiveJob A) → HasTurned most v u x y → HasTurned most u t y z → HasTurned most v t x z
-more_turns most v u t x y z a b = record { log = a.log ++ b.log; ran = more_calls v u t a.log b.log a.ran b.ran; goes = goes_on most x y z a.log b.log a.goes b.goes }
+more_turns most v u t x y z a b =
+    let some = a.some in
+    let both = length-append a.log b.log in
+    record { log = a.log ++ b.log; ran = more_calls v u t a.log b.log a.ran b.ran; goes = goes_on most x y z a.log b.log a.goes b.goes; some = omega (arith, some, both) }
 
 just_one : (t : Told) → Contains (t ∷ []) t
 just_one t = (0, lit< tt, refl)
@@ -226,6 +234,7 @@ started most v u j l verified lun event =
       log = loaded j ∷ [];
       ran = one_call v u (Load j.lun j) (ToLoad Loaded) verified (subst (λ (m : Lun). IsLiveEvent v (Load m j) (ToLoad Loaded) u) lun event);
       goes = (sym lun, just_one (loaded j), omega arith);
+      some = omega arith;
     }
 
 -- it isn't
@@ -237,47 +246,145 @@ handed_back {A} most v u j l r verified lun job event =
       ran = one_call v u (Load r.job.lun r.job) (ToLoad (NotLoaded r.fault r.job)) (subst IsVerified (sym job) verified)
           (subst (λ (k : Job). IsLiveEvent v (Load k.lun k) (ToLoad (NotLoaded r.fault k)) u) (sym job) here);
       goes = inr (ap (λ (k : Job). let z : LiveJob A = Waiting k in z) (sym job), just_one (refused r));
+      some = omega arith;
     }
 
 -- a job that has ended is taken away
 pub taken_away : {A : Type 0} (most : ℕ) (v u : LiveView) (on : OnLun) (d : UnloadedJob A) → IsLiveEvent v (Unload on.lun) (ToUnload (Unloaded d.job d.code)) u → HasTurned most v u (Running on) (Done d)
 taken_away most v u on d event =
-    record { log = ended on.lun d ∷ []; ran = one_call v u (Unload on.lun) (ToUnload (Unloaded d.job d.code)) tt event; goes = inr (just_one (ended on.lun d)) }
+    record {
+      log = ended on.lun d ∷ [];
+      ran = one_call v u (Unload on.lun) (ToUnload (Unloaded d.job d.code)) tt event;
+      goes = inr (just_one (ended on.lun d));
+      some = omega arith;
+    }
+
+-- it isn't
+pub not_taken_away : {A : Type 0} (most : ℕ) (v u : LiveView) (on : OnLun) (fault : UnloadFault) → IsLiveEvent v (Unload on.lun) (ToUnload (NotUnloaded fault)) u → HasTurned {A = A} most v u (Running on) (Running on)
+not_taken_away {A} most v u on fault event =
+    let log : List Told = told (Unload on.lun) (ToUnload (NotUnloaded fault)) ∷ [] in
+    record { log = log; ran = one_call v u (Unload on.lun) (ToUnload (NotUnloaded fault)) tt event; goes = goes_same {A = A} most (Running on) log; some = omega arith }
 
 -- a step, and what becomes of its job then
 pub stepped_turn : {A : Type 0} (most : ℕ) (v u : LiveView) (on : OnLun) (answer : Stepped) (y : LiveJob A) → HasStepped v on.lun answer u → ((log : List Told) → (answer ≡ NotReady → 1 ≤ busy_polls on.lun log) → Goes most (Running on) y log) → HasTurned most v u (Running on) y
 stepped_turn most v u on answer y h goes =
     let r = stepped_run v u on.lun answer h in
-    record { log = r.log; ran = r.ran; goes = goes r.log r.busy }
+    record { log = r.log; ran = r.ran; goes = goes r.log r.busy; some = r.some }
 
 -- the polls begin anew
 pub polls_anew : (A : Type 0) (most : ℕ) (on : OnLun) (log : List Told) → Goes {A = A} most (Running on) (Running (record { lun = on.lun; busy_polls = 0 })) log
 polls_anew A most on log = (refl, omega arith)
 
--- one poll more said busy
-pub one_poll_more : (A : Type 0) (most : ℕ) (on : OnLun) (polls : ℕ) (log : List Told) → polls ≤ on.busy_polls + 1 → 1 ≤ busy_polls on.lun log → Goes {A = A} most (Running on) (Running (record { lun = on.lun; busy_polls = polls })) log
-one_poll_more A most on polls log more busy = (refl, omega (arith, more, busy))
+-- 7. rounds
 
-pub one_poll_too_many : (A : Type 0) (most : ℕ) (on : OnLun) (polls : ℕ) (log : List Told) → polls ≤ on.busy_polls + 1 → most ≤ polls → 1 ≤ busy_polls on.lun log → Goes {A = A} most (Running on) (Abandoned (record { lun = on.lun; busy_polls = polls })) log
-one_poll_too_many A most on polls log more enough busy = inr ((refl, omega (arith, more, busy)), enough)
+-- so far in a round
+pub record RoundSoFar {A : Type 0} (most : ℕ) (v later : LiveView) (xs ys : List (LiveJob A)) (place : ℕ) (had : List Bool) : Type 0 where
+  pub log : List Told
+  pub ran : HasRun v log later
+  pub go : AllGo most xs ys log
+  pub idle : length log ≡ 0 → NoneHad had × (ys ≡ xs) × ((k : ℕ) → k < place → (d : LiveJob A) → is_back (get_or xs k d) ≡ true)
 
--- 7. turns of a list
+pub none_had : (n : ℕ) → NoneHad (replicate n false)
+none_had zero k = refl
+none_had (suc n) zero = refl
+none_had (suc n) (suc k) = none_had n k
 
-pub no_turns : {A : Type 0} (most : ℕ) (v : LiveView) (xs : List (LiveJob A)) → HaveTurned most v v xs xs
-no_turns most v xs = record { log = []; ran = no_calls v; go = all_same most xs [] }
+pub round_begins : {A : Type 0} (most : ℕ) (v : LiveView) (xs : List (LiveJob A)) (had : List Bool) → NoneHad had → RoundSoFar most v v xs xs 0 had
+round_begins most v xs had none = record { log = []; ran = no_calls v; go = all_same most xs []; idle = λ e. (none, refl, λ k below d. absurd (omega (arith, below))) }
 
-pub turn_more : {A : Type 0} (most : ℕ) (v u t : LiveView) (xs ys zs : List (LiveJob A)) (k : ℕ) (d y : LiveJob A) → HaveTurned most v u xs ys → HasTurned most u t (get_or ys k d) y → zs ≡ set ys k y → HaveTurned most v t xs zs
-turn_more {A} most v u t xs ys zs k d y a b is =
+abbrev MayTurn : {A : Type 0} → ℕ → LiveView → LiveView → LiveJob A → LiveJob A → List Bool → List Bool → Type 0
+MayTurn most v later x y had now = HasTurned most v later x y ⊎ HasNoTurn v later x y had now
+
+pub round_more : {A : Type 0} (most : ℕ) (v u t : LiveView) (xs ys : List (LiveJob A)) (k : ℕ) (d y : LiveJob A) (had now : List Bool) → k < length ys → RoundSoFar most v u xs ys k had → MayTurn most u t (get_or ys k d) y had now → RoundSoFar most v t xs (set ys k y) (k + 1) now
+round_more most v u t xs ys k d y had now inside a (inl b) =
+    let some = b.some in
+    let both = length-append a.log b.log in
     record {
       log = a.log ++ b.log;
       ran = more_calls v u t a.log b.log a.ran b.ran;
-      go = subst (λ (ws : List (LiveJob A)). AllGo most xs ws (a.log ++ b.log)) (sym is) (all_go_on most xs ys (set ys k y) a.log b.log a.go (one_goes most ys k d y b.log b.goes));
+      go = all_go_on most xs ys (set ys k y) a.log b.log a.go (one_goes most ys k d y b.log b.goes);
+      idle = λ e. absurd (omega (arith, some, both, e));
+    }
+round_more {A} most v u t xs ys k d y had now inside a (inr b) =
+    record {
+      log = a.log;
+      ran = subst (λ (w : LiveView). HasRun v a.log w) (sym b.same) a.ran;
+      go = subst (λ (zs : List (LiveJob A)). AllGo most xs zs a.log) (sym kept) a.go;
+      idle = λ e. let i = a.idle e in let back = b.back i.0 in (back.1, kept ∙ i.1, λ n below other. at_place n below other i back.0);
+    }
+  where
+    kept : set ys k y ≡ ys
+    kept = ap (λ (z : LiveJob A). set ys k z) b.job ∙ set-get_or ys k d
+
+    at_place : (n : ℕ) → n < k + 1 → (other : LiveJob A) → NoneHad had × (ys ≡ xs) × ((m : ℕ) → m < k → (c : LiveJob A) → is_back (get_or xs m c) ≡ true) → is_back (get_or ys k d) ≡ true → is_back (get_or xs n other) ≡ true
+    at_place n below other i back = below_more _ _ (λ m less. i.2 m less other) here n below
+      where
+        here : is_back (get_or xs k other) ≡ true
+        here = ap (λ (z : LiveJob A). is_back z) (ap (λ (zs : List (LiveJob A)). get_or zs k other) (sym i.1) ∙ get_or_default ys k other d inside) ∙ back
+
+-- each of a list
+all_back : {A : Type 0} (xs : List (LiveJob A)) → ((k : ℕ) → k < length xs → (d : LiveJob A) → is_back (get_or xs k d) ≡ true) → list_all is_back xs ≡ true
+all_back [] each = refl
+all_back (x ∷ xs) each = and_from (is_back x) (list_all is_back xs) (each 0 (omega arith) x) (all_back xs (λ k below d. each (suc k) (omega (arith, below)) d))
+
+pub round_ends : {A : Type 0} (most : ℕ) (v u : LiveView) (xs ys : List (LiveJob A)) (place : ℕ) (had : List Bool) → length xs ≤ place → RoundSoFar most v u xs ys place had → HaveTurned most v u xs ys
+round_ends {A} most v u xs ys place had end a = record { log = a.log; ran = a.ran; go = a.go; some = λ left. at (length a.log) refl left }
+  where
+    clash : (b : Bool) → b ≡ true → b ≡ false → ⊥
+    clash b x y = cc
+
+    at : (n : ℕ) → length a.log ≡ n → list_all is_back xs ≡ false → 0 < length a.log
+    at zero e left = absurd (clash (list_all is_back xs) (all_back xs (λ k below d. (a.idle e).2 k (omega (arith, below, end)) d)) left)
+    at (suc n) e left = omega (arith, e)
+
+pub round_stops : {A : Type 0} (most : ℕ) (v u t : LiveView) (xs ys : List (LiveJob A)) (k : ℕ) (d y : LiveJob A) (had : List Bool) (room : ℕ) (e : OutOfTurn) → RoundSoFar most v u xs ys k had → IsRunFault t room e × (t ≡ u) × (y ≡ get_or ys k d) → HaveStopped most v t xs (set ys k y) room e
+round_stops {A} most v u t xs ys k d y had room e a h =
+    record {
+      log = a.log;
+      ran = subst (λ (w : LiveView). HasRun v a.log w) (sym h.1) a.ran;
+      go = subst (λ (zs : List (LiveJob A)). AllGo most xs zs a.log) (sym (ap (λ (z : LiveJob A). set ys k z) h.2 ∙ set-get_or ys k d)) a.go;
+      fault = h.0;
     }
 
-pub round_more : {A : Type 0} (most : ℕ) (v u t : LiveView) (xs ys zs : List (LiveJob A)) → HaveTurned most v u xs ys → HaveTurned most u t ys zs → HaveTurned most v t xs zs
-round_more most v u t xs ys zs a b = record { log = a.log ++ b.log; ran = more_calls v u t a.log b.log a.ran b.ran; go = all_go_on most xs ys zs a.log b.log a.go b.go }
+-- 8. rounds, one after another
 
--- 8. what a job is
+pub record RoundsSoFar {A : Type 0} (most : ℕ) (v later : LiveView) (xs ys : List (LiveJob A)) (rounds : ℕ) : Type 0 where
+  pub log : List Told
+  pub ran : HasRun v log later
+  pub go : AllGo most xs ys log
+  pub many : rounds ≤ length log
+
+pub rounds_begin : {A : Type 0} (most : ℕ) (v : LiveView) (xs : List (LiveJob A)) → RoundsSoFar most v v xs xs 0
+rounds_begin most v xs = record { log = []; ran = no_calls v; go = all_same most xs []; many = omega arith }
+
+pub rounds_more : {A : Type 0} (most : ℕ) (v u t : LiveView) (xs ys zs : List (LiveJob A)) (rounds : ℕ) → RoundsSoFar most v u xs ys rounds → list_all is_back ys ≡ false → HaveTurned most u t ys zs → RoundsSoFar most v t xs zs (rounds + 1)
+rounds_more most v u t xs ys zs rounds a left b =
+    let many = a.many in
+    let some = b.some left in
+    let both = length-append a.log b.log in
+    record { log = a.log ++ b.log; ran = more_calls v u t a.log b.log a.ran b.ran; go = all_go_on most xs ys zs a.log b.log a.go b.go; many = omega (arith, many, some, both) }
+
+-- of a new sequencer
+goes_well : (v u : LiveView) (log : List Told) → IsLive v → HasRun v log u → IsLiveAt v (fresh (channel_at v)) → LiveGoesWell (channel_at v) (events_of log)
+goes_well v u log k ran at = calls_go_well v u (events_of log) (replies_of log) k.is_channel at ran.verified ran.run
+
+pub run_stops : {A : Type 0} (limits : RunLimits) (v u t : LiveView) (xs ys zs : List (LiveJob A)) (rounds room now : ℕ) (e : OutOfTurn) → IsLive v → now ≡ room → RoundsSoFar limits.busy_polls v u xs ys rounds → HaveStopped limits.busy_polls u t ys zs now e → RunsJobs limits v t xs zs room (Err e)
+run_stops limits v u t xs ys zs rounds room now e k same a b =
+    let log = a.log ++ b.log in
+    let ran = more_calls v u t a.log b.log a.ran b.ran in
+    record {
+      log = log;
+      ran = ran;
+      go = all_go_on limits.busy_polls xs ys zs a.log b.log a.go b.go;
+      well = goes_well v t log k ran;
+      end = tt;
+      fault = subst (λ (n : ℕ). IsRunFault t n e) same b.fault;
+    }
+
+pub run_ends : {A : Type 0} (limits : RunLimits) (v u : LiveView) (xs ys : List (LiveJob A)) (rounds room : ℕ) (end : RunEnd) → IsLive v → (a : RoundsSoFar limits.busy_polls v u xs ys rounds) → EndsSo limits.rounds end ys a.log → RunsJobs limits v u xs ys room (Ok end)
+run_ends limits v u xs ys rounds room end k a ends = record { log = a.log; ran = a.ran; go = a.go; well = goes_well v u a.log k a.ran; end = ends; fault = tt }
+
+-- 9. what a job is
 
 pub place_is : {A : Type 0} (x : LiveJob A) (on : OnLun) → place_on x ≡ Some on → x ≡ Running on
 place_is (Waiting j) on h = cc
@@ -286,11 +393,37 @@ place_is (Done d) on h = cc
 place_is (Abandoned o) on h = cc
 place_is (Refused r) on h = cc
 
--- 9. why a turn isn't had
+pub never_back : {A : Type 0} (x : LiveJob A) → lun_of x ≡ None → is_back x ≡ true
+never_back (Waiting j) h = cc
+never_back (Running on) h = cc
+never_back (Done d) h = refl
+never_back (Abandoned on) h = refl
+never_back (Refused r) h = refl
 
-pub fault_somewhere : {X : Type 0} (v : LiveView) (l : Lun) (room : ℕ) (r : Result X OutOfTurn) → IfErr r (λ e. IsStepFault v l room e) → IfErr r (λ e. (m : Lun) × IsStepFault v m room e)
-fault_somewhere v l room (Ok x) h = h
-fault_somewhere v l room (Err e) h = (l, h)
+-- one that isn't on a LUN nor back waits
+pub never_other : {A : Type 0} (x : LiveJob A) (l : Lun) → place_on x ≡ None → lun_of x ≡ Some l → ((j : Job) → x ≡ Waiting j → ⊥) → ⊥
+never_other (Waiting j) l place lun other = other j refl
+never_other (Running on) l place lun other = cc
+never_other (Done d) l place lun other = cc
+never_other (Abandoned on) l place lun other = cc
+never_other (Refused r) l place lun other = cc
 
-pub fault_with_room : (v : LiveView) (room other : ℕ) (e : OutOfTurn) → room ≡ other → (l : Lun) × IsStepFault v l room e → (l : Lun) × IsStepFault v l other e
-fault_with_room v room other e same h = (h.0, subst (λ (n : ℕ). IsStepFault v h.0 n e) same h.1)
+pub never_turned : (b : Bool) → b ≡ true → b ≡ false → ⊥
+never_turned b x y = cc
+
+pub may_turn : {A X : Type 0} (most : ℕ) (v u : LiveView) (x y : LiveJob A) (had now : List Bool) (r : Result X OutOfTurn) → IfOk r (λ a. HasTurned most v u x y) → IfOk r (λ a. MayTurn most v u x y had now)
+may_turn most v u x y had now (Ok a) h = inl h
+may_turn most v u x y had now (Err e) h = tt
+
+-- a step goes on already
+pub never_begun : {A : Type 0} (limits : RunLimits) (v : LiveView) (xs : List (LiveJob A)) (room : ℕ) (going : Option StepGoingOn) → IsLive v → going ≡ v.going → is_some going ≡ true → RunsJobs limits v v xs xs room (Err StepGoesOn)
+never_begun limits v xs room None k is some = cc
+never_begun limits v xs room (Some step) k is some =
+    record {
+      log = [];
+      ran = no_calls v;
+      go = all_same limits.busy_polls xs [];
+      well = goes_well v v [] k (no_calls v);
+      end = tt;
+      fault = (step.lun, (step, sym is));
+    }

@@ -1,5 +1,6 @@
 -- A list of jobs on pins: what becomes of each, by the events that came and how they were answered.
-use Rattle.std.specs.Prelude.{◌≡◌, ℕ, ◌+◌, ◌≤◌, ◌==◌, ◌⊎◌, Bool, true, false, ◌&&◌, not, if◌then◌else◌, List, [], ◌∷◌, Option, Some, None, map, length, Contains}
+use Rattle.std.specs.Prelude.{◌≡◌, ℕ, ◌+◌, ◌<◌, ◌≤◌, ◌==◌, ◌⊎◌, Bool, true, false, ◌&&◌, if◌then◌else◌, List, [], ◌∷◌, Option, Some, None, Result, IfOk, IfErr, map, length, Contains}
+use Rattle.std.specs.List.{list_all, slice_index_or}
 use Rattle.onfi_cycle.specs.declared.lun.Lun.{Lun}
 use Rattle.micro_program.specs.Program.{Job}
 use Rattle.seq_core.specs.declared.sequencer.LoadRefused.{LoadRefused}
@@ -10,7 +11,11 @@ use Rattle.seq_core.specs.Reply.{Reply, ToLoad, ToStep, ToUnload, Loaded, NotLoa
 use Rattle.seq_live.specs.Event.{LiveEvent, Load, Step, Unload, AllLoadVerified}
 use Rattle.seq_live.specs.Headline.{LiveGoesWell}
 use Rattle.seq_live.specs.Kept.{LiveView, channel_at, IsLiveAt}
-use Rattle.seq_live.specs.Calls.{IsLiveRun}
+use Rattle.seq_live.specs.Calls.{IsLiveRun, IsStepFault}
+use Rattle.seq_live.specs.declared.out_of_turn.OutOfTurn.{OutOfTurn}
+use Rattle.seq_live.specs.declared.run.RunEnd.{RunEnd}
+use Rattle.seq_live.specs.declared.run.RunEnd.TheVariants.{AllBack, SomeLeft}
+use Rattle.seq_live.specs.declared.run.RunLimits.{RunLimits}
 use Rattle.seq_live.specs.declared.live_job.OnLun.{OnLun}
 use Rattle.seq_live.specs.declared.live_job.LiveJob.{LiveJob}
 use Rattle.seq_live.specs.declared.live_job.LiveJob.TheVariants.{Waiting, Running, Done, Abandoned, Refused}
@@ -105,19 +110,52 @@ AllGo most (x ∷ xs) (y ∷ ys) log = Goes most x y log × AllGo most xs ys log
 AllGo most [] (y ∷ ys) log = ⊥
 AllGo most (x ∷ xs) [] log = ⊥
 
--- a job had a turn, or several
+-- a job had a turn: something came of it
 pub record HasTurned {A : Type 0} (most : ℕ) (v later : LiveView) (x y : LiveJob A) : Type 0 where
   pub log : List Told
   pub ran : HasRun v log later
   pub goes : Goes most x y log
+  pub some : 0 < length log
 
--- the jobs of a list had turns
+-- the LUNs of a round that have had their turn: none has
+abbrev pub NoneHad : List Bool → Type 0
+NoneHad had = (k : ℕ) → slice_index_or had k false ≡ false
+
+-- a job had no turn in a round: it is back, or its LUN has had its turn
+pub record HasNoTurn {A : Type 0} (v later : LiveView) (x y : LiveJob A) (had later_had : List Bool) : Type 0 where
+  pub same : later ≡ v
+  pub job : y ≡ x
+  pub back : NoneHad had → (is_back x ≡ true) × NoneHad later_had
+
+-- the jobs of a list had a round, or several, in which something came if one of them wasn't back
 pub record HaveTurned {A : Type 0} (most : ℕ) (v later : LiveView) (xs ys : List (LiveJob A)) : Type 0 where
   pub log : List Told
   pub ran : HasRun v log later
   pub go : AllGo most xs ys log
+  pub some : list_all is_back xs ≡ false → 0 < length log
 
--- and of a new sequencer the events go well, as the main theorem says
-pub record RunsWell {A : Type 0} (most : ℕ) (v later : LiveView) (xs ys : List (LiveJob A)) : Type 0 where
-  pub turned : HaveTurned most v later xs ys
-  pub well : IsLiveAt v (fresh (channel_at v)) → LiveGoesWell (channel_at v) (events_of turned.log)
+-- no step of a LUN can be made on pins, with room for so many bytes
+abbrev pub IsRunFault : LiveView → ℕ → OutOfTurn → Type 0
+IsRunFault v room e = (l : Lun) × IsStepFault v l room e
+
+-- the jobs of a list had turns until a step couldn't be made
+pub record HaveStopped {A : Type 0} (most : ℕ) (v later : LiveView) (xs ys : List (LiveJob A)) (room : ℕ) (e : OutOfTurn) : Type 0 where
+  pub log : List Told
+  pub ran : HasRun v log later
+  pub go : AllGo most xs ys log
+  pub fault : IsRunFault later room e
+
+-- how a run ended: each job is back, or some aren't and in each of so many rounds something came
+abbrev pub EndsSo : {A : Type 0} → ℕ → RunEnd → List (LiveJob A) → List Told → Type 0
+EndsSo rounds AllBack ys log = list_all is_back ys ≡ true
+EndsSo rounds SomeLeft ys log = (list_all is_back ys ≡ false) × (rounds ≤ length log)
+
+-- jobs were run on pins: these events came and were answered so, this has become of each job, and of a new sequencer the events go well as the main
+-- theorem says
+pub record RunsJobs {A : Type 0} (limits : RunLimits) (v later : LiveView) (xs ys : List (LiveJob A)) (room : ℕ) (result : Result RunEnd OutOfTurn) : Type 0 where
+  pub log : List Told
+  pub ran : HasRun v log later
+  pub go : AllGo limits.busy_polls xs ys log
+  pub well : IsLiveAt v (fresh (channel_at v)) → LiveGoesWell (channel_at v) (events_of log)
+  pub end : IfOk result (λ end. EndsSo limits.rounds end ys log)
+  pub fault : IfErr result (λ e. IsRunFault later room e)

@@ -139,7 +139,8 @@ impl<A: Allocator> Live<A> {
 
     /// The step that goes on on the pins, if one does.
     pub fn going(&self) -> Option<StepGoingOn>
-        ensures { result ≡ self.now.going }
+        ensures value { result ≡ self.now.going }
+        ensures live { IsLive self.now }
     {
         self.going
     }

@@ -56,10 +56,8 @@ impl<A: Allocator> LiveJob<A> {
     {
         match self {
             LiveJob::Running(on) => Some(*on),
-            LiveJob::Waiting(_)
-            | LiveJob::Done(_)
-            | LiveJob::Abandoned(_)
-            | LiveJob::Refused(_) => None,
+            LiveJob::Waiting(_) | LiveJob::Done(_) | LiveJob::Abandoned(_) | LiveJob::Refused(_) =>
+                None,
         }
     }
 }

@@ -60,7 +60,7 @@ fn do_bursts<A: Allocator, P: Pins>(live: &mut Live<A>, pins: &mut P, lun: Lun, 
     ensures step { KeepsStep live.old live.new }
     ensures done { HasBegun live.old lun → HasNoBurst live.new }
 {
-    for number in 0..MAX_BURSTS {
+    for _ in 0..MAX_BURSTS {
         match live.next() {
             None => return,
             Some(burst) => {

@@ -1,10 +1,9 @@
 //! A list of jobs on pins.
-ghost use Rattle.std.specs.Prelude.{◌≡◌, ℕ, ◌≤◌, true, List, Some, IfOk, IfErr, length};
+ghost use Rattle.std.specs.Prelude.{◌≡◌, ℕ, ◌≤◌, ◌⊎◌, true, List, Some, None, IfOk, IfErr, length};
 ghost use Rattle.std.specs.List.{list_all};
-ghost use Rattle.onfi_cycle.specs.declared.lun.Lun.{Lun as LunValue};
 ghost use Rattle.seq_live.specs.Kept.{LiveView};
-ghost use Rattle.seq_live.specs.Calls.{HasStepped, IsStepFault};
-ghost use Rattle.seq_live.specs.Jobs.{is_back, place_on, Told, busy_polls, Goes, HasTurned, HaveTurned};
+ghost use Rattle.seq_live.specs.Calls.{HasStepped};
+ghost use Rattle.seq_live.specs.Jobs.{is_back, lun_of, place_on, Told, busy_polls, Goes, HasTurned, NoneHad, HasNoTurn, HaveTurned, HaveStopped, IsRunFault, RunsJobs};
 
 use crate::live::Live;
 use crate::live_job::{LiveJob, OnLun};
@@ -40,8 +39,19 @@ struct Turns {
 }
 
 impl Turns {
+    // None has had its turn.
+    fn new() -> Turns
+        ensures { NoneHad result.had }
+    {
+        Turns {
+            had: [false; MAX_CHANNEL_LUNS],
+        }
+    }
+
     // Takes the turn of a LUN, and tells whether it hadn't had it. A LUN that isn't there has no number, and always has a turn: what it does is to refuse.
-    fn take(&mut self, number: Option<usize>) -> bool {
+    fn take(&mut self, number: Option<usize>) -> bool
+        ensures { NoneHad self.old.had → result ≡ true }
+    {
         match number {
             None => true,
             Some(number) => match self.had.as_mut_slice().get_mut(number) {
@@ -65,6 +75,8 @@ fn start_job<A: Allocator>(live: &mut Live<A>, waiting: Job<A>) -> LiveJob<A>
 
 // Starts a job if it waits.
 fn start<A: Allocator>(live: &mut Live<A>, job: &mut LiveJob<A>, lun: Lun)
+    requires waits { place_on job.old ≡ None }
+    requires lun { lun_of job.old ≡ Some lun }
     ensures { (most : ℕ) → HasTurned most live.old live.new job.old job.new }
 {
     let on = OnLun { lun, busy_polls: 0 };
@@ -124,8 +136,8 @@ fn step_job<A: Allocator, P: Pins>(
     most: u64,
 ) -> Result<(), OutOfTurn>
     requires { place_on job.old ≡ Some on }
-    ensures turned { HasTurned most live.old live.new job.old job.new }
-    ensures err { IfErr result (λ e. IsStepFault live.new on.lun (length taken.old) e) }
+    ensures ok { IfOk result (λ _. HasTurned most live.old live.new job.old job.new) }
+    ensures err { IfErr result (λ e. IsRunFault live.new (length taken.old) e × (live.new ≡ live.old) × (job.new ≡ job.old)) }
 {
     match step_on(live, pins, on.lun, taken) {
         Err(fault) => Err(fault),
@@ -136,7 +148,7 @@ fn step_job<A: Allocator, P: Pins>(
     }
 }
 
-// The turn of a job: it is started, or has one step.
+// The turn of a job that isn't back: it is started, or has one step.
 fn turn_job<A: Allocator, P: Pins>(
     live: &mut Live<A>,
     pins: &mut P,
@@ -145,8 +157,9 @@ fn turn_job<A: Allocator, P: Pins>(
     taken: &mut [u8],
     most: u64,
 ) -> Result<(), OutOfTurn>
-    ensures turned { HasTurned most live.old live.new job.old job.new }
-    ensures err { IfErr result (λ e. (l : LunValue) × IsStepFault live.new l (length taken.old) e) }
+    requires { lun_of job.old ≡ Some lun }
+    ensures ok { IfOk result (λ _. HasTurned most live.old live.new job.old job.new) }
+    ensures err { IfErr result (λ e. IsRunFault live.new (length taken.old) e × (live.new ≡ live.old) × (job.new ≡ job.old)) }
 {
     match job.place() {
         Some(on) => step_job(live, pins, job, on, taken, most),
@@ -166,8 +179,9 @@ fn turn_in_round<A: Allocator, P: Pins>(
     taken: &mut [u8],
     most: u64,
 ) -> Result<(), OutOfTurn>
-    ensures turned { HasTurned most live.old live.new job.old job.new }
-    ensures err { IfErr result (λ e. (l : LunValue) × IsStepFault live.new l (length taken.old) e) }
+    ensures ok { IfOk result (λ _. HasTurned most live.old live.new job.old job.new
+        ⊎ HasNoTurn live.old live.new job.old job.new turns.old.had turns.new.had) }
+    ensures err { IfErr result (λ e. IsRunFault live.new (length taken.old) e × (live.new ≡ live.old) × (job.new ≡ job.old)) }
 {
     match job.lun() {
         None => Ok(()),
@@ -189,12 +203,10 @@ fn do_round<A: Allocator, P: Pins>(
     taken: &mut [u8],
     most: u64,
 ) -> Result<(), OutOfTurn>
-    ensures turned { HaveTurned most live.old live.new jobs.old jobs.new }
-    ensures err { IfErr result (λ e. (l : LunValue) × IsStepFault live.new l (length taken.old) e) }
+    ensures ok { IfOk result (λ _. HaveTurned most live.old live.new jobs.old jobs.new) }
+    ensures err { IfErr result (λ e. HaveStopped most live.old live.new jobs.old jobs.new (length taken.old) e) }
 {
-    let mut turns = Turns {
-        had: [false; MAX_CHANNEL_LUNS],
-    };
+    let mut turns = Turns::new();
     for place in 0..jobs.len() {
         match turn_in_round(live, pins, &mut jobs[place], &mut turns, taken, most) {
             Ok(()) => {}
@@ -224,10 +236,11 @@ pub fn run_live<A: Allocator, P: Pins>(
     taken: &mut [u8],
     limits: RunLimits,
 ) -> Result<RunEnd, OutOfTurn>
-    ensures turned { HaveTurned limits.busy_polls live.old live.new jobs.old jobs.new }
-    ensures back { IfOk result (λ end. end ≡ RunEnd.AllBack → list_all is_back jobs.new ≡ true) }
-    ensures err { IfErr result (λ e. (l : LunValue) × IsStepFault live.new l (length taken.old) e) }
+    ensures { RunsJobs limits live.old live.new jobs.old jobs.new (length taken.old) result }
 {
+    if live.going().is_some() {
+        return Err(OutOfTurn::StepGoesOn);
+    }
     for _ in 0..limits.rounds {
         if are_all_back(jobs) {
             return Ok(RunEnd::AllBack);

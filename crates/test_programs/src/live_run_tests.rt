@@ -167,7 +167,13 @@ fn two_jobs_on_two_luns(rt: HostRuntime) -> Result<(), Fail> {
     let mut chips = Chips::new(rt.alloc(), None)?;
     let mut jobs = all_read(rt.alloc(), &[(0, 0), (1, 5)])?;
     let mut taken = [0u8; 4];
-    let end = run_live(&mut live, &mut chips, jobs.as_mut_slice(), taken.as_mut_slice(), LIMITS);
+    let end = run_live(
+        &mut live,
+        &mut chips,
+        jobs.as_mut_slice(),
+        taken.as_mut_slice(),
+        LIMITS,
+    );
     assert!(&rt; end == Ok(RunEnd::AllBack));
     let wanted = [Came::Done(7, [0x11; 4]), Came::Done(7, [0x22; 4])];
     assert!(&rt; have_come(jobs.as_slice(), &wanted));
@@ -182,7 +188,13 @@ fn a_chip_that_dies(rt: HostRuntime) -> Result<(), Fail> {
     let mut chips = Chips::new(rt.alloc(), Some(0))?;
     let mut jobs = all_read(rt.alloc(), &[(0, 0), (0, 5), (1, 0), (1, 5)])?;
     let mut taken = [0u8; 4];
-    let end = run_live(&mut live, &mut chips, jobs.as_mut_slice(), taken.as_mut_slice(), LIMITS);
+    let end = run_live(
+        &mut live,
+        &mut chips,
+        jobs.as_mut_slice(),
+        taken.as_mut_slice(),
+        LIMITS,
+    );
     assert!(&rt; end == Ok(RunEnd::AllBack));
     let wanted = [
         Came::Abandoned(10),
@@ -204,7 +216,13 @@ fn more_jobs_than_luns(rt: HostRuntime) -> Result<(), Fail> {
     let mut jobs = all_read(rt.alloc(), &places)?;
     jobs.push(reads(rt.alloc(), OTHER, 1, 0)?)?;
     let mut taken = [0u8; 4];
-    let end = run_live(&mut live, &mut chips, jobs.as_mut_slice(), taken.as_mut_slice(), LIMITS);
+    let end = run_live(
+        &mut live,
+        &mut chips,
+        jobs.as_mut_slice(),
+        taken.as_mut_slice(),
+        LIMITS,
+    );
     assert!(&rt; end == Ok(RunEnd::AllBack));
     let wanted = [
         Came::Done(7, [0x11; 4]),
@@ -231,10 +249,22 @@ fn a_run_goes_on(rt: HostRuntime) -> Result<(), Fail> {
         busy_polls: 10,
         rounds: 1,
     };
-    let end = run_live(&mut live, &mut chips, jobs.as_mut_slice(), taken.as_mut_slice(), one);
+    let end = run_live(
+        &mut live,
+        &mut chips,
+        jobs.as_mut_slice(),
+        taken.as_mut_slice(),
+        one,
+    );
     assert!(&rt; end == Ok(RunEnd::SomeLeft));
     assert!(&rt; have_come(jobs.as_slice(), &[Came::Runs, Came::Waits, Came::Runs]));
-    let end = run_live(&mut live, &mut chips, jobs.as_mut_slice(), taken.as_mut_slice(), LIMITS);
+    let end = run_live(
+        &mut live,
+        &mut chips,
+        jobs.as_mut_slice(),
+        taken.as_mut_slice(),
+        LIMITS,
+    );
     assert!(&rt; end == Ok(RunEnd::AllBack));
     let wanted = [
         Came::Done(7, [0x11; 4]),
@@ -252,11 +282,23 @@ fn too_little_room(rt: HostRuntime) -> Result<(), Fail> {
     let mut chips = Chips::new(rt.alloc(), None)?;
     let mut jobs = all_read(rt.alloc(), &[(1, 5)])?;
     let mut taken = [0u8; 3];
-    let end = run_live(&mut live, &mut chips, jobs.as_mut_slice(), taken.as_mut_slice(), LIMITS);
+    let end = run_live(
+        &mut live,
+        &mut chips,
+        jobs.as_mut_slice(),
+        taken.as_mut_slice(),
+        LIMITS,
+    );
     assert!(&rt; end == Err(OutOfTurn::NoRoom));
     assert!(&rt; have_come(jobs.as_slice(), &[Came::Runs]));
     let mut taken = [0u8; 4];
-    let end = run_live(&mut live, &mut chips, jobs.as_mut_slice(), taken.as_mut_slice(), LIMITS);
+    let end = run_live(
+        &mut live,
+        &mut chips,
+        jobs.as_mut_slice(),
+        taken.as_mut_slice(),
+        LIMITS,
+    );
     assert!(&rt; end == Ok(RunEnd::AllBack));
     assert!(&rt; have_come(jobs.as_slice(), &[Came::Done(7, [0x22; 4])]));
     Ok(())

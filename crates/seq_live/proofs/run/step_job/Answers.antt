@@ -3,15 +3,14 @@ use Rattle.seq_live.specs.Kept.{LiveView}
 use Rattle.seq_live.specs.Calls.{IsStepFault}
 use Rattle.seq_live.specs.declared.live_job.LiveJob.{LiveJob}
 use Rattle.seq_live.specs.Jobs.{HasTurned}
-use Rattle.seq_live.proofs.Turns.{same_turn, place_is}
+use Rattle.seq_live.proofs.Turns.{place_is}
 use Rattle.seq_live.proofs.run.step_job.Goals as goal
 
-pub returns-in-Err-clause-turned : goal.returns-in-Err-clause-turned
-returns-in-Err-clause-turned g c = same_turn c.args.most c.args.live.now c.step_on.new.live c.args.job.now c.args.job.now c.in-Err.ensures.err.1 refl
-
 pub returns-in-Err-clause-err : goal.returns-in-Err-clause-err
-returns-in-Err-clause-err g c = subst (λ (v : LiveView). IsStepFault v c.args.on.lun (length c.args.taken.now) c.in-Err.fault) (sym c.in-Err.ensures.err.1) c.in-Err.ensures.err.0
+returns-in-Err-clause-err g c =
+    let same = c.in-Err.ensures.err.1 in
+    ((c.args.on.lun, subst (λ (v : LiveView). IsStepFault v c.args.on.lun (length c.args.taken.now) c.in-Err.fault) (sym same) c.in-Err.ensures.err.0), same, refl)
 
-pub returns-in-Ok-clause-turned : goal.returns-in-Ok-clause-turned
-returns-in-Ok-clause-turned g c =
+pub returns-in-Ok-clause-ok : goal.returns-in-Ok-clause-ok
+returns-in-Ok-clause-ok g c =
     subst (λ (x : LiveJob _). HasTurned c.args.most c.args.live.now c.go_on.new.live x c.go_on.result) (sym (place_is c.args.job.now c.args.on c.requires)) (c.go_on.ensures c.args.live.now c.in-Ok.ensures.ok)

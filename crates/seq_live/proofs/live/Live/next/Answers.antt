@@ -1,4 +1,4 @@
-use Rattle.std.proofs.Common.{◌≡◌, ◌∙◌, Some, sym, ap}
+use Rattle.std.proofs.Common.{◌∙◌, sym, ap}
 use Rattle.seq_live.specs.Kept.{LiveView}
 use Rattle.seq_live.proofs.Shown.{next_burst, few_done}
 use Rattle.seq_live.proofs.Faults.{none_at_rest, none_left}
