@@ -5,3 +5,4 @@ pub mod Burst
 pub mod Kept
 pub mod Calls
 pub mod Jobs
+pub mod Pause
