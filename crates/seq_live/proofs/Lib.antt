@@ -9,6 +9,7 @@ pub mod Stepping
 pub mod Shown
 pub mod Faults
 pub mod Pinned
+pub mod Owned
 pub mod Turns
 pub mod Main
 pub mod Models

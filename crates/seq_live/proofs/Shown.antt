@@ -9,14 +9,14 @@ use Rattle.seq_core.specs.declared.stepped.Stepped.{Stepped}
 use Rattle.seq_core.specs.Reply.{Reply, ToReady, ToArrayReady, ToStep}
 use Rattle.seq_live.specs.declared.live.StepGoingOn.{StepGoingOn}
 use Rattle.seq_live.specs.declared.burst.Burst.{Burst}
-use Rattle.seq_live.specs.Event.{LiveEvent, Step, Ready, ArrayReady, AllLoadVerified}
+use Rattle.seq_live.specs.Event.{LiveEvent, Step, Ready, ArrayReady, is_quiet}
 use Rattle.seq_live.specs.Kept.{LiveView, IsLive}
 use Rattle.seq_live.specs.Calls.{IsLiveRun, IsLiveEvent, MayStep, IsNextWord, AreNextBursts, IsNextBurst, HasFinished, shown_by, shown, has_fail, has_array_ready, is_poll, ends_with, live_slot, NextWordIs, AreFewDone, Begins, HasStepped, GoesOnFor}
 use Rattle.seq_live.specs.declared.out_of_turn.OutOfTurn.{OutOfTurn}
 use Rattle.seq_live.specs.declared.begun.Begun.TheVariants.{Answered, Going}
 use Rattle.seq_live.proofs.Running.{runs_more, no_run, answered_each}
 use Rattle.std.proofs.lemmas.Bool.{and_parts}
-use Rattle.std.specs.List.{slice_get}
+use Rattle.std.specs.List.{slice_get, list_all}
 use Rattle.micro_program.specs.Moves.{is_wait}
 use Rattle.seq_core.specs.Progress.{Progress}
 
@@ -76,18 +76,18 @@ shows_nothing v l word bytes other = subst (λ (es : List LiveEvent). Shows v es
 pub ends_ready : (word : Word) (bytes : List ℕ) (status : ℕ) → status ≡ first_byte bytes → ends_with word bytes ≡ true → is_ready_status status ≡ true
 ends_ready word bytes status is h = ap is_ready_status is ∙ (and_parts (is_wait word) (is_ready_status (first_byte bytes)) h).1
 
--- they load nothing
-shown_loads_none : (l : Lun) (word : Word) (bytes : List ℕ) → AllLoadVerified (shown l word bytes)
-shown_loads_none l word bytes = at (is_poll word) (is_ready_status status) (has_array_ready status)
+-- they load and unload nothing
+shown_quiet : (l : Lun) (word : Word) (bytes : List ℕ) → list_all is_quiet (shown l word bytes) ≡ true
+shown_quiet l word bytes = at (is_poll word) (is_ready_status status) (has_array_ready status)
   where
     status : ℕ
     status = first_byte bytes
 
-    at : (poll ready array : Bool) → AllLoadVerified (cond poll (cond ready (Ready l (has_fail status) ∷ cond array (ArrayReady l ∷ []) []) []) [])
-    at false ready array = tt
-    at true false array = tt
-    at true true false = (tt, tt)
-    at true true true = (tt, (tt, tt))
+    at : (poll ready array : Bool) → list_all is_quiet (cond poll (cond ready (Ready l (has_fail status) ∷ cond array (ArrayReady l ∷ []) []) []) []) ≡ true
+    at false ready array = refl
+    at true false array = refl
+    at true true false = refl
+    at true true true = refl
 
 -- 5. what is told of a step that goes on
 
@@ -99,7 +99,7 @@ whatever_goes_on v u going es rs run w at law =
 
 pub finished_at_rest : (v : LiveView) (bytes : List ℕ) (answer : Stepped) (step : StepGoingOn) → v.going ≡ Some step → (MayStep v step.lun → ⊥) → IsLiveEvent v (Step step.lun bytes) (ToStep answer) v → HasFinished v bytes answer (record v { going = None })
 finished_at_rest v bytes answer step is rest run =
-    record { step = step; is_step = is; readies = []; are_shown = λ word may next. absurd (rest may); replies = []; paired = refl; verified = tt; run = whatever_goes_on v v None (Step step.lun bytes ∷ []) (ToStep answer ∷ []) run; is_over = refl }
+    record { step = step; is_step = is; readies = []; are_shown = λ word may next. absurd (rest may); replies = []; paired = refl; quiet = refl; run = whatever_goes_on v v None (Step step.lun bytes ∷ []) (ToStep answer ∷ []) run; is_over = refl }
 
 pub same_next : (o : Option Progress) (word other : Word) → NextWordIs o word → NextWordIs o other → word ≡ other
 same_next o word other a b =
@@ -123,7 +123,7 @@ finished v later bytes answer step word k is next run over =
       are_shown = λ other may there. ap (λ (y : Word). shown step.lun y bytes) (same_next (live_slot v step.lun) word other next there);
       replies = run.0;
       paired = paired_before v later (shown step.lun word bytes) run.0 (Step step.lun bytes) (ToStep answer) k run.1;
-      verified = shown_loads_none step.lun word bytes;
+      quiet = shown_quiet step.lun word bytes;
       run = run.1;
       is_over = over;
     }
@@ -142,7 +142,7 @@ pub begun : (v u : LiveView) (l : Lun) → Begins v l Going u → IsLiveRun v []
 begun v u l h = subst (IsLiveRun v [] []) (sym h.1) (whatever_goes_on v v (Some (record { lun = l; done = 0 })) [] [] (no_run v))
 
 pub answered_at_once : (v u : LiveView) (l : Lun) (answer : Stepped) → Begins v l (Answered answer) u → HasStepped v l answer u
-answered_at_once v u l answer h = record { readies = []; bytes = []; replies = []; paired = refl; verified = tt; run = subst (λ (x : LiveView). IsLiveRun v (Step l [] ∷ []) (ToStep answer ∷ []) x) (sym h.0) (h.1 []) }
+answered_at_once v u l answer h = record { readies = []; bytes = []; replies = []; paired = refl; quiet = refl; run = subst (λ (x : LiveView). IsLiveRun v (Step l [] ∷ []) (ToStep answer ∷ []) x) (sym h.0) (h.1 []) }
 
 pub begun_for : (v u : LiveView) (l : Lun) → Begins v l Going u → GoesOnFor l u
 begun_for v u l h = subst (GoesOnFor l) (sym h.1) (record { lun = l; done = 0 }, refl, refl)
@@ -156,14 +156,14 @@ stepped_on v u t l bytes answer run goes f =
       bytes = bytes;
       replies = f.replies;
       paired = f.paired;
-      verified = f.verified;
+      quiet = f.quiet;
       run = subst (λ (m : Lun). IsLiveRun v (f.readies ++ (Step m bytes ∷ [])) (f.replies ++ (ToStep answer ∷ [])) t) here (runs_more v u t [] (f.readies ++ (Step f.step.lun bytes ∷ [])) [] (f.replies ++ (ToStep answer ∷ [])) run f.run);
     }
 
 -- what was begun, and then stepped
 pub begun_stepped : (v u t : LiveView) (l : Lun) (answer : Stepped) → IsLiveRun v [] [] u → HasStepped u l answer t → HasStepped v l answer t
 begun_stepped v u t l answer run h =
-    record { readies = h.readies; bytes = h.bytes; replies = h.replies; paired = h.paired; verified = h.verified; run = runs_more v u t [] (h.readies ++ (Step l h.bytes ∷ [])) [] (h.replies ++ (ToStep answer ∷ [])) run h.run }
+    record { readies = h.readies; bytes = h.bytes; replies = h.replies; paired = h.paired; quiet = h.quiet; run = runs_more v u t [] (h.readies ++ (Step l h.bytes ∷ [])) [] (h.replies ++ (ToStep answer ∷ [])) run h.run }
 
 pub begun_went : (v u t : LiveView) (l : Lun) (r : Result Stepped OutOfTurn) → IsLiveRun v [] [] u → IfOk r (λ answer. HasStepped u l answer t) → IfOk r (λ answer. HasStepped v l answer t)
 begun_went v u t l (Ok answer) run h = begun_stepped v u t l answer run h

@@ -1,7 +1,7 @@
 -- Turns of jobs on pins: the events that came, and what becomes of each job.
 use Rattle.std.proofs.Common.{◌≡◌, ℕ, zero, suc, ◌+◌, ◌<◌, ◌≤◌, Bool, true, false, ◌⊎◌, inl, inr, List, [], ◌∷◌, ◌++◌, Option, Some, None, refl, sym, ap, ◌∙◌, subst, eq-eqb, length, length-append, below_more, get_or, set, lit<, replicate, Contains, Result, Ok, Err, IfOk, is_some, arith}
 use Rattle.std.specs.List.{list_all}
-use Rattle.std.proofs.lemmas.Bool.{and_from}
+use Rattle.std.proofs.lemmas.Bool.{and_from, and_parts}
 use Rattle.std.proofs.lemmas.List.{map-append, set-get_or, get_or_default}
 use Rattle.std.proofs.lemmas.List.Elements.{Contains-append_left, Contains-append_right}
 use Rattle.onfi_cycle.specs.declared.lun.Lun.{Lun}
@@ -13,10 +13,11 @@ use Rattle.seq_core.specs.declared.stepped.Stepped.{Stepped}
 use Rattle.seq_core.specs.declared.stepped.Stepped.TheVariants.{NotReady}
 use Rattle.seq_core.specs.Event.{LoadsVerified, IsVerified}
 use Rattle.seq_core.specs.Reply.{Reply, ToLoad, ToStep, ToUnload, Loaded, NotLoaded, Unloaded, NotUnloaded}
-use Rattle.seq_live.specs.Event.{LiveEvent, Load, Step, Unload, plain, AllLoadVerified}
+use Rattle.seq_live.specs.Event.{LiveEvent, Load, Step, Ready, ArrayReady, Unload, plain, is_quiet, AllLoadVerified}
 use Rattle.seq_live.specs.Headline.{LiveGoesWell}
 use Rattle.seq_live.specs.Kept.{LiveView, channel_at, IsLiveAt, IsLive}
-use Rattle.seq_core.specs.World.{fresh}
+use Rattle.onfi_cycle.specs.Channel.{Channel}
+use Rattle.seq_core.specs.World.{World, fresh}
 use Rattle.seq_live.specs.Calls.{IsLiveRun, IsLiveEvent, HasStepped}
 use Rattle.seq_live.specs.declared.out_of_turn.OutOfTurn.{OutOfTurn}
 use Rattle.seq_live.specs.declared.out_of_turn.OutOfTurn.TheVariants.{StepGoesOn}
@@ -26,9 +27,11 @@ use Rattle.seq_live.specs.declared.run.RunLimits.{RunLimits}
 use Rattle.seq_live.specs.declared.live_job.OnLun.{OnLun}
 use Rattle.seq_live.specs.declared.live_job.LiveJob.{LiveJob}
 use Rattle.seq_live.specs.declared.live_job.LiveJob.TheVariants.{Waiting, Running, Done, Abandoned, Refused}
-use Rattle.seq_live.specs.Jobs.{is_back, lun_of, place_on, Told, events_of, replies_of, HasRun, busy_polls, loaded, refused, ended, StandsOn, HasEnded, Goes, AllGo, HasTurned, NoneHad, HasNoTurn, HaveTurned, HaveStopped, IsRunFault, EndsSo, RunsJobs}
+use Rattle.seq_live.specs.Jobs.{is_back, lun_of, place_on, Told, events_of, replies_of, HasRun, busy_polls, loaded, refused, ended, StaysOn, StandsOn, HasEnded, Goes, AllGo, HasTurned, NoneHad, HasNoTurn, HaveTurned, HaveStopped, IsRunFault, EndsSo, RunsJobs}
 use Rattle.seq_live.proofs.Running.{runs_more, no_run}
 use Rattle.seq_live.proofs.Main.{calls_go_well}
+use Rattle.seq_live.specs.Owned.{waits, AreThemselves, Moved, Moves, KeepsSound}
+use Rattle.seq_live.proofs.Owned.{quiet_run, loaded_in, refused_in, taken_from, not_taken, moved_on, moved_started, moved_back, moved_away, moved_after, moves_by_event, keeps_none, keeps_turn, keeps_more, in_two, sound_begins, themselves}
 
 -- 1. runs with their replies
 
@@ -84,13 +87,29 @@ pub record SteppedRun (v u : LiveView) (l : Lun) (answer : Stepped) : Type 0 whe
   pub ran : HasRun v log u
   pub busy : answer ≡ NotReady → 1 ≤ busy_polls l log
   pub some : 0 < length log
+  pub quiet : list_all is_quiet (events_of log) ≡ true
+
+quiet_more : (es : List LiveEvent) (l : Lun) (bytes : List ℕ) → list_all is_quiet es ≡ true → list_all is_quiet (es ++ (Step l bytes ∷ [])) ≡ true
+quiet_more [] l bytes quiet = refl
+quiet_more (e ∷ es) l bytes quiet =
+    let both = and_parts (is_quiet e) (list_all is_quiet es) quiet in
+    and_from (is_quiet e) (list_all is_quiet (es ++ (Step l bytes ∷ []))) both.0 (quiet_more es l bytes both.1)
+
+-- events that load nothing
+quiet_loads_none : (es : List LiveEvent) → list_all is_quiet es ≡ true → AllLoadVerified es
+quiet_loads_none [] quiet = tt
+quiet_loads_none (Load l j ∷ es) quiet = cc
+quiet_loads_none (Unload l ∷ es) quiet = cc
+quiet_loads_none (Step l bytes ∷ es) quiet = (tt, quiet_loads_none es quiet)
+quiet_loads_none (Ready l fail ∷ es) quiet = (tt, quiet_loads_none es quiet)
+quiet_loads_none (ArrayReady l ∷ es) quiet = (tt, quiet_loads_none es quiet)
 
 pub stepped_run : (v u : LiveView) (l : Lun) (answer : Stepped) → HasStepped v l answer u → SteppedRun v u l answer
 stepped_run v u l answer h =
     record {
       log = z.log ++ (last ∷ []);
       ran = record {
-        verified = subst AllLoadVerified (sym events) (verified_more h.readies (Step l h.bytes ∷ []) h.verified (tt, tt));
+        verified = subst AllLoadVerified (sym events) (verified_more h.readies (Step l h.bytes ∷ []) (quiet_loads_none h.readies h.quiet) (tt, tt));
         run = subst (λ (es : List LiveEvent). IsLiveRun v es (replies_of (z.log ++ (last ∷ []))) u) (sym events)
             (subst (λ (rs : List Reply). IsLiveRun v (h.readies ++ (Step l h.bytes ∷ [])) rs u) (sym replies) h.run);
       };
@@ -99,6 +118,7 @@ stepped_run v u l answer h =
           let both = busy_more l z.log (last ∷ []) in
           omega (arith, one, both);
       some = let both = length-append z.log (last ∷ []) in omega (arith, both);
+      quiet = ap (list_all is_quiet) events ∙ quiet_more h.readies l h.bytes h.quiet;
     }
   where
     z : Zipped h.readies h.replies
@@ -218,24 +238,24 @@ one_goes most (x ∷ xs) (suc k) d y log g = (goes_same most x log, one_goes mos
 
 -- 6. turns
 
-pub more_turns : {A : Type 0} (most : ℕ) (v u t : LiveView) (x y z : LiveJob A) → HasTurned most v u x y → HasTurned most u t y z → HasTurned most v t x z
-more_turns most v u t x y z a b =
-    let some = a.some in
-    let both = length-append a.log b.log in
-    record { log = a.log ++ b.log; ran = more_calls v u t a.log b.log a.ran b.ran; goes = goes_on most x y z a.log b.log a.goes b.goes; some = omega (arith, some, both) }
-
 just_one : (t : Told) → Contains (t ∷ []) t
 just_one t = (0, lit< tt, refl)
 
 -- a job is loaded
-pub started : {A : Type 0} (most : ℕ) (v u : LiveView) (j : Job) (l : Lun) → IsVerified j → l ≡ j.lun → IsLiveEvent v (Load l j) (ToLoad Loaded) u → HasTurned {A = A} most v u (Waiting j) (Running (record { lun = l; busy_polls = 0 }))
-started most v u j l verified lun event =
+started_there : {A : Type 0} (most : ℕ) (v u : LiveView) (j : Job) → IsVerified j → IsLiveEvent v (Load j.lun j) (ToLoad Loaded) u → HasTurned {A = A} most v u (Waiting j) (Running (record { lun = j.lun; busy_polls = 0 }))
+started_there {A} most v u j verified event =
     record {
       log = loaded j ∷ [];
-      ran = one_call v u (Load j.lun j) (ToLoad Loaded) verified (subst (λ (m : Lun). IsLiveEvent v (Load m j) (ToLoad Loaded) u) lun event);
-      goes = (sym lun, just_one (loaded j), omega arith);
+      ran = one_call v u (Load j.lun j) (ToLoad Loaded) verified event;
+      goes = (refl, just_one (loaded j), omega arith);
+      moves = moves_by_event v u (Load j.lun j) (ToLoad Loaded) (Waiting j) (Running (record { lun = j.lun; busy_polls = 0 })) event (λ w later law e. moved_started {A = A} (channel_at v) w later j j.lun 0 (loaded_in (channel_at v) w later j.lun j law e));
       some = omega arith;
     }
+
+pub started : {A : Type 0} (most : ℕ) (v u : LiveView) (j : Job) (l : Lun) → IsVerified j → l ≡ j.lun → IsLiveEvent v (Load l j) (ToLoad Loaded) u → HasTurned {A = A} most v u (Waiting j) (Running (record { lun = l; busy_polls = 0 }))
+started {A} most v u j l verified lun event =
+    let there = started_there {A = A} most v u j verified (subst (λ (m : Lun). IsLiveEvent v (Load m j) (ToLoad Loaded) u) lun event) in
+    subst (λ (m : Lun). HasTurned {A = A} most v u (Waiting j) (Running (record { lun = m; busy_polls = 0 }))) (sym lun) there
 
 -- it isn't
 pub handed_back : {A : Type 0} (most : ℕ) (v u : LiveView) (j : Job) (l : Lun) (r : LoadRefused A) → IsVerified j → l ≡ j.lun → r.job ≡ j → IsLiveEvent v (Load l j) (ToLoad (NotLoaded r.fault j)) u → HasTurned most v u (Waiting j) (Refused r)
@@ -246,6 +266,8 @@ handed_back {A} most v u j l r verified lun job event =
       ran = one_call v u (Load r.job.lun r.job) (ToLoad (NotLoaded r.fault r.job)) (subst IsVerified (sym job) verified)
           (subst (λ (k : Job). IsLiveEvent v (Load k.lun k) (ToLoad (NotLoaded r.fault k)) u) (sym job) here);
       goes = inr (ap (λ (k : Job). let z : LiveJob A = Waiting k in z) (sym job), just_one (refused r));
+      moves = moves_by_event v u (Load r.job.lun r.job) (ToLoad (NotLoaded r.fault r.job)) (Waiting j) (Refused r) (subst (λ (k : Job). IsLiveEvent v (Load k.lun k) (ToLoad (NotLoaded r.fault k)) u) (sym job) here)
+          (λ w later law e. moved_back (channel_at v) w later j r (refused_in (channel_at v) w later r.job.lun r.job r.fault e));
       some = omega arith;
     }
 
@@ -256,6 +278,7 @@ taken_away most v u on d event =
       log = ended on.lun d ∷ [];
       ran = one_call v u (Unload on.lun) (ToUnload (Unloaded d.job d.code)) tt event;
       goes = inr (just_one (ended on.lun d));
+      moves = moves_by_event v u (Unload on.lun) (ToUnload (Unloaded d.job d.code)) (Running on) (Done d) event (λ w later law e. moved_away (channel_at v) w later on d (taken_from (channel_at v) w later on.lun d.job d.code e));
       some = omega arith;
     }
 
@@ -263,13 +286,46 @@ taken_away most v u on d event =
 pub not_taken_away : {A : Type 0} (most : ℕ) (v u : LiveView) (on : OnLun) (fault : UnloadFault) → IsLiveEvent v (Unload on.lun) (ToUnload (NotUnloaded fault)) u → HasTurned {A = A} most v u (Running on) (Running on)
 not_taken_away {A} most v u on fault event =
     let log : List Told = told (Unload on.lun) (ToUnload (NotUnloaded fault)) ∷ [] in
-    record { log = log; ran = one_call v u (Unload on.lun) (ToUnload (NotUnloaded fault)) tt event; goes = goes_same {A = A} most (Running on) log; some = omega arith }
+    record {
+      log = log;
+      ran = one_call v u (Unload on.lun) (ToUnload (NotUnloaded fault)) tt event;
+      goes = goes_same {A = A} most (Running on) log;
+      moves = moves_by_event v u (Unload on.lun) (ToUnload (NotUnloaded fault)) (Running on) (Running on) event (λ w later law e. moved_on (channel_at v) w later on (Running on) (not_taken (channel_at v) w later on.lun fault e) refl);
+      some = omega arith;
+    }
 
 -- a step, and what becomes of its job then
-pub stepped_turn : {A : Type 0} (most : ℕ) (v u : LiveView) (on : OnLun) (answer : Stepped) (y : LiveJob A) → HasStepped v on.lun answer u → ((log : List Told) → (answer ≡ NotReady → 1 ≤ busy_polls on.lun log) → Goes most (Running on) y log) → HasTurned most v u (Running on) y
-stepped_turn most v u on answer y h goes =
+pub stepped_turn : {A : Type 0} (most : ℕ) (v u : LiveView) (on : OnLun) (answer : Stepped) (y : LiveJob A) → HasStepped v on.lun answer u → StaysOn on y → ((log : List Told) → (answer ≡ NotReady → 1 ≤ busy_polls on.lun log) → Goes most (Running on) y log) → HasTurned most v u (Running on) y
+stepped_turn most v u on answer y h stays goes =
     let r = stepped_run v u on.lun answer h in
-    record { log = r.log; ran = r.ran; goes = goes r.log r.busy; some = r.some }
+    record {
+      log = r.log;
+      ran = r.ran;
+      goes = goes r.log r.busy;
+      moves = λ w ran at law is. moved_on (channel_at v) w ran.world on y (quiet_run (channel_at v) (events_of r.log) w ran r.quiet is) stays;
+      some = r.some;
+    }
+
+-- a step, and the turn of its job after it
+pub stepped_then : {A : Type 0} (most : ℕ) (v u t : LiveView) (on : OnLun) (answer : Stepped) (z : LiveJob A) → HasStepped v on.lun answer u → HasTurned most u t (Running on) z → HasTurned most v t (Running on) z
+stepped_then {A} most v u t on answer z h b =
+    let r = stepped_run v u on.lun answer h in
+    let some = r.some in
+    let both = length-append r.log b.log in
+    record {
+      log = r.log ++ b.log;
+      ran = more_calls v u t r.log b.log r.ran b.ran;
+      goes = goes_on most (Running on) (Running on) z r.log b.log (goes_same {A = A} most (Running on) r.log) b.goes;
+      moves = subst (λ (es : List LiveEvent). Moves v es (Running on) z) (sym (map-append (λ (x : Told). x.event) r.log b.log)) (moves_after r);
+      some = omega (arith, some, both);
+    }
+  where
+    moves_after : (r : SteppedRun v u on.lun answer) → Moves v (events_of r.log ++ events_of b.log) (Running on) z
+    moves_after r w ran at law is =
+        let i = in_two v u t (events_of r.log) (events_of b.log) (replies_of r.log) (replies_of b.log) w ran r.ran.run b.ran.run at law is in
+        let kept = quiet_run (channel_at v) (events_of r.log) w i.first r.quiet i.is_first in
+        let moved = subst (λ (c : Channel). Moved c i.first.world i.second.world (Running on) z) i.channel (b.moves i.first.world i.second i.at i.law i.is_second) in
+        subst (λ (x : World). Moved (channel_at v) w x (Running on) z) i.world (moved_after (channel_at v) w i.first.world i.second.world on z kept moved)
 
 -- the polls begin anew
 pub polls_anew : (A : Type 0) (most : ℕ) (on : OnLun) (log : List Told) → Goes {A = A} most (Running on) (Running (record { lun = on.lun; busy_polls = 0 })) log
@@ -277,11 +333,17 @@ polls_anew A most on log = (refl, omega arith)
 
 -- 7. rounds
 
+keeps_both : {A : Type 0} (v u t : LiveView) (log more : List Told) (xs ys zs : List (LiveJob A)) → HasRun v log u → HasRun u more t → KeepsSound v (events_of log) xs ys → KeepsSound u (events_of more) ys zs → KeepsSound v (events_of (log ++ more)) xs zs
+keeps_both v u t log more xs ys zs first second a b =
+    subst (λ (es : List LiveEvent). KeepsSound v es xs zs) (sym (map-append (λ (x : Told). x.event) log more))
+    (keeps_more v u t (events_of log) (events_of more) (replies_of log) (replies_of more) xs ys zs first.run second.run a b)
+
 -- so far in a round
 pub record RoundSoFar {A : Type 0} (most : ℕ) (v later : LiveView) (xs ys : List (LiveJob A)) (place : ℕ) (had : List Bool) : Type 0 where
   pub log : List Told
   pub ran : HasRun v log later
   pub go : AllGo most xs ys log
+  pub keeps : KeepsSound v (events_of log) xs ys
   pub idle : length log ≡ 0 → NoneHad had × (ys ≡ xs) × ((k : ℕ) → k < place → (d : LiveJob A) → is_back (get_or xs k d) ≡ true)
 
 pub none_had : (n : ℕ) → NoneHad (replicate n false)
@@ -290,7 +352,7 @@ none_had (suc n) zero = refl
 none_had (suc n) (suc k) = none_had n k
 
 pub round_begins : {A : Type 0} (most : ℕ) (v : LiveView) (xs : List (LiveJob A)) (had : List Bool) → NoneHad had → RoundSoFar most v v xs xs 0 had
-round_begins most v xs had none = record { log = []; ran = no_calls v; go = all_same most xs []; idle = λ e. (none, refl, λ k below d. absurd (omega (arith, below))) }
+round_begins most v xs had none = record { log = []; ran = no_calls v; go = all_same most xs []; keeps = keeps_none v xs; idle = λ e. (none, refl, λ k below d. absurd (omega (arith, below))) }
 
 abbrev MayTurn : {A : Type 0} → ℕ → LiveView → LiveView → LiveJob A → LiveJob A → List Bool → List Bool → Type 0
 MayTurn most v later x y had now = HasTurned most v later x y ⊎ HasNoTurn v later x y had now
@@ -303,6 +365,7 @@ round_more most v u t xs ys k d y had now inside a (inl b) =
       log = a.log ++ b.log;
       ran = more_calls v u t a.log b.log a.ran b.ran;
       go = all_go_on most xs ys (set ys k y) a.log b.log a.go (one_goes most ys k d y b.log b.goes);
+      keeps = keeps_both v u t a.log b.log xs ys (set ys k y) a.ran b.ran a.keeps (keeps_turn u (events_of b.log) ys k d y inside b.moves);
       idle = λ e. absurd (omega (arith, some, both, e));
     }
 round_more {A} most v u t xs ys k d y had now inside a (inr b) =
@@ -310,6 +373,7 @@ round_more {A} most v u t xs ys k d y had now inside a (inr b) =
       log = a.log;
       ran = subst (λ (w : LiveView). HasRun v a.log w) (sym b.same) a.ran;
       go = subst (λ (zs : List (LiveJob A)). AllGo most xs zs a.log) (sym kept) a.go;
+      keeps = subst (λ (zs : List (LiveJob A)). KeepsSound v (events_of a.log) xs zs) (sym kept) a.keeps;
       idle = λ e. let i = a.idle e in let back = b.back i.0 in (back.1, kept ∙ i.1, λ n below other. at_place n below other i back.0);
     }
   where
@@ -328,7 +392,7 @@ all_back [] each = refl
 all_back (x ∷ xs) each = and_from (is_back x) (list_all is_back xs) (each 0 (omega arith) x) (all_back xs (λ k below d. each (suc k) (omega (arith, below)) d))
 
 pub round_ends : {A : Type 0} (most : ℕ) (v u : LiveView) (xs ys : List (LiveJob A)) (place : ℕ) (had : List Bool) → length xs ≤ place → RoundSoFar most v u xs ys place had → HaveTurned most v u xs ys
-round_ends {A} most v u xs ys place had end a = record { log = a.log; ran = a.ran; go = a.go; some = λ left. at (length a.log) refl left }
+round_ends {A} most v u xs ys place had end a = record { log = a.log; ran = a.ran; go = a.go; keeps = a.keeps; some = λ left. at (length a.log) refl left }
   where
     clash : (b : Bool) → b ≡ true → b ≡ false → ⊥
     clash b x y = cc
@@ -343,6 +407,7 @@ round_stops {A} most v u t xs ys k d y had room e a h =
       log = a.log;
       ran = subst (λ (w : LiveView). HasRun v a.log w) (sym h.1) a.ran;
       go = subst (λ (zs : List (LiveJob A)). AllGo most xs zs a.log) (sym (ap (λ (z : LiveJob A). set ys k z) h.2 ∙ set-get_or ys k d)) a.go;
+      keeps = subst (λ (zs : List (LiveJob A)). KeepsSound v (events_of a.log) xs zs) (sym (ap (λ (z : LiveJob A). set ys k z) h.2 ∙ set-get_or ys k d)) a.keeps;
       fault = h.0;
     }
 
@@ -352,21 +417,27 @@ pub record RoundsSoFar {A : Type 0} (most : ℕ) (v later : LiveView) (xs ys : L
   pub log : List Told
   pub ran : HasRun v log later
   pub go : AllGo most xs ys log
+  pub keeps : KeepsSound v (events_of log) xs ys
   pub many : rounds ≤ length log
 
 pub rounds_begin : {A : Type 0} (most : ℕ) (v : LiveView) (xs : List (LiveJob A)) → RoundsSoFar most v v xs xs 0
-rounds_begin most v xs = record { log = []; ran = no_calls v; go = all_same most xs []; many = omega arith }
+rounds_begin most v xs = record { log = []; ran = no_calls v; go = all_same most xs []; keeps = keeps_none v xs; many = omega arith }
 
 pub rounds_more : {A : Type 0} (most : ℕ) (v u t : LiveView) (xs ys zs : List (LiveJob A)) (rounds : ℕ) → RoundsSoFar most v u xs ys rounds → list_all is_back ys ≡ false → HaveTurned most u t ys zs → RoundsSoFar most v t xs zs (rounds + 1)
 rounds_more most v u t xs ys zs rounds a left b =
     let many = a.many in
     let some = b.some left in
     let both = length-append a.log b.log in
-    record { log = a.log ++ b.log; ran = more_calls v u t a.log b.log a.ran b.ran; go = all_go_on most xs ys zs a.log b.log a.go b.go; many = omega (arith, many, some, both) }
+    record { log = a.log ++ b.log; ran = more_calls v u t a.log b.log a.ran b.ran; go = all_go_on most xs ys zs a.log b.log a.go b.go; keeps = keeps_both v u t a.log b.log xs ys zs a.ran b.ran a.keeps b.keeps; many = omega (arith, many, some, both) }
 
 -- of a new sequencer
 goes_well : (v u : LiveView) (log : List Told) → IsLive v → HasRun v log u → IsLiveAt v (fresh (channel_at v)) → LiveGoesWell (channel_at v) (events_of log)
 goes_well v u log k ran at = calls_go_well v u (events_of log) (replies_of log) k.is_channel at ran.verified ran.run
+
+are_themselves : {A : Type 0} (v u : LiveView) (log : List Told) (xs ys : List (LiveJob A)) → IsLive v → HasRun v log u → KeepsSound v (events_of log) xs ys → list_all waits xs ≡ true → AreThemselves xs ys
+are_themselves v u log xs ys k ran keeps all =
+    let r = ran.run k.world k.is_at k.lawful in
+    themselves (channel_at v) r.ran.world xs ys (keeps k.world r.ran k.is_at k.lawful r.is_ran xs (sound_begins (channel_at v) k.world xs all))
 
 pub run_stops : {A : Type 0} (limits : RunLimits) (v u t : LiveView) (xs ys zs : List (LiveJob A)) (rounds room now : ℕ) (e : OutOfTurn) → IsLive v → now ≡ room → RoundsSoFar limits.busy_polls v u xs ys rounds → HaveStopped limits.busy_polls u t ys zs now e → RunsJobs limits v t xs zs room (Err e)
 run_stops limits v u t xs ys zs rounds room now e k same a b =
@@ -376,13 +447,14 @@ run_stops limits v u t xs ys zs rounds room now e k same a b =
       log = log;
       ran = ran;
       go = all_go_on limits.busy_polls xs ys zs a.log b.log a.go b.go;
+      themselves = are_themselves v t log xs zs k ran (keeps_both v u t a.log b.log xs ys zs a.ran b.ran a.keeps b.keeps);
       well = goes_well v t log k ran;
       end = tt;
       fault = subst (λ (n : ℕ). IsRunFault t n e) same b.fault;
     }
 
 pub run_ends : {A : Type 0} (limits : RunLimits) (v u : LiveView) (xs ys : List (LiveJob A)) (rounds room : ℕ) (end : RunEnd) → IsLive v → (a : RoundsSoFar limits.busy_polls v u xs ys rounds) → EndsSo limits.rounds end ys a.log → RunsJobs limits v u xs ys room (Ok end)
-run_ends limits v u xs ys rounds room end k a ends = record { log = a.log; ran = a.ran; go = a.go; well = goes_well v u a.log k a.ran; end = ends; fault = tt }
+run_ends limits v u xs ys rounds room end k a ends = record { log = a.log; ran = a.ran; go = a.go; themselves = are_themselves v u a.log xs ys k a.ran a.keeps; well = goes_well v u a.log k a.ran; end = ends; fault = tt }
 
 -- 9. what a job is
 
@@ -423,6 +495,7 @@ never_begun limits v xs room (Some step) k is some =
       log = [];
       ran = no_calls v;
       go = all_same limits.busy_polls xs [];
+      themselves = are_themselves v v [] xs xs k (no_calls v) (keeps_none v xs);
       well = goes_well v v [] k (no_calls v);
       end = tt;
       fault = (step.lun, (step, sym is));

@@ -1,5 +1,6 @@
 -- What a call of a sequencer on a real bus is: an event, or several, of the world that it keeps.
 use Rattle.std.specs.Prelude.{◌≡◌, ℕ, ◌+◌, ◌<◌, ◌==◌, ◌⊎◌, Bool, true, false, ◌&&◌, if◌then◌else◌, List, [], ◌∷◌, ◌++◌, Option, Some, None, length, slice_get}
+use Rattle.std.specs.List.{list_all}
 use Rattle.std.specs.Int.RustNames.{bit_and}
 use Rattle.nand_geometry.specs.declared.parts.Parts.{Parts}
 use Rattle.onfi_cycle.specs.declared.lun.Lun.{Lun}
@@ -25,7 +26,7 @@ use Rattle.seq_core.specs.Lawful.{LawfulWorld}
 use Rattle.seq_core.specs.Progress.{Progress, moves_at, status_of, outcome_of, progress_after}
 use Rattle.seq_core.specs.declared.registers.Registers.{Registers}
 use Rattle.seq_core.specs.Calls.{slot_at, slot_state, CanStep, load_fault_at}
-use Rattle.seq_live.specs.Event.{LiveEvent, Step, Ready, ArrayReady, AllLoadVerified}
+use Rattle.seq_live.specs.Event.{LiveEvent, Step, Ready, ArrayReady, is_quiet, AllLoadVerified}
 use Rattle.seq_live.specs.After.{run_live, AllAnswered}
 use Rattle.seq_live.specs.Headline.{LiveEventsAreOwn, LiveGoesWell}
 use Rattle.seq_live.specs.declared.begun.Begun.{Begun}
@@ -213,7 +214,7 @@ pub record HasFinished (v : LiveView) (bytes : List ℕ) (answer : Stepped) (lat
   pub are_shown : (word : Word) → MayStep v step.lun → IsNextWord v step.lun word → readies ≡ shown step.lun word bytes
   pub replies : List Reply
   pub paired : length replies ≡ length readies
-  pub verified : AllLoadVerified readies
+  pub quiet : list_all is_quiet readies ≡ true
   pub run : IsLiveRun v (readies ++ (Step step.lun bytes ∷ [])) (replies ++ (ToStep answer ∷ [])) later
   pub is_over : later.going ≡ None
 
@@ -305,7 +306,7 @@ pub record HasStepped (v : LiveView) (l : Lun) (answer : Stepped) (later : LiveV
   pub bytes : List ℕ
   pub replies : List Reply
   pub paired : length replies ≡ length readies
-  pub verified : AllLoadVerified readies
+  pub quiet : list_all is_quiet readies ≡ true
   pub run : IsLiveRun v (readies ++ (Step l bytes ∷ [])) (replies ++ (ToStep answer ∷ [])) later
 
 -- ---- laws

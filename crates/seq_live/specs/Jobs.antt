@@ -16,6 +16,7 @@ use Rattle.seq_live.specs.declared.out_of_turn.OutOfTurn.{OutOfTurn}
 use Rattle.seq_live.specs.declared.run.RunEnd.{RunEnd}
 use Rattle.seq_live.specs.declared.run.RunEnd.TheVariants.{AllBack, SomeLeft}
 use Rattle.seq_live.specs.declared.run.RunLimits.{RunLimits}
+use Rattle.seq_live.specs.Owned.{waits, AreThemselves, Moves, KeepsSound}
 use Rattle.seq_live.specs.declared.live_job.OnLun.{OnLun}
 use Rattle.seq_live.specs.declared.live_job.LiveJob.{LiveJob}
 use Rattle.seq_live.specs.declared.live_job.LiveJob.TheVariants.{Waiting, Running, Done, Abandoned, Refused}
@@ -87,6 +88,14 @@ StandsOn (Done d) on log = ⊥
 StandsOn (Abandoned o) on log = ⊥
 StandsOn (Refused r) on log = ⊥
 
+-- what becomes of a job on its LUN where nothing ends it
+abbrev pub StaysOn : {A : Type 0} → OnLun → LiveJob A → Type 0
+StaysOn on (Running o) = o.lun ≡ on.lun
+StaysOn on (Abandoned o) = o.lun ≡ on.lun
+StaysOn on (Waiting j) = ⊥
+StaysOn on (Done d) = ⊥
+StaysOn on (Refused r) = ⊥
+
 -- a job that came in so was on its LUN and has ended there
 abbrev pub HasEnded : {A : Type 0} → LiveJob A → UnloadedJob A → List Told → Type 0
 HasEnded (Waiting j) d log = Contains log (loaded j) × Contains log (ended j.lun d)
@@ -115,6 +124,7 @@ pub record HasTurned {A : Type 0} (most : ℕ) (v later : LiveView) (x y : LiveJ
   pub log : List Told
   pub ran : HasRun v log later
   pub goes : Goes most x y log
+  pub moves : Moves v (events_of log) x y
   pub some : 0 < length log
 
 -- the LUNs of a round that have had their turn: none has
@@ -132,6 +142,7 @@ pub record HaveTurned {A : Type 0} (most : ℕ) (v later : LiveView) (xs ys : Li
   pub log : List Told
   pub ran : HasRun v log later
   pub go : AllGo most xs ys log
+  pub keeps : KeepsSound v (events_of log) xs ys
   pub some : list_all is_back xs ≡ false → 0 < length log
 
 -- no step of a LUN can be made on pins, with room for so many bytes
@@ -143,6 +154,7 @@ pub record HaveStopped {A : Type 0} (most : ℕ) (v later : LiveView) (xs ys : L
   pub log : List Told
   pub ran : HasRun v log later
   pub go : AllGo most xs ys log
+  pub keeps : KeepsSound v (events_of log) xs ys
   pub fault : IsRunFault later room e
 
 -- how a run ended: each job is back, or some aren't and in each of so many rounds something came
@@ -150,12 +162,13 @@ abbrev pub EndsSo : {A : Type 0} → ℕ → RunEnd → List (LiveJob A) → Lis
 EndsSo rounds AllBack ys log = list_all is_back ys ≡ true
 EndsSo rounds SomeLeft ys log = (list_all is_back ys ≡ false) × (rounds ≤ length log)
 
--- jobs were run on pins: these events came and were answered so, this has become of each job, and of a new sequencer the events go well as the main
+-- jobs were run on pins: these events came and were answered so, this has become of each job, which is itself where all were handed in to wait, and of a new sequencer the events go well as the main
 -- theorem says
 pub record RunsJobs {A : Type 0} (limits : RunLimits) (v later : LiveView) (xs ys : List (LiveJob A)) (room : ℕ) (result : Result RunEnd OutOfTurn) : Type 0 where
   pub log : List Told
   pub ran : HasRun v log later
   pub go : AllGo limits.busy_polls xs ys log
+  pub themselves : list_all waits xs ≡ true → AreThemselves xs ys
   pub well : IsLiveAt v (fresh (channel_at v)) → LiveGoesWell (channel_at v) (events_of log)
   pub end : IfOk result (λ end. EndsSo limits.rounds end ys log)
   pub fault : IfErr result (λ e. IsRunFault later room e)

@@ -3,7 +3,7 @@ ghost use Rattle.std.specs.Prelude.{◌≡◌, ℕ, ◌≤◌, ◌⊎◌, true, 
 ghost use Rattle.std.specs.List.{list_all};
 ghost use Rattle.seq_live.specs.Kept.{LiveView};
 ghost use Rattle.seq_live.specs.Calls.{HasStepped};
-ghost use Rattle.seq_live.specs.Jobs.{is_back, lun_of, place_on, Told, busy_polls, Goes, HasTurned, NoneHad, HasNoTurn, HaveTurned, HaveStopped, IsRunFault, RunsJobs};
+ghost use Rattle.seq_live.specs.Jobs.{is_back, lun_of, place_on, Told, busy_polls, Goes, StaysOn, HasTurned, NoneHad, HasNoTurn, HaveTurned, HaveStopped, IsRunFault, RunsJobs};
 
 use crate::live::Live;
 use crate::live_job::{LiveJob, OnLun};
@@ -88,7 +88,8 @@ fn start<A: Allocator>(live: &mut Live<A>, job: &mut LiveJob<A>, lun: Lun)
 
 // A job whose LUN has said busy once more.
 fn wait_on<A: Allocator>(on: OnLun, most: u64) -> LiveJob<A>
-    ensures { (log : List Told) → 1 ≤ busy_polls on.lun log → Goes most (LiveJob.Running on) result log }
+    ensures goes { (log : List Told) → 1 ≤ busy_polls on.lun log → Goes most (LiveJob.Running on) result log }
+    ensures stays { StaysOn on result }
 {
     let on = OnLun {
         lun: on.lun,
