@@ -73,7 +73,7 @@ fn start_job<A: Allocator>(live: &mut Live<A>, waiting: Job<A>) -> LiveJob<A>
     }
 }
 
-// Starts a job if it waits.
+// Starts a job that waits.
 fn start<A: Allocator>(live: &mut Live<A>, job: &mut LiveJob<A>, lun: Lun)
     requires waits { place_on job.old ≡ None }
     requires lun { lun_of job.old ≡ Some lun }
