@@ -7,5 +7,9 @@ pub mod Running
 pub mod Truth
 pub mod Stepping
 pub mod Shown
+pub mod Faults
+pub mod Pinned
+pub mod Owned
+pub mod Turns
 pub mod Main
 pub mod Models

@@ -1,5 +1,5 @@
 -- Runs of a real bus, one after another.
-use Rattle.std.proofs.Common.{◌≡◌, List, [], ◌∷◌, ◌++◌, Option, Some, None, refl, sym, ap, ◌∙◌, subst}
+use Rattle.std.proofs.Common.{◌≡◌, suc, List, [], ◌∷◌, ◌++◌, Option, Some, None, refl, sym, ap, ◌∙◌, subst, length}
 use Rattle.onfi_cycle.specs.Channel.{Channel}
 use Rattle.micro_program.specs.Moves.{and_then}
 use Rattle.seq_core.specs.World.{World}
@@ -9,7 +9,7 @@ use Rattle.seq_core.specs.Lawful.{LawfulWorld}
 use Rattle.seq_live.specs.Event.{LiveEvent}
 use Rattle.seq_live.specs.After.{after_live, with_first, run_live, AllAnswered}
 use Rattle.seq_live.specs.Headline.{LiveEventsAreOwn}
-use Rattle.seq_live.specs.Kept.{LiveView, channel_at}
+use Rattle.seq_live.specs.Kept.{LiveView, channel_at, IsLive}
 use Rattle.seq_live.specs.Calls.{IsLiveRun}
 
 same_ran : (r q : Ran) → Some r ≡ Some q → r ≡ q
@@ -90,3 +90,16 @@ runs_more v u t es fs rs ss first second w at law =
 -- no call
 pub no_run : (v : LiveView) → IsLiveRun v [] [] v
 no_run v w at law = record { answered = tt; ran = record { world = w; replies = [] }; is_ran = refl; replied = refl; is_at = at; own = tt; lawful = law; channel = refl }
+
+-- 2. each event is answered
+
+run_lengths : (s : Channel) (es : List LiveEvent) (w : World) (ran : Ran) → run_live s es w ≡ Some ran → length ran.replies ≡ length es
+run_lengths s [] w ran h = ap (λ (r : Ran). length r.replies) (sym (same_ran (record { world = w; replies = [] }) ran h))
+run_lengths s (e ∷ es) w ran h =
+    let r = rest_of s e es w ran h in
+    ap (λ (q : Ran). length q.replies) (sym r.whole) ∙ ap suc (run_lengths s es r.a.world r.rest r.is_rest)
+
+pub answered_each : (v u : LiveView) (es : List LiveEvent) (rs : List Reply) → IsLive v → IsLiveRun v es rs u → length rs ≡ length es
+answered_each v u es rs k run =
+    let r = run k.world k.is_at k.lawful in
+    ap length (sym r.replied) ∙ run_lengths (channel_at v) es k.world r.ran r.is_ran

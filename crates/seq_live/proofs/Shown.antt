@@ -1,5 +1,5 @@
 -- The readies that a status shows, as runs.
-use Rattle.std.proofs.Common.{◌≡◌, ℕ, ◌==◌, Bool, true, false, List, [], ◌∷◌, ◌++◌, Option, Some, None, refl, sym, ap, ◌∙◌, subst, eqb-true, eq-eqb, IfSome, IfOk, IfErr, OnErr, Result, Ok, Err, ◌+◌, ◌<◌}
+use Rattle.std.proofs.Common.{◌≡◌, ℕ, ◌==◌, Bool, true, false, cond, List, [], ◌∷◌, ◌++◌, Option, Some, None, refl, sym, ap, ◌∙◌, subst, eqb-true, eq-eqb, IfSome, IfOk, Result, Ok, Err, ◌<◌, length, length-append, arith}
 use Rattle.std.specs.Int.RustNames.{bit_and}
 use Rattle.onfi_cycle.specs.declared.lun.Lun.{Lun}
 use Rattle.micro_word.specs.declared.word.Word.{Word}
@@ -9,14 +9,14 @@ use Rattle.seq_core.specs.declared.stepped.Stepped.{Stepped}
 use Rattle.seq_core.specs.Reply.{Reply, ToReady, ToArrayReady, ToStep}
 use Rattle.seq_live.specs.declared.live.StepGoingOn.{StepGoingOn}
 use Rattle.seq_live.specs.declared.burst.Burst.{Burst}
-use Rattle.seq_live.specs.Event.{LiveEvent, Step, Ready, ArrayReady}
-use Rattle.seq_live.specs.Kept.{LiveView}
-use Rattle.seq_live.specs.Calls.{IsLiveRun, IsLiveEvent, MayStep, IsNextWord, AreNextBursts, IsNextBurst, HasFinished, shown_by, shown, has_fail, has_array_ready, is_poll, ends_with, live_slot, NextWordIs, AreFewDone, IsBurstDone, Begins, HasStepped, GoesOnFor, KeepsStep}
+use Rattle.seq_live.specs.Event.{LiveEvent, Step, Ready, ArrayReady, is_quiet}
+use Rattle.seq_live.specs.Kept.{LiveView, IsLive}
+use Rattle.seq_live.specs.Calls.{IsLiveRun, IsLiveEvent, MayStep, IsNextWord, AreNextBursts, IsNextBurst, HasFinished, shown_by, shown, has_fail, has_array_ready, is_poll, ends_with, live_slot, NextWordIs, AreFewDone, Begins, HasStepped, GoesOnFor}
 use Rattle.seq_live.specs.declared.out_of_turn.OutOfTurn.{OutOfTurn}
 use Rattle.seq_live.specs.declared.begun.Begun.TheVariants.{Answered, Going}
-use Rattle.seq_live.proofs.Running.{runs_more, no_run}
+use Rattle.seq_live.proofs.Running.{runs_more, no_run, answered_each}
 use Rattle.std.proofs.lemmas.Bool.{and_parts}
-use Rattle.std.specs.List.{slice_get}
+use Rattle.std.specs.List.{slice_get, list_all}
 use Rattle.micro_program.specs.Moves.{is_wait}
 use Rattle.seq_core.specs.Progress.{Progress}
 
@@ -76,6 +76,19 @@ shows_nothing v l word bytes other = subst (λ (es : List LiveEvent). Shows v es
 pub ends_ready : (word : Word) (bytes : List ℕ) (status : ℕ) → status ≡ first_byte bytes → ends_with word bytes ≡ true → is_ready_status status ≡ true
 ends_ready word bytes status is h = ap is_ready_status is ∙ (and_parts (is_wait word) (is_ready_status (first_byte bytes)) h).1
 
+-- they load and unload nothing
+shown_quiet : (l : Lun) (word : Word) (bytes : List ℕ) → list_all is_quiet (shown l word bytes) ≡ true
+shown_quiet l word bytes = at (is_poll word) (is_ready_status status) (has_array_ready status)
+  where
+    status : ℕ
+    status = first_byte bytes
+
+    at : (poll ready array : Bool) → list_all is_quiet (cond poll (cond ready (Ready l (has_fail status) ∷ cond array (ArrayReady l ∷ []) []) []) []) ≡ true
+    at false ready array = refl
+    at true false array = refl
+    at true true false = refl
+    at true true true = refl
+
 -- 5. what is told of a step that goes on
 
 -- the step that goes on is no part of a world
@@ -86,21 +99,31 @@ whatever_goes_on v u going es rs run w at law =
 
 pub finished_at_rest : (v : LiveView) (bytes : List ℕ) (answer : Stepped) (step : StepGoingOn) → v.going ≡ Some step → (MayStep v step.lun → ⊥) → IsLiveEvent v (Step step.lun bytes) (ToStep answer) v → HasFinished v bytes answer (record v { going = None })
 finished_at_rest v bytes answer step is rest run =
-    record { step = step; is_step = is; readies = []; are_shown = λ word may next. absurd (rest may); replies = []; run = whatever_goes_on v v None (Step step.lun bytes ∷ []) (ToStep answer ∷ []) run; is_over = refl }
+    record { step = step; is_step = is; readies = []; are_shown = λ word may next. absurd (rest may); replies = []; paired = refl; quiet = refl; run = whatever_goes_on v v None (Step step.lun bytes ∷ []) (ToStep answer ∷ []) run; is_over = refl }
 
-same_next : (o : Option Progress) (word other : Word) → NextWordIs o word → NextWordIs o other → word ≡ other
+pub same_next : (o : Option Progress) (word other : Word) → NextWordIs o word → NextWordIs o other → word ≡ other
 same_next o word other a b =
     let same : a.v ≡ b.v = some_same a.v b.v (sym a.is_slot ∙ b.is_slot) in
     some_same word other (sym a.here ∙ (ap (λ (q : Progress). slice_get q.job.text.words q.at) same ∙ b.here))
 
-pub finished : (v later : LiveView) (bytes : List ℕ) (answer : Stepped) (step : StepGoingOn) (word : Word) → v.going ≡ Some step → IsNextWord v step.lun word → (replies : List Reply) × IsLiveRun v (shown step.lun word bytes ++ (Step step.lun bytes ∷ [])) (replies ++ (ToStep answer ∷ [])) later → later.going ≡ None → HasFinished v bytes answer later
-finished v later bytes answer step word is next run over =
+-- the readies before a step are answered one by one
+paired_before : (v later : LiveView) (readies : List LiveEvent) (replies : List Reply) (e : LiveEvent) (reply : Reply) → IsLive v → IsLiveRun v (readies ++ (e ∷ [])) (replies ++ (reply ∷ [])) later → length replies ≡ length readies
+paired_before v later readies replies e reply k run =
+    let all = answered_each v later (readies ++ (e ∷ [])) (replies ++ (reply ∷ [])) k run in
+    let one = length-append replies (reply ∷ []) in
+    let other = length-append readies (e ∷ []) in
+    omega (arith, all, one, other)
+
+pub finished : (v later : LiveView) (bytes : List ℕ) (answer : Stepped) (step : StepGoingOn) (word : Word) → IsLive v → v.going ≡ Some step → IsNextWord v step.lun word → (replies : List Reply) × IsLiveRun v (shown step.lun word bytes ++ (Step step.lun bytes ∷ [])) (replies ++ (ToStep answer ∷ [])) later → later.going ≡ None → HasFinished v bytes answer later
+finished v later bytes answer step word k is next run over =
     record {
       step = step;
       is_step = is;
       readies = shown step.lun word bytes;
       are_shown = λ other may there. ap (λ (y : Word). shown step.lun y bytes) (same_next (live_slot v step.lun) word other next there);
       replies = run.0;
+      paired = paired_before v later (shown step.lun word bytes) run.0 (Step step.lun bytes) (ToStep answer) k run.1;
+      quiet = shown_quiet step.lun word bytes;
       run = run.1;
       is_over = over;
     }
@@ -115,14 +138,11 @@ few_done v step (Some burst) is h = λ other e. let same : step ≡ other = some
 
 -- 6. bursts, one after another
 
-pub one_more_burst : (v u t : LiveView) → IsLiveRun v [] [] u → IsBurstDone u t → IsLiveRun v [] [] t
-one_more_burst v u t run done = subst (IsLiveRun v [] []) (sym done.is_later) (whatever_goes_on v u (Some (record done.step { done = done.step.done + 1 })) [] [] run)
-
 pub begun : (v u : LiveView) (l : Lun) → Begins v l Going u → IsLiveRun v [] [] u
 begun v u l h = subst (IsLiveRun v [] []) (sym h.1) (whatever_goes_on v v (Some (record { lun = l; done = 0 })) [] [] (no_run v))
 
 pub answered_at_once : (v u : LiveView) (l : Lun) (answer : Stepped) → Begins v l (Answered answer) u → HasStepped v l answer u
-answered_at_once v u l answer h = record { readies = []; bytes = []; replies = []; run = subst (λ (x : LiveView). IsLiveRun v (Step l [] ∷ []) (ToStep answer ∷ []) x) (sym h.0) (h.1 []) }
+answered_at_once v u l answer h = record { readies = []; bytes = []; replies = []; paired = refl; quiet = refl; run = subst (λ (x : LiveView). IsLiveRun v (Step l [] ∷ []) (ToStep answer ∷ []) x) (sym h.0) (h.1 []) }
 
 pub begun_for : (v u : LiveView) (l : Lun) → Begins v l Going u → GoesOnFor l u
 begun_for v u l h = subst (GoesOnFor l) (sym h.1) (record { lun = l; done = 0 }, refl, refl)
@@ -135,30 +155,15 @@ stepped_on v u t l bytes answer run goes f =
       readies = f.readies;
       bytes = bytes;
       replies = f.replies;
+      paired = f.paired;
+      quiet = f.quiet;
       run = subst (λ (m : Lun). IsLiveRun v (f.readies ++ (Step m bytes ∷ [])) (f.replies ++ (ToStep answer ∷ [])) t) here (runs_more v u t [] (f.readies ++ (Step f.step.lun bytes ∷ [])) [] (f.replies ++ (ToStep answer ∷ [])) run f.run);
     }
 
 -- what was begun, and then stepped
 pub begun_stepped : (v u t : LiveView) (l : Lun) (answer : Stepped) → IsLiveRun v [] [] u → HasStepped u l answer t → HasStepped v l answer t
 begun_stepped v u t l answer run h =
-    record { readies = h.readies; bytes = h.bytes; replies = h.replies; run = runs_more v u t [] (h.readies ++ (Step l h.bytes ∷ [])) [] (h.replies ++ (ToStep answer ∷ [])) run h.run }
-
-pub same_view : (v u t : LiveView) → IsLiveRun v [] [] u → t ≡ u → IsLiveRun v [] [] t
-same_view v u t run same = subst (IsLiveRun v [] []) (sym same) run
-
--- a burst that is done, or one that isn't told
-pub burst_done : (v u t : LiveView) (r : Result (Unit {0}) OutOfTurn) → IsLiveRun v [] [] u → KeepsStep v u → IfOk r (λ x. IsBurstDone u t) → OnErr r (t ≡ u) → IsLiveRun v [] [] t × KeepsStep v t
-burst_done v u t (Ok x) run keeps ok err = (one_more_burst v u t run ok, λ l goes. kept l (keeps l goes))
-  where
-    kept : (l : Lun) → GoesOnFor l u → GoesOnFor l t
-    kept l goes =
-        let same : ok.step ≡ goes.0 = some_same ok.step goes.0 (sym ok.is_step ∙ goes.1) in
-        subst (GoesOnFor l) (sym ok.is_later) (record ok.step { done = ok.step.done + 1 }, refl, ap (λ (s : StepGoingOn). s.lun) same ∙ goes.2)
-burst_done v u t (Err x) run keeps ok err = (same_view v u t run err, λ l goes. subst (GoesOnFor l) (sym err) (keeps l goes))
-
-pub begun_failed : {X : Type 0} (v u t : LiveView) (r : Result X OutOfTurn) → IsLiveRun v [] [] u → IfErr r (λ e. IsLiveRun u [] [] t) → IfErr r (λ e. IsLiveRun v [] [] t)
-begun_failed v u t (Ok x) run h = h
-begun_failed v u t (Err e) run h = runs_more v u t [] [] [] [] run h
+    record { readies = h.readies; bytes = h.bytes; replies = h.replies; paired = h.paired; quiet = h.quiet; run = runs_more v u t [] (h.readies ++ (Step l h.bytes ∷ [])) [] (h.replies ++ (ToStep answer ∷ [])) run h.run }
 
 pub begun_went : (v u t : LiveView) (l : Lun) (r : Result Stepped OutOfTurn) → IsLiveRun v [] [] u → IfOk r (λ answer. HasStepped u l answer t) → IfOk r (λ answer. HasStepped v l answer t)
 begun_went v u t l (Ok answer) run h = begun_stepped v u t l answer run h

@@ -1,5 +1,6 @@
 -- What a call of a sequencer on a real bus is: an event, or several, of the world that it keeps.
-use Rattle.std.specs.Prelude.{◌≡◌, ℕ, ◌+◌, ◌<◌, ◌==◌, Bool, true, false, ◌&&◌, if◌then◌else◌, List, [], ◌∷◌, ◌++◌, Option, Some, None, length, slice_get}
+use Rattle.std.specs.Prelude.{◌≡◌, ℕ, ◌+◌, ◌<◌, ◌==◌, ◌⊎◌, Bool, true, false, ◌&&◌, if◌then◌else◌, List, [], ◌∷◌, ◌++◌, Option, Some, None, length, slice_get}
+use Rattle.std.specs.List.{list_all}
 use Rattle.std.specs.Int.RustNames.{bit_and}
 use Rattle.nand_geometry.specs.declared.parts.Parts.{Parts}
 use Rattle.onfi_cycle.specs.declared.lun.Lun.{Lun}
@@ -25,12 +26,14 @@ use Rattle.seq_core.specs.Lawful.{LawfulWorld}
 use Rattle.seq_core.specs.Progress.{Progress, moves_at, status_of, outcome_of, progress_after}
 use Rattle.seq_core.specs.declared.registers.Registers.{Registers}
 use Rattle.seq_core.specs.Calls.{slot_at, slot_state, CanStep, load_fault_at}
-use Rattle.seq_live.specs.Event.{LiveEvent, Step, Ready, ArrayReady, AllLoadVerified}
+use Rattle.seq_live.specs.Event.{LiveEvent, Step, Ready, ArrayReady, is_quiet, AllLoadVerified}
 use Rattle.seq_live.specs.After.{run_live, AllAnswered}
 use Rattle.seq_live.specs.Headline.{LiveEventsAreOwn, LiveGoesWell}
 use Rattle.seq_live.specs.declared.begun.Begun.{Begun}
 use Rattle.seq_live.specs.declared.begun.Begun.TheVariants.{Answered, Going}
 use Rattle.seq_live.specs.declared.burst.Burst.{Burst}
+use Rattle.seq_live.specs.declared.out_of_turn.OutOfTurn.{OutOfTurn}
+use Rattle.seq_live.specs.declared.out_of_turn.OutOfTurn.TheVariants.{StepGoesOn, NoStep, NoBurst, BurstsLeft, NoRoom, WrongCount}
 use Rattle.seq_live.specs.declared.live.StepGoingOn.{StepGoingOn}
 use Rattle.seq_live.specs.Burst.{bursts_at, taken_by}
 use Rattle.seq_live.specs.Kept.{LiveView, channel_at, core_at, IsLiveAt}
@@ -189,6 +192,10 @@ pub record IsNextBurst (v : LiveView) (burst : Burst) : Type 0 where
   pub are_next : AreNextBursts v step.lun bursts
   pub is_burst : slice_get bursts step.done ≡ Some burst
 
+-- no burst is to be done now
+abbrev pub HasNoBurst : LiveView → Type 0
+HasNoBurst v = (burst : Burst) → IsNextBurst v burst → ⊥
+
 -- a word has three bursts at most
 abbrev pub AreFewDone : LiveView → Type 0
 AreFewDone v = (step : StepGoingOn) → v.going ≡ Some step → step.done < 3
@@ -206,8 +213,49 @@ pub record HasFinished (v : LiveView) (bytes : List ℕ) (answer : Stepped) (lat
   pub readies : List LiveEvent
   pub are_shown : (word : Word) → MayStep v step.lun → IsNextWord v step.lun word → readies ≡ shown step.lun word bytes
   pub replies : List Reply
+  pub paired : length replies ≡ length readies
+  pub quiet : list_all is_quiet readies ≡ true
   pub run : IsLiveRun v (readies ++ (Step step.lun bytes ∷ [])) (replies ++ (ToStep answer ∷ [])) later
   pub is_over : later.going ≡ None
+
+-- so many bytes were taken, and the outputs of the next word, all of whose bursts are done, are not as many
+pub record IsMiscounted (v : LiveView) (count : ℕ) : Type 0 where
+  pub step : StepGoingOn
+  pub is_step : v.going ≡ Some step
+  pub done : HasNoBurst v
+  pub may : MayStep v step.lun
+  pub word : Word
+  pub is_word : IsNextWord v step.lun word
+  pub differs : count ≡ taken_by word → ⊥
+
+-- why a burst isn't told to be done
+abbrev pub IsGaveFault : LiveView → OutOfTurn → Type 0
+IsGaveFault v NoStep = v.going ≡ None
+IsGaveFault v NoBurst = (step : StepGoingOn) × (v.going ≡ Some step) × HasNoBurst v
+IsGaveFault v StepGoesOn = ⊥
+IsGaveFault v BurstsLeft = ⊥
+IsGaveFault v NoRoom = ⊥
+IsGaveFault v WrongCount = ⊥
+
+-- why a step isn't finished by so many bytes
+abbrev pub IsFinishFault : LiveView → ℕ → OutOfTurn → Type 0
+IsFinishFault v count NoStep = v.going ≡ None
+IsFinishFault v count BurstsLeft = (burst : Burst) × IsNextBurst v burst
+IsFinishFault v count WrongCount = IsMiscounted v count
+IsFinishFault v count StepGoesOn = ⊥
+IsFinishFault v count NoBurst = ⊥
+IsFinishFault v count NoRoom = ⊥
+
+-- the outputs of a LUN's next word give so many bytes
+pub record NextTakes (v : LiveView) (l : Lun) (count : ℕ) : Type 0 where
+  pub may : MayStep v l
+  pub word : Word
+  pub is_word : IsNextWord v l word
+  pub is_count : count ≡ taken_by word
+
+-- so many bytes, none where a step of the LUN would change nothing
+abbrev pub Takes : LiveView → Lun → ℕ → Type 0
+Takes v l count = NextTakes v l count ⊎ ((MayStep v l → ⊥) × (count ≡ 0))
 
 -- the step of this LUN, if one goes on, still does
 abbrev pub GoesOnFor : Lun → LiveView → Type 0
@@ -235,11 +283,30 @@ ends_with word bytes = is_wait word && is_ready_status (first_byte bytes)
 
 -- ---- a step on pins
 
+-- a step of this LUN has begun, and none of its bursts is done
+abbrev pub HasBegun : LiveView → Lun → Type 0
+HasBegun v l = v.going ≡ Some (record { lun = l; done = 0 })
+
+-- nothing has changed but how far the step that goes on is
+abbrev pub KeepsAllButStep : LiveView → LiveView → Type 0
+KeepsAllButStep v later = later ≡ record v { going = later.going }
+
+-- why a step on pins isn't made, with room for so many bytes
+abbrev pub IsStepFault : LiveView → Lun → ℕ → OutOfTurn → Type 0
+IsStepFault v l room StepGoesOn = (step : StepGoingOn) × (v.going ≡ Some step)
+IsStepFault v l room NoRoom = (count : ℕ) × NextTakes v l count × (room < count)
+IsStepFault v l room NoStep = ⊥
+IsStepFault v l room NoBurst = ⊥
+IsStepFault v l room BurstsLeft = ⊥
+IsStepFault v l room WrongCount = ⊥
+
 -- a step of a LUN came: after the readies that it shows, with the bytes that the pins gave
 pub record HasStepped (v : LiveView) (l : Lun) (answer : Stepped) (later : LiveView) : Type 0 where
   pub readies : List LiveEvent
   pub bytes : List ℕ
   pub replies : List Reply
+  pub paired : length replies ≡ length readies
+  pub quiet : list_all is_quiet readies ≡ true
   pub run : IsLiveRun v (readies ++ (Step l bytes ∷ [])) (replies ++ (ToStep answer ∷ [])) later
 
 -- ---- laws

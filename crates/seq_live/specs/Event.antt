@@ -1,5 +1,5 @@
 -- What happens on a real bus, whose chips answer what they answer.
-use Rattle.std.specs.Prelude.{ℕ, Bool, List, [], ◌∷◌}
+use Rattle.std.specs.Prelude.{ℕ, Bool, true, false, List, [], ◌∷◌}
 use Rattle.onfi_cycle.specs.declared.lun.Lun.{Lun}
 use Rattle.micro_program.specs.Program.{Job}
 use Rattle.seq_core.specs.Event.{Event, Load as ALoad, Step as AStep, Ready as AReady, ArrayReady as AnArrayReady, Unload as AnUnload, LoadsVerified}
@@ -19,6 +19,14 @@ plain (Step l bytes) = AStep l
 plain (Ready l fail) = AReady l fail
 plain (ArrayReady l) = AnArrayReady l
 plain (Unload l) = AnUnload l
+
+-- an event that loads and unloads nothing
+abbrev pub is_quiet : LiveEvent → Bool
+is_quiet (Load l j) = false
+is_quiet (Step l bytes) = true
+is_quiet (Ready l fail) = true
+is_quiet (ArrayReady l) = true
+is_quiet (Unload l) = false
 
 -- each job that is loaded is verified
 abbrev pub AllLoadVerified : List LiveEvent → Type 0

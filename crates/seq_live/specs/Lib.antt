@@ -4,3 +4,6 @@ pub mod Headline
 pub mod Burst
 pub mod Kept
 pub mod Calls
+pub mod Owned
+pub mod Jobs
+pub mod Pause

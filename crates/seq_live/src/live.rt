@@ -1,7 +1,6 @@
 //! The sequencer on a real bus: what is to be done on the pins, burst by burst, and what the chips answer.
 ghost use Rattle.std.specs.Prelude.{◌≡◌, ◌↔◌, ℕ, ◌<◌, true, List, [], ◌∷◌, ◌++◌, Some, None, if◌then◌else◌, IsOk, IfOk, IfErr, OnErr, IfSome, IfNone, length};
 ghost use Rattle.onfi_cycle.specs.Channel.{is_there};
-ghost use Rattle.micro_word.specs.declared.word.Word.{Word as WordValue};
 ghost use Rattle.micro_program.specs.Program.{is_ready_status};
 ghost use Rattle.seq_core.specs.World.{fresh, number};
 ghost use Rattle.seq_core.specs.Event.{IsVerified};
@@ -11,7 +10,7 @@ ghost use Rattle.seq_core.specs.Playing.{EndsWithFive};
 ghost use Rattle.seq_live.specs.Event.{Load, Step, Ready, ArrayReady, Unload};
 ghost use Rattle.seq_live.specs.Burst.{taken_by};
 ghost use Rattle.seq_live.specs.Kept.{channel_at, IsLiveAt, IsLive};
-ghost use Rattle.seq_live.specs.Calls.{IsLiveRun, IsLiveEvent, live_slot, live_load_fault, MayStep, IsNextWord, AreNextBursts, Begins, IsNextBurst, AreFewDone, IsBurstDone, HasFinished, HasBuffer, KeepsSlots, IsReadyNow, ends_with, shown, shown_by};
+ghost use Rattle.seq_live.specs.Calls.{IsLiveRun, IsLiveEvent, live_slot, live_load_fault, MayStep, IsNextWord, AreNextBursts, Begins, IsNextBurst, HasNoBurst, AreFewDone, Takes, IsBurstDone, IsGaveFault, IsFinishFault, HasFinished, HasBuffer, KeepsSlots, IsReadyNow, ends_with, shown, shown_by};
 
 use crate::begun::Begun;
 use crate::burst::{Burst, Bursts, burst_of, taken_by};
@@ -83,7 +82,7 @@ impl<A: Allocator> Live<A> {
     }
 
     // The number of a LUN, if it is there.
-    fn place(&self, lun: Lun) -> Option<usize>
+    pub(crate) fn place(&self, lun: Lun) -> Option<usize>
         ensures value { result ≡ (if is_there (channel_at self.now) lun then Some (number (channel_at self.now) lun) else None) }
         ensures inside { IfSome result (λ k. (k < length self.now.slots) × (k < 16)) }
     {
@@ -122,6 +121,7 @@ impl<A: Allocator> Live<A> {
     /// The buffer of a LUN's job as it is now, where the bytes of an [`Input`](crate::Burst::Input) burst stand; None where it has no job or isn't there.
     pub fn buffer(&self, lun: Lun) -> Option<&[u8]>
         ensures some { IfSome result (λ buffer. HasBuffer (live_slot self.now lun) buffer.now) }
+        ensures none { IfNone result (live_slot self.now lun ≡ None) }
     {
         let place = self.place(lun)?;
         buffer_in(self.slots.as_slice(), place)
@@ -129,7 +129,7 @@ impl<A: Allocator> Live<A> {
 
     /// How many bytes the outputs of a LUN's next word give; 0 where its step would change nothing.
     pub fn takes(&self, lun: Lun) -> usize
-        ensures { MayStep self.now lun → (word : WordValue) → IsNextWord self.now lun word → result ≡ taken_by word }
+        ensures { Takes self.now lun result }
     {
         match self.answer_at_rest(lun) {
             Some(_) => 0,
@@ -139,7 +139,8 @@ impl<A: Allocator> Live<A> {
 
     /// The step that goes on on the pins, if one does.
     pub fn going(&self) -> Option<StepGoingOn>
-        ensures { result ≡ self.now.going }
+        ensures value { result ≡ self.now.going }
+        ensures live { IsLive self.now }
     {
         self.going
     }
@@ -324,6 +325,7 @@ impl<A: Allocator> Live<A> {
     pub fn next(&self) -> Option<Burst>
         ensures some { IfSome result (λ burst. IsNextBurst self.now burst) }
         ensures few { IfSome result (λ burst. AreFewDone self.now) }
+        ensures none { IfNone result (HasNoBurst self.now) }
     {
         let step = self.going?;
         match self.answer_at_rest(step.lun) {
@@ -336,7 +338,7 @@ impl<A: Allocator> Live<A> {
     /// done.
     pub fn gave(&mut self) -> Result<(), OutOfTurn>
         ensures ok { IfOk result (λ _. IsBurstDone self.old self.new) }
-        ensures err { OnErr result (self.new ≡ self.old) }
+        ensures err { IfErr result (λ e. IsGaveFault self.old e × (self.new ≡ self.old)) }
     {
         let Some(step) = self.going else {
             return Err(OutOfTurn::NoStep);
@@ -417,19 +419,20 @@ impl<A: Allocator> Live<A> {
     /// besides that its array has. The answer is how the step went. Errors, with all as it was: `NoStep` no step goes on; `BurstsLeft`; `WrongCount`.
     pub fn finish(&mut self, taken: &[u8]) -> Result<Stepped, OutOfTurn>
         ensures ok { IfOk result (λ answer. HasFinished self.old taken.now answer self.new) }
-        ensures err { OnErr result (self.new ≡ self.old) }
+        ensures all { IfOk result (λ answer. HasNoBurst self.old) }
+        ensures err { IfErr result (λ e. IsFinishFault self.old (length taken.now) e × (self.new ≡ self.old)) }
     {
         let Some(step) = self.going else {
             return Err(OutOfTurn::NoStep);
+        };
+        let None = self.next() else {
+            return Err(OutOfTurn::BurstsLeft);
         };
         if let Some(answer) = self.answer_at_rest(step.lun) {
             self.going = None;
             return Ok(answer);
         }
         let word = self.word_at(step.lun);
-        if step.done < self.bursts_at(step.lun).len() {
-            return Err(OutOfTurn::BurstsLeft);
-        }
         if taken.len() != taken_by(word) {
             return Err(OutOfTurn::WrongCount);
         }

@@ -1,6 +1,6 @@
 //! A step on pins: whoever drives them gives and takes bytes.
-ghost use Rattle.std.specs.Prelude.{[], IfOk, IfErr};
-ghost use Rattle.seq_live.specs.Calls.{GoesOnFor, HasStepped, IsLiveRun, KeepsStep};
+ghost use Rattle.std.specs.Prelude.{◌≡◌, IfOk, IfErr, length};
+ghost use Rattle.seq_live.specs.Calls.{GoesOnFor, HasBegun, HasNoBurst, HasStepped, IsStepFault, KeepsAllButStep, KeepsStep, Takes};
 
 use crate::begun::Begun;
 use crate::burst::{Burst, MAX_BURSTS};
@@ -56,8 +56,9 @@ fn do_burst<A: Allocator, P: Pins>(
 
 // Does the bursts of the step of a LUN on the pins, one after another.
 fn do_bursts<A: Allocator, P: Pins>(live: &mut Live<A>, pins: &mut P, lun: Lun, taken: &mut [u8])
-    ensures run { IsLiveRun live.old [] [] live.new }
+    ensures kept { KeepsAllButStep live.old live.new }
     ensures step { KeepsStep live.old live.new }
+    ensures done { HasBegun live.old lun → HasNoBurst live.new }
 {
     for _ in 0..MAX_BURSTS {
         match live.next() {
@@ -79,7 +80,7 @@ fn finish_on<A: Allocator, P: Pins>(
     taken: &mut [u8],
 ) -> Result<Stepped, OutOfTurn>
     ensures ok { GoesOnFor lun live.old → IfOk result (λ answer. HasStepped live.old lun answer live.new) }
-    ensures err { IfErr result (λ e. IsLiveRun live.old [] [] live.new) }
+    ensures err { HasBegun live.old lun → Takes live.old lun (length taken.old) → IfErr result (λ e. ⊥) }
 {
     do_bursts(live, pins, lun, taken);
     match live.finish(taken) {
@@ -91,7 +92,7 @@ fn finish_on<A: Allocator, P: Pins>(
 /// Steps a LUN on the pins: the bursts of its next word, one after another, and then what the chip answered. `taken` is where the bytes that it gives go, as
 /// long as the longest `get` of its program and 1 at least.
 ///
-/// The answers are those of [`Live::begin`] and [`Live::finish`]. Errors, with no event and nothing done on the pins: `StepGoesOn`; `NoRoom` where `taken` is
+/// The answers are those of [`Live::begin`] and [`Live::finish`]. Errors, with all as it was and nothing done on the pins: `StepGoesOn`; `NoRoom` where `taken` is
 /// too short for the next word.
 pub fn step_on<A: Allocator, P: Pins>(
     live: &mut Live<A>,
@@ -100,7 +101,7 @@ pub fn step_on<A: Allocator, P: Pins>(
     taken: &mut [u8],
 ) -> Result<Stepped, OutOfTurn>
     ensures ok { IfOk result (λ answer. HasStepped live.old lun answer live.new) }
-    ensures err { IfErr result (λ e. IsLiveRun live.old [] [] live.new) }
+    ensures err { IfErr result (λ e. IsStepFault live.old lun (length taken.old) e × (live.new ≡ live.old)) }
 {
     let count = live.takes(lun);
     if count > taken.len() {

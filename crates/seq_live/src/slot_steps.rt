@@ -1,5 +1,5 @@
 //! The next word of the slot of a number: what it is, its bursts, and stepping it.
-ghost use Rattle.std.specs.Prelude.{◌≡◌, ◌<◌, Some, None, IfSome, length, get_or, set};
+ghost use Rattle.std.specs.Prelude.{◌≡◌, ◌<◌, Some, None, IfSome, IfNone, length, get_or, set};
 ghost use Rattle.micro_program.specs.Step.{first_byte};
 ghost use Rattle.seq_core.specs.Progress.{Progress};
 ghost use Rattle.seq_core.specs.Playing.{EndsWithFive};
@@ -33,7 +33,8 @@ pub(crate) fn status_of(taken: &[u8]) -> u8
 /// The buffer of the slot of a number, if it has a job.
 pub(crate) fn buffer_in<A: Allocator>(slots: &[Option<Slot<A>>], place: usize) -> Option<&[u8]>
     requires { place < length slots.now }
-    ensures { IfSome result (λ buffer. HasBuffer (get_or slots.now place None) buffer.now) }
+    ensures some { IfSome result (λ buffer. HasBuffer (get_or slots.now place None) buffer.now) }
+    ensures none { IfNone result (get_or slots.now place None ≡ None) }
 {
     match &slots[place] {
         None => None,

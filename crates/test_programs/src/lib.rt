@@ -14,7 +14,11 @@ mod core_tests;
 mod counter_tests;
 pub mod laws;
 #[cfg(test)]
+mod live_run_tests;
+#[cfg(test)]
 mod live_tests;
+#[cfg(test)]
+mod pause_tests;
 #[cfg(test)]
 mod plain_tests;
 #[cfg(test)]

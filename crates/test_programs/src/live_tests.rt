@@ -43,9 +43,9 @@ const PAGES: [(u8, u8); 2] = [(0, 0x11), (5, 0x22)];
 
 // Modelled dies behind the pins, and how many cycles their rules were against.
 #[derive(Drop)]
-struct Dies {
-    bus: Bus,
-    refused: usize,
+pub(crate) struct Dies {
+    pub bus: Bus,
+    pub refused: usize,
 }
 
 impl Dies {

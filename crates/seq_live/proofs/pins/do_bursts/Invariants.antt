@@ -1,9 +1,10 @@
-use Rattle.std.proofs.Common.{[]}
-use Rattle.seq_live.specs.Calls.{IsLiveRun, KeepsStep}
+use Rattle.std.proofs.Common.{◌≡◌, Some}
+use Rattle.seq_live.specs.Calls.{HasBegun, KeepsAllButStep, KeepsStep}
 use Rattle.seq_live.proofs.pins.do_bursts.Given as goal
 
 abbrev pub invariant-loop : goal.invariant-loop
 invariant-loop g l = record {
-  run : IsLiveRun l.fn.live [] [] l.live;
+  kept : KeepsAllButStep l.fn.live l.live;
   step : KeepsStep l.fn.live l.live;
+  going : HasBegun l.fn.live l.lun → l.live.going ≡ Some (record { lun = l.lun; done = l.counter });
 }

@@ -1,0 +1,5 @@
+use Rattle.seq_live.proofs.Turns.{RoundsSoFar}
+use Rattle.seq_live.proofs.run.run_live.Given as goal
+
+abbrev pub invariant-loop : goal.invariant-loop
+invariant-loop g l = RoundsSoFar l.limits.busy_polls l.fn.live l.live l.fn.jobs l.jobs l.counter
