@@ -118,7 +118,10 @@ const TEXTS: &[(&str, &str)] = &[
 fn texts_that_are_refused(rt: HostRuntime) -> Result<(), Fail> {
     for (text, message) in TEXTS {
         let refusal = parse(rt.alloc(), text).err().ok_or("the text is read")?;
-        let told = format!(in rt.alloc(); "{}", TraceMessage::new(refusal, text, TraceForm::Strict))?;
+        let told = format!(in rt.alloc();
+            "{}",
+            TraceMessage::new(refusal, text, TraceForm::Strict)
+        )?;
         assert_eq!(rt; told.as_str(), *message);
     }
     Ok(())
@@ -182,7 +185,10 @@ fn recorded_texts_that_are_refused(rt: HostRuntime) -> Result<(), Fail> {
         let refusal = parse_recorded(rt.alloc(), text)
             .err()
             .ok_or("the text is read")?;
-        let told = format!(in rt.alloc(); "{}", TraceMessage::new(refusal, text, TraceForm::Recorded))?;
+        let told = format!(in rt.alloc();
+            "{}",
+            TraceMessage::new(refusal, text, TraceForm::Recorded)
+        )?;
         assert_eq!(rt; told.as_str(), *message);
     }
     Ok(())
