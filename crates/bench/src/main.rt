@@ -1,14 +1,16 @@
-//! How fast a bus is, how fast a trace is checked, and how long the verifier takes.
+//! How fast a bus is, how fast a trace is checked, how fast a sequencer on pins is and one on a modelled die, and how long the verifier takes.
 //!
-//! `bench bus [PAGES]`, `bench trace [ITEMS]`, `bench reads [ITEMS]`, `bench text [ITEMS]` and `bench verify` measure one of them, `bench` alone
-//! each of them with the numbers that stand where none is given: 10 pages, and 1000 items.
+//! `bench bus [PAGES]`, `bench trace [ITEMS]`, `bench reads [ITEMS]`, `bench text [ITEMS]`, `bench live [PAGES]`, `bench core [PAGES]` and `bench verify` measure
+//! one of them, `bench` alone each of them with the numbers that stand where none is given: 10 pages, and 1000 items.
 #![tactic(auto)]
 
 mod bus;
+mod live;
 mod trace;
 mod verify;
 
 use crate::bus::measure_bus;
+use crate::live::measure_live;
 use crate::trace::{Made, measure_check, measure_text};
 use crate::verify::measure_verify;
 use anyhow::bail;
@@ -18,12 +20,15 @@ const PAGES: u32 = 10;
 
 const ITEMS: usize = 1000;
 
+const TURNS: u16 = 10;
+
 // What is measured.
 #[derive(Clone, Copy)]
 enum Measure {
     Bus { pages: u32 },
     Check { made: Made, items: usize },
     Text { items: usize },
+    Live { turns: u16, on_die: bool },
     Verify,
 }
 
@@ -33,6 +38,7 @@ impl Measure {
             Measure::Bus { pages } => measure_bus(rt, pages),
             Measure::Check { made, items } => measure_check(rt, made, items),
             Measure::Text { items } => measure_text(rt, items),
+            Measure::Live { turns, on_die } => measure_live(rt, turns, on_die),
             Measure::Verify => measure_verify(rt),
         }
     }
@@ -43,6 +49,14 @@ fn count_items(word: Option<&String>) -> anyhow::Result<usize> {
     match word {
         None => Ok(ITEMS),
         Some(items) => Ok(items.parse::<usize>()?),
+    }
+}
+
+// How many turns of a loop a word asks for.
+fn count_turns(word: Option<&String>) -> anyhow::Result<u16> {
+    match word {
+        None => Ok(TURNS),
+        Some(turns) => Ok(turns.parse::<u16>()?),
     }
 }
 
@@ -68,9 +82,17 @@ fn read_measure(words: &[String]) -> anyhow::Result<Option<Measure>> {
         Some("text") => Measure::Text {
             items: count_items(number)?,
         },
+        Some("live") => Measure::Live {
+            turns: count_turns(number)?,
+            on_die: false,
+        },
+        Some("core") => Measure::Live {
+            turns: count_turns(number)?,
+            on_die: true,
+        },
         Some("verify") => Measure::Verify,
         Some(other) => bail!(
-            "{other}: there are `bus [PAGES]`, `trace [ITEMS]`, `reads [ITEMS]`, `text [ITEMS]` and `verify`"
+            "{other}: there are `bus [PAGES]`, `trace [ITEMS]`, `reads [ITEMS]`, `text [ITEMS]`, `live [PAGES]`, `core [PAGES]` and `verify`"
         ),
     };
     Ok(Some(measure))
@@ -85,6 +107,8 @@ fn main(rt: HostRuntime) -> anyhow::Result<()> {
             measure_check(&rt, Made::Erases, ITEMS)?;
             measure_check(&rt, Made::Reads, ITEMS)?;
             measure_text(&rt, ITEMS)?;
+            measure_live(&rt, TURNS, false)?;
+            measure_live(&rt, TURNS, true)?;
             measure_verify(&rt)
         }
     }
