@@ -86,19 +86,17 @@ fn see_as(alloc: Global, capture: &str, request: CaptureRequest<'_>) -> Result<S
     })
 }
 
-// A capture is refused with these lines, and no trace is written.
-fn expect_refused(
+// A capture ends with this status, and prints and says this.
+fn expect(
     rt: &(impl Abort + AllocGlobal),
-    capture: &str,
-    mappings: Option<&'static str>,
-    line: &str,
-    words: &str,
+    seen: &Seen,
+    status: u8,
+    printed: &str,
+    said: &str,
 ) -> Result<(), Fail> {
-    let seen = see(rt.alloc(), capture, mappings)?;
-    assert_eq!(rt; seen.status, 1);
-    assert_eq!(rt; str::from_utf8(seen.output.as_slice())?, line);
-    assert_eq!(rt; str::from_utf8(seen.errors.as_slice())?, words);
-    assert_eq!(rt; seen.files.get("bus.trace"), None);
+    assert_eq!(rt; seen.status, status);
+    assert_eq!(rt; str::from_utf8(seen.output.as_slice())?, printed);
+    assert_eq!(rt; str::from_utf8(seen.errors.as_slice())?, said);
     Ok(())
 }
 
@@ -118,37 +116,49 @@ fn the_trace_of_a_capture(rt: HostRuntime) -> Result<(), Fail> {
     Ok(())
 }
 
+// Where a capture is refused, no trace is written.
 #[test]
 fn a_signal_that_is_not_found(rt: HostRuntime) -> Result<(), Fail> {
-    expect_refused(
+    let seen = see(rt.alloc(), CAPTURE, Some("CE=CS,WE=P17"))?;
+    expect(
         &rt,
-        CAPTURE,
-        Some("CE=CS,WE=P17"),
+        &seen,
+        1,
         "refused G3 at 0\n",
         "bus.vcd: no signal is RE by its name: say which one it is by --map RE=NAME (G3)\n",
-    )
+    )?;
+    assert_eq!(rt; seen.files.get("bus.trace"), None);
+    Ok(())
 }
 
 #[test]
 fn a_line_that_is_no_change(rt: HostRuntime) -> Result<(), Fail> {
-    expect_refused(
+    let capture = format!(in rt.alloc(); "{CAPTURE}#60\n1!\n")?;
+    let seen = see(rt.alloc(), capture.as_str(), REQUEST.mappings)?;
+    expect(
         &rt,
-        format!(in rt.alloc(); "{CAPTURE}#60\n1!\n")?.as_str(),
-        REQUEST.mappings,
+        &seen,
+        1,
         "refused G4 at 32\n",
         "bus.vcd:32: `1!`: the code isn't declared (G4)\n",
-    )
+    )?;
+    assert_eq!(rt; seen.files.get("bus.trace"), None);
+    Ok(())
 }
 
 #[test]
 fn levels_that_are_unknown(rt: HostRuntime) -> Result<(), Fail> {
-    expect_refused(
+    let capture = format!(in rt.alloc(); "{CAPTURE}#60\n0w bx d\n#61\n1w\n")?;
+    let seen = see(rt.alloc(), capture.as_str(), REQUEST.mappings)?;
+    expect(
         &rt,
-        format!(in rt.alloc(); "{CAPTURE}#60\n0w bx d\n#61\n1w\n")?.as_str(),
-        REQUEST.mappings,
+        &seen,
+        1,
         "refused G5 at 61\n",
         "bus.vcd: time 61: a bit of DQ is x or z where a strobe rises (G5)\n",
-    )
+    )?;
+    assert_eq!(rt; seen.files.get("bus.trace"), None);
+    Ok(())
 }
 
 // The time of each item in front of it, in the unit of the dump.
