@@ -1,3 +1,5 @@
 pub mod Judged
 pub mod Shown
 pub mod Inside
+pub mod Middles
+pub mod Wholes

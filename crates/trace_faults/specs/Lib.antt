@@ -1,5 +1,6 @@
 pub mod Recovery
 pub mod ShownReadies
 pub mod Faults
+pub mod Middle
 pub mod Laws
 pub mod Inside

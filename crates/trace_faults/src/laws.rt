@@ -1,5 +1,5 @@
 //! What holds of the definitions: the contracts of functions that do nothing.
-ghost use Rattle.trace_faults.specs.Laws.{FaultlessAreLegal, FirstBrokenIsFirst, FirstIsFirstBroken, CompletedAreJudged};
+ghost use Rattle.trace_faults.specs.Laws.{FaultlessAreLegal, FirstBrokenIsFirst, FirstIsFirstBroken, CompletedAreJudged, WholeAreJudgedWhole};
 
 /// A trace has no fault exactly when it is legal.
 pub fn faultless_are_legal()
@@ -19,4 +19,9 @@ pub fn first_is_first_broken()
 /// With the readies that its status outputs show, a trace has no fault exactly when it is legal, completed by them.
 pub fn completed_are_judged()
     ensures { CompletedAreJudged }
+{}
+
+/// A trace of which nothing is passed over or taken for granted has the same faults, wherever its recording began.
+pub fn whole_are_judged_whole()
+    ensures { WholeAreJudgedWhole }
 {}

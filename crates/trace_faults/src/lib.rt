@@ -9,14 +9,20 @@
 mod broken_rule;
 mod completing;
 mod finding;
+mod known;
 pub mod laws;
+mod middle;
+mod middle_faults;
 mod readies;
 mod recovery;
 mod shown_readies;
+mod verdict;
 
 pub use broken_rule::BrokenRule;
 pub use completing::complete;
 pub use finding::find_faults;
+pub use middle_faults::{MiddleFaults, find_faults_from_middle};
 pub use readies::Readies;
 pub use recovery::go_on;
 pub use shown_readies::go_on_by_readies;
+pub use verdict::Verdict;

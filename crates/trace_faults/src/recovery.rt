@@ -5,8 +5,8 @@ ghost use Rattle.trace_faults.specs.Recovery.{is_opening, recovered, gone_on};
 
 use onfi_cycle::{BusState, Forbidden, Item, TargetCycle};
 
-// The item begins a sequence.
-fn is_opening(item: Item) -> bool
+/// The item begins a sequence.
+pub(crate) fn is_opening(item: Item) -> bool
     ensures { result ≡ is_opening item }
 {
     match item {

@@ -1,0 +1,77 @@
+-- Where nothing is passed over or taken for granted, a trace is judged as a whole one.
+use Rattle.std.proofs.Common.{◌≡◌, ℕ, zero, suc, ◌+◌, true, false, Bool, List, [], ◌∷◌, ◌++◌, Option, Some, None, refl, sym, ap, ◌∙◌, subst, arith, cond, ◌&&◌}
+use Rattle.nand_geometry.specs.declared.parts.Parts.{Parts}
+use Rattle.onfi_cycle.specs.declared.item.Item.{Item}
+use Rattle.onfi_cycle.specs.declared.item.Item.TheVariants.{Cyc, Rdy, Ard}
+use Rattle.onfi_cycle.specs.declared.forbidden.Forbidden.{Forbidden}
+use Rattle.onfi_cycle.specs.Sequence.{target_of}
+use Rattle.onfi_cycle.specs.State.{BusView, judged}
+use Rattle.trace_faults.specs.declared.known.Known.{Known}
+use Rattle.trace_faults.specs.declared.verdict.Verdict.{Verdict}
+use Rattle.trace_faults.specs.declared.verdict.Verdict.TheVariants.{Permitted, PassedOver, Granted, Broken}
+use Rattle.trace_faults.specs.declared.broken_rule.BrokenRule.{BrokenRule}
+use Rattle.trace_faults.specs.declared.readies.Readies.{Readies}
+use Rattle.trace_faults.specs.Recovery.{gone_on}
+use Rattle.trace_faults.specs.Faults.{fault_at, before_item, faults_from}
+use Rattle.trace_faults.specs.Middle.{Seen, known_of, doubts, doubts_lun, hangs_on_before, of_cycle, of_ready, verdict_on, verdict_here, is_passed_over, here, seen_by, seen_after, verdict, verdicts_from, broken_in, granted_in, one_passed_over, all_broken, all_granted, count_passed_over, first_seen}
+use Rattle.trace_faults.specs.Laws.{WholeAreJudgedWhole}
+
+-- what is said is the rule that is broken, unless that is taken for granted
+abbrev Says : Verdict → Option Forbidden → Type 0
+Says Permitted rule = rule ≡ None
+Says PassedOver rule = Unit {0}
+Says (Granted granted) rule = Unit {0}
+Says (Broken broken) rule = rule ≡ Some broken
+
+chosen : (b : Bool) (rule : Forbidden) → Says (cond b (Granted rule) (Broken rule)) (Some rule)
+chosen true rule = tt
+chosen false rule = refl
+
+cycle_says : (doubted : Bool) (rule : Option Forbidden) → Says (of_cycle doubted rule) rule
+cycle_says doubted None = refl
+cycle_says doubted (Some rule) = chosen (doubted && hangs_on_before rule) rule
+
+ready_says : (doubted : Bool) (rule : Option Forbidden) → Says (of_ready doubted rule) rule
+ready_says doubted None = refl
+ready_says doubted (Some rule) = chosen doubted rule
+
+says : (state : BusView) (k : Known) (i : Item) → Says (verdict_on state k i) (judged state i)
+says state k (Cyc c) = cycle_says (doubts state k c.ce) (judged state (Cyc c))
+says state k (Rdy ce lun fail) = ready_says (doubts_lun state k ce lun) (judged state (Rdy ce lun fail))
+says state k (Ard ce lun) = ready_says (doubts_lun state k ce lun) (judged state (Ard ce lun))
+
+abbrev Judges : Readies → ℕ → List Item → Type 0
+Judges readies n items = (seen : Seen) →
+    count_passed_over (verdicts_from readies seen items) ≡ 0 → all_granted n (verdicts_from readies seen items) ≡ [] →
+    all_broken n (verdicts_from readies seen items) ≡ faults_from readies seen.state n items
+
+-- an item that is judged, and what comes after it
+by_verdict : (readies : Readies) (n : ℕ) (i : Item) (items : List Item) (on : Seen) (v : Verdict) (rule : Option Forbidden) → Says v rule → Judges readies (n + 1) items →
+    one_passed_over v + count_passed_over (verdicts_from readies (seen_by v i on) items) ≡ 0 →
+    granted_in n v ++ all_granted (n + 1) (verdicts_from readies (seen_by v i on) items) ≡ [] →
+    broken_in n v ++ all_broken (n + 1) (verdicts_from readies (seen_by v i on) items) ≡ fault_at n rule ++ faults_from readies (gone_on i on.state) (n + 1) items
+by_verdict readies n i items on Permitted rule said later none nothing =
+    later (seen_by Permitted i on) (omega (arith, none)) nothing ∙ ap (λ (o : Option Forbidden). fault_at n o ++ faults_from readies (gone_on i on.state) (n + 1) items) (sym said)
+by_verdict readies n i items on PassedOver rule said later none nothing = absurd (omega (arith, none))
+by_verdict readies n i items on (Granted granted) rule said later none nothing = cc
+by_verdict readies n i items on (Broken broken) rule said later none nothing =
+    ap (λ (fs : List BrokenRule). record { item = n; rule = broken } ∷ fs) (later (seen_by (Broken broken) i on) (omega (arith, none)) nothing)
+    ∙ ap (λ (o : Option Forbidden). fault_at n o ++ faults_from readies (gone_on i on.state) (n + 1) items) (sym said)
+
+by_place : (readies : Readies) (n : ℕ) (i : Item) (items : List Item) (seen : Seen) (b : Bool) → Judges readies (n + 1) items →
+    one_passed_over (cond b PassedOver (verdict_here (here readies seen i) i)) + count_passed_over (verdicts_from readies (cond b seen (seen_by (verdict_here (here readies seen i) i) i (here readies seen i))) items) ≡ 0 →
+    granted_in n (cond b PassedOver (verdict_here (here readies seen i) i)) ++ all_granted (n + 1) (verdicts_from readies (cond b seen (seen_by (verdict_here (here readies seen i) i) i (here readies seen i))) items) ≡ [] →
+    broken_in n (cond b PassedOver (verdict_here (here readies seen i) i)) ++ all_broken (n + 1) (verdicts_from readies (cond b seen (seen_by (verdict_here (here readies seen i) i) i (here readies seen i))) items)
+    ≡ fault_at n (judged (before_item readies seen.state i) i) ++ faults_from readies (gone_on i (before_item readies seen.state i)) (n + 1) items
+by_place readies n i items seen true later none nothing = absurd (omega (arith, none))
+by_place readies n i items seen false later none nothing =
+    by_verdict readies n i items (here readies seen i) (verdict_here (here readies seen i) i) (judged (before_item readies seen.state i) i)
+        (says (before_item readies seen.state i) (known_of seen.known (target_of i)) i) later none nothing
+
+judges : (readies : Readies) (n : ℕ) (items : List Item) → Judges readies n items
+judges readies n [] seen none nothing = refl
+judges readies n (i ∷ items) seen none nothing =
+    by_place readies n i items seen (is_passed_over (known_of seen.known (target_of i)) i) (judges readies (n + 1) items) none nothing
+
+pub whole_are_judged_whole : WholeAreJudgedWhole
+whole_are_judged_whole readies g targets items none nothing = judges readies 0 items (first_seen g targets) none nothing

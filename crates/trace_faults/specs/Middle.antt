@@ -1,0 +1,199 @@
+-- What can be judged of a trace whose recording began in the middle: nobody knows what its LUNs did before.
+use Rattle.std.specs.Prelude.{ℕ, ◌+◌, ◌==◌, Bool, true, false, not, ◌&&◌, ◌||◌, nat_lt, List, [], ◌∷◌, ◌++◌, Option, Some, None, get_or, slice_set, if◌then◌else◌}
+use Rattle.nand_geometry.specs.declared.parts.Parts.{Parts}
+use Rattle.onfi_cycle.specs.declared.item.Item.{Item}
+use Rattle.onfi_cycle.specs.declared.item.Item.TheVariants.{Cyc, Rdy, Ard}
+use Rattle.onfi_cycle.specs.declared.forbidden.Forbidden.{Forbidden}
+use Rattle.onfi_cycle.specs.declared.forbidden.Forbidden.TheVariants.{NotThere, CommandUnknown, SequenceOpen, SeveralLuns, NoColumnToChange, CommandMisplaced, AddressMisplaced, RowOutside, LunBusy, QueueClash, InputMisplaced, NoSoleDriver, DataNotReady, ColumnOutside, CacheReadMisplaced}
+use Rattle.onfi_cycle.specs.declared.lun_state.LunState.{LunState}
+use Rattle.onfi_cycle.specs.Sequence.{target_of}
+use Rattle.onfi_cycle.specs.State.{BusView, judged, bus_without}
+use Rattle.onfi_cycle.specs.Look.{looked}
+use Rattle.trace_faults.specs.declared.known.Known.{Known}
+use Rattle.trace_faults.specs.declared.verdict.Verdict.{Verdict}
+use Rattle.trace_faults.specs.declared.verdict.Verdict.TheVariants.{Permitted, PassedOver, Granted, Broken}
+use Rattle.trace_faults.specs.declared.broken_rule.BrokenRule.{BrokenRule}
+use Rattle.trace_faults.specs.declared.readies.Readies.{Readies}
+use Rattle.trace_faults.specs.Recovery.{is_opening, gone_on}
+use Rattle.trace_faults.specs.Faults.{fresh, before_item}
+
+-- ---- what is known
+
+-- of a target where nothing has been seen: neither an opener, nor work of one of its four LUNs
+abbrev pub nothing_known : Known
+nothing_known = record { opened = false; zeroth = false; first = false; second = false; third = false }
+
+-- of a target that isn't there nothing is in doubt
+abbrev pub all_known : Known
+all_known = record { opened = true; zeroth = true; first = true; second = true; third = true }
+
+abbrev pub first_known : Bool → Known
+first_known there = if there then nothing_known else all_known
+
+-- of the four targets of a channel, of which so many are there
+abbrev pub all_first_known : ℕ → List Known
+all_first_known targets = first_known (nat_lt 0 targets) ∷ (first_known (nat_lt 1 targets) ∷ (first_known (nat_lt 2 targets) ∷ (first_known (nat_lt 3 targets) ∷ [])))
+
+abbrev pub known_of : List Known → ℕ → Known
+known_of known ce = get_or known ce all_known
+
+-- the LUN of a number has begun work since the recording began
+abbrev pub knows : Known → ℕ → Bool
+knows k number =
+    if number == 0 then k.zeroth else (if number == 1 then k.first else (if number == 2 then k.second else (if number == 3 then k.third else true)))
+
+-- a LUN that is there, and isn't known
+abbrev pub is_doubtful : Option LunState → Bool → Bool
+is_doubtful None known = false
+is_doubtful (Some lun) known = not known
+
+abbrev pub doubts_lun : BusView → Known → (ce number : ℕ) → Bool
+doubts_lun state k ce number = is_doubtful (looked state (record { ce = ce; lun = number })) (knows k number)
+
+-- some LUN of the target isn't known
+abbrev pub doubts : BusView → Known → ℕ → Bool
+doubts state k ce = doubts_lun state k ce 0 || (doubts_lun state k ce 1 || (doubts_lun state k ce 2 || doubts_lun state k ce 3))
+
+-- a LUN that is there, and works
+abbrev pub is_working : Option LunState → Bool
+is_working None = false
+is_working (Some lun) = lun.busy
+
+abbrev pub works : BusView → (ce number : ℕ) → Bool
+works state ce number = is_working (looked state (record { ce = ce; lun = number }))
+
+-- what is known of the target of an item after it: an opener may have come, and a LUN that works now has begun that since
+abbrev pub learned : BusView → Item → Known → Known
+learned state i k = record {
+  opened = k.opened || is_opening i;
+  zeroth = k.zeroth || works state (target_of i) 0;
+  first = k.first || works state (target_of i) 1;
+  second = k.second || works state (target_of i) 2;
+  third = k.third || works state (target_of i) 3;
+}
+
+-- ---- what is said of an item
+
+-- the rule may be kept, for what was before: it hangs on what a LUN drives, holds or had begun
+abbrev pub hangs_on_before : Forbidden → Bool
+hangs_on_before NotThere = false
+hangs_on_before CommandUnknown = false
+hangs_on_before SequenceOpen = false
+hangs_on_before SeveralLuns = false
+hangs_on_before NoColumnToChange = true
+hangs_on_before CommandMisplaced = false
+hangs_on_before AddressMisplaced = false
+hangs_on_before RowOutside = false
+hangs_on_before LunBusy = false
+hangs_on_before QueueClash = false
+hangs_on_before InputMisplaced = false
+hangs_on_before NoSoleDriver = true
+hangs_on_before DataNotReady = true
+hangs_on_before ColumnOutside = true
+hangs_on_before CacheReadMisplaced = true
+
+-- a cycle, where some LUN of its target is in doubt or none
+abbrev pub of_cycle : (doubted : Bool) → Option Forbidden → Verdict
+of_cycle doubted None = Permitted
+of_cycle doubted (Some rule) = if doubted && hangs_on_before rule then Granted rule else Broken rule
+
+-- a ready, whose LUN is in doubt or not: it may have worked
+abbrev pub of_ready : (doubted : Bool) → Option Forbidden → Verdict
+of_ready doubted None = Permitted
+of_ready doubted (Some rule) = if doubted then Granted rule else Broken rule
+
+abbrev pub verdict_on : BusView → Known → Item → Verdict
+verdict_on state k (Cyc c) = of_cycle (doubts state k c.ce) (judged state (Cyc c))
+verdict_on state k (Rdy ce lun fail) = of_ready (doubts_lun state k ce lun) (judged state (Rdy ce lun fail))
+verdict_on state k (Ard ce lun) = of_ready (doubts_lun state k ce lun) (judged state (Ard ce lun))
+
+-- an item that belongs to a sequence whose opener wasn't seen: a cycle of a target before its first opener
+abbrev pub is_passed_over : Known → Item → Bool
+is_passed_over k (Cyc c) = not (k.opened || is_opening (Cyc c))
+is_passed_over k (Rdy _ _ _) = false
+is_passed_over k (Ard _ _) = false
+
+-- ---- one item after another
+
+pub record Seen : Type 0 where
+  pub state : BusView
+  pub known : List Known
+
+-- a cycle that is taken for granted leaves nothing known of its target, up to the next opener; a ready leaves all as it was
+abbrev pub granted_to : Item → Seen → Seen
+granted_to (Cyc c) seen = record { state = bus_without c.ce seen.state; known = slice_set seen.known c.ce nothing_known }
+granted_to (Rdy _ _ _) seen = seen
+granted_to (Ard _ _) seen = seen
+
+-- what an item leaves that is judged
+abbrev pub judged_on : BusView → List Known → Item → Seen
+judged_on state known i = record { state = state; known = slice_set known (target_of i) (learned state i (known_of known (target_of i))) }
+
+abbrev pub seen_by : Verdict → Item → Seen → Seen
+seen_by Permitted i seen = judged_on (gone_on i seen.state) seen.known i
+seen_by PassedOver i seen = seen
+seen_by (Granted rule) i seen = granted_to i seen
+seen_by (Broken rule) i seen = judged_on (gone_on i seen.state) seen.known i
+
+-- where an item is judged that isn't passed over: with the readies that it shows, if they aren't written
+abbrev pub here : Readies → Seen → Item → Seen
+here readies seen i = record { state = before_item readies seen.state i; known = seen.known }
+
+abbrev pub verdict_here : Seen → Item → Verdict
+verdict_here seen i = verdict_on seen.state (known_of seen.known (target_of i)) i
+
+-- what is said of an item
+abbrev pub verdict : Readies → Seen → Item → Verdict
+verdict readies seen i =
+    if is_passed_over (known_of seen.known (target_of i)) i then PassedOver else verdict_here (here readies seen i) i
+
+-- and what it leaves
+abbrev pub seen_after : Readies → Seen → Item → Seen
+seen_after readies seen i =
+    if is_passed_over (known_of seen.known (target_of i)) i then seen else seen_by (verdict_here (here readies seen i) i) i (here readies seen i)
+
+-- ---- a trace
+
+abbrev pub first_seen : Parts → ℕ → Seen
+first_seen g targets = record { state = fresh g targets; known = all_first_known targets }
+
+abbrev pub verdicts_from : Readies → Seen → List Item → List Verdict
+verdicts_from readies seen [] = []
+verdicts_from readies seen (i ∷ items) = verdict readies seen i ∷ verdicts_from readies (seen_after readies seen i) items
+
+-- what is said of each item of a trace
+abbrev pub verdicts_of : Readies → Parts → ℕ → List Item → List Verdict
+verdicts_of readies g targets items = verdicts_from readies (first_seen g targets) items
+
+abbrev pub broken_in : ℕ → Verdict → List BrokenRule
+broken_in n Permitted = []
+broken_in n PassedOver = []
+broken_in n (Granted rule) = []
+broken_in n (Broken rule) = record { item = n; rule = rule } ∷ []
+
+abbrev pub granted_in : ℕ → Verdict → List BrokenRule
+granted_in n Permitted = []
+granted_in n PassedOver = []
+granted_in n (Granted rule) = record { item = n; rule = rule } ∷ []
+granted_in n (Broken rule) = []
+
+-- the faults among items, counted from this number
+abbrev pub all_broken : ℕ → List Verdict → List BrokenRule
+all_broken n [] = []
+all_broken n (v ∷ verdicts) = broken_in n v ++ all_broken (n + 1) verdicts
+
+-- what was taken for granted
+abbrev pub all_granted : ℕ → List Verdict → List BrokenRule
+all_granted n [] = []
+all_granted n (v ∷ verdicts) = granted_in n v ++ all_granted (n + 1) verdicts
+
+abbrev pub one_passed_over : Verdict → ℕ
+one_passed_over Permitted = 0
+one_passed_over PassedOver = 1
+one_passed_over (Granted rule) = 0
+one_passed_over (Broken rule) = 0
+
+-- how many were passed over
+abbrev pub count_passed_over : List Verdict → ℕ
+count_passed_over [] = 0
+count_passed_over (v ∷ verdicts) = one_passed_over v + count_passed_over verdicts
