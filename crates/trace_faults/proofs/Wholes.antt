@@ -1,6 +1,5 @@
 -- Where nothing is passed over or taken for granted, a trace is judged as a whole one.
-use Rattle.std.proofs.Common.{◌≡◌, ℕ, zero, suc, ◌+◌, true, false, Bool, List, [], ◌∷◌, ◌++◌, Option, Some, None, refl, sym, ap, ◌∙◌, subst, arith, cond, ◌&&◌}
-use Rattle.nand_geometry.specs.declared.parts.Parts.{Parts}
+use Rattle.std.proofs.Common.{◌≡◌, ℕ, ◌+◌, true, false, Bool, List, [], ◌∷◌, ◌++◌, Option, Some, None, refl, sym, ap, ◌∙◌, arith, cond, ◌&&◌}
 use Rattle.onfi_cycle.specs.declared.item.Item.{Item}
 use Rattle.onfi_cycle.specs.declared.item.Item.TheVariants.{Cyc, Rdy, Ard}
 use Rattle.onfi_cycle.specs.declared.forbidden.Forbidden.{Forbidden}
@@ -13,7 +12,7 @@ use Rattle.trace_faults.specs.declared.broken_rule.BrokenRule.{BrokenRule}
 use Rattle.trace_faults.specs.declared.readies.Readies.{Readies}
 use Rattle.trace_faults.specs.Recovery.{gone_on}
 use Rattle.trace_faults.specs.Faults.{fault_at, before_item, faults_from}
-use Rattle.trace_faults.specs.Middle.{Seen, known_of, doubts, doubts_lun, hangs_on_before, of_cycle, of_ready, verdict_on, verdict_here, is_passed_over, here, seen_by, seen_after, verdict, verdicts_from, broken_in, granted_in, one_passed_over, all_broken, all_granted, count_passed_over, first_seen}
+use Rattle.trace_faults.specs.Middle.{Seen, known_of, doubts, doubts_lun, hangs_on_before, of_cycle, of_ready, verdict_on, verdict_here, is_passed_over, here, seen_by, verdicts_from, broken_in, granted_in, one_passed_over, all_broken, all_granted, count_passed_over, first_seen}
 use Rattle.trace_faults.specs.Laws.{WholeAreJudgedWhole}
 
 -- what is said is the rule that is broken, unless that is taken for granted
@@ -66,7 +65,7 @@ by_place : (readies : Readies) (n : ℕ) (i : Item) (items : List Item) (seen : 
 by_place readies n i items seen true later none nothing = absurd (omega (arith, none))
 by_place readies n i items seen false later none nothing =
     by_verdict readies n i items (here readies seen i) (verdict_here (here readies seen i) i) (judged (before_item readies seen.state i) i)
-        (says (before_item readies seen.state i) (known_of seen.known (target_of i)) i) later none nothing
+    (says (before_item readies seen.state i) (known_of seen.known (target_of i)) i) later none nothing
 
 judges : (readies : Readies) (n : ℕ) (items : List Item) → Judges readies n items
 judges readies n [] seen none nothing = refl

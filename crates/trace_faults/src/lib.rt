@@ -2,10 +2,12 @@
 //!
 //! A trace that was recorded on a bus has more than one fault, and nobody wrote down when a LUN became ready. [`find_faults`] judges each item on what
 //! those before it leave, permitted or not ([`go_on`]), and tells each fault, a [`BrokenRule`]; [`complete`] puts the readies before the status
-//! outputs that show them. The definitions stand in `specs/`, with their laws ([`laws`]): the first fault is that of `trace_text`'s check, and a trace that
+//! outputs that show them; and [`find_faults_from_middle`] judges what can be judged where the recording began in the middle. [`find_status_doubts`]
+//! tells status bytes that contradict the trace. The definitions stand in `specs/`, with their laws ([`laws`]): the first fault is that of `trace_text`'s check, and a trace that
 //! is completed is judged as that check would.
 #![tactic(auto)]
 
+mod beginning;
 mod broken_rule;
 mod completing;
 mod finding;
@@ -16,8 +18,10 @@ mod middle_faults;
 mod readies;
 mod recovery;
 mod shown_readies;
+mod status_doubt;
 mod verdict;
 
+pub use beginning::Beginning;
 pub use broken_rule::BrokenRule;
 pub use completing::complete;
 pub use finding::find_faults;
@@ -25,4 +29,5 @@ pub use middle_faults::{MiddleFaults, find_faults_from_middle};
 pub use readies::Readies;
 pub use recovery::go_on;
 pub use shown_readies::go_on_by_readies;
+pub use status_doubt::{DoubtedByte, StatusDoubt, find_status_doubts};
 pub use verdict::Verdict;

@@ -1,7 +1,7 @@
 //! The readies that a status output shows.
 ghost use Rattle.std.specs.Prelude.{◌≡◌};
 ghost use Rattle.onfi_cycle.specs.Look.{looked};
-ghost use Rattle.trace_faults.specs.ShownReadies.{drives, lun_drives, driving_lun, ready_of, array_ready_of, ready_before, array_ready_before, gone_on_some, with_ready, with_readies, is_status};
+ghost use Rattle.trace_faults.specs.ShownReadies.{drives, lun_drives, driving_lun, ready_of, array_ready_of, ready_before, array_ready_before, gone_on_some, with_ready, with_readies, is_status, has_array_ready};
 
 use crate::recovery::go_on;
 use onfi_cycle::{BusState, Item, Kind, Latch, Lun, LunState, Status};
@@ -16,8 +16,8 @@ fn lun_drives(state: &BusState, ce: u8, number: u8) -> bool
     }
 }
 
-// The number of the one LUN of a target that drives the bus.
-fn find_driver(state: &BusState, ce: u8) -> Option<u8>
+/// The number of the one LUN of a target that drives the bus.
+pub(crate) fn find_driver(state: &BusState, ce: u8) -> Option<u8>
     ensures { result ≡ driving_lun state.now ce }
 {
     let zeroth = lun_drives(state, ce, 0);
@@ -33,8 +33,8 @@ fn find_driver(state: &BusState, ce: u8) -> Option<u8>
     }
 }
 
-// The LUN shows its status when its target is read.
-fn is_status(latch: Latch) -> bool
+/// The LUN shows its status when its target is read.
+pub(crate) fn is_status(latch: Latch) -> bool
     ensures { result ≡ is_status latch }
 {
     match latch {
@@ -59,6 +59,13 @@ fn ready_of(lun: Option<LunState>, ce: u8, number: u8, byte: u8) -> Option<Item>
     None
 }
 
+/// The status byte says that the array is ready (ARDY).
+pub(crate) fn shows_array_ready(byte: u8) -> bool
+    ensures { result ≡ has_array_ready byte }
+{
+    byte & 0x20 == 0x20
+}
+
 // The ready of its array that a byte of a LUN shows.
 fn array_ready_of(lun: Option<LunState>, ce: u8, number: u8, byte: u8) -> Option<Item>
     ensures { result ≡ array_ready_of lun ce number byte }
@@ -69,7 +76,7 @@ fn array_ready_of(lun: Option<LunState>, ce: u8, number: u8, byte: u8) -> Option
         && !lun.busy
         && lun.array_busy
         && status.is_ready()
-        && byte & 0x20 == 0x20
+        && shows_array_ready(byte)
     {
         return Some(Item::Ard { ce, lun: number });
     }
