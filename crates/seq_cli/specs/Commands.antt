@@ -6,18 +6,19 @@ use Rattle.seq_inputs.specs.declared.refusal.Refusal.{Refusal}
 use Rattle.seq_inputs.specs.Inputs.{FileIsRefused}
 use Rattle.seq_inputs.specs.Stops.{Tells}
 use Rattle.seq_inputs.specs.Refusals.{line_of}
-use Rattle.seq_commands.specs.Commands.{IsAssembled, SourceIsRefused, IsDisassembled, IsUpgraded, IsAccepted, VerifyRefuses, VerifyLeaves}
+use Rattle.seq_commands.specs.Commands.{IsAssembled, SourceIsRefused, IsAssembledFor, AssembleForRefuses, IsDisassembled, IsUpgraded, IsAccepted, VerifyRefuses, VerifyLeaves}
 use Rattle.seq_commands.specs.Checks.{ReadingRefuses, IsLegalTrace, CheckRefuses, CheckLeaves}
 use Rattle.seq_commands.specs.Draws.{IsDrawn}
 use Rattle.seq_commands.specs.Captures.{IsCaptured, CaptureRefuses}
 use Rattle.seq_run.specs.Runs.{IsRunDone, RunIsRefused, RunMayLeave}
 use Rattle.seq_cli.specs.Once.{IsProgramRun, ProgramMayBeRefused}
 use Rattle.seq_cli.specs.declared.command.Command.{Command}
-use Rattle.seq_cli.specs.declared.command.Command.TheVariants.{Assemble, Verify, Lint, Once, Run, Capture, Check, Draw, Disassemble, Upgrade}
+use Rattle.seq_cli.specs.declared.command.Command.TheVariants.{Assemble, AssembleFor, Verify, Lint, Once, Run, Capture, Check, Draw, Disassemble, Upgrade}
 
 -- the command is done: this was its input, where that is known, this is left and this was printed
 abbrev pub IsDone : Command → (input : Option (List ℕ)) → (files later : Option Store) → (printed : List ℕ) → Type 0
 IsDone (Assemble text target) input files later printed = IsAssembled files later text.now target.now × (printed ≡ codes "ok\n")
+IsDone (AssembleFor page text target) input files later printed = IsAssembledFor files later page.now text.now target.now × (printed ≡ codes "ok\n")
 IsDone (Verify page text counter quiet style) input files later printed = IsAccepted files page.now text.now × (later ≡ files) × (printed ≡ codes "accepted\n")
 IsDone (Lint page text output) input files later printed = IsAccepted files page.now text.now × (later ≡ files)
 IsDone (Once base) input files later printed = IfSome input (λ bytes. IsProgramRun base bytes printed) × (later ≡ files)
@@ -31,6 +32,8 @@ IsDone (Upgrade file target) input files later printed = IsUpgraded files later 
 -- what a command may refuse, and what it leaves and prints then: one line, but for all faults of a trace
 abbrev pub MayRefuse : Command → (input : Option (List ℕ)) → (files later : Option Store) → Refusal → (printed : List ℕ) → Type 0
 MayRefuse (Assemble text target) input files later refusal printed = Tells (SourceIsRefused files text.now) refusal × (later ≡ files) × (printed ≡ line_of refusal)
+MayRefuse (AssembleFor page text target) input files later refusal printed =
+    Tells (AssembleForRefuses files page.now text.now) refusal × (later ≡ files) × (printed ≡ line_of refusal)
 MayRefuse (Verify page text counter quiet style) input files later refusal printed =
     Tells (VerifyRefuses files later page.now text.now (option_map (λ path. path.now) counter)) refusal × (printed ≡ line_of refusal)
 MayRefuse (Lint page text output) input files later refusal printed =
@@ -47,6 +50,7 @@ MayRefuse (Upgrade file target) input files later refusal printed = Tells (FileI
 -- what a command may leave, however it ends: the files as they were, or what it writes when it is done
 abbrev pub MayLeave : Command → (files later : Option Store) → Type 0
 MayLeave (Assemble text target) files later = (later ≡ files) ⊎ IsAssembled files later text.now target.now
+MayLeave (AssembleFor page text target) files later = (later ≡ files) ⊎ IsAssembledFor files later page.now text.now target.now
 MayLeave (Verify page text counter quiet style) files later = VerifyLeaves files later page.now text.now (option_map (λ path. path.now) counter)
 MayLeave (Lint page text output) files later = later ≡ files
 MayLeave (Once base) files later = later ≡ files

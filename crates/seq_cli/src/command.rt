@@ -6,8 +6,8 @@ ghost use Rattle.seq_cli.specs.Commands.{IsDone, MayRefuse, MayLeave};
 
 use crate::once::run_program;
 use seq_commands::{
-    CaptureRequest, CheckRequest, DrawRequest, LintOutput, assemble_file, capture_trace,
-    check_trace, disassemble_file, draw_trace, lint_file, upgrade_file, verify_file,
+    CaptureRequest, CheckRequest, DrawRequest, LintOutput, assemble_file, assemble_file_for,
+    capture_trace, check_trace, disassemble_file, draw_trace, lint_file, upgrade_file, verify_file,
 };
 use seq_files::Files;
 use seq_inputs::{Console, Exit, Style};
@@ -24,6 +24,12 @@ use trace_text::CheckProgress;
 pub enum Command<'a> {
     /// To assemble a text into a word file.
     Assemble {
+        input: &'a str,
+        target: &'a str,
+    },
+    /// To assemble a text, with a header or without, into a word file with the least header that is enough for the geometry of a parameter page.
+    AssembleFor {
+        page: &'a str,
         input: &'a str,
         target: &'a str,
     },
@@ -79,6 +85,11 @@ impl<'a> Command<'a> {
             Command::Assemble { input, target } | Command::Upgrade { input, target } => {
                 ([Some(input), None], Some(target))
             }
+            Command::AssembleFor {
+                page,
+                input,
+                target,
+            } => ([Some(page), Some(input)], Some(target)),
             Command::Verify {
                 page,
                 input,
@@ -138,6 +149,11 @@ pub fn command_on<
 {
     match command {
         Command::Assemble { input, target } => assemble_file(alloc, files, console, input, target),
+        Command::AssembleFor {
+            page,
+            input,
+            target,
+        } => assemble_file_for(alloc, files, console, page, input, target),
         Command::Verify {
             page,
             input,

@@ -8,7 +8,7 @@ use seq_commands::{CaptureRequest, CheckRequest, DrawForm, DrawRequest, LintOutp
 use seq_inputs::Style;
 use seq_run::RunRequest;
 use std::alloc::Global;
-use trace_faults::Readies;
+use trace_faults::{Beginning, Readies};
 use trace_text::TraceForm;
 
 /// The commands by their words, in the order in which an author uses them. One that is declared here is declared to the parser, and read, or
@@ -93,7 +93,7 @@ impl Verb {
         let page = find_word(matches, "PAGE");
         let target = find_word(matches, "OUT");
         Ok(match self {
-            Verb::Assemble => Command::Assemble { input, target },
+            Verb::Assemble => read_assemble(matches),
             Verb::Verify => Command::Verify {
                 page,
                 input,
@@ -129,15 +129,19 @@ fn require<'a>(alloc: Global, id: &'a str, help: &'a str) -> Arg<'a> {
 }
 
 fn assemble<'a>(alloc: Global) -> Result<clap::Command<'a>, Error> {
+    let auto = Arg::new(alloc, "auto").long("auto").value_name("PAGE").help(
+        "Counts the header for the die of this parameter page, whatever the text has or without one, and verifies: an unsafe text isn't written",
+    );
     let command = clap::Command::new(alloc, Verb::Assemble.word())
         .about("Assembles a text into a word file, and prints `ok`")
-        .after_help("Example: onfiseq asm erase.asm erase.nmp")
+        .after_help("Example: onfiseq asm erase.asm erase.nmp --auto die.page")
         .arg(require(
             alloc,
             "IN",
             "The assembly text, as docs/use/ASSEMBLY.md has it",
         ))?
-        .arg(require(alloc, "OUT", "The word file to write, in format 2"))?;
+        .arg(require(alloc, "OUT", "The word file to write, in format 2"))?
+        .arg(auto)?;
     Ok(command)
 }
 
@@ -321,6 +325,17 @@ fn check<'a>(alloc: Global) -> Result<clap::Command<'a>, Error> {
         .long("all")
         .action(ArgAction::SetTrue)
         .help("Goes on after a fault, and prints a line for each");
+    let middle = Arg::new(alloc, "from-middle")
+        .long("from-middle")
+        .action(ArgAction::SetTrue)
+        .conflicts_with("write")?
+        .help(
+            "For a trace whose recording began while the bus was in use: what hangs on what was before is taken for granted, and said",
+        );
+    let bytes = Arg::new(alloc, "bytes")
+        .long("bytes")
+        .action(ArgAction::SetTrue)
+        .help("Says on standard error which status bytes contradict the trace");
     let readies = Arg::new(alloc, "readies-from-status")
         .long("readies-from-status")
         .action(ArgAction::SetTrue)
@@ -342,6 +357,8 @@ fn check<'a>(alloc: Global) -> Result<clap::Command<'a>, Error> {
         .arg(all)?
         .arg(recorded(alloc))?
         .arg(readies)?
+        .arg(middle)?
+        .arg(bytes)?
         .arg(copy)?
         .arg(json(alloc, JSON_ERRORS))?;
     Ok(command)
@@ -511,6 +528,29 @@ fn read_capture<'a>(matches: &ArgMatches<'a>) -> Result<CaptureRequest<'a>, Mist
     })
 }
 
+// The assembly that is asked for.
+fn read_assemble<'a>(matches: &ArgMatches<'a>) -> Command<'a> {
+    let input = find_word(matches, "IN");
+    let target = find_word(matches, "OUT");
+    match matches.get_str("auto") {
+        None => Command::Assemble { input, target },
+        Some(page) => Command::AssembleFor {
+            page,
+            input,
+            target,
+        },
+    }
+}
+
+// Where the recording of a trace begins.
+fn read_beginning(matches: &ArgMatches<'_>) -> Beginning {
+    if matches.get_flag("from-middle") {
+        Beginning::Middle
+    } else {
+        Beginning::Start
+    }
+}
+
 // What a check is asked for.
 fn read_check<'a>(matches: &ArgMatches<'a>) -> CheckRequest<'a> {
     CheckRequest {
@@ -519,6 +559,8 @@ fn read_check<'a>(matches: &ArgMatches<'a>) -> CheckRequest<'a> {
         input: find_word(matches, "TRACE"),
         tells_all: matches.get_flag("all"),
         readies: read_readies(matches),
+        beginning: read_beginning(matches),
+        judges_bytes: matches.get_flag("bytes"),
         form: read_form(matches),
         style: read_style(matches),
         copy: matches.get_str("write"),

@@ -1,5 +1,5 @@
 -- What a check tells of a trace: its first fault, whether its text can be written, and whether it is legal.
-use Rattle.std.proofs.Common.{◌≡◌, ℕ, true, false, Bool, List, [], ◌∷◌, ◌++◌, Option, Some, None, refl, sym, ap, subst, ◌∙◌, arith, take, reverse, append_assoc, suc, zero, ◌<◌, length}
+use Rattle.std.proofs.Common.{◌≡◌, ℕ, true, false, Bool, List, [], ◌∷◌, ◌++◌, Option, Some, None, refl, sym, ap, subst, ◌∙◌, arith, take, reverse, append_assoc, suc, zero}
 use Rattle.std.specs.List.{All}
 use Rattle.nand_geometry.specs.declared.parts.Parts.{Parts}
 use Rattle.onfi_cycle.specs.declared.item.Item.{Item}
@@ -24,7 +24,10 @@ use Rattle.onfi_cycle.specs.State.{BusView}
 use Rattle.seq_files.specs.Store.{Store}
 use Rattle.seq_commands.specs.declared.check_request.CheckRequest.{CheckRequest}
 use Rattle.seq_commands.specs.Commands.{count_of}
-use Rattle.seq_commands.specs.Checks.{told_of, judged_trace, IsJudged, IsLegalTrace}
+use Rattle.trace_faults.specs.declared.beginning.Beginning.{Beginning}
+use Rattle.trace_faults.specs.declared.beginning.Beginning.TheVariants.{Start, Middle}
+use Rattle.seq_commands.specs.Checks.{told_of, faults_as, judged_trace, IsJudged, IsLegalAs, IsLegalTrace, ArePrinted, fault_lines, TraceIsFaulty}
+use Rattle.seq_inputs.specs.declared.refusal.Refusal.{Refusal}
 
 -- nothing is told of a legal trace
 pub none_told : (g : Parts) (n : ℕ) (items : List Item) → is_legal g n (reverse items) ≡ true → [] ≡ take 1 (faults_of Written g n items)
@@ -98,14 +101,14 @@ faultless : (readies : Readies) (g : Parts) (n : ℕ) (items : List Item) → fa
 faultless Written g n items none = (faultless_are_legal g n items).0 none
 faultless Shown g n items none = (completed_are_judged g n items).0 none
 
-empty : {X : Type 0} (xs : List X) → length xs < 1 → xs ≡ []
-empty [] h = refl
-empty (x ∷ xs) h = absurd (omega (arith, h))
+faultless_as : (beginning : Beginning) (readies : Readies) (g : Parts) (n : ℕ) (items : List Item) → faults_as beginning readies g n items ≡ [] → IsLegalAs beginning readies g n items
+faultless_as Start readies g n items none = faultless readies g n items none
+faultless_as Middle readies g n items none = none
 
-pub legal_trace : (files later : Option Store) (request : CheckRequest) (told : List BrokenRule) → length told < 1 → IsJudged files later request told → IsLegalTrace files later request
+pub legal_trace : (files later : Option Store) (request : CheckRequest) (told : List BrokenRule) → told ≡ [] → IsJudged files later request told → IsLegalTrace files later request
 legal_trace files later request told none j =
     let n = count_of request.targets in
-    let nothing = none_of_all request.tells_all (faults_of request.readies j.g n j.judged.items) (sym j.judged.told_is ∙ empty told none) in
+    let nothing = none_of_all request.tells_all (faults_as request.beginning request.readies j.g n j.judged.items) (sym j.judged.told_is ∙ none) in
     record {
       g = j.g;
       has_page = j.has_page;
@@ -113,6 +116,12 @@ legal_trace files later request told none j =
       is_there = j.is_there;
       items = j.judged.items;
       is_text = j.judged.is_text;
-      legal = faultless request.readies j.g n j.judged.items nothing;
+      legal = faultless_as request.beginning request.readies j.g n j.judged.items nothing;
       copied = j.judged.copied;
     }
+
+-- a check that tells faults refuses the trace so
+pub refused_trace : (files later : Option Store) (request : CheckRequest) (told : List BrokenRule) (refusal : Refusal) (printed : List ℕ) → IsJudged files later request told → ArePrinted told refusal → printed ≡ fault_lines told → TraceIsFaulty files later request refusal printed
+refused_trace files later request [] refusal printed judged is lines = absurd is
+refused_trace files later request (first ∷ rest) refusal printed judged is lines =
+    record { first = first; rest = rest; judged = judged; is_first = is; lines = lines }

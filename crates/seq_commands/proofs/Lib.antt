@@ -3,3 +3,4 @@ pub mod CountersPrinted
 pub mod Checked
 pub mod Captured
 pub mod Sayings
+pub mod Headeds

@@ -12,7 +12,10 @@ use Rattle.trace_text.specs.Forms.{IsTraceText, read_as}
 use Rattle.trace_faults.specs.declared.broken_rule.BrokenRule.{BrokenRule}
 use Rattle.trace_faults.specs.declared.readies.Readies.{Readies}
 use Rattle.trace_faults.specs.declared.readies.Readies.TheVariants.{Written, Shown}
+use Rattle.trace_faults.specs.declared.beginning.Beginning.{Beginning}
+use Rattle.trace_faults.specs.declared.beginning.Beginning.TheVariants.{Start, Middle}
 use Rattle.trace_faults.specs.Faults.{faults_of, completed}
+use Rattle.trace_faults.specs.Middle.{verdicts_of, all_broken}
 use Rattle.seq_inputs.specs.Inputs.{HasPage, PageIsRefused}
 use Rattle.seq_inputs.specs.Refusals.{line_of, refusal_of}
 use Rattle.seq_inputs.specs.Stops.{Tells}
@@ -27,13 +30,18 @@ abbrev pub judged_trace : Readies → Parts → ℕ → List Item → List Item
 judged_trace Written g targets items = items
 judged_trace Shown g targets items = completed g targets items
 
+-- the faults of a trace whose recording begins there
+abbrev pub faults_as : Beginning → Readies → Parts → ℕ → List Item → List BrokenRule
+faults_as Start readies g targets items = faults_of readies g targets items
+faults_as Middle readies g targets items = all_broken 0 (verdicts_of readies g targets items)
+
 -- all faults, or the first
 abbrev pub told_of : Bool → List BrokenRule → List BrokenRule
 told_of all faults = if all then faults else take 1 faults
 
 -- the faults of a trace that are told
 abbrev pub told_faults : CheckRequest → Parts → List Item → List BrokenRule
-told_faults request g items = told_of request.tells_all (faults_of request.readies g (count_of request.targets) items)
+told_faults request g items = told_of request.tells_all (faults_as request.beginning request.readies g (count_of request.targets) items)
 
 -- the lines of faults
 abbrev pub fault_lines : List BrokenRule → List ℕ
@@ -65,6 +73,11 @@ pub record IsJudged (files later : Option Store) (request : CheckRequest) (told 
   pub is_there : Holds files request.input.now text
   pub judged : IsJudgedText files later request g text told
 
+-- the trace is legal from its start; from the middle on, nothing in it is forbidden whatever was before
+abbrev pub IsLegalAs : Beginning → Readies → Parts → ℕ → List Item → Type 0
+IsLegalAs Start readies g targets items = is_legal g targets (reverse (judged_trace readies g targets items)) ≡ true
+IsLegalAs Middle readies g targets items = faults_as Middle readies g targets items ≡ []
+
 -- the trace at the path is legal on a channel of so many targets
 pub record IsLegalTrace (files later : Option Store) (request : CheckRequest) : Type 0 where
   pub g : Parts
@@ -73,7 +86,7 @@ pub record IsLegalTrace (files later : Option Store) (request : CheckRequest) : 
   pub is_there : Holds files request.input.now text
   pub items : List Item
   pub is_text : IsTraceText request.form text items
-  pub legal : is_legal g (count_of request.targets) (reverse (judged_trace request.readies g (count_of request.targets) items)) ≡ true
+  pub legal : IsLegalAs request.beginning request.readies g (count_of request.targets) items
   pub copied : IsCopied files later request g items
 
 -- the first fault of the text of a trace, which is to have this form
@@ -91,6 +104,11 @@ pub record TraceIsRefused (files : Option Store) (form : TraceForm) (page input 
 -- the page is refused, or the text of the trace
 abbrev pub ReadingRefuses : Option Store → TraceForm → (page input : List ℕ) → Fault → Type 0
 ReadingRefuses files form page input fault = PageIsRefused files page fault ⊎ TraceIsRefused files form page input fault
+
+-- the first of these faults is what is refused
+abbrev pub ArePrinted : List BrokenRule → Refusal → Type 0
+ArePrinted [] refusal = ⊥
+ArePrinted (first ∷ rest) refusal = refusal ≡ refusal_of (ItemAt first.rule first.item)
 
 -- faults are told, the first of which is what is refused
 pub record TraceIsFaulty (files later : Option Store) (request : CheckRequest) (refusal : Refusal) (printed : List ℕ) : Type 0 where

@@ -14,7 +14,8 @@ use Rattle.micro_verify.specs.declared.showing.Counter.{Counter as Counted}
 use Rattle.micro_verify.specs.Lazy.{Counter}
 use Rattle.micro_verify.specs.Calm.{counter_of}
 use Rattle.trace_text.specs.Line.{text, IsPrintable}
-use Rattle.seq_inputs.specs.Inputs.{HasPage, PageIsRefused, HasFile, HasProgram, ProgramIsRefused, RefusesSource}
+use Rattle.seq_inputs.specs.Inputs.{HasPage, PageIsRefused, HasFile, HasProgram, ProgramIsRefused, RefusesSource, RefusesReason}
+use Rattle.seq_inputs.specs.Headed.{with_header, RefusesHeaded}
 use Rattle.seq_commands.specs.declared.targets.Targets.{Targets}
 use Rattle.seq_commands.specs.declared.targets.Targets.TheVariants.{One, Two, Three, Four}
 use Rattle.seq_inputs.specs.declared.fault.Fault.{Fault}
@@ -44,6 +45,51 @@ pub record SourceIsRefused (files : Option Store) (path : List ℕ) (fault : Fau
   pub text : List ℕ
   pub is_there : Holds files path text
   pub refuses : RefusesSource text fault
+
+-- ---- asm for a chip
+
+-- the lines of the text, whose header may be missing, spell one microprogram, and the other has its words; its own header counts for nothing
+pub record HasWordsOf (text : List ℕ) (y : Microprogram) : Type 0 where
+  pub x : Microprogram
+  pub spelled : Spells (with_header text) x
+  pub same_words : y.words ≡ x.words
+
+-- it is safe for the geometry, and there is nothing against it
+pub record HasSafeWordsOf (g : Parts) (text : List ℕ) (y : Microprogram) : Type 0 where
+  pub has_words : HasWordsOf text y
+  pub safe : IsSafe y g
+  pub faultless : fault_of g y ≡ None
+
+-- the file at the other path is the word file of a microprogram with the words of the text, which is safe for the geometry of the page; no other file changes
+pub record IsAssembledFor (files later : Option Store) (page input target : List ℕ) : Type 0 where
+  pub g : Parts
+  pub has_page : HasPage files page g
+  pub text : List ℕ
+  pub is_there : Holds files input text
+  pub y : Microprogram
+  pub is_safe : HasSafeWordsOf g text y
+  pub written : later ≡ with_file files target (file2 y)
+
+-- there is this reason against a microprogram with the words of the text
+pub record WordsAreRefused (g : Parts) (text : List ℕ) (fault : Fault) : Type 0 where
+  pub y : Microprogram
+  pub has_words : HasWordsOf text y
+  pub refuses : RefusesReason g y fault
+
+-- the first fault of the text, or what is against its words
+abbrev pub RefusesFor : Parts → List ℕ → Fault → Type 0
+RefusesFor g text fault = RefusesHeaded text fault ⊎ WordsAreRefused g text fault
+
+pub record TextIsRefusedFor (files : Option Store) (page input : List ℕ) (fault : Fault) : Type 0 where
+  pub g : Parts
+  pub has_page : HasPage files page g
+  pub text : List ℕ
+  pub is_there : Holds files input text
+  pub refuses : RefusesFor g text fault
+
+-- the page is refused, or the text
+abbrev pub AssembleForRefuses : Option Store → (page input : List ℕ) → Fault → Type 0
+AssembleForRefuses files page input fault = PageIsRefused files page fault ⊎ TextIsRefusedFor files page input fault
 
 -- ---- dis
 

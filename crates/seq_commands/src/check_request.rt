@@ -2,7 +2,7 @@
 
 use crate::targets::Targets;
 use seq_inputs::Style;
-use trace_faults::Readies;
+use trace_faults::{Beginning, Readies};
 use trace_text::TraceForm;
 
 /// What a check is asked for. `-` as a path that is read is standard input.
@@ -16,6 +16,10 @@ pub struct CheckRequest<'a> {
     /// Whether all faults are told, or the first alone.
     pub tells_all: bool,
     pub readies: Readies,
+    /// Where the recording of the trace begins.
+    pub beginning: Beginning,
+    /// Whether status bytes that contradict the trace are said on standard error.
+    pub judges_bytes: bool,
     /// The form of the text.
     pub form: TraceForm,
     /// How what is wrong is said on standard error.

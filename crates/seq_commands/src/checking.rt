@@ -1,5 +1,5 @@
 //! The command that checks a trace.
-ghost use Rattle.std.specs.Prelude.{◌≡◌, ℕ, List, take, IfOk, IfErr, OnOk, OnErr, codes};
+ghost use Rattle.std.specs.Prelude.{◌≡◌, ℕ, List, [], take, IfOk, IfErr, OnOk, OnErr, codes};
 ghost use Rattle.std.specs.List.{All};
 ghost use Rattle.std.specs.Option.{option_map};
 ghost use Rattle.std.specs.Io.KnownBytes.{Appends};
@@ -8,12 +8,14 @@ ghost use Rattle.trace_faults.specs.Faults.{faults_of};
 ghost use Rattle.seq_inputs.specs.declared.refusal.Refusal.{Refusal};
 ghost use Rattle.seq_inputs.specs.Stops.{Says, RefusesNothing};
 ghost use Rattle.seq_commands.specs.Commands.{count_of};
-ghost use Rattle.seq_commands.specs.Checks.{told_faults, judged_trace, with_copy, IsJudgedText, IsJudged, RefusesTrace, ReadingRefuses, IsLegalTrace, CheckRefuses, CheckLeaves};
+ghost use Rattle.trace_faults.specs.declared.beginning.Beginning.TheVariants.{Middle};
+ghost use Rattle.seq_commands.specs.Checks.{told_of, faults_as, told_faults, judged_trace, with_copy, IsJudgedText, IsJudged, RefusesTrace, ReadingRefuses, IsLegalTrace, ArePrinted, fault_lines, CheckRefuses, CheckLeaves};
 
+use crate::beside::{Beside, Unknown, say_beside};
 use crate::check_request::CheckRequest;
 use crate::tally::Tally;
 use crate::targets::Targets;
-use crate::telling::{say_summary, tell_faults};
+use crate::telling::tell_faults;
 use crate::traces::{items_of, put_items};
 use nand_geometry::Geometry;
 use onfi_cycle::Item;
@@ -23,7 +25,10 @@ use seq_inputs::{
 };
 use std::alloc::{AllocError, Allocator};
 use std::io::Write;
-use trace_faults::{BrokenRule, Readies, complete, find_faults};
+use trace_faults::{
+    Beginning, BrokenRule, DoubtedByte, MiddleFaults, Readies, complete, find_faults,
+    find_faults_from_middle, find_status_doubts,
+};
 use trace_text::{CheckProgress, CheckRefusal, check_watched};
 
 // The first fault of a trace, alone; none where it is legal.
@@ -47,15 +52,15 @@ fn find_first<A: Allocator, P: CheckProgress>(
     }
 }
 
-// The faults of a trace that are told.
-fn find_told<A: Allocator, P: CheckProgress>(
+// The faults of a trace from its start that are told.
+fn find_from_start<A: Allocator, P: CheckProgress>(
     alloc: A,
     progress: &mut P,
     request: CheckRequest<'_>,
     geometry: &Geometry,
     items: &[Item],
 ) -> Result<Vec<BrokenRule, A>, AllocError>
-    ensures { IfOk result (λ told. told.items ≡ told_faults request.entry geometry.now items.now) }
+    ensures { IfOk result (λ told. told.items ≡ told_of request.entry.tells_all (faults_of request.entry.readies geometry.now (count_of request.entry.targets) items.now)) }
 {
     let targets = request.targets;
     match (request.tells_all, request.readies) {
@@ -66,6 +71,78 @@ fn find_told<A: Allocator, P: CheckProgress>(
             Ok(faults)
         }
         (true, readies) => find_faults(alloc, geometry, targets.count(), items, readies),
+    }
+}
+
+// The faults of a trace whose recording begins in the middle that are told, and what was taken for granted.
+fn find_from_middle<A: Allocator + Clone>(
+    alloc: A,
+    request: CheckRequest<'_>,
+    geometry: &Geometry,
+    items: &[Item],
+) -> Result<MiddleFaults<A>, AllocError>
+    ensures { IfOk result (λ found. found.faults.items ≡ told_of request.entry.tells_all
+        (faults_as Middle request.entry.readies geometry.now (count_of request.entry.targets) items.now)) }
+{
+    let targets = request.targets.count();
+    let mut found = find_faults_from_middle(alloc, geometry, targets, items, request.readies)?;
+    if !request.tells_all {
+        found.faults.truncate(1);
+    }
+    Ok(found)
+}
+
+// What is found in a trace: the faults that are told, and what was taken for granted where its recording begins in the middle.
+#[derive(Drop)]
+struct Told<A: Allocator> {
+    faults: Vec<BrokenRule, A>,
+    unknown: Unknown<A>,
+}
+
+// The faults of a trace that are told.
+fn find_told<A: Allocator + Clone, P: CheckProgress>(
+    alloc: A,
+    progress: &mut P,
+    request: CheckRequest<'_>,
+    geometry: &Geometry,
+    items: &[Item],
+) -> Result<Told<A>, AllocError>
+    ensures { IfOk result (λ told. told.faults.items ≡ told_faults request.entry geometry.now items.now) }
+{
+    match request.beginning {
+        Beginning::Start => Ok(Told {
+            faults: find_from_start(alloc.clone()?, progress, request, geometry, items)?,
+            unknown: Unknown::nothing(alloc),
+        }),
+        Beginning::Middle => {
+            let MiddleFaults {
+                faults,
+                granted,
+                passed_over,
+            } = find_from_middle(alloc, request, geometry, items)?;
+            Ok(Told {
+                faults,
+                unknown: Unknown {
+                    granted,
+                    passed_over,
+                },
+            })
+        }
+    }
+}
+
+// The status bytes that contradict the trace, where they are asked for.
+fn find_doubts<A: Allocator>(
+    alloc: A,
+    request: CheckRequest<'_>,
+    geometry: &Geometry,
+    items: &[Item],
+) -> Result<Vec<DoubtedByte, A>, AllocError> {
+    if request.judges_bytes {
+        let targets = request.targets.count();
+        find_status_doubts(alloc, geometry, targets, items, request.readies)
+    } else {
+        Ok(Vec::new(alloc))
     }
 }
 
@@ -95,7 +172,14 @@ fn copy_trace<'p, A: Allocator + Clone, F: Files>(
     }
 }
 
-// Judges the trace of a text, and copies it: what it has, and the faults that are told.
+// What a check has found in the trace of a text.
+#[derive(Drop)]
+struct Judged<A: Allocator> {
+    told: Vec<BrokenRule, A>,
+    beside: Beside<A>,
+}
+
+// Judges the trace of a text, and copies it.
 fn judge_text<'p, A: Allocator + Clone, F: Files, P: CheckProgress>(
     alloc: A,
     files: &mut F,
@@ -103,29 +187,32 @@ fn judge_text<'p, A: Allocator + Clone, F: Files, P: CheckProgress>(
     request: CheckRequest<'p>,
     geometry: &Geometry,
     text: &str,
-) -> Result<(Tally, Vec<BrokenRule, A>), Stop<'p, A>>
-    ensures ok { IfOk result (λ found. IsJudgedText (F.store files.old) (F.store files.new) request.entry geometry.now text.now found.1.items) }
+) -> Result<Judged<A>, Stop<'p, A>>
+    ensures ok { IfOk result (λ found. IsJudgedText (F.store files.old) (F.store files.new) request.entry geometry.now text.now found.told.items) }
     ensures err { IfErr result (Says (RefusesTrace request.entry.form text.now)) }
     ensures stays { OnErr result (F.store files.new ≡ F.store files.old) }
 {
     let items = items_of(alloc.clone()?, request.input, text, request.form)?;
-    let told = find_told(
-        alloc.clone()?,
-        progress,
-        request,
-        geometry,
-        items.as_slice(),
-    )?;
-    copy_trace(alloc, files, request, geometry, items.as_slice())?;
-    Ok((Tally::of(items.as_slice()), told))
+    let items = items.as_slice();
+    let Told { faults, unknown } = find_told(alloc.clone()?, progress, request, geometry, items)?;
+    let doubts = find_doubts(alloc.clone()?, request, geometry, items)?;
+    copy_trace(alloc, files, request, geometry, items)?;
+    Ok(Judged {
+        told: faults,
+        beside: Beside {
+            tally: Tally::of(items),
+            unknown,
+            doubts,
+        },
+    })
 }
 
-// What a check has found.
+// What a check has found, and the text that it has read.
 #[derive(Drop)]
 struct Found<A: Allocator> {
     text: Vec<u8, A>,
-    tally: Tally,
     told: Vec<BrokenRule, A>,
+    beside: Beside<A>,
 }
 
 // Reads a page and the text of a trace, and judges that: what was read, and the faults that are told.
@@ -142,12 +229,42 @@ fn check_at<'p, A: Allocator + Clone, F: Files, P: CheckProgress>(
     let geometry = geometry_at(alloc.clone()?, files, request.page)?;
     let bytes = read_file(alloc.clone()?, files, request.input)?;
     let text = text_of(request.input, bytes.as_slice())?;
-    let (tally, told) = judge_text(alloc, files, progress, request, &geometry, text)?;
+    let Judged { told, beside } = judge_text(alloc, files, progress, request, &geometry, text)?;
     Ok(Found {
         text: bytes,
-        tally,
         told,
+        beside,
     })
+}
+
+// Tells what a check has found.
+fn tell_found<A: Allocator + Clone, W: Write, E: Write, P>(
+    alloc: A,
+    console: &mut Console<W, E, P>,
+    request: CheckRequest<'_>,
+    found: &Found<A>,
+) -> Exit
+    ensures done { result ≡ Exit.Done → (found.now.told.items ≡ [])
+        × Appends (W.contents console.old.output) (W.contents console.new.output) (codes "legal\n") }
+    ensures refused { (refusal : Refusal) → result ≡ Exit.Refused refusal → ArePrinted found.now.told.items refusal
+        × Appends (W.contents console.old.output) (W.contents console.new.output) (fault_lines found.now.told.items) }
+{
+    let text = found.text.as_slice();
+    match found.told.as_slice() {
+        [] => {
+            say_beside(alloc, &mut console.errors, request, text, &found.beside, 0);
+            finish(console, "legal\n")
+        }
+        [first, ..] => tell_faults(
+            alloc,
+            console,
+            request,
+            text,
+            &found.beside,
+            *first,
+            found.told.as_slice(),
+        ),
+    }
 }
 
 /// Checks whether the trace of a text is legal on a channel of so many targets of the geometry of a parameter page.
@@ -157,7 +274,8 @@ fn check_at<'p, A: Allocator + Clone, F: Files, P: CheckProgress>(
 /// asked for the line of each other one after it. The text is read after the page, if that has no fault. `FileFault`: a file couldn't be read or
 /// written, the text isn't UTF-8, or the output couldn't be written. Where a path is given for it, the trace that is judged is written there before
 /// anything is printed, and no other file is. The console's progress is told at each million of items that are permitted, where the first fault
-/// ends the check of a trace that has its readies.
+/// ends the check of a trace that has its readies. On its errors stands what was taken for granted of a trace whose recording begins in the middle, and
+/// where they are asked for the status bytes that contradict the trace.
 pub fn check_trace<A: Allocator + Clone, F: Files, W: Write, E: Write, P: CheckProgress>(
     alloc: A,
     files: &mut F,
@@ -176,21 +294,7 @@ pub fn check_trace<A: Allocator + Clone, F: Files, W: Write, E: Write, P: CheckP
         Err(_) => return end_without_memory(console),
     };
     match check_at(copy, files, &mut console.progress, request) {
-        Ok(Found { text, tally, told }) => match told.as_slice() {
-            [] => {
-                say_summary(&mut console.errors, request, tally, 0);
-                finish(console, "legal\n")
-            }
-            [first, ..] => tell_faults(
-                alloc,
-                console,
-                request,
-                text.as_slice(),
-                tally,
-                *first,
-                told.as_slice(),
-            ),
-        },
+        Ok(found) => tell_found(alloc, console, request, &found),
         Err(stop) => fail_as(alloc, console, request.style, stop),
     }
 }

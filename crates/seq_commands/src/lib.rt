@@ -5,6 +5,8 @@
 #![tactic(auto)]
 
 mod assembling;
+mod assembling_for;
+mod beside;
 mod capture_request;
 mod capturing;
 mod check_request;
@@ -23,6 +25,7 @@ mod upgrading;
 mod verifying;
 
 pub use assembling::assemble_file;
+pub use assembling_for::assemble_file_for;
 pub use capture_request::CaptureRequest;
 pub use capturing::capture_trace;
 pub use check_request::CheckRequest;

@@ -7,8 +7,8 @@ ghost use Rattle.seq_inputs.specs.declared.refusal.Refusal.{Refusal as Refused};
 ghost use Rattle.seq_inputs.specs.Refusals.{refusal_of};
 ghost use Rattle.seq_commands.specs.Checks.{fault_lines};
 
+use crate::beside::{Beside, say_beside};
 use crate::check_request::CheckRequest;
-use crate::tally::Tally;
 use seq_inputs::{
     Console, Exit, Fault, Refusal, Style, Told, end_without_memory, finish_refused, say_words,
     words_of_item,
@@ -76,8 +76,8 @@ fn push_more<A: Allocator>(
     push_message(lines, style, words.as_str())
 }
 
-// Adds a message.
-fn push_message<A: Allocator>(
+/// Adds a message.
+pub(crate) fn push_message<A: Allocator>(
     lines: &mut String<A>,
     style: Style,
     message: &str,
@@ -120,19 +120,6 @@ fn say_faults<A: Allocator + Clone, E: Write>(
     }
 }
 
-/// Says in words what was judged, where all faults are told: how many they are.
-pub(crate) fn say_summary<E: Write>(
-    errors: &mut E,
-    request: CheckRequest<'_>,
-    tally: Tally,
-    faults: usize,
-) {
-    if request.tells_all && request.style == Style::Plain {
-        let _ = writeln!(errors, "{tally}; {faults} faults");
-        let _ = errors.flush();
-    }
-}
-
 /// Ends a check of a text that has faults: their lines are printed, and said on the errors, with what was judged where all
 /// faults are told.
 pub(crate) fn tell_faults<A: Allocator + Clone, W: Write, E: Write, P>(
@@ -140,7 +127,7 @@ pub(crate) fn tell_faults<A: Allocator + Clone, W: Write, E: Write, P>(
     console: &mut Console<W, E, P>,
     request: CheckRequest<'_>,
     text: &[u8],
-    tally: Tally,
+    beside: &Beside<A>,
     first: BrokenRule,
     told: &[BrokenRule],
 ) -> Exit
@@ -157,8 +144,18 @@ pub(crate) fn tell_faults<A: Allocator + Clone, W: Write, E: Write, P>(
     };
     let exit = finish_refused(console, refusal_of(first), lines.as_str());
     if matches!(exit, Exit::Refused(_)) {
-        say_faults(alloc, &mut console.errors, request, text, told);
-        say_summary(&mut console.errors, request, tally, told.len());
+        let Ok(copy) = alloc.clone() else {
+            return exit;
+        };
+        say_faults(copy, &mut console.errors, request, text, told);
+        say_beside(
+            alloc,
+            &mut console.errors,
+            request,
+            text,
+            beside,
+            told.len(),
+        );
     }
     exit
 }

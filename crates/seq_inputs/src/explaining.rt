@@ -1,6 +1,7 @@
 //! What is wrong with a file, in words for whoever wrote it: ``word N, `WORD`: what is wrong (CODE)``, with its line, as far as there is a line and a word.
 
 use crate::fault::Fault;
+use crate::headed::Headed;
 use crate::reading::is_source;
 use crate::words::Words;
 use bus_capture::CaptureFault;
@@ -85,6 +86,32 @@ pub fn words_of_source<'p, A: Allocator>(
     Words::at(path, Some(line), format!(in alloc; "{message}"))
 }
 
+/// What is wrong with an assembly text to which a header was added: the line of it, counted with those that were added. The line that has a
+/// label already is counted in the source.
+pub(crate) fn words_of_headed<'p, A: Allocator, B: Allocator>(
+    alloc: A,
+    path: &'p str,
+    source: &str,
+    headed: &Headed<B>,
+    fault: AsmFault,
+    line: usize,
+) -> Option<Words<'p, A>> {
+    let shown = line.saturating_sub(headed.lines_added);
+    let words = match fault {
+        AsmFault::LabelTwice => words_of_source(alloc, path, source, fault, shown),
+        AsmFault::UnknownWord
+        | AsmFault::BadOperand
+        | AsmFault::OperandOutOfRange
+        | AsmFault::NoSuchLabel
+        | AsmFault::LabelAfterLastWord
+        | AsmFault::TooManyWords
+        | AsmFault::HeaderOutOfOrder => {
+            words_of_source(alloc, path, headed.text.as_str(), fault, line)
+        }
+    };
+    Some(words?.at_line(shown))
+}
+
 /// What is wrong with a line of the text of a trace.
 pub fn words_of_trace<'p, A: Allocator>(
     alloc: A,
@@ -131,6 +158,34 @@ fn find_line(text: &str, form: TraceForm, item: usize) -> (usize, Option<u64>) {
     }
 }
 
+/// What is said of an item of a trace.
+pub fn words_at_item<'p, A: Allocator, M: fmt::Display + Drop>(
+    alloc: A,
+    path: &'p str,
+    text: &str,
+    form: TraceForm,
+    item: usize,
+    message: M,
+) -> Option<Words<'p, A>> {
+    let (line, time) = find_line(text, form, item);
+    let shown = Shown::line(line_at(text, line).trim_end());
+    let words = match time {
+        Some(time) => format!(in alloc; "item {item} at {time}, `{shown}`: {message}"),
+        None => format!(in alloc; "item {item}, `{shown}`: {message}"),
+    };
+    Words::at(path, Some(line), words)
+}
+
+// A rule with its code.
+#[derive(Clone, Copy)]
+struct Coded(Forbidden);
+
+impl fmt::Display for Coded {
+    fn fmt<W: fmt::Write>(&self, f: &mut fmt::Formatter<W>) -> fmt::Result {
+        write!(f, "{} ({})", self.0, self.0.code())
+    }
+}
+
 /// Which rule an item of a trace breaks.
 pub fn words_of_item<'p, A: Allocator>(
     alloc: A,
@@ -140,14 +195,7 @@ pub fn words_of_item<'p, A: Allocator>(
     rule: Forbidden,
     item: usize,
 ) -> Option<Words<'p, A>> {
-    let (line, time) = find_line(text, form, item);
-    let shown = Shown::line(line_at(text, line).trim_end());
-    let code = rule.code();
-    let words = match time {
-        Some(time) => { format!(in alloc; "item {item} at {time}, `{shown}`: {rule} ({code})") }
-        None => format!(in alloc; "item {item}, `{shown}`: {rule} ({code})"),
-    };
-    Words::at(path, Some(line), words)
+    words_at_item(alloc, path, text, form, item, Coded(rule))
 }
 
 // What a line of an assembly text says, its comment left out.

@@ -29,6 +29,30 @@ impl<'a, A: Allocator> Words<'a, A> {
         }
     }
 
+    /// The same of this line.
+    pub fn at_line(self, line: usize) -> Words<'a, A> {
+        let Words {
+            path,
+            line: _,
+            text,
+        } = self;
+        Words {
+            path,
+            line: Some(line),
+            text,
+        }
+    }
+
+    /// The same so many lines further up, where it is said of a line.
+    pub fn lines_up(self, count: usize) -> Words<'a, A> {
+        let Words { path, line, text } = self;
+        Words {
+            path,
+            line: line.map(|line| line.saturating_sub(count)),
+            text,
+        }
+    }
+
     /// What is said of a line that is named otherwise, unless there was no memory for the words.
     pub fn of(text: Result<String<A>, AllocError>) -> Option<Words<'a, A>> {
         match text {

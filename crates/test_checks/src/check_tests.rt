@@ -5,7 +5,7 @@ use seq_inputs::{Console, Exit, Style};
 use std::alloc::Global;
 use std::process::Abort;
 use std::test::Fail;
-use trace_faults::Readies;
+use trace_faults::{Beginning, Readies};
 use trace_text::{NoProgress, TraceForm};
 
 // An erase as it stands on a bus, then a command that is none of the model's, and a program that isn't ended.
@@ -21,6 +21,8 @@ const REQUEST: CheckRequest<'static> = CheckRequest {
     input: "bus.trace",
     tells_all: false,
     readies: Readies::Written,
+    beginning: Beginning::Start,
+    judges_bytes: false,
     form: TraceForm::Strict,
     style: Style::Plain,
     copy: None,
@@ -275,4 +277,42 @@ fn files_that_are_refused_as_json(rt: HostRuntime) -> Result<(), Fail> {
         "{\"file\":\"other.trace\",\"message\":\"there is no such file\"}\n"
     );
     Ok(())
+}
+
+// A trace that was recorded while the bus was in use: the end of a read, and a read of a register that nobody saw filled.
+#[test]
+fn a_trace_from_the_middle(rt: HostRuntime) -> Result<(), Fail> {
+    let request = CheckRequest {
+        beginning: Beginning::Middle,
+        ..REQUEST
+    };
+    let seen = see(rt.alloc(), "0 O 12\n0 C 00\n0 O 55\n0 C 60\n", request)?;
+    expect(
+        &rt,
+        &seen,
+        0,
+        "legal\n",
+        "bus.trace:3: item 2, `0 O 55`: taken for granted, since what was before isn't known: an output comes in an open sequence, or with other than one driver (F12)\nfrom the middle: 1 cycles passed over, 1 items taken for granted\n",
+    )
+}
+
+// A status byte that shows RDY while the LUN works.
+#[test]
+fn a_status_that_contradicts_its_trace(rt: HostRuntime) -> Result<(), Fail> {
+    let request = CheckRequest {
+        judges_bytes: true,
+        ..REQUEST
+    };
+    let seen = see(
+        rt.alloc(),
+        "0 C 60\n0 A 00\n0 A 00\n0 A 00\n0 C d0\n0 C 70\n0 O e0\n",
+        request,
+    )?;
+    expect(
+        &rt,
+        &seen,
+        0,
+        "legal\n",
+        "bus.trace:7: item 6, `0 O e0`: the status shows RDY, and no ready of the LUN came before\n",
+    )
 }

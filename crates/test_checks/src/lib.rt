@@ -2,6 +2,8 @@
 #![tactic(auto)]
 
 #[cfg(test)]
+mod assemble_tests;
+#[cfg(test)]
 mod capture_tests;
 #[cfg(test)]
 mod check_tests;
@@ -11,3 +13,5 @@ mod draw_tests;
 mod fault_tests;
 #[cfg(test)]
 mod lint_tests;
+#[cfg(test)]
+mod middle_tests;

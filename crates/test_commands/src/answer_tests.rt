@@ -16,7 +16,7 @@ use std::process::Abort;
 use std::sync::Wait;
 use std::test::Fail;
 use std::thread::Threads;
-use trace_faults::Readies;
+use trace_faults::{Beginning, Readies};
 use trace_text::{NoProgress, TraceForm};
 
 // What the program answers: its status, and what it writes on standard output and on standard error.
@@ -586,6 +586,8 @@ const COMMANDS: [(Command<'static>, u8, &str); 7] = [
             input: "a",
             tells_all: false,
             readies: Readies::Written,
+            beginning: Beginning::Start,
+            judges_bytes: false,
             form: TraceForm::Strict,
             style: Style::Plain,
             copy: None,

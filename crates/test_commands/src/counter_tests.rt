@@ -9,7 +9,7 @@ use seq_files::{FileError, FileFault, MapFiles};
 use seq_inputs::{Exit, Fault, Style};
 use std::process::Abort;
 use std::test::Fail;
-use trace_faults::Readies;
+use trace_faults::{Beginning, Readies};
 use trace_text::TraceForm;
 
 const VERIFY: Command<'static> = Command::Verify {
@@ -26,6 +26,8 @@ const CHECK: Command<'static> = Command::Check(CheckRequest {
     input: "run",
     tells_all: false,
     readies: Readies::Written,
+    beginning: Beginning::Start,
+    judges_bytes: false,
     form: TraceForm::Strict,
     style: Style::Plain,
     copy: None,

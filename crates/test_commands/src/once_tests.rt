@@ -10,7 +10,7 @@ use std::alloc::{AllocError, Global};
 use std::io::{self, sink};
 use std::process::Abort;
 use std::test::Fail;
-use trace_faults::Readies;
+use trace_faults::{Beginning, Readies};
 use trace_text::{NoProgress, TraceForm};
 
 // The erase of one block: cmd 60, addr 2 3, cmd d0, wait, end 0; rows 1, budget 5.
@@ -334,6 +334,8 @@ fn command_lines_of_files(rt: HostRuntime) -> Result<(), Fail> {
             input: "b",
             tells_all: false,
             readies: Readies::Written,
+            beginning: Beginning::Start,
+            judges_bytes: false,
             form: TraceForm::Strict,
             style: Style::Plain,
             copy: None,

@@ -11,7 +11,7 @@ use std::alloc::{AllocError, Allocator, Global};
 use std::io::Write;
 use std::process::Abort;
 use std::test::Fail;
-use trace_faults::Readies;
+use trace_faults::{Beginning, Readies};
 use trace_text::{NoProgress, TraceForm};
 
 // One LUN of 8 blocks of 4 pages of 512 + 16 bytes, in one plane.
@@ -60,6 +60,8 @@ pub(crate) const CHECK: Command<'static> = Command::Check(CheckRequest {
     input: "in",
     tells_all: false,
     readies: Readies::Written,
+    beginning: Beginning::Start,
+    judges_bytes: false,
     form: TraceForm::Strict,
     style: Style::Plain,
     copy: None,
@@ -234,6 +236,8 @@ fn checks(rt: HostRuntime) -> Result<(), Fail> {
             input: "in",
             tells_all: false,
             readies: Readies::Written,
+            beginning: Beginning::Start,
+            judges_bytes: false,
             form: TraceForm::Strict,
             style: Style::Plain,
             copy: None,

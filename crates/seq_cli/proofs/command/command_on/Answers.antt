@@ -12,6 +12,14 @@ returns-in-Assemble-clause-refused g c = λ refusal is.
       k.2,
     )
 
+pub returns-in-AssembleFor-clause-refused : goal.returns-in-AssembleFor-clause-refused
+returns-in-AssembleFor-clause-refused g c = λ refusal is.
+    let k = c.assemble_file_for.ensures.refused refusal is in (
+      line_of refusal,
+      subst (λ (m : Command). MayRefuse m (g.R.Read.remaining c.args.input.now) (g.F.Files.store c.args.files.now) (g.F.Files.store c.assemble_file_for.new.files) refusal (line_of refusal)) (sym c.in-AssembleFor.is) (k.0, k.1, refl),
+      k.2,
+    )
+
 pub returns-in-Verify-clause-refused : goal.returns-in-Verify-clause-refused
 returns-in-Verify-clause-refused g c = λ refusal is.
     let k = c.verify_file.ensures.refused refusal is in (
