@@ -1,6 +1,6 @@
 //! What the program does with its words, and its status.
 
-use crate::command::command_on;
+use crate::command::{Command, command_on};
 use crate::command_line;
 use crate::mistake::Mistake;
 use clap::Error;
@@ -65,6 +65,41 @@ fn end_without_words<W: Write, E: Write, P>(
     Exit::Usage
 }
 
+// How two commands end, one after the other: as the first of them that isn't done.
+fn end_of_both(first: Exit, second: Exit) -> Exit {
+    match first {
+        Exit::Done => second,
+        Exit::Refused(_) | Exit::FileFault | Exit::ReaderGone | Exit::Usage | Exit::OutOfMemory =>
+            first,
+    }
+}
+
+// Does commands one after the other.
+fn do_all<
+    T: Threads + Wait + Sync,
+    C: Clock,
+    F: Files,
+    R: Read,
+    W: Write,
+    E: Write,
+    P: CheckProgress + RunProgress,
+>(
+    rt: &T,
+    clock: &C,
+    alloc: Global,
+    files: &mut F,
+    input: &mut R,
+    console: &mut Console<W, E, P>,
+    commands: &[Command<'_>],
+) -> Exit {
+    let mut exit = Exit::Done;
+    for command in commands {
+        let end = command_on(rt, clock, alloc, files, input, console, *command);
+        exit = end_of_both(exit, end);
+    }
+    exit
+}
+
 /// Does what the words ask for, the first of which is the name of the program. A run starts threads by the handle and takes the time by the clock.
 pub fn answer_watched<
     T: Threads + Wait + Sync,
@@ -87,8 +122,8 @@ pub fn answer_watched<
         Ok(words) => words,
         Err(error) => return end_without_words(console, &error),
     };
-    match command_line::parse(alloc, words.as_slice()) {
-        Ok(command) => command_on(rt, clock, alloc, files, input, console, command),
+    match command_line::parse_all(alloc, words.as_slice()) {
+        Ok(commands) => do_all(rt, clock, alloc, files, input, console, commands.as_slice()),
         Err(mistake) => say_mistake(alloc, console, mistake),
     }
 }

@@ -353,7 +353,7 @@ fn check<'a>(alloc: Global) -> Result<clap::Command<'a>, Error> {
         .after_help("Example: onfiseq check die.page 1 bus.trace --all --readies-from-status")
         .arg(require(alloc, "PAGE", "The parameter page of each die"))?
         .arg(targets(alloc))?
-        .arg(trace(alloc))?
+        .arg(trace(alloc).num_args(1..))?
         .arg(all)?
         .arg(recorded(alloc))?
         .arg(readies)?
@@ -616,8 +616,35 @@ fn read_base<'a>(word: &'a str) -> Result<u32, Mistake<'a>> {
     number.map_err(|_| Mistake::Base(word))
 }
 
-/// The command that these words ask for; the first is the name of the program.
-pub fn parse<'a>(alloc: Global, words: &'a [String]) -> Result<Command<'a>, Mistake<'a>> {
+// The command of a verb and its arguments, if its paths go together.
+fn read_command<'a>(verb: Verb, given: &ArgMatches<'a>) -> Result<Command<'a>, Mistake<'a>> {
+    let command = verb.read(given)?;
+    match PathMistake::find(command) {
+        Some(mistake) => Err(Mistake::Paths(mistake)),
+        None => Ok(command),
+    }
+}
+
+// The traces behind the first that are to be checked.
+fn more_traces<'a>(
+    alloc: Global,
+    verb: Verb,
+    given: &ArgMatches<'a>,
+) -> Result<Vec<&'a str>, Mistake<'a>> {
+    let mut more = Vec::new(alloc);
+    if verb == Verb::Check
+        && let Some([_, rest @ ..]) = given.get_strs("TRACE")
+    {
+        more.extend_from_slice(rest).map_err(Error::from)?;
+    }
+    Ok(more)
+}
+
+// The command that these words ask for, and the traces behind the first that are to be checked.
+fn read_words<'a>(
+    alloc: Global,
+    words: &'a [String],
+) -> Result<(Command<'a>, Vec<&'a str>), Mistake<'a>> {
     let declared = declare(alloc)?;
     let matches = declared.try_get_matches_from(words)?;
     // The parser takes no word that isn't declared, and asks for one.
@@ -627,9 +654,44 @@ pub fn parse<'a>(alloc: Global, words: &'a [String]) -> Result<Command<'a>, Mist
     let Some(verb) = Verb::find(word) else {
         return Err(Mistake::NoCommand);
     };
-    let command = verb.read(given)?;
-    match PathMistake::find(command) {
-        Some(mistake) => Err(Mistake::Paths(mistake)),
-        None => Ok(command),
+    Ok((read_command(verb, given)?, more_traces(alloc, verb, given)?))
+}
+
+/// The command that these words ask for; the first is the name of the program. Of a check of several traces it is that of the first.
+pub fn parse<'a>(alloc: Global, words: &'a [String]) -> Result<Command<'a>, Mistake<'a>> {
+    let (command, _) = read_words(alloc, words)?;
+    Ok(command)
+}
+
+// The same command for another trace, where it is a check.
+fn with_trace<'a>(command: Command<'a>, input: &'a str) -> Command<'a> {
+    match command {
+        Command::Check(request) => Command::Check(CheckRequest { input, ..request }),
+        Command::Assemble { .. }
+        | Command::AssembleFor { .. }
+        | Command::Verify { .. }
+        | Command::Lint { .. }
+        | Command::Once { .. }
+        | Command::Run(_)
+        | Command::Capture(_)
+        | Command::Draw(_)
+        | Command::Disassemble { .. }
+        | Command::Upgrade { .. } => command,
     }
+}
+
+/// The commands that these words ask for, in order: one, or a check of each of several traces; the first word is the name of the program.
+pub fn parse_all<'a>(alloc: Global, words: &'a [String]) -> Result<Vec<Command<'a>>, Mistake<'a>> {
+    let (first, more) = read_words(alloc, words)?;
+    if let Some(mistake) = PathMistake::among(first, more.as_slice()) {
+        return Err(Mistake::Paths(mistake));
+    }
+    let mut commands = Vec::new(alloc);
+    commands.push(first).map_err(Error::from)?;
+    for input in more.as_slice() {
+        commands
+            .push(with_trace(first, *input))
+            .map_err(Error::from)?;
+    }
+    Ok(commands)
 }

@@ -15,7 +15,7 @@ mod real_files;
 
 pub use answering::{answer, answer_watched};
 pub use command::{Command, command_on};
-pub use command_line::parse;
+pub use command_line::{parse, parse_all};
 pub use mistake::{Mistake, PathMistake};
 pub use once::{once_on, run_program};
 pub use progress::TerminalProgress;

@@ -14,6 +14,8 @@ pub enum PathMistake<'a> {
     InputTwice,
     /// What is read would be written over.
     WrittenOver(&'a str),
+    /// The traces of several checks would be written to one file.
+    SeveralWritten,
 }
 
 impl fmt::Display for PathMistake<'_> {
@@ -30,11 +32,28 @@ impl fmt::Display for PathMistake<'_> {
                 "{} would be written over: it is read by this command",
                 Shown::path(path)
             ),
+            PathMistake::SeveralWritten => f.write_str("--write takes one trace"),
         }
     }
 }
 
 impl<'a> PathMistake<'a> {
+    /// What is wrong with further traces that a check is to read, if something is.
+    pub(crate) fn among(first: Command<'a>, more: &[&'a str]) -> Option<PathMistake<'a>> {
+        let Paths { inputs, output } = first.paths();
+        if more.is_empty() {
+            return None;
+        }
+        if output.is_some() {
+            return Some(PathMistake::SeveralWritten);
+        }
+        let streams = more.iter().filter(|path| **path == "-").count();
+        if 1 < streams || (streams == 1 && inputs.contains(&Some("-"))) {
+            return Some(PathMistake::InputTwice);
+        }
+        None
+    }
+
     /// What is wrong with the paths of this command, if something is. `upgrade` may write over what it has read.
     pub(crate) fn find(command: Command<'a>) -> Option<PathMistake<'a>> {
         let Paths { inputs, output } = command.paths();

@@ -3,7 +3,7 @@
 use crate::once_tests::new_console;
 use bus_capture::CaptureForm;
 use clap::error::ErrorKind as UsageKind;
-use seq_cli::{Command, Mistake, PathMistake, once_on, parse};
+use seq_cli::{Command, Mistake, PathMistake, once_on, parse, parse_all};
 use seq_commands::{CaptureRequest, DrawForm, DrawRequest, Targets};
 use seq_inputs::Exit;
 use seq_run::RunRequest;
@@ -202,6 +202,7 @@ fn name_of(asked: Command<'_>) -> &'static str {
         Command::Assemble { .. } => "asm",
         Command::Disassemble { .. } => "dis",
         Command::Upgrade { .. } => "upgrade",
+        Command::AssembleFor { .. } => "asm --auto",
         Command::Verify { .. } => "verify",
         Command::Lint { .. } => "lint",
         Command::Capture(_) => "capture",
@@ -238,6 +239,56 @@ fn each_command_of_the_help_is_asked_for(rt: HostRuntime) -> Result<(), Fail> {
         }
     }
     assert_eq!(rt; count, 11);
+    Ok(())
+}
+
+// ---- checks of several traces
+
+// The trace that a check reads.
+fn trace_of(command: Command<'_>) -> Option<&str> {
+    match command {
+        Command::Check(request) => Some(request.input),
+        _ => None,
+    }
+}
+
+#[test]
+fn a_check_of_several_traces(rt: HostRuntime) -> Result<(), Fail> {
+    let words = words_of(rt.alloc(), "check p 1 a b c --all")?;
+    let Ok(commands) = parse_all(rt.alloc(), words.as_slice()) else {
+        return Err(Fail::from("no commands"));
+    };
+    assert_eq!(rt; commands.len(), 3);
+    for (command, trace) in commands.iter().zip(["a", "b", "c"].iter()) {
+        assert_eq!(rt; trace_of(*command), Some(*trace));
+    }
+    Ok(())
+}
+
+// What is wrong with the paths of these words, among which are several traces.
+fn mistake_among<'a>(alloc: Global, words: &'a [String]) -> Result<Option<PathMistake<'a>>, Fail> {
+    match parse_all(alloc, words) {
+        Err(Mistake::Paths(mistake)) => Ok(Some(mistake)),
+        Ok(_) => Ok(None),
+        Err(_) => Err(Fail::from("another mistake")),
+    }
+}
+
+#[test]
+fn traces_that_do_not_go_together(rt: HostRuntime) -> Result<(), Fail> {
+    for (line, mistake) in [
+        ("check p 1 a b --write t", Some(PathMistake::SeveralWritten)),
+        ("check p 1 a - -", Some(PathMistake::InputTwice)),
+        ("check - 1 a -", Some(PathMistake::InputTwice)),
+        ("check p 1 a -", None),
+    ] {
+        let words = words_of(rt.alloc(), line)?;
+        assert_eq!(rt;
+            mistake_among(rt.alloc(), words.as_slice())?,
+            mistake,
+            "{line}"
+        );
+    }
     Ok(())
 }
 

@@ -2,8 +2,8 @@ use micro_claims::Reason;
 use nand_geometry::{Geometry, Parts, SMALL_CHIP};
 use seq_cli::Command;
 use seq_commands::{
-    CheckRequest, Targets, assemble_file, capture_trace, check_trace, disassemble_file, draw_trace,
-    lint_file, upgrade_file, verify_file,
+    CheckRequest, Targets, assemble_file, assemble_file_for, capture_trace, check_trace,
+    disassemble_file, draw_trace, lint_file, upgrade_file, verify_file,
 };
 use seq_files::MapFiles;
 use seq_inputs::{Console, Exit, Fault, Refusal, Style};
@@ -102,6 +102,11 @@ pub(crate) fn carry_out<A: Allocator + Clone, W: Write, E: Write>(
 ) -> Exit {
     match command {
         Command::Assemble { input, target } => assemble_file(alloc, files, console, input, target),
+        Command::AssembleFor {
+            page,
+            input,
+            target,
+        } => assemble_file_for(alloc, files, console, page, input, target),
         Command::Verify {
             page,
             input,
