@@ -1,4 +1,5 @@
 pub mod Runs
+pub mod Packing
 pub mod Keeping
 pub mod Counting
 pub mod Turning

@@ -1,4 +1,5 @@
 pub mod Stored
+pub mod Events
 pub mod Turns
 pub mod Counts
 pub mod Rows

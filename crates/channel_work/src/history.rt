@@ -20,10 +20,11 @@ ghost use Rattle.channel_work.specs.Turned.{IsBeside, TookSteps, IsTurn, TellsBu
 ghost use Rattle.channel_work.specs.declared.stored.Stored.TheVariants.{Step as WasStepped, Ready as BecameReady, ArrayReady as ArrayBecameReady};
 
 use crate::backlog::Backlog;
+use crate::events::EventLog;
 use crate::picks::Picked;
 use crate::refusing::{make_room_to_finish, refuse_array_ready, refuse_finish, refuse_ready};
 use crate::seats::Seats;
-use crate::start::{Started, find_last_started, load_one, make_room, take_one};
+use crate::start::{Started, load_one, make_room, take_one};
 use crate::stored::{Name, NamedJob, Stored};
 use crate::tally::{LunCount, count_luns, find_lun};
 use crate::worker_pass::Turns;
@@ -42,7 +43,7 @@ use std::sync::ledger::{Book, Share};
 pub(crate) struct History<L: Turns> {
     core: Core,
     taker: Taker<Job>,
-    events: Vec<Stored>,
+    events: EventLog,
     taken: Vec<Name>,
     started: Vec<Name>,
     backlog: Backlog,
@@ -82,7 +83,7 @@ impl<L: Turns> History<L> {
     pub(crate) fn ready(&mut self, lun: Lun, fail: bool) -> Option<bool>
         ensures { IsComing self.old (Ready lun fail) ToReady (BecameReady lun fail) result self.new }
     {
-        match self.events.reserve(1) {
+        match self.events.reserve() {
             Err(_) => refuse_ready(&self.core, lun, fail),
             Ok(()) => {
                 let from = self.core.trace().len();
@@ -101,7 +102,7 @@ impl<L: Turns> History<L> {
     pub(crate) fn array_ready(&mut self, lun: Lun) -> Option<bool>
         ensures { IsComing self.old (ArrayReady lun) ToArrayReady (ArrayBecameReady lun) result self.new }
     {
-        match self.events.reserve(1) {
+        match self.events.reserve() {
             Err(_) => refuse_array_ready(&self.core, lun),
             Ok(()) => {
                 let from = self.core.trace().len();
@@ -124,7 +125,7 @@ impl<L: Turns> History<L> {
         ensures in_turn { IfSome result (λ _. IsInTurn lun self.old.turns (reverse self.new.events)) }
         ensures bus { IfSome result (λ answer. TellsBus answer self.new.core.holder lun) }
     {
-        match self.events.reserve(1) {
+        match self.events.reserve() {
             Err(_) => None,
             Ok(()) => {
                 let from = self.core.trace().len();
@@ -155,7 +156,7 @@ impl<L: Turns> History<L> {
         ensures in_turn { IfSome result (λ _. IsInTurn lun turn (reverse self.new.events)) }
         ensures bus { IfSome result (λ answer. TellsBus answer self.new.core.holder lun) }
     {
-        match self.events.reserve(1) {
+        match self.events.reserve() {
             Err(_) => None,
             Ok(()) => {
                 let from = self.core.trace().len();
@@ -232,7 +233,7 @@ impl<L: Turns> History<L> {
         if !make_room_to_finish(&mut self.events, &mut self.done) {
             return refuse_finish(&self.core, lun);
         }
-        let name = find_last_started(self.events.as_slice(), lun);
+        let name = self.events.find_last_started(lun);
         match self.core.unload(lun) {
             Err(_) => Some(false),
             Ok(done) => match name {
@@ -302,7 +303,7 @@ impl<L: Turns> History<L> {
         History {
             core,
             taker,
-            events: Vec::new(alloc),
+            events: EventLog::new(alloc),
             taken: Vec::new(alloc),
             started: Vec::new(alloc),
             backlog: Backlog::new(alloc),

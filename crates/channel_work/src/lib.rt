@@ -6,6 +6,7 @@
 
 mod backlog;
 mod channel_state;
+mod events;
 mod finished;
 mod gathered;
 mod history;

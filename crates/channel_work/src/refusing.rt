@@ -6,7 +6,8 @@ ghost use Rattle.seq_core.specs.Reply.{ToReady, ToArrayReady};
 ghost use Rattle.channel_work.specs.Coming.{IsRefused};
 ghost use Rattle.channel_work.specs.Finished.{IsRefusedFinish};
 
-use crate::stored::{NamedJob, Stored};
+use crate::events::EventLog;
+use crate::stored::NamedJob;
 use onfi_cycle::Lun;
 use seq_core::Core;
 
@@ -43,9 +44,9 @@ pub(crate) fn refuse_finish(core: &Core, lun: Lun) -> Option<bool>
 }
 
 /// Makes room for one more event and one more job that is done, or tells that there is no memory for both.
-pub(crate) fn make_room_to_finish(events: &mut Vec<Stored>, done: &mut Vec<NamedJob>) -> bool
+pub(crate) fn make_room_to_finish(events: &mut EventLog, done: &mut Vec<NamedJob>) -> bool
     ensures same { (events.new.items ≡ events.old.items) × (done.new.items ≡ done.old.items) }
-    ensures room { IsTrue result → (vec_len events.new < vec_capacity events.new) × (vec_len done.new < vec_capacity done.new) }
+    ensures room { IsTrue result → (0 < events.new.room) × (vec_len done.new < vec_capacity done.new) }
 {
-    events.reserve(1).is_ok() && done.reserve(1).is_ok()
+    events.reserve().is_ok() && done.reserve(1).is_ok()
 }

@@ -7,10 +7,10 @@ ghost use Rattle.seq_core.specs.Calls.{load_fault_at};
 ghost use Rattle.job_queue.specs.Rule.{IsInOrder};
 ghost use Rattle.job_queue.specs.declared.rule.QueuedJob.{QueuedJob};
 ghost use Rattle.micro_program.specs.Program.{Job as JobValue};
-ghost use Rattle.channel_work.specs.Stored.{last_started};
 ghost use Rattle.channel_work.specs.Starting.{Took, HasLoaded};
 
 use crate::backlog::Backlog;
+use crate::events::EventLog;
 use crate::stored::{Name, Stored};
 use job_queue::{QueuedJob, Taker};
 use lun_lease::{Lease, Loaded};
@@ -54,46 +54,30 @@ pub(crate) fn take_one<R: Wait>(
 
 /// Makes room for one event, one started name, one taken name and one more job in the backlog, and tells whether there was memory.
 pub(crate) fn make_room(
-    events: &mut Vec<Stored>,
+    events: &mut EventLog,
     started: &mut Vec<Name>,
     taken: &mut Vec<Name>,
     backlog: &mut Backlog,
 ) -> bool
     ensures same { (events.new.items ≡ events.old.items) × (started.new.items ≡ started.old.items) × (taken.new.items ≡ taken.old.items)
         × (backlog.new.items ≡ backlog.old.items) }
-    ensures room { IsTrue result → (vec_len events.new < vec_capacity events.new) × (vec_len started.new < vec_capacity started.new)
+    ensures room { IsTrue result → (0 < events.new.room) × (vec_len started.new < vec_capacity started.new)
         × (vec_len taken.new < vec_capacity taken.new) × (0 < backlog.new.room) }
 {
-    events.reserve(1).is_ok()
+    events.reserve().is_ok()
         && started.reserve(1).is_ok()
         && taken.reserve(1).is_ok()
         && backlog.reserve()
 }
 
-/// The name of the job that was last started on a LUN, if one was.
-pub(crate) fn find_last_started(events: &[Stored], lun: Lun) -> Option<Name>
-    ensures { result ≡ last_started lun (reverse events.now) }
-{
-    let mut place = events.len();
-    while place > 0 {
-        place -= 1;
-        if let Stored::Load(at, name) = events[place] {
-            if lun == at {
-                return Some(name);
-            }
-        }
-    }
-    None
-}
-
 /// Loads a job that is admitted.
 pub(crate) fn load_one(
     core: &mut Core,
-    events: &mut Vec<Stored>,
+    events: &mut EventLog,
     started: &mut Vec<Name>,
     queued: QueuedJob<Job>,
 )
-    requires events { vec_len events.old < vec_capacity events.old }
+    requires events { 0 < events.old.room }
     requires started { vec_len started.old < vec_capacity started.old }
     requires may { load_fault_at core.old queued.job.lun queued.job ≡ None }
     ensures { HasLoaded core.old core.new events.old.items events.new.items started.old.items started.new.items queued }

@@ -1,5 +1,5 @@
-use Rattle.std.proofs.Common.{map, List, ℕ, ◌∷◌, ◌+◌, ◌++◌, [], ◌∙◌, refl, ap, subst, reverse, inl, arith}
-use Rattle.std.proofs.lemmas.List.{length-reverse}
+use Rattle.std.proofs.Common.{map, List, ℕ, ◌∷◌, ◌+◌, ◌++◌, [], ◌∙◌, refl, ap, subst, length, reverse, inl, arith}
+use Rattle.std.proofs.lemmas.List.{length-reverse, length-append}
 use Rattle.seq_core.specs.Event.{Step}
 use Rattle.seq_core.specs.Reply.{ToStep}
 use Rattle.channel_work.specs.declared.stored.Stored.{Stored}
@@ -29,13 +29,12 @@ overflow_add-self g c =
     let h = c.self.invariant.0 in
     let few = few_turns (reverse v.events) h.turns in
     let size = length-reverse v.events in
-    let longer = c.push_reserved.ensures.len in
-    let same = c.reserve.ensures.len in
+    let stored = c.push_reserved.ensures.items ∙ ap (λ (xs : List Stored). xs ++ (WasStepped c.args.lun v.turns ∷ [])) c.reserve.ensures.items in
+    let longer = ap length stored ∙ length-append v.events (WasStepped c.args.lun v.turns ∷ []) in
     let fits = c.len-events.type_inv in
     let is = c.len-events.ensures in
     let count = h.turn_count in
-    let len = c.self.inside.events.ok.0 in
-    omega (arith, few, size, longer, same, fits, is, count, len)
+    omega (arith, few, size, longer, fits, is, count)
 
 pub invariant_of-self-in-Ok-step : goal.invariant_of-self-in-Ok-step
 invariant_of-self-in-Ok-step g c =

@@ -20,7 +20,7 @@ invariant_of-self-in-Some g c =
     let v : HistoryView = record { core = c.self.inside.core; taker = c.self.inside.taker; events = c.self.inside.events.items; taken = c.self.inside.taken.items; started = c.self.inside.started.items; backlog = c.self.inside.backlog.items; done = map ended_of c.self.inside.done.items; counts = c.self.inside.counts; turns = c.self.inside.turns } in
     let h = c.self.invariant.0 in
     let d : NamedJob _ = record { name = c.in-Some.name; done = c.in-Ok.done } in
-    let named : last_started c.args.lun (reverse v.events) ≡ Some c.in-Some.name = sym (sym c.in-Some.is ∙ (c.find_last_started-name.ensures ∙ ap (λ (xs : List Stored). last_started c.args.lun (reverse xs)) (c.as_slice.ensures.value ∙ c.make_room_to_finish.ensures.same.0))) in (
+    let named : last_started c.args.lun (reverse v.events) ≡ Some c.in-Some.name = sym (sym c.in-Some.is ∙ (c.find_last_started-name.ensures ∙ ap (λ (xs : List Stored). last_started c.args.lun (reverse xs)) c.make_room_to_finish.ensures.same.0)) in (
       unload_keeps v c.unload.new.self c.push_reserved.new.self.items c.args.lun c.in-Some.name c.in-Ok.done.job c.in-Ok.done.code (map ended_of c.push_reserved-in-Some.new.self.items)
           h c.in-Ok.ensures.ok named
           (c.push_reserved.ensures.items ∙ ap (λ (xs : List Stored). xs ++ (WasUnloaded c.args.lun ∷ [])) c.make_room_to_finish.ensures.same.0)
@@ -42,7 +42,7 @@ returns-in-Some g c =
     let v : HistoryView = record { core = c.self.inside.core; taker = c.self.inside.taker; events = c.self.inside.events.items; taken = c.self.inside.taken.items; started = c.self.inside.started.items; backlog = c.self.inside.backlog.items; done = map ended_of c.self.inside.done.items; counts = c.self.inside.counts; turns = c.self.inside.turns } in
     let h = c.self.invariant.0 in
     let d : NamedJob _ = record { name = c.in-Some.name; done = c.in-Ok.done } in
-    let named : last_started c.args.lun (reverse v.events) ≡ Some c.in-Some.name = sym (sym c.in-Some.is ∙ (c.find_last_started-name.ensures ∙ ap (λ (xs : List Stored). last_started c.args.lun (reverse xs)) (c.as_slice.ensures.value ∙ c.make_room_to_finish.ensures.same.0))) in
+    let named : last_started c.args.lun (reverse v.events) ≡ Some c.in-Some.name = sym (sym c.in-Some.is ∙ (c.find_last_started-name.ensures ∙ ap (λ (xs : List Stored). last_started c.args.lun (reverse xs)) c.make_room_to_finish.ensures.same.0)) in
     let u : HistoryView = record v { core = c.unload.new.self; events = c.push_reserved.new.self.items; done = map ended_of c.push_reserved-in-Some.new.self.items } in
     subst (λ (x : HistoryView). HasFinished x c.args.lun u) c.self.view_is
     (has_finished v c.args.lun c.unload.new.self c.push_reserved.new.self.items (map ended_of c.push_reserved-in-Some.new.self.items) c.in-Some.name c.in-Ok.done.job c.in-Ok.done.code named c.in-Ok.ensures.ok
@@ -53,7 +53,7 @@ pub unreachable-requires : goal.unreachable-requires
 unreachable-requires g c =
     let v : HistoryView = record { core = c.self.inside.core; taker = c.self.inside.taker; events = c.self.inside.events.items; taken = c.self.inside.taken.items; started = c.self.inside.started.items; backlog = c.self.inside.backlog.items; done = map ended_of c.self.inside.done.items; counts = c.self.inside.counts; turns = c.self.inside.turns } in
     named_if_unloaded v c.unload.new.self c.args.lun c.in-Ok.done.job c.in-Ok.done.code c.self.invariant.0 c.in-Ok.ensures.ok
-    (sym (sym c.in-None.is ∙ (c.find_last_started-name.ensures ∙ ap (λ (xs : List Stored). last_started c.args.lun (reverse xs)) (c.as_slice.ensures.value ∙ c.make_room_to_finish.ensures.same.0))))
+    (sym (sym c.in-None.is ∙ (c.find_last_started-name.ensures ∙ ap (λ (xs : List Stored). last_started c.args.lun (reverse xs)) c.make_room_to_finish.ensures.same.0)))
 
 pub returns-then-not-make_room_to_finish : goal.returns-then-not-make_room_to_finish
 returns-then-not-make_room_to_finish g c =
