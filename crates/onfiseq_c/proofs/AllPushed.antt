@@ -4,15 +4,17 @@ use Rattle.std.proofs.lemmas.Bool.Decides.{nat_tests}
 use Rattle.nand_geometry.specs.declared.parts.Parts.{Parts}
 use Rattle.onfi_cycle.specs.declared.forbidden.Forbidden.{Forbidden}
 use Rattle.onfi_cycle.specs.declared.item.Item.{Item}
-use Rattle.onfi_cycle.specs.State.{BusView, Follows, judged, bus_after, bus}
-use Rattle.onfiseq_c.specs.Check.{by_option, rule_number}
+use Rattle.onfi_cycle.specs.Sequence.{target_of as target_of_item}
+use Rattle.onfi_cycle.specs.State.{BusView, Follows, judged, bus_after, target_after, bus}
+use Rattle.onfi_cycle.proofs.Runs.{changed_length}
+use Rattle.bus_record.specs.Rule.{by_option, rule_number}
 use Rattle.onfiseq_c.specs.Item.{item_of}
-use Rattle.onfiseq_c.specs.Geometry.{parts_of}
-use Rattle.onfiseq_c.specs.Record.{target_of}
-use Rattle.onfiseq_c.specs.Kept.{Kept}
-use Rattle.onfiseq_c.specs.Bus.{pushed, bus_pushed, bus_view}
-use Rattle.onfiseq_c.specs.Many.{Went, went, all_pushed, with_item, with_items}
-use Rattle.onfiseq_c.proofs.Pushed.{goes_on_with}
+use Rattle.bus_record.specs.Geometry.{parts_of}
+use Rattle.bus_record.specs.Record.{target_of}
+use Rattle.bus_record.specs.Kept.{Kept}
+use Rattle.bus_record.specs.Bus.{pushed, bus_pushed, bus_view}
+use Rattle.onfiseq_c.specs.Many.{Went, went, all_pushed, with_item, with_items, IsSameChannel}
+use Rattle.bus_record.proofs.Pushed.{goes_on_with}
 use Rattle.onfiseq_c.specs.declared.item.OnfiseqItem.{OnfiseqItem}
 
 zero_first : {X : Type 0} (n : ℕ) (x y : X) → n ≡ 0 → (if n == 0 then x else y) ≡ x
@@ -57,13 +59,18 @@ never : (g : Parts) (o : Option Item) → pushed (bus g []) o ≡ 0 → ⊥
 never g None h = cc
 never g (Some i) h = cc
 
-pub none_goes : (k : Kept) (all : List OnfiseqItem) (i : OnfiseqItem) (items : List OnfiseqItem) (answer : ℕ) → k.count ≡ 0 → all ≡ i ∷ items
-    → answer ≡ pushed (bus (parts_of k.geometry) []) (item_of i) → went answer 0 (bus_view k) ≡ all_pushed (bus_view k) all 0
-none_goes k all i items answer none e a =
-    let g = parts_of k.geometry in
-    let same : bus_view k ≡ bus g [] = ap (λ (n : ℕ). bus g (map target_of (take n k.targets))) none in
-    subst (λ (b : BusView). went answer 0 b ≡ all_pushed b all 0) (sym same)
-    (sym (one_stops (bus g []) (bus g []) all i items 0 answer e a (sym (stays (bus g []) (item_of i) (never g (item_of i)))) (λ h. never g (item_of i) (sym a ∙ h))))
+pub none_goes : (g : Parts) (all : List OnfiseqItem) (i : OnfiseqItem) (items : List OnfiseqItem) (answer : ℕ) → all ≡ i ∷ items
+    → answer ≡ pushed (bus g []) (item_of i) → went answer 0 (bus g []) ≡ all_pushed (bus g []) all 0
+none_goes g all i items answer e a =
+    sym (one_stops (bus g []) (bus g []) all i items 0 answer e a (sym (stays (bus g []) (item_of i) (never g (item_of i)))) (λ h. never g (item_of i) (sym a ∙ h)))
+
+-- what no channel stands for
+pub none_there : (k : Kept) → k.count ≡ 0 → bus_view k ≡ bus (parts_of k.geometry) []
+none_there k none = ap (λ (n : ℕ). bus (parts_of k.geometry) (map target_of (take n k.targets))) none
+
+-- an item leaves the channel the same
+pub after_keeps : (b : BusView) (i : Item) → IsSameChannel b (bus_after i b)
+after_keeps b i = record { geometry = refl; count = changed_length (target_after b.geometry i) b.targets (target_of_item i) }
 
 -- ---- the past that the state follows
 

@@ -1,11 +1,9 @@
 -- Many items at once.
-use Rattle.std.specs.Prelude.{ℕ, zero, suc, ◌+◌, ◌==◌, ◌≤◌, if◌then◌else◌, List, [], ◌∷◌, Option, Some, None, length}
-use Rattle.std.specs.List.{All}
+use Rattle.std.specs.Prelude.{◌≡◌, ℕ, zero, suc, ◌+◌, ◌==◌, if◌then◌else◌, List, [], ◌∷◌, Option, Some, None, length}
 use Rattle.onfi_cycle.specs.declared.item.Item.{Item}
-use Rattle.onfi_cycle.specs.State.{TargetView, BusView}
+use Rattle.onfi_cycle.specs.State.{BusView}
 use Rattle.onfiseq_c.specs.Item.{item_of}
-use Rattle.onfiseq_c.specs.Bus.{pushed, bus_pushed}
-use Rattle.onfiseq_c.specs.Record.{HasRoom}
+use Rattle.bus_record.specs.Bus.{pushed, bus_pushed}
 use Rattle.onfiseq_c.specs.declared.item.OnfiseqItem.{OnfiseqItem}
 
 -- what came of items: the answer to the last of them, how many went, and the channel after those
@@ -34,7 +32,7 @@ with_items zero items past = past
 with_items (suc n) [] past = past
 with_items (suc n) (i ∷ items) past = with_items n items (with_item (item_of i) past)
 
--- a target has a record: its LUNs and their queues fit
-pub record HasRecord (t : TargetView) : Type 0 where
-  pub count : length t.luns ≤ 4
-  pub queues : All HasRoom t.luns
+-- the same channel: its geometry, and as many targets
+pub record IsSameChannel (old new : BusView) : Type 0 where
+  pub geometry : new.geometry ≡ old.geometry
+  pub count : length new.targets ≡ length old.targets

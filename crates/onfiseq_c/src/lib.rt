@@ -11,15 +11,13 @@ mod geometry;
 mod item;
 mod look;
 mod many;
-mod record;
 mod status;
 
 pub use abi::{OnfiseqAbi, OnfiseqSample, onfiseq_abi, onfiseq_sample};
-pub use bus::{OnfiseqBus, onfiseq_begin, onfiseq_push};
+pub use bus::{onfiseq_begin, onfiseq_push};
 pub use check::{OnfiseqAnswer, onfiseq_check};
-pub use geometry::{OnfiseqGeometry, OnfiseqPage, onfiseq_page};
+pub use geometry::{OnfiseqPage, onfiseq_page};
 pub use item::OnfiseqItem;
-pub use look::{OnfiseqLook, onfiseq_ask, onfiseq_look};
+pub use look::{onfiseq_ask, onfiseq_look};
 pub use many::onfiseq_push_all;
-pub use record::{OnfiseqLun, OnfiseqQueued, OnfiseqTarget};
 pub use status::onfiseq_push_status;

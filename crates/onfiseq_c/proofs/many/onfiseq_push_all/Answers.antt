@@ -1,30 +1,27 @@
-use Rattle.std.proofs.Common.{◌≡◌, sym, subst, arith}
-use Rattle.onfiseq_c.specs.Kept.{Kept}
-use Rattle.onfiseq_c.specs.Geometry.{parts_of}
-use Rattle.onfiseq_c.specs.Bus.{bus_view}
+use Rattle.std.proofs.Common.{◌≡◌, sym, ap, ◌∙◌, subst}
+use Rattle.onfi_cycle.specs.State.{BusView}
+use Rattle.bus_record.specs.Bus.{bus_view}
+use Rattle.bus_record.specs.Geometry.{parts_of}
 use Rattle.onfiseq_c.specs.Many.{went, all_pushed}
-use Rattle.onfiseq_c.proofs.Checked.{is_empty}
-use Rattle.onfiseq_c.proofs.AllPushed.{all_end, none_goes, pushed_follow}
+use Rattle.onfiseq_c.proofs.AllPushed.{none_there, pushed_follow}
 use Rattle.onfiseq_c.proofs.many.onfiseq_push_all.Goals as goal
 
-pub returns-then-bus-gt0-clause-past : goal.returns-then-bus-gt0-clause-past
-returns-then-bus-gt0-clause-past c g n past follows =
-    pushed_follow g n (bus_view c.args.bus.now) (bus_view c.push_begun.new.bus) c.args.items.now c.push_begun.result c.push_begun.new.done past c.push_begun.ensures follows
+pub returns-in_default-clause-went : goal.returns-in_default-clause-went
+returns-in_default-clause-went c =
+    subst (λ (b : BusView). went c.push_nowhere.result c.push_nowhere.new.done b ≡ all_pushed b c.args.items.now 0)
+    (sym (none_there c.args.bus.now c.in_default.ensures.none)) (c.push_nowhere.ensures (parts_of c.args.bus.now.geometry))
 
-pub returns-in-None : goal.returns-in-None
-returns-in-None c =
-    let nothing : went 0 0 (bus_view c.args.bus.now) ≡ all_pushed (bus_view c.args.bus.now) c.args.items.now 0 =
-    sym (all_end (bus_view c.args.bus.now) c.args.items.now 0 (is_empty c.args.items.now c.in-None.ensures.cases)) in
-    record { went = nothing; past = λ g n past follows. pushed_follow g n (bus_view c.args.bus.now) (bus_view c.args.bus.now) c.args.items.now 0 0 past nothing follows }
+pub returns-in_default-clause-past : goal.returns-in_default-clause-past
+returns-in_default-clause-past c g n past follows =
+    pushed_follow g n (bus_view c.args.bus.now) (bus_view c.args.bus.now) c.args.items.now c.push_nowhere.result c.push_nowhere.new.done past
+    (returns-in_default-clause-went c) follows
 
-pub returns-in-Some : goal.returns-in-Some
-returns-in-Some c =
-    let k : Kept = record { geometry = c.bus.inside.geometry; count = c.bus.inside.count; targets = c.bus.inside.targets } in
-    let none : k.count ≡ 0 = omega (arith, c.if-bus-gt0.false) in
-    let stopped : went c.answer_nowhere.result 0 (bus_view c.args.bus.now) ≡ all_pushed (bus_view c.args.bus.now) c.args.items.now 0 =
-    subst (λ (x : Kept). went c.answer_nowhere.result 0 (bus_view x) ≡ all_pushed (bus_view x) c.args.items.now 0) c.bus.view_is
-    (none_goes k c.args.items.now c.in-Some.first.now _ c.answer_nowhere.result none c.in-Some.ensures.cases.0 (c.answer_nowhere.ensures (parts_of k.geometry))) in
-    record {
-      went = stopped;
-      past = λ g n past follows. pushed_follow g n (bus_view c.args.bus.now) (bus_view c.args.bus.now) c.args.items.now c.answer_nowhere.result 0 past stopped follows;
-    }
+pub returns-clause-went : goal.returns-clause-went
+returns-clause-went c =
+    ap (went c.push_each-answer.result c.push_each-answer.new.done) c.put_back.ensures.state
+    ∙ (c.push_each-answer.ensures.went ∙ ap (λ (b : BusView). all_pushed b c.args.items.now 0) c.in-Some.ensures.some)
+
+pub returns-clause-past : goal.returns-clause-past
+returns-clause-past c g n past follows =
+    pushed_follow g n (bus_view c.args.bus.now) (bus_view c.put_back.new.bus) c.args.items.now c.push_each-answer.result c.push_each-answer.new.done past
+    (returns-clause-went c) follows
