@@ -9,7 +9,8 @@ use Rattle.nand_geometry.specs.Limits.{InLimits, fault_of}
 use Rattle.onfi_cycle.specs.declared.tail_facts.TailFacts.{TailFacts}
 use Rattle.onfi_cycle.specs.LunView.{LunView}
 use Rattle.bus_record.specs.Record.{HasRoom, target_of}
-use Rattle.bus_record.specs.Running.{HasRecord}
+use Rattle.bus_record.specs.Running.{HasRecord, IsSameChannel}
+use Rattle.onfi_cycle.proofs.Runs.{changed_length}
 use Rattle.bus_record.specs.declared.record.OnfiseqTarget.{OnfiseqTarget}
 use Rattle.bus_record.specs.Geometry.{parts_of}
 use Rattle.bus_record.specs.Kept.{Kept}
@@ -194,3 +195,7 @@ seen_there f xs count n k d place low room =
 
 pub have_records : (g : Parts) (ts : List TargetView) → BusFits (bus g ts) → All HasRecord ts
 have_records g ts f k d h = record { count = luns_few g (get_or ts k d) f.limits (f.targets k d h); queues = have_room g (get_or ts k d) (f.targets k d h) }
+
+-- an item leaves the channel the same
+pub after_keeps : (b : BusView) (i : Item) → IsSameChannel b (bus_after i b)
+after_keeps b i = record { geometry = refl; count = changed_length (target_after b.geometry i) b.targets (target_of_item i) }

@@ -109,6 +109,7 @@ fn step_target(geometry: &Geometry, targets: u8, kept: &mut OnfiseqTarget, item:
 pub fn push(bus: &mut OnfiseqBus, item: Item) -> u32
     ensures answer { result ≡ pushed (bus_view bus.old) (Some item) }
     ensures state { bus_view bus.new ≡ bus_pushed (bus_view bus.old) (Some item) }
+    ensures count { bus.new.count ≡ bus.old.count }
 {
     let ce = usize::from(item.target());
     if bus.count <= ce {

@@ -6,13 +6,13 @@ ghost use Rattle.onfi_cycle.specs.Bounds.{BusFits};
 ghost use Rattle.onfi_cycle.specs.State.{bus, judged, bus_after};
 ghost use Rattle.bus_record.specs.Bus.{IsTarget, bus_view};
 ghost use Rattle.bus_record.specs.Record.{target_of};
-ghost use Rattle.bus_record.specs.Running.{HasRecord};
+ghost use Rattle.bus_record.specs.Running.{HasRecord, IsSameChannel, is_on};
 
 use crate::bus::OnfiseqBus;
 use crate::record::{NO_TARGET, OnfiseqTarget, target_of, target_record};
 use arrayvec::ArrayVec;
 use nand_geometry::Geometry;
-use onfi_cycle::{Forbidden, Item, MAX_TARGETS, TargetState, judge};
+use onfi_cycle::{Forbidden, Item, Lun, MAX_TARGETS, TargetState, judge};
 use std::marker::Model;
 
 /// The state of a channel, taken out of its record.
@@ -105,6 +105,13 @@ impl RunningBus {
         self.geometry
     }
 
+    /// Whether a LUN is there.
+    pub fn has_lun(&self, lun: Lun) -> bool
+        ensures { result ≡ is_on self.now lun }
+    {
+        usize::from(lun.ce) < self.targets.len() && lun.lun < self.geometry.parts().luns
+    }
+
     /// The first rule that an item breaks, None where it is permitted.
     #[inline(always)]
     pub fn judge(&self, item: Item) -> Option<Forbidden>
@@ -117,7 +124,8 @@ impl RunningBus {
     #[inline(always)]
     pub fn apply(&mut self, item: Item)
         requires { judged self.old item ≡ None }
-        ensures { self.new ≡ bus_after item self.old }
+        ensures state { self.new ≡ bus_after item self.old }
+        ensures same { IsSameChannel self.old self.new }
     {
         let geometry = self.geometry;
         apply_on(&geometry, self.targets.as_mut_slice(), item);

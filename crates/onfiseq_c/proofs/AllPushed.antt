@@ -4,16 +4,14 @@ use Rattle.std.proofs.lemmas.Bool.Decides.{nat_tests}
 use Rattle.nand_geometry.specs.declared.parts.Parts.{Parts}
 use Rattle.onfi_cycle.specs.declared.forbidden.Forbidden.{Forbidden}
 use Rattle.onfi_cycle.specs.declared.item.Item.{Item}
-use Rattle.onfi_cycle.specs.Sequence.{target_of as target_of_item}
-use Rattle.onfi_cycle.specs.State.{BusView, Follows, judged, bus_after, target_after, bus}
-use Rattle.onfi_cycle.proofs.Runs.{changed_length}
+use Rattle.onfi_cycle.specs.State.{BusView, Follows, judged, bus_after, bus}
 use Rattle.bus_record.specs.Rule.{by_option, rule_number}
 use Rattle.onfiseq_c.specs.Item.{item_of}
 use Rattle.bus_record.specs.Geometry.{parts_of}
 use Rattle.bus_record.specs.Record.{target_of}
 use Rattle.bus_record.specs.Kept.{Kept}
 use Rattle.bus_record.specs.Bus.{pushed, bus_pushed, bus_view}
-use Rattle.onfiseq_c.specs.Many.{Went, went, all_pushed, with_item, with_items, IsSameChannel}
+use Rattle.onfiseq_c.specs.Many.{Went, went, all_pushed, with_item, with_items}
 use Rattle.bus_record.proofs.Pushed.{goes_on_with}
 use Rattle.onfiseq_c.specs.declared.item.OnfiseqItem.{OnfiseqItem}
 
@@ -67,10 +65,6 @@ none_goes g all i items answer e a =
 -- what no channel stands for
 pub none_there : (k : Kept) → k.count ≡ 0 → bus_view k ≡ bus (parts_of k.geometry) []
 none_there k none = ap (λ (n : ℕ). bus (parts_of k.geometry) (map target_of (take n k.targets))) none
-
--- an item leaves the channel the same
-pub after_keeps : (b : BusView) (i : Item) → IsSameChannel b (bus_after i b)
-after_keeps b i = record { geometry = refl; count = changed_length (target_after b.geometry i) b.targets (target_of_item i) }
 
 -- ---- the past that the state follows
 

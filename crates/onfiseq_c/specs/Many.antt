@@ -1,5 +1,5 @@
 -- Many items at once.
-use Rattle.std.specs.Prelude.{◌≡◌, ℕ, zero, suc, ◌+◌, ◌==◌, if◌then◌else◌, List, [], ◌∷◌, Option, Some, None, length}
+use Rattle.std.specs.Prelude.{ℕ, zero, suc, ◌+◌, ◌==◌, if◌then◌else◌, List, [], ◌∷◌, Option, Some, None}
 use Rattle.onfi_cycle.specs.declared.item.Item.{Item}
 use Rattle.onfi_cycle.specs.State.{BusView}
 use Rattle.onfiseq_c.specs.Item.{item_of}
@@ -31,8 +31,3 @@ abbrev pub with_items : ℕ → List OnfiseqItem → List Item → List Item
 with_items zero items past = past
 with_items (suc n) [] past = past
 with_items (suc n) (i ∷ items) past = with_items n items (with_item (item_of i) past)
-
--- the same channel: its geometry, and as many targets
-pub record IsSameChannel (old new : BusView) : Type 0 where
-  pub geometry : new.geometry ≡ old.geometry
-  pub count : length new.targets ≡ length old.targets

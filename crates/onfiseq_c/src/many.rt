@@ -4,8 +4,9 @@ ghost use Rattle.nand_geometry.specs.declared.parts.Parts.{Parts};
 ghost use Rattle.onfi_cycle.specs.declared.item.Item.{Item as ItemValue};
 ghost use Rattle.onfi_cycle.specs.State.{Follows, bus};
 ghost use Rattle.bus_record.specs.Bus.{bus_view, bus_pushed, pushed};
+ghost use Rattle.bus_record.specs.Running.{IsSameChannel};
 ghost use Rattle.onfiseq_c.specs.Item.{item_of};
-ghost use Rattle.onfiseq_c.specs.Many.{all_pushed, went, with_items, IsSameChannel};
+ghost use Rattle.onfiseq_c.specs.Many.{all_pushed, went, with_items};
 
 use crate::item::OnfiseqItem;
 use bus_record::{OnfiseqBus, RunningBus, put_back, rule_number, take_out};

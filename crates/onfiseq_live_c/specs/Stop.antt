@@ -6,6 +6,7 @@ use Rattle.micro_word.specs.declared.refusal.WordFault.TheVariants.{TooShort, Un
 use Rattle.micro_word.specs.declared.refusal.WordRefusal.TheVariants.{Fault, OutOfMemory}
 use Rattle.seq_core.specs.declared.job_fault.JobFault.{JobFault}
 use Rattle.seq_core.specs.declared.job_fault.JobFault.TheVariants.{NoSuchLun, RowsOutside, BufferLength, OtherGeometry, NotAtBlock}
+use Rattle.word_file.specs.declared.word.WordMissing.TheVariants as missing
 use Rattle.onfiseq_live_c.specs.declared.stop.Stop.{Stop}
 use Rattle.onfiseq_live_c.specs.declared.stop.Stop.TheVariants as stop
 
@@ -32,8 +33,8 @@ abbrev pub letter_of : Stop → ℕ
 letter_of stop.Damaged = 68
 letter_of (stop.Ended code) = 69
 letter_of stop.Held = 72
-letter_of (stop.File refusal) = 77
-letter_of stop.NoWord = 78
+letter_of (stop.Word (missing.Fault refusal)) = 77
+letter_of (stop.Word missing.PastTheEnd) = 78
 letter_of stop.BufferTooShort = 66
 letter_of stop.TooDeep = 76
 letter_of stop.RowOutside = 82
@@ -43,13 +44,13 @@ letter_of (stop.Unfit fault) = 83
 
 abbrev pub number_of : Stop → ℕ
 number_of (stop.Ended code) = code
-number_of (stop.File (Fault fault word)) = word_number fault
-number_of (stop.File OutOfMemory) = 0
+number_of (stop.Word (missing.Fault (Fault fault word))) = word_number fault
+number_of (stop.Word (missing.Fault OutOfMemory)) = 0
+number_of (stop.Word missing.PastTheEnd) = 0
 number_of (stop.Breaks rule) = rule_number rule
 number_of (stop.Unfit fault) = job_number fault
 number_of stop.Damaged = 0
 number_of stop.Held = 0
-number_of stop.NoWord = 0
 number_of stop.BufferTooShort = 0
 number_of stop.TooDeep = 0
 number_of stop.RowOutside = 0

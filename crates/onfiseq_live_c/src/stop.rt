@@ -6,6 +6,7 @@ use bus_record::rule_number;
 use micro_word::{WordFault, WordRefusal};
 use onfi_cycle::Forbidden;
 use seq_core::JobFault;
+use word_file::WordMissing;
 
 /// Why a step of a job isn't due, or isn't finished, or why a job isn't begun. Nothing has changed then.
 #[derive(Clone, Copy, Debug, PartialEq, Eq)]
@@ -16,10 +17,8 @@ pub enum Stop {
     Ended(u8),
     /// Another LUN has the bus.
     Held,
-    /// The file can't be read.
-    File(WordRefusal),
-    /// The file has no such word.
-    NoWord,
+    /// The word can't be read.
+    Word(WordMissing),
     /// The word reaches past the buffer.
     BufferTooShort,
     /// It opens a fifth loop.
@@ -71,8 +70,8 @@ impl Stop {
             Stop::Damaged => b'D',
             Stop::Ended(_) => b'E',
             Stop::Held => b'H',
-            Stop::File(_) => b'M',
-            Stop::NoWord => b'N',
+            Stop::Word(WordMissing::Fault(_)) => b'M',
+            Stop::Word(WordMissing::PastTheEnd) => b'N',
             Stop::BufferTooShort => b'B',
             Stop::TooDeep => b'L',
             Stop::RowOutside => b'R',
@@ -88,13 +87,13 @@ impl Stop {
     {
         match self {
             Stop::Ended(code) => u32::from(code),
-            Stop::File(WordRefusal::Fault { fault, .. }) => word_number(fault),
+            Stop::Word(WordMissing::Fault(WordRefusal::Fault { fault, .. })) => word_number(fault),
             Stop::Breaks(rule) => rule_number(rule),
             Stop::Unfit(fault) => job_number(fault),
             Stop::Damaged
             | Stop::Held
-            | Stop::File(WordRefusal::OutOfMemory)
-            | Stop::NoWord
+            | Stop::Word(WordMissing::Fault(WordRefusal::OutOfMemory))
+            | Stop::Word(WordMissing::PastTheEnd)
             | Stop::BufferTooShort
             | Stop::TooDeep
             | Stop::RowOutside

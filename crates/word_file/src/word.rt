@@ -1,7 +1,8 @@
 //! One word of a file.
-ghost use Rattle.std.specs.Prelude.{◌≡◌, ◌+◌, ◌*◌, ◌≤◌, ◌<◌, length, drop, IfOk};
+ghost use Rattle.std.specs.Prelude.{◌≡◌, ℕ, ◌+◌, ◌*◌, ◌≤◌, ◌<◌, length, drop, IfOk};
 ghost use Rattle.micro_word.specs.Reading.{word_at};
-ghost use Rattle.micro_word.specs.Word.{number as number_of, word_of, uses_a, uses_b, has_stray};
+ghost use Rattle.micro_word.specs.Word.{number as number_of, word_of, uses_a, uses_b, has_stray, IsInRange};
+ghost use Rattle.micro_word.specs.declared.format.Format.{Format as FormatValue};
 ghost use Rattle.word_file.specs.Words.{word_in, is_continuing, continues};
 
 use crate::bytes::u16_at;
@@ -110,8 +111,9 @@ fn fault(fault: WordFault, word: usize) -> WordRefusal
 #[tactic(auto, unfolding(micro_word::specs::Reading::word_at))]
 fn word_at(header: FileHeader, place: usize, bytes: &[u8]) -> Result<Word, WordRefusal>
     requires { 4 ≤ length bytes.now }
-    ensures { result ≡ word_at (record { format = header.format; words = header.words; rows = header.rows; buffer = header.buffer; budget = header.budget })
+    ensures value { result ≡ word_at (record { format = header.format; words = header.words; rows = header.rows; buffer = header.buffer; budget = header.budget })
         place bytes.now }
+    ensures range { IfOk result (λ word. IsInRange header.format header.words word) }
 {
     let code = bytes[0];
     let a = bytes[1];
@@ -131,6 +133,7 @@ fn word_at(header: FileHeader, place: usize, bytes: &[u8]) -> Result<Word, WordR
 /// The word of this number, counted from 0.
 pub fn word_in(file: &[u8], at: usize) -> Result<Word, WordMissing>
     ensures value { result ≡ word_in file.now at }
+    ensures range { IfOk result (λ word. (format : FormatValue) × (words : ℕ) × IsInRange format words word) }
     ensures inside { IfOk result (λ word. at < 1024) }
 {
     let header = match header_in(file) {

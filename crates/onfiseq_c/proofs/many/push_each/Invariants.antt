@@ -1,5 +1,6 @@
 use Rattle.std.proofs.Common.{◌≡◌, ◌+◌, length}
-use Rattle.onfiseq_c.specs.Many.{all_pushed, IsSameChannel}
+use Rattle.bus_record.specs.Running.{IsSameChannel}
+use Rattle.onfiseq_c.specs.Many.{all_pushed}
 use Rattle.onfiseq_c.proofs.many.push_each.Given as goal
 
 abbrev pub invariant-items : goal.invariant-items

@@ -1,0 +1,4 @@
+pub mod Runs
+pub mod Ranges
+pub mod Permits
+pub mod Told
