@@ -1,5 +1,5 @@
 -- A word in its range has its address bytes among the five.
-use Rattle.std.proofs.Common.{◌≡◌, ℕ}
+use Rattle.std.proofs.Common.{ℕ}
 use Rattle.micro_word.specs.declared.format.Format.{Format}
 use Rattle.micro_word.specs.declared.word.Word.{Word}
 use Rattle.micro_word.specs.declared.word.Word.TheVariants as word

@@ -1,5 +1,5 @@
 -- One data cycle of a run.
-use Rattle.std.proofs.Common.{◌≡◌, ℕ, zero, suc, ◌-◌, ◌<◌, Option, Some, None, refl, ap, ◌∙◌, arith}
+use Rattle.std.proofs.Common.{◌≡◌, ℕ, zero, suc, ◌-◌, ◌<◌, Option, Some, None, refl, ap, arith}
 use Rattle.onfi_cycle.specs.Channel.{cycle}
 use Rattle.onfi_cycle.specs.declared.forbidden.Forbidden.{Forbidden}
 use Rattle.onfi_cycle.specs.declared.item.Kind.{Kind}

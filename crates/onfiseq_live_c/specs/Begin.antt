@@ -1,6 +1,5 @@
 -- Which jobs are begun.
 use Rattle.std.specs.Prelude.{◌≡◌, ℕ, true, ◌+◌, ◌%◌, ◌==◌, ◌&&◌, not, Bool, nat_le, if◌then◌else◌, List, Option, Some, None, Result, Ok, Err}
-use Rattle.nand_geometry.specs.declared.parts.Parts.{Parts}
 use Rattle.nand_geometry.specs.Limits.{indices}
 use Rattle.onfi_cycle.specs.declared.lun.Lun.{Lun}
 use Rattle.onfi_cycle.specs.State.{BusView}

@@ -7,7 +7,6 @@ use Rattle.onfi_cycle.specs.Channel.{cycle}
 use Rattle.onfi_cycle.specs.Permitted.{broken}
 use Rattle.onfi_cycle.specs.State.{Follows}
 use Rattle.micro_program.specs.Moves.{Move, Give, Take}
-use Rattle.micro_program.specs.Played.{answered}
 use Rattle.seq_live.specs.Burst.{all_moves}
 use Rattle.onfiseq_live_c.specs.declared.live.OnfiseqLive.{OnfiseqLive}
 use Rattle.onfiseq_live_c.specs.declared.job.OnfiseqJob.{OnfiseqJob}
