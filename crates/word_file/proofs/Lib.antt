@@ -1,1 +1,2 @@
 pub mod Continues
+pub mod Read

@@ -1,9 +1,10 @@
 -- The words of a file, read in place.
-use Rattle.std.specs.Prelude.{ℕ, zero, suc, ◌+◌, ◌*◌, Bool, false, ◌||◌, ◌==◌, nat_lt, if◌then◌else◌, List, drop, Result, Ok, Err}
+use Rattle.std.specs.Prelude.{◌≡◌, Some, slice_get, ℕ, zero, suc, ◌+◌, ◌*◌, Bool, false, ◌||◌, ◌==◌, nat_lt, if◌then◌else◌, List, drop, Result, Ok, Err}
 use Rattle.micro_word.specs.declared.word.Word.{Word}
 use Rattle.micro_word.specs.declared.word.Word.TheVariants.{Command}
 use Rattle.micro_word.specs.declared.refusal.WordRefusal.{WordRefusal}
-use Rattle.micro_word.specs.Reading.{header_at, word_at}
+use Rattle.micro_word.specs.Text.{Microprogram}
+use Rattle.micro_word.specs.Reading.{header_at, word_at, reading}
 use Rattle.word_file.specs.declared.word.WordMissing.{WordMissing}
 use Rattle.word_file.specs.declared.word.WordMissing.TheVariants.{Fault, PastTheEnd}
 
@@ -30,3 +31,7 @@ is_continuing _ = false
 abbrev pub continues : List ℕ → (at left : ℕ) → Bool
 continues file at zero = false
 continues file at (suc left) = is_continuing (word_in file at) || continues file (at + 1) left
+
+-- the law: what is read of a file of a text are the words of that text
+abbrev pub WordsAreRead : Type 0
+WordsAreRead = (file : List ℕ) (x : Microprogram) → reading file ≡ Ok x → (k : ℕ) (word : Word) → slice_get x.words k ≡ Some word → word_in file k ≡ Ok word

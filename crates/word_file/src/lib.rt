@@ -5,6 +5,7 @@
 
 mod bytes;
 mod header;
+pub mod laws;
 mod word;
 
 pub use header::{FileHeader, header_in};
