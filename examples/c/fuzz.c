@@ -209,7 +209,8 @@ static struct onfiseq_step play_step(struct onfiseq_live *live, struct onfiseq_j
     bool goes = step.letter == 0 || step.letter == 'Y' || step.letter == 'W' || (step.letter == 'E' && turn.letter == 0);
     must(goes || (memcmp(&before, live, sizeof before) == 0 && memcmp(&old, job, sizeof old) == 0), "a step that isn't finished changed a record");
     must(!goes || (turn.letter == 0 && count == turn.taken), "a step came that wasn't due, or with another count of bytes");
-    must(turn.letter == 0 || (turn.letter == step.letter && turn.number == step.number), "next and finish differ");
+    bool breaks = turn.letter == 'F' || turn.letter == 'R'; /* which finish says after it has counted the bytes */
+    must(turn.letter == 0 || (turn.letter == step.letter && turn.number == step.number) || (breaks && step.letter == 'C'), "next and finish differ");
     must(turn.letter || count == turn.taken || step.letter == 'C', "another count of bytes is taken");
     steps += goes;
     return step;
