@@ -133,6 +133,7 @@ impl RunningBus {
 }
 
 /// The state of a channel, taken out of its record; None where none was begun.
+#[inline(always)]
 pub fn take_out(bus: &OnfiseqBus) -> Option<RunningBus>
     ensures some { IfSome result (λ r. r ≡ bus_view bus.now) }
     ensures count { IfSome result (λ r. length r.targets ≡ bus.now.count) }
@@ -147,6 +148,7 @@ pub fn take_out(bus: &OnfiseqBus) -> Option<RunningBus>
 }
 
 /// Puts a state back into the record from which it was taken.
+#[inline(always)]
 pub fn put_back(bus: &mut OnfiseqBus, running: &RunningBus)
     requires geometry { running.now.geometry ≡ (bus_view bus.old).geometry }
     requires count { length running.now.targets ≡ bus.old.count }

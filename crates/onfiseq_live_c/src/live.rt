@@ -37,6 +37,7 @@ impl OnfiseqLive {
     }
 
     /// The state of its channel, where its record is whole.
+    #[inline(always)]
     pub(crate) fn state(&self) -> Option<RunningBus>
         ensures some { IfSome result (λ s. s ≡ state_of self.now) }
         ensures count { IfSome result (λ s. length s.targets ≡ self.now.bus.count) }
@@ -50,6 +51,7 @@ impl OnfiseqLive {
     }
 
     /// The state of its channel, where both records are whole.
+    #[inline(always)]
     pub(crate) fn state_for(&self, job: &OnfiseqJob) -> Option<RunningBus>
         ensures some { IfSome result (λ s. s ≡ state_of self.now) }
         ensures count { IfSome result (λ s. length s.targets ≡ self.now.bus.count) }
