@@ -9,7 +9,8 @@ use Rattle.nand_geometry.specs.Limits.{InLimits, fault_of}
 use Rattle.onfi_cycle.specs.declared.tail_facts.TailFacts.{TailFacts}
 use Rattle.onfi_cycle.specs.LunView.{LunView}
 use Rattle.bus_record.specs.Record.{HasRoom, target_of}
-use Rattle.bus_record.specs.Running.{HasRecord, IsSameChannel}
+use Rattle.bus_record.specs.Many.{HasRecord}
+use Rattle.bus_record.specs.Channel.{IsSameChannel}
 use Rattle.onfi_cycle.proofs.Runs.{changed_length}
 use Rattle.bus_record.specs.declared.record.OnfiseqTarget.{OnfiseqTarget}
 use Rattle.bus_record.specs.Geometry.{parts_of}
@@ -148,7 +149,7 @@ judged_there k s i ce place low d =
     ∙ ap (λ (o : Option TargetView). judged_on (parts_of k.geometry) (length (map target_of (take k.count k.targets))) o i) found
     ∙ ap (λ (n : ℕ). judge (parts_of k.geometry) n (target_of (get_or k.targets ce d)).tail (target_of (get_or k.targets ce d)).luns i) count
 
-set_same : {X : Type 0} (xs : List X) (k : ℕ) (d : X) → slice_set xs k (get_or xs k d) ≡ xs
+pub set_same : {X : Type 0} (xs : List X) (k : ℕ) (d : X) → slice_set xs k (get_or xs k d) ≡ xs
 set_same [] k d = refl
 set_same (x ∷ xs) zero d = refl
 set_same (x ∷ xs) (suc k) d = ap (λ ys. x ∷ ys) (set_same xs k d)
@@ -199,3 +200,13 @@ have_records g ts f k d h = record { count = luns_few g (get_or ts k d) f.limits
 -- an item leaves the channel the same
 pub after_keeps : (b : BusView) (i : Item) → IsSameChannel b (bus_after i b)
 after_keeps b i = record { geometry = refl; count = changed_length (target_after b.geometry i) b.targets (target_of_item i) }
+
+pub same_channel : (b : BusView) → IsSameChannel b b
+same_channel b = record { geometry = refl; count = refl }
+
+pub pushed_keeps : (b : BusView) (i : Item) → IsSameChannel b (bus_pushed b (Some i))
+pushed_keeps b i = at (judged b i)
+  where
+    at : (o : Option Forbidden) → IsSameChannel b (by_option o (bus_after i b) (λ (rule : Forbidden). b))
+    at None = after_keeps b i
+    at (Some rule) = same_channel b

@@ -1,9 +1,11 @@
 //! The state of a channel in the caller's memory, and how it goes on item by item.
-ghost use Rattle.std.specs.Prelude.{◌≡◌, ℕ, ◌≤◌, [], Some};
+ghost use Rattle.std.specs.Prelude.{◌≡◌, ℕ, ◌≤◌, [], Some, None};
 ghost use Rattle.nand_geometry.specs.declared.parts.Parts.{Parts};
-ghost use Rattle.onfi_cycle.specs.State.{Follows, target_view};
+ghost use Rattle.onfi_cycle.specs.State.{Follows, bus_after, judged, target_view};
+ghost use Rattle.onfi_cycle.specs.Permitted.{judge};
 ghost use Rattle.bus_record.specs.Geometry.{parts_of};
-ghost use Rattle.bus_record.specs.Bus.{bus_view, CanBegin, IsTarget, answered_there, target_pushed, pushed, bus_pushed};
+ghost use Rattle.bus_record.specs.Bus.{bus_view, CanBegin, IsTarget, target_pushed, pushed, bus_pushed};
+ghost use Rattle.bus_record.specs.Channel.{IsSameChannel};
 ghost use Rattle.bus_record.specs.Record.{target_of};
 ghost use Rattle.onfi_cycle.specs.Bounds.{TargetFits};
 ghost use Rattle.nand_geometry.specs.Limits.{InLimits};
@@ -12,7 +14,7 @@ use crate::geometry::OnfiseqGeometry;
 use crate::record::{NO_TARGET, OnfiseqTarget, target_of, target_record};
 use crate::rule::rule_number;
 use nand_geometry::Geometry;
-use onfi_cycle::{Item, TargetState, judge};
+use onfi_cycle::{Forbidden, Item, TargetState, judge};
 use std::marker::Model;
 
 /// The state of a channel. The caller keeps it, and may copy it, but only a call of this library changes it.
@@ -86,23 +88,48 @@ pub fn begin(geometry: &OnfiseqGeometry, targets: u8) -> OnfiseqBus
     }
 }
 
-// A target goes on by an item: 0 where it is permitted, else the number of the first rule that it breaks, and nothing changes.
-fn step_target(geometry: &Geometry, targets: u8, kept: &mut OnfiseqTarget, item: Item) -> u32
+// A target goes on by an item that is permitted. Else the answer is the first rule that it breaks, and nothing changes.
+fn step_target(
+    geometry: &Geometry,
+    targets: u8,
+    kept: &mut OnfiseqTarget,
+    item: Item,
+) -> Option<Forbidden>
     requires limits { InLimits geometry.now }
     requires numbers { IsTarget kept.old }
     requires fits { TargetFits geometry.now (target_of kept.old) }
-    ensures answer { result ≡ answered_there geometry.now targets (target_of kept.old) item }
+    ensures rule { result ≡ judge geometry.now targets (target_of kept.old).tail (target_of kept.old).luns item }
     ensures state { target_of kept.new ≡ target_pushed geometry.now targets (target_of kept.old) item }
     ensures numbers { IsTarget kept.new }
     ensures fits { TargetFits geometry.now (target_of kept.new) }
 {
     let mut target = target_of(kept);
     if let Some(rule) = judge(geometry, targets, target.tail, target.luns.as_slice(), item) {
-        return rule_number(rule);
+        return Some(rule);
     }
     target.apply(geometry, item);
     *kept = target_record(&target);
-    0
+    None
+}
+
+/// The channel goes on by an item that is permitted. Else the answer is the first rule that it breaks, and nothing changes.
+pub fn push_item(bus: &mut OnfiseqBus, item: Item) -> Option<Forbidden>
+    ensures rule { result ≡ judged (bus_view bus.old) item }
+    ensures state { bus_view bus.new ≡ bus_pushed (bus_view bus.old) (Some item) }
+    ensures after { result ≡ None → bus_view bus.new ≡ bus_after item (bus_view bus.old) }
+    ensures same { IsSameChannel (bus_view bus.old) (bus_view bus.new) }
+    ensures count { bus.new.count ≡ bus.old.count }
+{
+    let ce = usize::from(item.target());
+    if bus.count <= ce {
+        return Some(Forbidden::NotThere);
+    }
+    let geometry = Geometry::of(bus.geometry.parts()).unwrap();
+    let count = bus.count as u8;
+    let mut kept = bus.targets[ce];
+    let rule = step_target(&geometry, count, &mut kept, item);
+    bus.targets[ce] = kept;
+    rule
 }
 
 /// The channel goes on by an item: 0 where it is permitted, else the number of the first rule that it breaks, and nothing changes.
@@ -111,14 +138,8 @@ pub fn push(bus: &mut OnfiseqBus, item: Item) -> u32
     ensures state { bus_view bus.new ≡ bus_pushed (bus_view bus.old) (Some item) }
     ensures count { bus.new.count ≡ bus.old.count }
 {
-    let ce = usize::from(item.target());
-    if bus.count <= ce {
-        return 1;
+    match push_item(bus, item) {
+        Some(rule) => rule_number(rule),
+        None => 0,
     }
-    let geometry = Geometry::of(bus.geometry.parts()).unwrap();
-    let count = bus.count as u8;
-    let mut kept = bus.targets[ce];
-    let answer = step_target(&geometry, count, &mut kept, item);
-    bus.targets[ce] = kept;
-    answer
 }

@@ -1,10 +1,11 @@
 //! A look at a LUN, and whether an item would be permitted: questions that change nothing.
-ghost use Rattle.std.specs.Prelude.{◌≡◌, ◌≤◌, Some, None};
+ghost use Rattle.std.specs.Prelude.{◌≡◌, ◌≤◌, Some, None, IfSome, IfNone};
 ghost use Rattle.nand_geometry.specs.Limits.{InLimits};
 ghost use Rattle.onfi_cycle.specs.Bounds.{TargetFits};
 ghost use Rattle.onfi_cycle.specs.Look.{look_at, look_on, looked};
 ghost use Rattle.onfi_cycle.specs.Lun.{output_column};
 ghost use Rattle.bus_record.specs.Bus.{IsTarget, bus_view, answered_there, pushed};
+ghost use Rattle.bus_record.specs.Channel.{is_on};
 ghost use Rattle.bus_record.specs.Look.{look_of};
 ghost use Rattle.bus_record.specs.Record.{IsRecord, lun_of, target_of};
 
@@ -12,7 +13,7 @@ use crate::bus::OnfiseqBus;
 use crate::record::{OnfiseqLun, OnfiseqTarget, closer_of, given_of, target_of};
 use crate::rule::rule_number;
 use nand_geometry::Geometry;
-use onfi_cycle::{Item, ReadColumn, is_cache_read, judge};
+use onfi_cycle::{Item, Lun, ReadColumn, is_cache_read, judge};
 
 /// A look at a LUN. `latch`: what it drives the bus with, 0 nothing, 1 its status, 2 data. `register`: what its register holds, 0 nothing, 1 the page of `block`
 /// and `page`, 2 the parameter page, 3 the identifier. `column`, where `has_column`: the place that the next output gives. `queued`: the rows of its queue.
@@ -128,4 +129,33 @@ pub fn ask(bus: &OnfiseqBus, item: Item) -> u32
     }
     let geometry = Geometry::of(bus.geometry.parts()).unwrap();
     ask_target(&geometry, bus.count as u8, &bus.targets[ce], item)
+}
+
+/// The geometry of the targets of a channel; None where none was begun.
+pub fn geometry_of(bus: &OnfiseqBus) -> Option<Geometry>
+    ensures some { IfSome result (λ g. g ≡ (bus_view bus.now).geometry) }
+    ensures none { IfNone result (bus.now.count ≡ 0) }
+{
+    if bus.count == 0 {
+        return None;
+    }
+    Some(Geometry::of(bus.geometry.parts()).unwrap())
+}
+
+/// Whether a LUN is there.
+pub fn has_lun(bus: &OnfiseqBus, lun: Lun) -> bool
+    ensures { result ≡ is_on (bus_view bus.now) lun }
+{
+    usize::from(lun.ce) < bus.count && lun.lun < bus.geometry.luns
+}
+
+/// The same channel in a record of its own.
+pub fn copy_of(bus: &OnfiseqBus) -> OnfiseqBus
+    ensures { result ≡ bus.now }
+{
+    OnfiseqBus {
+        geometry: bus.geometry,
+        count: bus.count,
+        targets: bus.targets,
+    }
 }

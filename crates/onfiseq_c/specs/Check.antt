@@ -7,8 +7,8 @@ use Rattle.onfi_cycle.specs.declared.item.Item.{Item}
 use Rattle.onfi_cycle.specs.Permitted.{broken}
 use Rattle.bus_record.specs.Rule.{rule_number, by_option}
 use Rattle.onfiseq_c.specs.Geometry.{number_of_fault}
-use Rattle.onfiseq_c.specs.Item.{item_of}
-use Rattle.onfiseq_c.specs.declared.item.OnfiseqItem.{OnfiseqItem}
+use Rattle.bus_record.specs.Item.{item_of}
+use Rattle.bus_record.specs.declared.item.OnfiseqItem.{OnfiseqItem}
 use Rattle.onfiseq_c.specs.declared.check.OnfiseqAnswer.{OnfiseqAnswer}
 
 abbrev pub answer : ℕ → ℕ → ℕ → OnfiseqAnswer

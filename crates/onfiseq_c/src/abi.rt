@@ -3,8 +3,7 @@ ghost use Rattle.std.specs.Prelude.{◌≡◌};
 
 use crate::check::OnfiseqAnswer;
 use crate::geometry::OnfiseqPage;
-use crate::item::OnfiseqItem;
-use bus_record::{
+use bus_record::{OnfiseqItem, 
     OnfiseqBus, OnfiseqGeometry, OnfiseqLook, OnfiseqLun, OnfiseqQueued, OnfiseqTarget,
 };
 use std::mem::size_of;

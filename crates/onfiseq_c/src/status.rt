@@ -2,13 +2,12 @@
 ghost use Rattle.std.specs.Prelude.{◌≡◌, ◌≤◌, length};
 ghost use Rattle.bus_record.specs.Bus.{bus_view};
 ghost use Rattle.bus_record.specs.Look.{look_of};
-ghost use Rattle.onfiseq_c.specs.Many.{all_pushed, went};
+ghost use Rattle.bus_record.specs.Many.{all_pushed, went};
 ghost use Rattle.onfiseq_c.specs.Status.{array_becomes_ready, array_item, becomes_ready, completed, drives, driving_lun, lun_drives, readies_at, readies_of, ready_item, shows_bit};
 
-use crate::item::OnfiseqItem;
 use crate::many::onfiseq_push_all;
 use arrayvec::ArrayVec;
-use bus_record::{OnfiseqBus, OnfiseqLook, look_at_lun};
+use bus_record::{OnfiseqBus, OnfiseqItem, OnfiseqLook, look_at_lun};
 
 // A ready, that of an array, and the item itself.
 type Completed = ArrayVec<OnfiseqItem, 3>;

@@ -1,4 +1,4 @@
-pub mod Runs
 pub mod Ranges
 pub mod Permits
 pub mod Told
+pub mod Finished

@@ -6,7 +6,7 @@ use Rattle.onfi_cycle.specs.State.{BusView}
 use Rattle.micro_word.specs.Reading.{header_at}
 use Rattle.seq_core.specs.declared.job_fault.JobFault.{JobFault}
 use Rattle.seq_core.specs.declared.job_fault.JobFault.TheVariants.{NoSuchLun, RowsOutside, BufferLength, NotAtBlock}
-use Rattle.bus_record.specs.Running.{is_on}
+use Rattle.bus_record.specs.Channel.{is_on}
 use Rattle.word_file.specs.declared.word.WordMissing.TheVariants.{Fault}
 use Rattle.word_file.specs.Words.{by_result, continues}
 use Rattle.onfiseq_live_c.specs.declared.stop.Stop.{Stop}

@@ -3,7 +3,7 @@ use Rattle.std.specs.Prelude.{◌≡◌, ◌==◌, ◌&&◌, not, Bool, if◌the
 use Rattle.onfi_cycle.specs.declared.lun.Lun.{Lun}
 use Rattle.onfi_cycle.specs.State.{BusView}
 use Rattle.bus_record.specs.Bus.{bus_view}
-use Rattle.bus_record.specs.Running.{is_on}
+use Rattle.bus_record.specs.Channel.{is_on}
 use Rattle.onfiseq_live_c.specs.declared.live.OnfiseqLive.{OnfiseqLive}
 use Rattle.onfiseq_live_c.specs.declared.job.OnfiseqJob.{OnfiseqJob}
 use Rattle.onfiseq_live_c.specs.Job.{is_whole, lun_in}

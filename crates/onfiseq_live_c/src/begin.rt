@@ -2,6 +2,7 @@
 ghost use Rattle.std.specs.Prelude.{◌≡◌, ◌<◌, ◌^◌, IfSome};
 ghost use Rattle.nand_geometry.specs.declared.parts.Parts.{Parts};
 ghost use Rattle.word_file.specs.Words.{continues};
+ghost use Rattle.bus_record.specs.Bus.{bus_view};
 ghost use Rattle.onfiseq_live_c.specs.Begin.{job_fault, Begins};
 ghost use Rattle.onfiseq_live_c.specs.Live.{state_of};
 
@@ -9,25 +10,27 @@ use crate::finish::OnfiseqStep;
 use crate::job::OnfiseqJob;
 use crate::live::OnfiseqLive;
 use crate::stop::Stop;
-use bus_record::RunningBus;
+use bus_record::{OnfiseqBus, has_lun};
+use nand_geometry::Geometry;
 use onfi_cycle::Lun;
 use seq_core::JobFault;
 use word_file::{FileHeader, WordMissing, continues_cache_read, header_in};
 
 // The first fault of a job with this header and this buffer, whose file continues a cache read or not.
 fn job_fault(
-    state: &RunningBus,
+    geometry: &Geometry,
+    bus: &OnfiseqBus,
     lun: Lun,
     base: u32,
     buffer: usize,
     header: FileHeader,
     continues: bool,
 ) -> Option<JobFault>
-    ensures { result ≡ job_fault state.now lun base buffer header.rows header.buffer continues }
+    requires { geometry.now ≡ (bus_view bus.now).geometry }
+    ensures { result ≡ job_fault (bus_view bus.now) lun base buffer header.rows header.buffer continues }
 {
-    let geometry = state.geometry();
     let end = u64::from(base) + u64::from(header.rows);
-    if !state.has_lun(lun) {
+    if !has_lun(bus, lun) {
         Some(JobFault::NoSuchLun)
     } else if end > u64::from(geometry.indices()) {
         Some(JobFault::RowsOutside)
@@ -55,7 +58,7 @@ pub extern "C" fn onfiseq_job_begin(
 ) -> OnfiseqStep
     ensures { Begins live.now (record { ce = ce; lun = lun }) base buffer file.now result job.old job.new }
 {
-    let Some(state) = live.state() else {
+    let Some(geometry) = live.geometry() else {
         return OnfiseqStep::stopped(Stop::Damaged);
     };
     let header = match header_in(file) {
@@ -64,7 +67,7 @@ pub extern "C" fn onfiseq_job_begin(
     };
     let on = Lun { ce, lun };
     let continues = continues_cache_read(file, header.words);
-    if let Some(fault) = job_fault(&state, on, base, buffer, header, continues) {
+    if let Some(fault) = job_fault(&geometry, &live.bus, on, base, buffer, header, continues) {
         return OnfiseqStep::stopped(Stop::Unfit(fault));
     }
     *job = OnfiseqJob::fresh(on, base, header.buffer);

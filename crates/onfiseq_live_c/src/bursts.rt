@@ -1,14 +1,12 @@
 //! Going on with the state of a channel by bursts, as far as no rule is broken.
-ghost use Rattle.std.specs.Prelude.{◌≡◌, Some, None};
+ghost use Rattle.std.specs.Prelude.{◌≡◌, None};
 ghost use Rattle.micro_program.specs.Moves.{part};
 ghost use Rattle.onfi_cycle.specs.Channel.{cycle};
-ghost use Rattle.onfi_cycle.specs.State.{judged, bus_after};
-ghost use Rattle.onfi_cycle.specs.Runs.{judged_run, after_run};
-ghost use Rattle.bus_record.specs.Bus.{bus_pushed};
-ghost use Rattle.bus_record.specs.Running.{IsSameChannel};
+ghost use Rattle.bus_record.specs.Bus.{bus_view};
+ghost use Rattle.bus_record.specs.Channel.{IsSameChannel};
 ghost use Rattle.onfiseq_live_c.specs.Bursts.{judged_addresses, after_addresses, judged_burst, after_burst, judged_bursts, after_bursts};
 
-use bus_record::RunningBus;
+use bus_record::{OnfiseqBus, push_inputs, push_item, push_outputs};
 use onfi_cycle::{Cycle, Forbidden, Item, Kind};
 use seq_live::Burst;
 
@@ -19,49 +17,20 @@ fn cycle(ce: u8, kind: Kind, byte: u8) -> Item
     Item::Cyc(Cycle { ce, kind, byte })
 }
 
-/// Goes on by an item, if it breaks no rule.
-pub(crate) fn push(state: &mut RunningBus, item: Item) -> Option<Forbidden>
-    ensures rule { result ≡ judged state.old item }
-    ensures state { result ≡ None → state.new ≡ bus_after item state.old }
-    ensures value { state.new ≡ bus_pushed state.old (Some item) }
-    ensures same { IsSameChannel state.old state.new }
-{
-    if let Some(rule) = state.judge(item) {
-        return Some(rule);
-    }
-    state.apply(item);
-    None
-}
-
 // Goes on by address cycles.
-fn push_addresses(state: &mut RunningBus, ce: u8, bytes: &[u8]) -> Option<Forbidden>
-    ensures rule { result ≡ judged_addresses ce bytes.now state.old }
-    ensures state { result ≡ None → state.new ≡ after_addresses ce bytes.now state.old }
-    ensures same { IsSameChannel state.old state.new }
+fn push_addresses(bus: &mut OnfiseqBus, ce: u8, bytes: &[u8]) -> Option<Forbidden>
+    ensures rule { result ≡ judged_addresses ce bytes.now (bus_view bus.old) }
+    ensures state { result ≡ None → bus_view bus.new ≡ after_addresses ce bytes.now (bus_view bus.old) }
+    ensures same { IsSameChannel (bus_view bus.old) (bus_view bus.new) }
+    ensures count { bus.new.count ≡ bus.old.count }
 {
     match bytes {
         [] => None,
-        [first, rest @ ..] => match push(state, cycle(ce, Kind::Adr, *first)) {
+        [first, rest @ ..] => match push_item(bus, cycle(ce, Kind::Adr, *first)) {
             Some(rule) => Some(rule),
-            None => push_addresses(state, ce, rest),
+            None => push_addresses(bus, ce, rest),
         },
     }
-}
-
-// Goes on by so many data cycles; which bytes they carry isn't judged.
-fn push_run(state: &mut RunningBus, kind: Kind, ce: u8, count: usize) -> Option<Forbidden>
-    ensures rule { result ≡ judged_run kind ce count state.old }
-    ensures state { result ≡ None → state.new ≡ after_run kind ce count state.old }
-    ensures same { IsSameChannel state.old state.new }
-{
-    let mut left = count;
-    'cycles: while left > 0 {
-        if let Some(rule) = push(state, cycle(ce, kind, 0)) {
-            return Some(rule);
-        }
-        left -= 1;
-    }
-    None
 }
 
 // The bytes of an address burst.
@@ -74,35 +43,37 @@ fn address_bytes(five: &[u8; 5], from: u8, count: u8) -> &[u8]
 }
 
 // Goes on by a burst.
-fn push_burst(state: &mut RunningBus, burst: Burst) -> Option<Forbidden>
-    ensures rule { result ≡ judged_burst burst state.old }
-    ensures state { result ≡ None → state.new ≡ after_burst burst state.old }
-    ensures same { IsSameChannel state.old state.new }
+fn push_burst(bus: &mut OnfiseqBus, burst: Burst) -> Option<Forbidden>
+    ensures rule { result ≡ judged_burst burst (bus_view bus.old) }
+    ensures state { result ≡ None → bus_view bus.new ≡ after_burst burst (bus_view bus.old) }
+    ensures same { IsSameChannel (bus_view bus.old) (bus_view bus.new) }
+    ensures count { bus.new.count ≡ bus.old.count }
 {
     match burst {
-        Burst::Command { ce, byte } => push(state, cycle(ce, Kind::Cmd, byte)),
+        Burst::Command { ce, byte } => push_item(bus, cycle(ce, Kind::Cmd, byte)),
         Burst::Address {
             ce,
             five,
             from,
             count,
-        } => push_addresses(state, ce, address_bytes(&five, from, count)),
-        Burst::Input { ce, len, .. } => push_run(state, Kind::Din, ce, len),
-        Burst::Output { ce, len } => push_run(state, Kind::Dout, ce, len),
+        } => push_addresses(bus, ce, address_bytes(&five, from, count)),
+        Burst::Input { ce, len, .. } => push_inputs(bus, ce, len),
+        Burst::Output { ce, len } => push_outputs(bus, ce, len),
     }
 }
 
 /// Goes on by bursts one after another, up to the first that breaks a rule.
-pub(crate) fn push_bursts(state: &mut RunningBus, bursts: &[Burst]) -> Option<Forbidden>
-    ensures rule { result ≡ judged_bursts bursts.now state.old }
-    ensures state { result ≡ None → state.new ≡ after_bursts bursts.now state.old }
-    ensures same { IsSameChannel state.old state.new }
+pub(crate) fn push_bursts(bus: &mut OnfiseqBus, bursts: &[Burst]) -> Option<Forbidden>
+    ensures rule { result ≡ judged_bursts bursts.now (bus_view bus.old) }
+    ensures state { result ≡ None → bus_view bus.new ≡ after_bursts bursts.now (bus_view bus.old) }
+    ensures same { IsSameChannel (bus_view bus.old) (bus_view bus.new) }
+    ensures count { bus.new.count ≡ bus.old.count }
 {
     match bursts {
         [] => None,
-        [first, rest @ ..] => match push_burst(state, *first) {
+        [first, rest @ ..] => match push_burst(bus, *first) {
             Some(rule) => Some(rule),
-            None => push_bursts(state, rest),
+            None => push_bursts(bus, rest),
         },
     }
 }

@@ -1,21 +1,22 @@
 //! The step of a job's next word, whose bursts are done.
 ghost use Rattle.std.specs.Prelude.{◌≡◌, ◌<◌, ◌≤◌, ◌^◌, Some, None, Ok, Err, true, IfSome, IfNone, length};
 ghost use Rattle.onfi_cycle.specs.declared.item.Item.TheVariants.{Rdy, Ard};
-ghost use Rattle.bus_record.specs.Bus.{bus_pushed};
-ghost use Rattle.bus_record.specs.Running.{IsSameChannel};
+ghost use Rattle.bus_record.specs.Bus.{bus_pushed, bus_view};
+ghost use Rattle.bus_record.specs.Channel.{IsSameChannel};
 ghost use Rattle.seq_core.specs.Playing.{EndsWithFive};
 ghost use Rattle.onfiseq_live_c.specs.Job.{job_view};
 ghost use Rattle.onfiseq_live_c.specs.Finish.{with_array, with_status, with_readies, played, step, answer_letter, code_number, stopped, Finishes};
 
-use crate::bursts::{push, push_bursts};
+use crate::bursts::push_bursts;
 use crate::due::due;
 use crate::job::OnfiseqJob;
 use crate::live::OnfiseqLive;
 use crate::outcome::outcome_of;
 use crate::stop::Stop;
-use bus_record::{RunningBus, put_back};
+use bus_record::{OnfiseqBus, copy_of, push_item};
 use micro_program::is_ready_status;
 use micro_word::Word;
+use nand_geometry::Geometry;
 use onfi_cycle::{Item, Lun, Status};
 use seq_core::Stepped;
 use seq_core::lun_slots::holder_after;
@@ -91,21 +92,23 @@ impl OnfiseqStep {
 }
 
 // The array of a LUN has become ready, where a status shows that.
-fn show_array(state: &mut RunningBus, lun: Lun, status: u8)
-    ensures value { state.new ≡ with_array lun status state.old }
-    ensures same { IsSameChannel state.old state.new }
+fn show_array(bus: &mut OnfiseqBus, lun: Lun, status: u8)
+    ensures value { bus_view bus.new ≡ with_array lun status (bus_view bus.old) }
+    ensures same { IsSameChannel (bus_view bus.old) (bus_view bus.new) }
+    ensures count { bus.new.count ≡ bus.old.count }
 {
     if status & ARRAY_READY == ARRAY_READY {
         let (ce, lun) = (lun.ce, lun.lun);
         // A ready that isn't due changes nothing.
-        let _ = push(state, Item::Ard { ce, lun });
+        let _ = push_item(bus, Item::Ard { ce, lun });
     }
 }
 
 // The readies that a status of a LUN shows.
-fn show_status(state: &mut RunningBus, lun: Lun, status: u8)
-    ensures value { state.new ≡ with_status lun status state.old }
-    ensures same { IsSameChannel state.old state.new }
+fn show_status(bus: &mut OnfiseqBus, lun: Lun, status: u8)
+    ensures value { bus_view bus.new ≡ with_status lun status (bus_view bus.old) }
+    ensures same { IsSameChannel (bus_view bus.old) (bus_view bus.new) }
+    ensures count { bus.new.count ≡ bus.old.count }
 {
     if is_ready_status(status) {
         let fail = Status(status).has_failed();
@@ -115,33 +118,35 @@ fn show_status(state: &mut RunningBus, lun: Lun, status: u8)
             fail,
         };
         // A ready that isn't due changes nothing.
-        let _ = push(state, ready);
-        show_array(state, lun, status);
+        let _ = push_item(bus, ready);
+        show_array(bus, lun, status);
     }
 }
 
 // The readies that a word of a LUN shows, whose outputs gave these bytes.
-fn show(state: &mut RunningBus, lun: Lun, word: Word, taken: &[u8])
-    ensures value { state.new ≡ with_readies lun word taken.now state.old }
-    ensures same { IsSameChannel state.old state.new }
+fn show(bus: &mut OnfiseqBus, lun: Lun, word: Word, taken: &[u8])
+    ensures value { bus_view bus.new ≡ with_readies lun word taken.now (bus_view bus.old) }
+    ensures same { IsSameChannel (bus_view bus.old) (bus_view bus.new) }
+    ensures count { bus.new.count ≡ bus.old.count }
 {
     if is_poll(word) {
-        show_status(state, lun, status_of(word, taken));
+        show_status(bus, lun, status_of(word, taken));
     }
 }
 
 // Goes on by the bursts of a word of a job.
-fn play(state: &mut RunningBus, job: &OnfiseqJob, word: Word) -> Option<Stop>
-    requires { EndsWithFive word }
-    ensures some { IfSome result (λ stop. played (job_view job.now) word state.old ≡ Err stop) }
-    ensures none { IfNone result (played (job_view job.now) word state.old ≡ Ok state.new) }
-    ensures same { IsSameChannel state.old state.new }
+fn play(geometry: &Geometry, bus: &mut OnfiseqBus, job: &OnfiseqJob, word: Word) -> Option<Stop>
+    requires geometry { geometry.now ≡ (bus_view bus.old).geometry }
+    requires range { EndsWithFive word }
+    ensures some { IfSome result (λ stop. played (job_view job.now) word (bus_view bus.old) ≡ Err stop) }
+    ensures none { IfNone result (played (job_view job.now) word (bus_view bus.old) ≡ Ok (bus_view bus.new)) }
+    ensures same { IsSameChannel (bus_view bus.old) (bus_view bus.new) }
+    ensures count { bus.new.count ≡ bus.old.count }
 {
-    let geometry = state.geometry();
-    let Some(bursts) = bursts_of(&geometry, job.on(), job.registers(), word) else {
+    let Some(bursts) = bursts_of(geometry, job.on(), job.registers(), word) else {
         return Some(Stop::RowOutside);
     };
-    match push_bursts(state, bursts.as_slice()) {
+    match push_bursts(bus, bursts.as_slice()) {
         Some(rule) => Some(Stop::Breaks(rule)),
         None => None,
     }
@@ -158,7 +163,7 @@ pub extern "C" fn onfiseq_job_finish(
 ) -> OnfiseqStep
     ensures { Finishes live.old job.old file.now taken.now result live.new job.new }
 {
-    let Some(mut state) = live.state_for(job) else {
+    let Some(geometry) = live.geometry_for(job) else {
         return OnfiseqStep::stopped(Stop::Damaged);
     };
     let word = match due(live.holder(), job, file) {
@@ -168,11 +173,12 @@ pub extern "C" fn onfiseq_job_finish(
     if taken.len() != taken_by(word) {
         return OnfiseqStep::stopped(Stop::WrongCount);
     }
-    show(&mut state, job.on(), word, taken);
-    if let Some(stop) = play(&mut state, job, word) {
+    let mut bus = copy_of(&live.bus);
+    show(&mut bus, job.on(), word, taken);
+    if let Some(stop) = play(&geometry, &mut bus, job, word) {
         return OnfiseqStep::stopped(stop);
     }
-    put_back(&mut live.bus, &state);
+    live.bus = bus;
     let status = status_of(word, taken);
     let answer = outcome_of(word, status);
     live.hand_over(holder_after(answer, job.on()));

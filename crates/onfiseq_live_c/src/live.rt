@@ -1,5 +1,5 @@
 //! A channel on whose pins jobs run, as a record in the caller's memory.
-ghost use Rattle.std.specs.Prelude.{◌≡◌, ◌≤◌, true, false, [], Some, None, IfSome, IfNone, if◌then◌else◌, length};
+ghost use Rattle.std.specs.Prelude.{◌≡◌, ◌≤◌, true, false, [], Some, None, IfSome, IfNone, if◌then◌else◌};
 ghost use Rattle.onfi_cycle.specs.State.{Follows};
 ghost use Rattle.onfi_cycle.specs.declared.item.Item.TheVariants.{Rdy, Ard};
 ghost use Rattle.bus_record.specs.Bus.{CanBegin, pushed, bus_pushed};
@@ -7,7 +7,8 @@ ghost use Rattle.bus_record.specs.Geometry.{parts_of};
 ghost use Rattle.onfiseq_live_c.specs.Live.{state_of, holder_of, is_live, are_whole, KeepsHolder};
 
 use crate::job::OnfiseqJob;
-use bus_record::{OnfiseqBus, OnfiseqGeometry, RunningBus, begin, push, take_out};
+use bus_record::{OnfiseqBus, OnfiseqGeometry, begin, geometry_of, has_lun, push};
+use nand_geometry::Geometry;
 use onfi_cycle::{Item, Lun};
 
 // What stands first in a record that a call left: `LIVE`.
@@ -36,36 +37,29 @@ impl OnfiseqLive {
         self.magic == MAGIC && self.bus.count != 0
     }
 
-    /// The state of its channel, where its record is whole.
-    #[inline(always)]
-    pub(crate) fn state(&self) -> Option<RunningBus>
-        ensures some { IfSome result (λ s. s ≡ state_of self.now) }
-        ensures count { IfSome result (λ s. length s.targets ≡ self.now.bus.count) }
-        ensures live { IfSome result (λ s. is_live self.now ≡ true) }
+    /// The geometry of its channel, where its record is whole.
+    pub(crate) fn geometry(&self) -> Option<Geometry>
+        ensures some { IfSome result (λ g. g ≡ (state_of self.now).geometry) }
+        ensures live { IfSome result (λ g. is_live self.now ≡ true) }
         ensures none { IfNone result (is_live self.now ≡ false) }
     {
         if !self.is_live() {
             return None;
         }
-        take_out(&self.bus)
+        geometry_of(&self.bus)
     }
 
-    /// The state of its channel, where both records are whole.
-    #[inline(always)]
-    pub(crate) fn state_for(&self, job: &OnfiseqJob) -> Option<RunningBus>
-        ensures some { IfSome result (λ s. s ≡ state_of self.now) }
-        ensures count { IfSome result (λ s. length s.targets ≡ self.now.bus.count) }
-        ensures whole { IfSome result (λ s. are_whole self.now job.now ≡ true) }
-        ensures few { IfSome result (λ s. job.now.loops.depth ≤ 4) }
+    /// The geometry of its channel, where both records are whole.
+    pub(crate) fn geometry_for(&self, job: &OnfiseqJob) -> Option<Geometry>
+        ensures some { IfSome result (λ g. g ≡ (state_of self.now).geometry) }
+        ensures whole { IfSome result (λ g. are_whole self.now job.now ≡ true) }
+        ensures few { IfSome result (λ g. job.now.loops.depth ≤ 4) }
         ensures none { IfNone result (are_whole self.now job.now ≡ false) }
     {
-        if !job.is_whole() {
+        if !job.is_whole() || !has_lun(&self.bus, job.on()) {
             return None;
         }
-        match self.state() {
-            Some(state) if state.has_lun(job.on()) => Some(state),
-            _ => None,
-        }
+        self.geometry()
     }
 
     /// The LUN that has the bus, if one has it.

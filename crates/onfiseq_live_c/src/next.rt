@@ -1,6 +1,7 @@
 //! What is to be done on the pins for a job's next word.
 ghost use Rattle.std.specs.Prelude.{◌≡◌, Ok, Err, slice_get};
 ghost use Rattle.seq_core.specs.Playing.{EndsWithFive};
+ghost use Rattle.bus_record.specs.Bus.{bus_view};
 ghost use Rattle.onfiseq_live_c.specs.Job.{job_view};
 ghost use Rattle.onfiseq_live_c.specs.Next.{shown, shown_some, three, told, next_of, turn_of};
 
@@ -9,8 +10,9 @@ use crate::due::due;
 use crate::job::OnfiseqJob;
 use crate::live::OnfiseqLive;
 use crate::stop::Stop;
-use bus_record::RunningBus;
+use bus_record::{OnfiseqBus, copy_of};
 use micro_word::Word;
+use nand_geometry::Geometry;
 use seq_live::{Burst, bursts_of, taken_by};
 
 /// What is to be done on the pins in one go, with the chip enable `ce` low and the others high. `kind` is a letter: C and A give `len` of the bytes, from
@@ -136,15 +138,15 @@ impl OnfiseqTurn {
 }
 
 // What is to be done for a word of a job.
-fn tell(state: &mut RunningBus, job: &OnfiseqJob, word: Word) -> OnfiseqTurn
-    requires { EndsWithFive word }
-    ensures { result ≡ turn_of (told state.old (job_view job.now) word) }
+fn tell(geometry: &Geometry, bus: &mut OnfiseqBus, job: &OnfiseqJob, word: Word) -> OnfiseqTurn
+    requires geometry { geometry.now ≡ (bus_view bus.old).geometry }
+    requires range { EndsWithFive word }
+    ensures { result ≡ turn_of (told (bus_view bus.old) (job_view job.now) word) }
 {
-    let geometry = state.geometry();
-    let Some(bursts) = bursts_of(&geometry, job.on(), job.registers(), word) else {
+    let Some(bursts) = bursts_of(geometry, job.on(), job.registers(), word) else {
         return OnfiseqTurn::stopped(Stop::RowOutside);
     };
-    match push_bursts(state, bursts.as_slice()) {
+    match push_bursts(bus, bursts.as_slice()) {
         Some(rule) => OnfiseqTurn::stopped(Stop::Breaks(rule)),
         None => OnfiseqTurn::told(bursts.as_slice(), taken_by(word)),
     }
@@ -156,11 +158,14 @@ fn tell(state: &mut RunningBus, job: &OnfiseqJob, word: Word) -> OnfiseqTurn
 pub extern "C" fn onfiseq_job_next(live: &OnfiseqLive, job: &OnfiseqJob, file: &[u8]) -> OnfiseqTurn
     ensures { result ≡ turn_of (next_of live.now job.now file.now) }
 {
-    let Some(mut state) = live.state_for(job) else {
+    let Some(geometry) = live.geometry_for(job) else {
         return OnfiseqTurn::stopped(Stop::Damaged);
     };
     match due(live.holder(), job, file) {
         Err(stop) => OnfiseqTurn::stopped(stop),
-        Ok(word) => tell(&mut state, job, word),
+        Ok(word) => {
+            let mut bus = copy_of(&live.bus);
+            tell(&geometry, &mut bus, job, word)
+        }
     }
 }
