@@ -20,12 +20,12 @@ use Rattle.onfiseq_live_c.specs.Permits.{ArePermitted}
 
 -- ---- moves, judged one after another; a rule sees no byte of data
 
-abbrev judged_moves : ℕ → List Move → BusView → Option Forbidden
+abbrev pub judged_moves : ℕ → List Move → BusView → Option Forbidden
 judged_moves ce [] s = None
 judged_moves ce (Give kind byte ∷ rest) s = first_rule (judged s (cycle ce kind byte)) (judged_moves ce rest (bus_after (cycle ce kind byte) s))
 judged_moves ce (Take ∷ rest) s = first_rule (judged s (cycle ce Dout 0)) (judged_moves ce rest (bus_after (cycle ce Dout 0) s))
 
-abbrev after_moves : ℕ → List Move → BusView → BusView
+abbrev pub after_moves : ℕ → List Move → BusView → BusView
 after_moves ce [] s = s
 after_moves ce (Give kind byte ∷ rest) s = after_moves ce rest (bus_after (cycle ce kind byte) s)
 after_moves ce (Take ∷ rest) s = after_moves ce rest (bus_after (cycle ce Dout 0) s)
@@ -66,9 +66,9 @@ after_append ce (Take ∷ a) b s = after_append ce a b (bus_after (cycle ce Dout
 
 -- ---- bursts are their moves
 
-record AreMoves (ce : ℕ) (moved : List Move) (s : BusView) (rule : Option Forbidden) (later : BusView) : Type 0 where
-  judges : rule ≡ judged_moves ce moved s
-  leaves : later ≡ after_moves ce moved s
+pub record AreMoves (ce : ℕ) (moved : List Move) (s : BusView) (rule : Option Forbidden) (later : BusView) : Type 0 where
+  pub judges : rule ≡ judged_moves ce moved s
+  pub leaves : later ≡ after_moves ce moved s
 
 addresses_are : (ce : ℕ) (bytes : List ℕ) (s : BusView) → AreMoves ce (gives Adr bytes) s (judged_addresses ce bytes s) (after_addresses ce bytes s)
 addresses_are ce [] s = record { judges = refl; leaves = refl }
@@ -103,7 +103,7 @@ so_many place len buffer inside =
     omega (arith, taken, room)
 
 -- the burst is one of this target, and its inputs are of a buffer of this length
-abbrev IsOf : (ce len : ℕ) → Burst → Type 0
+abbrev pub IsOf : (ce len : ℕ) → Burst → Type 0
 IsOf ce len (Command on byte) = on ≡ ce
 IsOf ce len (Address on five from count) = on ≡ ce
 IsOf ce len (Input on place count) = (on ≡ ce) × (place + count ≤ len)
@@ -126,7 +126,7 @@ burst_is ce buffer (Input on place len) s e =
 burst_is ce buffer (Output on len) s e =
     subst (λ (m : ℕ). AreMoves ce (replicate len Take) s (judged_run Dout m len s) (after_run Dout m len s)) (sym e) (outputs_are ce len s)
 
-bursts_are : (ce : ℕ) (buffer : List ℕ) (bursts : List Burst) (s : BusView) → AreOf ce (length buffer) bursts
+pub bursts_are : (ce : ℕ) (buffer : List ℕ) (bursts : List Burst) (s : BusView) → AreOf ce (length buffer) bursts
     → AreMoves ce (all_moves buffer bursts) s (judged_bursts bursts s) (after_bursts bursts s)
 bursts_are ce buffer [] s on = record { judges = refl; leaves = refl }
 bursts_are ce buffer (b ∷ bursts) s on =

@@ -46,7 +46,7 @@ address_is_own : (l : Lun) (len from count : ℕ) (o : Option (List ℕ)) (burst
 address_is_own l len from count None bursts e = cc
 address_is_own l len from count (Some five) bursts e = same_list l.ce len (Address l.ce five from count ∷ []) bursts e (refl, tt)
 
-bursts_are_own : (g : Parts) (l : Lun) (r : Registers) (len : ℕ) (w : Word) (bursts : List Burst) → fits len r.place w ≡ true → bursts_at g l r w ≡ Some bursts → AreOf l.ce len bursts
+pub bursts_are_own : (g : Parts) (l : Lun) (r : Registers) (len : ℕ) (w : Word) (bursts : List Burst) → fits len r.place w ≡ true → bursts_at g l r w ≡ Some bursts → AreOf l.ce len bursts
 bursts_are_own g l r len (word.Command byte) bursts inside e = same_list l.ce len (Command l.ce byte ∷ []) bursts e (refl, tt)
 bursts_are_own g l r len (word.Address from count) bursts inside e = address_is_own l len from count (five_bytes g l.lun r (from + count)) bursts e
 bursts_are_own g l r len (word.Get count) bursts inside e = same_list l.ce len (Output l.ce count ∷ []) bursts e (refl, tt)

@@ -7,3 +7,4 @@ pub mod Next
 pub mod Finish
 pub mod Begin
 pub mod Permits
+pub mod Verified
