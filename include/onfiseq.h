@@ -15,7 +15,7 @@
  *  - a bool is 0 or 1: begin records with = {0}, or fill them whole;
  *  - a struct onfiseq_bus comes from onfiseq_begin, a struct onfiseq_live from onfiseq_live_begin, and only the calls below change them. They may be copied,
  *    compared and thrown away as you like. A struct onfiseq_job may hold anything: what isn't one is an answer;
- *  - there is stack enough: 36 KB for libonfiseq_c.a, 8 KB for libonfiseq_text_c.a; for onfiseq_verify 96 KB where a program has no branch and no loop, 280 KB
+ *  - there is stack enough: 36 KB for libonfiseq_c.a, 22 KB for libonfiseq_live_c.a, 8 KB for libonfiseq_text_c.a; for onfiseq_verify 96 KB where a program has no branch and no loop, 280 KB
  *    where it has 64 words at most, and else 2.2 MB.
  */
 #ifndef ONFISEQ_H
