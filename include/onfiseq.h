@@ -207,7 +207,7 @@ struct onfiseq_loop {
 
 struct onfiseq_loops {
     uint8_t depth;
-    struct onfiseq_loop open[4];
+    struct onfiseq_loop around[4];
 };
 
 /* A job. Its fields are for debuggers and for the buffer: at is its next word, place the place in the buffer that its next `get` or `put` begins at. */

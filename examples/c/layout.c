@@ -148,8 +148,8 @@ static void test_job(void) {
     LIVE(job.status, 13);
     LIVE(job.loops.depth, 14);
     for (unsigned k = 0; k < 4; k++) {
-        LIVE(job.loops.open[k].start, 15 + k);
-        LIVE(job.loops.open[k].left, (15 + k) ^ 0x100);
+        LIVE(job.loops.around[k].start, 15 + k);
+        LIVE(job.loops.around[k].left, (15 + k) ^ 0x100);
     }
 }
 

@@ -3,8 +3,8 @@ ghost use Rattle.std.specs.Prelude.{◌≡◌};
 
 use crate::check::OnfiseqAnswer;
 use crate::geometry::OnfiseqPage;
-use bus_record::{OnfiseqItem, 
-    OnfiseqBus, OnfiseqGeometry, OnfiseqLook, OnfiseqLun, OnfiseqQueued, OnfiseqTarget,
+use bus_record::{
+    OnfiseqBus, OnfiseqGeometry, OnfiseqItem, OnfiseqLook, OnfiseqLun, OnfiseqQueued, OnfiseqTarget,
 };
 use std::mem::size_of;
 

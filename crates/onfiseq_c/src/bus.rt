@@ -7,7 +7,7 @@ ghost use Rattle.bus_record.specs.Geometry.{parts_of};
 ghost use Rattle.bus_record.specs.Bus.{bus_view, CanBegin, pushed, bus_pushed, GoesOn};
 ghost use Rattle.bus_record.specs.Item.{item_of};
 
-use bus_record::{OnfiseqItem, OnfiseqBus, OnfiseqGeometry, begin, push};
+use bus_record::{OnfiseqBus, OnfiseqGeometry, OnfiseqItem, begin, push};
 
 /// A channel of so many targets of this geometry, to which nothing has happened. Where the geometry has a fault or the targets aren't 1 to 4 there is no
 /// such channel, and its `count` is 0.

@@ -4,7 +4,7 @@ ghost use Rattle.bus_record.specs.Geometry.{parts_of};
 ghost use Rattle.onfiseq_c.specs.Check.{checked, answered};
 
 use crate::geometry::number_of_page_fault;
-use bus_record::{OnfiseqItem, OnfiseqGeometry, rule_number};
+use bus_record::{OnfiseqGeometry, OnfiseqItem, rule_number};
 use nand_geometry::Geometry;
 use onfi_cycle::BusState;
 

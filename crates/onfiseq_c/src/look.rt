@@ -5,7 +5,7 @@ ghost use Rattle.bus_record.specs.Bus.{bus_view, pushed};
 ghost use Rattle.bus_record.specs.Look.{look_of};
 ghost use Rattle.bus_record.specs.Item.{item_of};
 
-use bus_record::{OnfiseqItem, OnfiseqBus, OnfiseqLook, ask, look_at_lun};
+use bus_record::{OnfiseqBus, OnfiseqItem, OnfiseqLook, ask, look_at_lun};
 
 /// A look at a LUN; `is_there` is false, and all is zero, where no such LUN is there.
 #[unsafe(no_mangle)]

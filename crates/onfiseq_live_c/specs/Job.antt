@@ -29,7 +29,7 @@ abbrev pub no_loop : OnfiseqLoop
 no_loop = record { start = 0; left = 0 }
 
 abbrev pub loops_in : OnfiseqLoops → List OpenLoop
-loops_in l = map loop_of (take l.depth l.open)
+loops_in l = map loop_of (take l.depth l.around)
 
 abbrev pub opens_loop : Word → Bool
 opens_loop (Loop turns) = true

@@ -72,7 +72,7 @@ fn sample_job() -> OnfiseqJob {
         status: 13,
         loops: OnfiseqLoops {
             depth: 14,
-            open: [
+            around: [
                 sample_loop(15),
                 sample_loop(16),
                 sample_loop(17),

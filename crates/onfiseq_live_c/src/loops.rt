@@ -18,7 +18,7 @@ pub struct OnfiseqLoop {
 #[derive(Clone, Copy)]
 pub struct OnfiseqLoops {
     pub depth: u8,
-    pub open: [OnfiseqLoop; 4],
+    pub around: [OnfiseqLoop; 4],
 }
 
 /// The place behind a word, and the loops around that.
@@ -37,7 +37,7 @@ pub(crate) fn no_loops() -> OnfiseqLoops
 {
     OnfiseqLoops {
         depth: 0,
-        open: [NO_LOOP; 4],
+        around: [NO_LOOP; 4],
     }
 }
 
@@ -47,10 +47,10 @@ fn pushed(loops: OnfiseqLoops, new: OnfiseqLoop) -> OnfiseqLoops
     ensures value { loops_in result ≡ loop_of new ∷ loops_in loops }
     ensures few { result.depth ≤ 4 }
 {
-    let [first, second, third, _] = loops.open;
+    let [first, second, third, _] = loops.around;
     OnfiseqLoops {
         depth: loops.depth + 1,
-        open: [new, first, second, third],
+        around: [new, first, second, third],
     }
 }
 
@@ -58,13 +58,13 @@ fn pushed(loops: OnfiseqLoops, new: OnfiseqLoop) -> OnfiseqLoops
 fn popped(loops: OnfiseqLoops) -> OnfiseqLoops
     requires some { 1 ≤ loops.depth }
     requires few { loops.depth ≤ 4 }
-    ensures value { loop_of (get_or loops.open 0 no_loop) ∷ loops_in result ≡ loops_in loops }
+    ensures value { loop_of (get_or loops.around 0 no_loop) ∷ loops_in result ≡ loops_in loops }
     ensures few { result.depth < 4 }
 {
-    let [_, second, third, fourth] = loops.open;
+    let [_, second, third, fourth] = loops.around;
     OnfiseqLoops {
         depth: loops.depth - 1,
-        open: [second, third, fourth, NO_LOOP],
+        around: [second, third, fourth, NO_LOOP],
     }
 }
 
@@ -79,7 +79,7 @@ fn next(at: u16, loops: OnfiseqLoops) -> Standing
     if loops.depth == 0 {
         return Standing { at: at + 1, loops };
     }
-    let inner = loops.open[0];
+    let inner = loops.around[0];
     let outer = popped(loops);
     if inner.left == 0 {
         return Standing {
