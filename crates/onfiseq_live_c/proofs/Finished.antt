@@ -52,6 +52,17 @@ lun_kept j word status = at (is_done (outcome_of word status))
 pub same_lun_after : (j next : OnfiseqJob) (word : Word) (status : ℕ) → job_view next ≡ job_behind (job_view j) word status → lun_in next ≡ lun_in j
 same_lun_after j next word status e = ap (λ (x : JobView). x.lun) e ∙ lun_kept (job_view j) word status
 
+pub finish_is : (v : OnfiseqLive) (j : OnfiseqJob) (file bytes : List ℕ) (word : Word) (left : BusView)
+    → are_whole v j ≡ true → due (holder_of v) (job_view j) file ≡ Ok word → length bytes ≡ taken_by word
+    → played (job_view j) word (with_readies (lun_in j) word bytes (state_of v)) ≡ Ok left
+    → finish_of v j file bytes ≡ Ok (finished (job_view j) word (status_of word bytes) left)
+finish_is v j file bytes word left whole is_due many plays =
+    let counted : (length bytes == taken_by word) ≡ true = grind (arith, nat_tests, many) in
+    ap (λ (b : Bool). cond (not b) (Err stop.Damaged) (and_do (due (holder_of v) (job_view j) file) (step_word (state_of v) (job_view j) bytes))) whole
+    ∙ (ap (λ r. and_do r (step_word (state_of v) (job_view j) bytes)) is_due
+    ∙ (ap (λ (b : Bool). cond (not b) (Err stop.WrongCount) (and_do (played (job_view j) word (with_readies (lun_in j) word bytes (state_of v))) (λ l. Ok (finished (job_view j) word (status_of word bytes) l)))) counted
+    ∙ ap (λ r. and_do r (λ l. Ok (finished (job_view j) word (status_of word bytes) l))) plays))
+
 pub finishes : (v later : OnfiseqLive) (j next : OnfiseqJob) (file bytes : List ℕ) (word : Word) (left : BusView) (answer : OnfiseqStep)
     → are_whole v j ≡ true → due (holder_of v) (job_view j) file ≡ Ok word → length bytes ≡ taken_by word
     → played (job_view j) word (with_readies (lun_in j) word bytes (state_of v)) ≡ Ok left
@@ -60,12 +71,7 @@ pub finishes : (v later : OnfiseqLive) (j next : OnfiseqJob) (file bytes : List 
     → answer ≡ step (answer_letter (outcome_of word (status_of word bytes))) (code_number (code_in next.has_ended next.code))
     → are_whole later next ≡ true → Finishes v j file bytes answer later next
 finishes v later j next file bytes word left answer whole is_due many plays state holder job answered after =
-    let counted : (length bytes == taken_by word) ≡ true = grind (arith, nat_tests, many) in
-    let came : finish_of v j file bytes ≡ Ok (finished (job_view j) word (status_of word bytes) left) =
-    ap (λ (b : Bool). cond (not b) (Err stop.Damaged) (and_do (due (holder_of v) (job_view j) file) (step_word (state_of v) (job_view j) bytes))) whole
-    ∙ (ap (λ r. and_do r (step_word (state_of v) (job_view j) bytes)) is_due
-    ∙ (ap (λ (b : Bool). cond (not b) (Err stop.WrongCount) (and_do (played (job_view j) word (with_readies (lun_in j) word bytes (state_of v))) (λ l. Ok (finished (job_view j) word (status_of word bytes) l)))) counted
-    ∙ ap (λ r. and_do r (λ l. Ok (finished (job_view j) word (status_of word bytes) l))) plays)) in
+    let came = finish_is v j file bytes word left whole is_due many plays in
     subst (FinishesSo v j answer later next) (sym came)
     (record {
       answered = answered ∙ ap (λ (x : JobView). step (answer_letter (outcome_of word (status_of word bytes))) (code_number x.code)) job;

@@ -3,3 +3,6 @@ pub mod Permits
 pub mod Told
 pub mod Finished
 pub mod Verified
+pub mod Noted
+pub mod Along
+pub mod Stepped

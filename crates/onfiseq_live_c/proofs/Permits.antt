@@ -31,11 +31,11 @@ after_moves ce (Give kind byte ∷ rest) s = after_moves ce rest (bus_after (cyc
 after_moves ce (Take ∷ rest) s = after_moves ce rest (bus_after (cycle ce Dout 0) s)
 
 -- the first breaks no rule, and the rest breaks none
-record Both (a b : Option Forbidden) : Type 0 where
-  first : a ≡ None
-  rest : b ≡ None
+pub record Both (a b : Option Forbidden) : Type 0 where
+  pub first : a ≡ None
+  pub rest : b ≡ None
 
-both : (a b : Option Forbidden) → first_rule a b ≡ None → Both a b
+pub both : (a b : Option Forbidden) → first_rule a b ≡ None → Both a b
 both None b h = record { first = refl; rest = h }
 both (Some rule) b h = cc
 

@@ -57,7 +57,7 @@ nth_all P [] k x a e = cc
 nth_all P (y ∷ xs) zero x a e = let same : y ≡ x = cc in subst P same a.0
 nth_all P (y ∷ xs) (suc k) x a e = nth_all P xs k x a.1 e
 
-word_range : (file : List ℕ) (x : Microprogram) (k : ℕ) (w : Word) → IsFileOf file x → slice_get x.words k ≡ Some w → EndsWithFive w
+pub word_range : (file : List ℕ) (x : Microprogram) (k : ℕ) (w : Word) → IsFileOf file x → slice_get x.words k ≡ Some w → EndsWithFive w
 word_range file x k w (inl f) e = ends_with_five One (length x.words) w (nth_all (IsInRange One (length x.words)) x.words k w f.0.words e)
 word_range file x k w (inr f) e = ends_with_five Two (length x.words) w (nth_all (IsInRange Two (length x.words)) x.words k w f.0.words e)
 
@@ -106,7 +106,7 @@ own_moves g n l (Take ∷ rest) s past f own =
     ap (λ (o : Option Forbidden). first_rule o (judged_moves l.ce rest (bus_after (cycle l.ce Dout 0) s))) none
     ∙ own_moves g n l rest (bus_after (cycle l.ce Dout 0) s) (cycle l.ce Dout 0 ∷ past) (bus_goes_on g n s past (cycle l.ce Dout 0) none f) one.1
 
-own_bursts : (g : Parts) (n : ℕ) (l : Lun) (buffer : List ℕ) (r : Registers) (w : Word) (moved : List Move) (bursts : List Burst) (s : BusView) (past : List Item)
+pub own_bursts : (g : Parts) (n : ℕ) (l : Lun) (buffer : List ℕ) (r : Registers) (w : Word) (moved : List Move) (bursts : List Burst) (s : BusView) (past : List Item)
     → EndsWithFive w → fits (length buffer) r.place w ≡ true → moves_at g l.lun buffer r w ≡ Some moved → bursts_at g l r w ≡ Some bursts
     → Follows g n s past → MovesAreOwn (channel_on g n []) l moved past → judged_bursts bursts s ≡ None
 own_bursts g n l buffer r w moved bursts s past range inside is_moved are f own =
@@ -127,6 +127,16 @@ next_is v j file w bursts whole is_due are none =
     ap (λ (b : Bool). cond (not b) (Err stop.Damaged) (and_do (due (holder_of v) (job_view j) file) (told (state_of v) (job_view j)))) whole
     ∙ (ap (λ r. and_do r (told (state_of v) (job_view j))) is_due ∙ told_is_all (state_of v) (job_view j) w bursts are none)
 
+-- the next word of a program that goes on is due
+pub due_now : (kept : LiveView) (p : Progress) (v : OnfiseqLive) (j : OnfiseqJob) (file : List ℕ) (w : Word) → StandsFor kept p v j file → p.code ≡ None → is_held kept.holder (lun_in j) ≡ false
+    → slice_get p.job.text.words p.at ≡ Some w → fits (length p.job.buffer) p.registers.place w ≡ true → length (loops_behind p.at p.loops w) ≤ 4
+    → due (holder_of v) (job_view j) file ≡ Ok w
+due_now kept p v j file w st running free here inside room =
+    due_is (holder_of v) (job_view j) file w (st.code ∙ running) (ap (λ h. is_held h (lun_in j)) st.holder ∙ free)
+    (words_are_read file p.job.text (reading_of file p.job.text st.text) j.at w (ap (slice_get p.job.text.words) st.at ∙ here))
+    (ap (λ (n : ℕ). fits n j.place w) st.buffer ∙ (ap (λ (r : Registers). fits (length p.job.buffer) r.place w) st.registers ∙ inside))
+    (ap (λ (ls : List OpenLoop). opens_loop w && length ls == 4) st.loops ∙ not_deep p.at p.loops w room)
+
 pub verified_jobs_break_none : (kept : LiveView) (p : Progress) (v : OnfiseqLive) (j : OnfiseqJob) (file : List ℕ) → IsLive kept → StandsFor kept p v j file
     → p.code ≡ None → is_held kept.holder (lun_in j) ≡ false → TellsItsBursts kept p v j file
 verified_jobs_break_none kept p v j file k st running free = at (bursts_at kept.state.geometry p.job.lun p.registers w) refl
@@ -138,11 +148,7 @@ verified_jobs_break_none kept p v j file k st running free = at (bursts_at kept.
     w = can.0.word
 
     is_due : due (holder_of v) (job_view j) file ≡ Ok w
-    is_due =
-        due_is (holder_of v) (job_view j) file w (st.code ∙ running) (ap (λ h. is_held h (lun_in j)) st.holder ∙ free)
-        (words_are_read file p.job.text (reading_of file p.job.text st.text) j.at w (ap (slice_get p.job.text.words) st.at ∙ can.0.here))
-        (ap (λ (n : ℕ). fits n j.place w) st.buffer ∙ (ap (λ (r : Registers). fits (length p.job.buffer) r.place w) st.registers ∙ can.0.can.inside))
-        (ap (λ (ls : List OpenLoop). opens_loop w && length ls == 4) st.loops ∙ not_deep p.at p.loops w can.0.room)
+    is_due = due_now kept p v j file w st running free can.0.here can.0.can.inside can.0.room
 
     at : (o : Option (List Burst)) → bursts_at kept.state.geometry p.job.lun p.registers w ≡ o → TellsItsBursts kept p v j file
     at None are = absurd (bursts_there kept.state.geometry p.job.lun p.job.buffer p.registers w can.0.can.moved can.0.can.is_moved are)
