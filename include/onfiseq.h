@@ -1,9 +1,10 @@
-/* onfiseq for C and C++: the parameter page of a NAND flash chip, the check of its channel's cycles, the verification of microprograms, and their
- * assembly text. Everything here is proved where it stands in the libraries; docs/use/C.md says what of, and how it is built and linked.
+/* onfiseq for C and C++: the parameter page of a NAND flash chip, the check of its channel's cycles, the verification of microprograms, their
+ * assembly text, and the sequencer that runs them on pins. Everything here is proved where it stands in the libraries; docs/use/C.md says what of, and how it is built and linked.
  *
  *     libonfiseq_c.a          page, check, begin, push.., ask, look     takes no memory, needs memcpy and memset alone
  *     libonfiseq_verify_c.a   verify, verify_run                        takes memory by malloc, realloc and free
  *     libonfiseq_text_c.a     assemble, disassemble, words              takes memory by malloc, realloc and free
+ *     libonfiseq_live_c.a     live_.., job_..                           takes no memory, needs memcpy and memset alone
  *
  * No call aborts, and none keeps anything behind your back. A call may be made from several threads at once, as long as they don't share what it writes.
  *
@@ -12,8 +13,9 @@
  *  - what a call writes by a pointer that isn't const overlaps nothing else that it is given, and no other thread reads or writes it meanwhile: one
  *    struct onfiseq_bus belongs to one thread at a time, a lock of yours or a copy for each;
  *  - a bool is 0 or 1: begin records with = {0}, or fill them whole;
- *  - a struct onfiseq_bus comes from onfiseq_begin, and only the calls below change it. It may be copied, compared and thrown away as you like;
- *  - there is stack enough: 36 KB for libonfiseq_c.a, 8 KB for libonfiseq_text_c.a; for onfiseq_verify 96 KB where a program has no branch and no loop, 280 KB
+ *  - a struct onfiseq_bus comes from onfiseq_begin, a struct onfiseq_live from onfiseq_live_begin, and only the calls below change them. They may be copied,
+ *    compared and thrown away as you like. A struct onfiseq_job may hold anything: what isn't one is an answer;
+ *  - there is stack enough: 36 KB for libonfiseq_c.a, 22 KB for libonfiseq_live_c.a, 8 KB for libonfiseq_text_c.a; for onfiseq_verify 96 KB where a program has no branch and no loop, 280 KB
  *    where it has 64 words at most, and else 2.2 MB.
  */
 #ifndef ONFISEQ_H
@@ -183,7 +185,99 @@ struct onfiseq_placed onfiseq_disassemble(const uint8_t *file, size_t file_lengt
  * snprintf's is; 0 where no answer has this letter and number. 160 bytes are enough for any. */
 size_t onfiseq_words(uint8_t letter, uint32_t number, char *text, size_t room);
 
-/* ---- what the library says of itself: examples/c/layout.c compares it with this header */
+/* ---- the sequencer on your pins
+ *
+ * A channel and each of its jobs are records of yours. A job is a word file on a LUN: it is handed in at each call, and stays as it is meanwhile. Word after word,
+ * onfiseq_job_next tells what to do on the pins, you do it, and onfiseq_job_finish takes what the chip answered:
+ *
+ *     struct onfiseq_turn turn = onfiseq_job_next(&live, &job, file, length);
+ *     if (turn.letter == 0) {
+ *         for (size_t k = 0; k < turn.count; k++) do_on_pins(&turn.bursts[k], buffer, job.place, taken);
+ *         struct onfiseq_step step = onfiseq_job_finish(&live, &job, file, length, taken, turn.taken);
+ *     }
+ *
+ * Each cycle of the bursts that are told is permitted where it stands, whatever the file, the job's record and the chip's answers are. A file that
+ * onfiseq_verify accepts for the chip, one job at a time on each LUN, and chips that say ready only when they are, break no rule at all: then 'F' is never
+ * answered. Several jobs share the channel: one that is answered 'H' waits until the LUN that has the bus lets it go. */
+
+/* The loops around a word: the first depth of them, the innermost first. start is its first word, left the turns after this one. */
+struct onfiseq_loop {
+    uint16_t start, left;
+};
+
+struct onfiseq_loops {
+    uint8_t depth;
+    struct onfiseq_loop around[4];
+};
+
+/* A job. Its fields are for debuggers and for the buffer: at is its next word, place the place in the buffer that its next `get` or `put` begins at. */
+struct onfiseq_job {
+    uint32_t magic;
+    uint8_t ce, lun;
+    uint8_t has_ended, code; /* 0 while it goes on; then the code of its `end` */
+    uint32_t base, buffer;   /* the row index that it begins at; the length of its buffer */
+    uint32_t index, place;
+    uint16_t column, at;
+    uint8_t plane, status;
+    struct onfiseq_loops loops;
+};
+
+/* A channel on whose pins jobs run: its state, and the LUN that has the bus, where has_holder isn't 0. */
+struct onfiseq_live {
+    uint32_t magic;
+    uint8_t has_holder, ce, lun;
+    struct onfiseq_bus bus;
+};
+
+/* What is to be done on the pins in one go, with the chip enable ce low and the others high. kind is a letter:
+ *   'C' 'A'   give bytes[place] to bytes[place + len - 1], one cycle each, with CLE or ALE high
+ *   'I'       give len bytes of the job's buffer, from place on
+ *   'O'       take len bytes from the chip */
+struct onfiseq_burst {
+    uint8_t kind, ce, bytes[5];
+    size_t place, len;
+};
+
+/* letter 0: do the first count bursts, one after another, and hand the taken bytes that their outputs gave to onfiseq_job_finish. Else nothing is to be done:
+ *   'H'       another LUN has the bus                  'E'   the job has ended, number is its code
+ *   'F'       a cycle would break the rule number      'R'   the row of its address isn't there
+ *   'M' 'N'   the file can't be read (Mn); it ends     'B'   the word reaches past the buffer
+ *   'L'       it opens a fifth loop                    'D'   a record isn't one of this channel */
+struct onfiseq_turn {
+    uint8_t letter;
+    uint32_t number;
+    size_t count, taken;
+    struct onfiseq_burst bursts[3];
+};
+
+/* letter 0: the word is done, and the LUN has the bus; 'Y': done, and the bus is let go; 'W': a `wait` whose poll says busy, it comes again, and the bus is let
+ * go; 'E': the job has ended, number is its code. Else nothing has changed: a letter of onfiseq_turn, or 'C', as so many bytes aren't what the outputs give. */
+struct onfiseq_step {
+    uint8_t letter;
+    uint32_t number;
+};
+
+/* A channel of so many targets, whose chips are ready and have been reset. Its bus.count is 0 where the geometry has a fault or the targets aren't 1 to 4. */
+struct onfiseq_live onfiseq_live_begin(const struct onfiseq_geometry *geometry, uint8_t targets);
+
+/* Begins the job of a word file on a LUN, with its rows counted from the index base and a buffer of so many bytes; *job is written where letter is 0. Else it stays as
+ * it was: 'D' the channel; 'M' the file; 'S' with 2, the LUN isn't there, 3, rows pass the LUN, 4, the buffer isn't as long as the header says, 6, the file continues a
+ * cache read and base isn't the first page of a block. Verify the file before. */
+struct onfiseq_step onfiseq_job_begin(const struct onfiseq_live *live, uint8_t ce, uint8_t lun, uint32_t base, const uint8_t *file, size_t file_length, size_t buffer,
+                                      struct onfiseq_job *job);
+
+/* What is to be done for the job's next word; nothing changes. */
+struct onfiseq_turn onfiseq_job_next(const struct onfiseq_live *live, const struct onfiseq_job *job, const uint8_t *file, size_t file_length);
+
+/* The job's next word is done: its outputs gave these bytes. What a poll shows needs no other call: its LUN becomes ready where it says so, with failure where it does. */
+struct onfiseq_step onfiseq_job_finish(struct onfiseq_live *live, struct onfiseq_job *job, const uint8_t *file, size_t file_length, const uint8_t *taken, size_t count);
+
+/* A LUN, or its array, becomes ready, as R/B# tells: 0, or the number of the rule against it, 1 where it isn't there or isn't busy, or ONFISEQ_DAMAGED. */
+#define ONFISEQ_DAMAGED 254
+uint32_t onfiseq_live_ready(struct onfiseq_live *live, uint8_t ce, uint8_t lun, bool failed);
+uint32_t onfiseq_live_array_ready(struct onfiseq_live *live, uint8_t ce, uint8_t lun);
+
+/* ---- what the libraries say of themselves: examples/c/layout.c compares it with this header */
 
 struct onfiseq_abi {
     uint32_t version;
@@ -202,6 +296,22 @@ struct onfiseq_sample {
 
 /* One of each record with a number of its own in each field, and each bool as a bit of flags tells, in the order of this header's fields. */
 struct onfiseq_sample onfiseq_sample(uint32_t flags);
+
+struct onfiseq_live_abi {
+    uint32_t version;
+    size_t loops, job, live, burst, turn, step, sample;
+};
+
+struct onfiseq_live_abi onfiseq_live_abi(void);
+
+struct onfiseq_live_sample {
+    struct onfiseq_job job;
+    struct onfiseq_turn turn;
+    struct onfiseq_step step;
+};
+
+/* One of each record with a number of its own in each field, in the order of this header's fields. */
+struct onfiseq_live_sample onfiseq_live_sample(void);
 
 #ifdef __cplusplus
 }

@@ -20,7 +20,7 @@ import sys
 import time
 from concurrent.futures import ThreadPoolExecutor
 
-LIBRARIES = ("onfiseq_c", "onfiseq_verify_c", "onfiseq_text_c")
+LIBRARIES = ("onfiseq_c", "onfiseq_verify_c", "onfiseq_text_c", "onfiseq_live_c")
 CC = ["cc", "-std=c99", "-Wall", "-Wextra", "-Werror", "-pedantic", "-O2", "-Iinclude"]
 CXX = ["c++", "-std=c++11", "-Wall", "-Wextra", "-Werror", "-Iinclude"]
 OUT = "out/c"
@@ -36,6 +36,7 @@ USERS = (
     ("monitor_status", ["{out}/monitor", CHIP, "no_ready"], "examples/c/no_ready.trace", 0),
     ("status", ["{out}/status"], None, 0),
     ("loader", ["{out}/loader", CHIP, ERASE + ".asm", "examples/small_chip/read_spare.asm", "examples/c/no_wait.asm", "examples/c/typing_error.asm"], None, 1),
+    ("live", ["{out}/live", CHIP, ERASE + ".asm", "4", "examples/small_chip/read_spare.asm", "0"], None, 0),
     ("monitor_cpp", ["{out}/monitor_cpp", CHIP], ERASE + ".trace", 0),
     ("page", ["{out}/page", CHIP], "examples/c/busy.trace", 1),
     ("fuzz", ["{out}/fuzz", "100000", "1", CHIP], None, 0),
@@ -137,7 +138,7 @@ def compile_all():
     def run(*words):
         subprocess.run(words, check=True)
 
-    for name in ("layout", "monitor", "status", "loader"):
+    for name in ("layout", "monitor", "status", "loader", "live"):
         run(*CC, "examples/c/%s.c" % name, "examples/c/heap.c", *archives, "-o", "%s/%s" % (OUT, name))
     run(*CC, "-std=gnu11", "examples/c/stack.c", "examples/c/heap.c", *archives, "-pthread", "-o", OUT + "/stack")
     write_page_monitor(OUT + "/page.c")

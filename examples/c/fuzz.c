@@ -2,7 +2,9 @@
  *  - ask says what push then answers, push_all does as many pushes, push_status the readies and then the item, and check judges a channel's items as
  *    the pushes did;
  *  - verify_run has verify's verdict, its run is legal but for its last cycle, and a short buffer has its beginning;
- *  - a refused item leaves the state as it was, byte for byte; a text that was assembled is disassembled and assembled to the same file.
+ *  - a refused item leaves the state as it was, byte for byte; a text that was assembled is disassembled and assembled to the same file;
+ *  - the cycles of each burst that the sequencer tells are permitted, one after another, as push judges them on a copy of its channel; a step that isn't
+ *    finished leaves both records as they were; and a program that verify accepts breaks no rule and ends.
  *
  *     fuzz CALLS SEED chip.page */
 #include "onfiseq.h"
@@ -15,7 +17,7 @@ enum { HISTORY = 512 };
 static uint64_t seed;
 static uint8_t page[4096];
 static size_t page_length;
-static unsigned long permitted, refused, accepted, runs;
+static unsigned long permitted, refused, accepted, runs, steps, ends;
 
 static uint32_t draw(uint32_t below) {
     seed = seed * 6364136223846793005u + 1442695040888963407u;
@@ -177,6 +179,110 @@ static unsigned long play_program(void) {
     return 10;
 }
 
+/* ---- the sequencer */
+
+static uint8_t buffer[4096], taken[65536];
+
+/* The cycles of a burst on a copy of the channel: each is permitted. */
+static void push_burst(struct onfiseq_bus *bus, const struct onfiseq_burst *burst) {
+    for (size_t k = 0; k < burst->len; k++) {
+        uint8_t byte = burst->kind == 'O' ? (uint8_t)draw(256) : burst->kind == 'I' ? buffer[burst->place + k] : burst->bytes[burst->place + k];
+        struct onfiseq_item item = {burst->ce, burst->kind, byte, 0};
+        must(onfiseq_push(bus, &item) == 0, "a burst that isn't permitted");
+    }
+}
+
+/* A step of a job, whose outputs give these bytes, or any where there are none. */
+static struct onfiseq_step play_step(struct onfiseq_live *live, struct onfiseq_job *job, const uint8_t *file, size_t length, int status) {
+    struct onfiseq_live before = *live;
+    struct onfiseq_job old = *job;
+    struct onfiseq_turn turn = onfiseq_job_next(live, job, file, length);
+    struct onfiseq_bus bus = live->bus;
+    must(memcmp(&before, live, sizeof before) == 0 && memcmp(&old, job, sizeof old) == 0, "next changed a record");
+    must(turn.count <= 3 && (turn.letter == 0 || turn.count == 0), "bursts are told of no step");
+    must(turn.letter || job->buffer <= sizeof buffer, "a buffer that isn't there");
+    for (size_t k = 0; k < turn.count; k++) push_burst(&bus, &turn.bursts[k]);
+    must(turn.letter || turn.taken <= sizeof taken, "too many outputs");
+    for (size_t k = 0; turn.letter == 0 && k < turn.taken; k++) taken[k] = (uint8_t)(status >= 0 ? status : (int)draw(256));
+    size_t count = draw(16) || turn.letter ? turn.taken : draw(64);
+    struct onfiseq_step step = onfiseq_job_finish(live, job, file, length, taken, count);
+    bool goes = step.letter == 0 || step.letter == 'Y' || step.letter == 'W' || (step.letter == 'E' && turn.letter == 0);
+    must(goes || (memcmp(&before, live, sizeof before) == 0 && memcmp(&old, job, sizeof old) == 0), "a step that isn't finished changed a record");
+    must(!goes || (turn.letter == 0 && count == turn.taken), "a step came that wasn't due, or with another count of bytes");
+    bool breaks = turn.letter == 'F' || turn.letter == 'R'; /* which finish says after it has counted the bytes */
+    must(turn.letter == 0 || (turn.letter == step.letter && turn.number == step.number) || (breaks && step.letter == 'C'), "next and finish differ");
+    must(turn.letter || count == turn.taken || step.letter == 'C', "another count of bytes is taken");
+    steps += goes;
+    return step;
+}
+
+/* A word file of random words; most of its numbers are in their range. */
+static size_t random_file(uint8_t *file) {
+    static const uint8_t bytes[] = {0x00, 0x30, 0x60, 0xd0, 0x70, 0x80, 0x10, 0x05, 0xe0, 0x31, 0x3f, 0x90, 0xec, 0xff};
+    unsigned words = 1 + draw(24);
+    uint8_t head[16] = {'N', 'M', 'P', '2', (uint8_t)words, 0, 4, 0, 0, 4, 0, 0, 99, 0, 0, 0};
+    memcpy(file, head, sizeof head);
+    for (unsigned k = 0; k < words; k++) {
+        uint8_t code = (uint8_t)draw(17), *word = file + 16 + 4 * k;
+        memset(word, 0, 4), word[0] = code;
+        if (code == 1) word[1] = bytes[draw(sizeof bytes)];
+        if (code == 2) word[1] = (uint8_t)(2 * draw(2)), word[2] = word[1] ? 3 : 5;
+        if (code == 3 || code == 4 || code == 5 || code == 6) word[2] = (uint8_t)(1 + draw(32)), word[3] = (uint8_t)draw(3);
+        if (code == 7 || code == 8 || code == 14) word[2] = (uint8_t)(1 + draw(3));
+        if (code == 13 || code == 16) word[1] = code == 13 ? 1 : 0, word[2] = (uint8_t)draw(words);
+    }
+    if (draw(8) == 0) file[draw(16 + 4 * words)] = (uint8_t)draw(256);
+    return draw(8) ? 16 + 4 * words : draw(16 + 4 * words);
+}
+
+/* Jobs of random files on a channel, with answers and readies of all kinds, and now and then a damaged record. */
+static unsigned long play_jobs(void) {
+    static uint8_t files[3][4112];
+    struct onfiseq_geometry chip = random_chip();
+    struct onfiseq_live live = onfiseq_live_begin(&chip, (uint8_t)draw(6));
+    struct onfiseq_job jobs[3];
+    size_t lengths[3];
+    unsigned turns = 20 + draw(200);
+    memset(jobs, draw(2) ? 0 : 0x55, sizeof jobs);
+    for (int k = 0; k < 3; k++) {
+        struct onfiseq_job old = jobs[k];
+        lengths[k] = random_file(files[k]);
+        struct onfiseq_step begun = onfiseq_job_begin(&live, (uint8_t)draw(4), (uint8_t)draw(4), draw(32), files[k], lengths[k], draw(16) ? 1024 : draw(9), &jobs[k]);
+        must(begun.letter == 0 || memcmp(&old, &jobs[k], sizeof old) == 0, "a job that isn't begun is written");
+    }
+    for (unsigned k = 0; k < turns; k++) {
+        unsigned which = draw(3);
+        if (draw(500) == 0) ((uint8_t *)&jobs[which])[draw(sizeof jobs[which])] ^= (uint8_t)(1 << draw(8));
+        if (jobs[which].buffer > sizeof buffer) jobs[which].buffer = sizeof buffer;
+        play_step(&live, &jobs[which], files[which], lengths[which], -1);
+        if (draw(8) == 0) onfiseq_live_ready(&live, (uint8_t)draw(4), (uint8_t)draw(4), draw(2));
+        if (draw(16) == 0) onfiseq_live_array_ready(&live, (uint8_t)draw(4), (uint8_t)draw(4));
+    }
+    if (draw(4) == 0) live.magic ^= 1u << draw(32), must(onfiseq_job_next(&live, &jobs[0], files[0], lengths[0]).letter == 'D', "a damaged channel");
+    return 3 * turns;
+}
+
+/* An accepted program, whose chip says busy some times and then ready: no rule is broken, and it ends. */
+static unsigned long play_accepted(void) {
+    static uint8_t file[4112];
+    const char *text = "rows 4\nbuffer 32\nbudget 999\nloop 3\ncmd 60\naddr 2 3\ncmd d0\nwait\nrow 3\ncmd 00\naddr 0 5\ncmd 30\nwait\nseek 0\ncmd 00\nget 32\n"
+                       "yield\nnext\nstat\nbrs 01 bad\nend 7\nbad:\nend 8\n";
+    struct onfiseq_placed made = onfiseq_assemble((const uint8_t *)text, strlen(text), file, sizeof file);
+    struct onfiseq_page chip = onfiseq_page(page, page_length);
+    struct onfiseq_live live = onfiseq_live_begin(&chip.geometry, 1);
+    struct onfiseq_job job;
+    must(made.letter == 0 && onfiseq_verify(page, page_length, file, made.length).letter == 0, "a program that isn't accepted");
+    must(onfiseq_job_begin(&live, 0, 0, 4 * draw(8), file, made.length, 32, &job).letter == 0, "a job isn't begun");
+    unsigned long count = 0;
+    uint8_t fail = (uint8_t)draw(2);
+    for (struct onfiseq_step step = {0, 0}; step.letter != 'E'; count++) {
+        step = play_step(&live, &job, file, made.length, draw(3) ? 0xe0 | fail : 0x80);
+        must(count < 10000 && step.letter != 'F' && step.letter != 'D' && step.letter != 'H', "an accepted program breaks a rule, or doesn't end");
+    }
+    must(job.code == 7 || job.code == 8, "another code");
+    return ends++, 3 * count;
+}
+
 static unsigned long play_words(void) {
     char text[160];
     size_t room = draw(sizeof text + 1), length = onfiseq_words((uint8_t)("APFMVOIT?"[draw(9)]), draw(20), text, room);
@@ -198,9 +304,13 @@ int main(int count, char **words) {
     must(file != NULL, "no page");
     page_length = fread(page, 1, sizeof page, file);
     fclose(file);
-    while (calls < wanted) calls += draw(8) == 0 ? play_channel() : draw(4) ? play_program() : play_words();
-    must(permitted > 0 && refused > 0 && accepted > 0 && runs > 0, "nothing was tried");
+    while (calls < wanted) {
+        if (draw(4) == 0) calls += draw(4) ? play_jobs() : play_accepted();
+        else calls += draw(8) == 0 ? play_channel() : draw(4) ? play_program() : play_words();
+    }
+    must(permitted > 0 && refused > 0 && accepted > 0 && runs > 0 && steps > 0 && ends > 0, "nothing was tried");
     printf("nothing is wrong\n");
-    fprintf(stderr, "%lu calls: %lu items permitted, %lu refused, %lu programs accepted, %lu runs\n", calls, permitted, refused, accepted, runs);
+    fprintf(stderr, "%lu calls: %lu items permitted, %lu refused, %lu programs accepted, %lu runs, %lu steps, %lu ends\n", calls, permitted, refused, accepted, runs, steps,
+            ends);
     return 0;
 }

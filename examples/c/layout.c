@@ -115,6 +115,75 @@ static void test_others(void) {
     test(page.fault == 1 && page.geometry.blocks == 0, "page");
 }
 
+/* The records of the sequencer. */
+#define LIVE_SIZE(it) test(abi.it == sizeof(struct onfiseq_##it), "the size of " #it)
+#define LIVE(field, number) test(sample.field == (number), #field)
+
+static void test_live_sizes(void) {
+    struct onfiseq_live_abi abi = onfiseq_live_abi();
+    test(abi.version == ONFISEQ_VERSION, "the version of the sequencer");
+    LIVE_SIZE(loops);
+    LIVE_SIZE(job);
+    LIVE_SIZE(live);
+    LIVE_SIZE(burst);
+    LIVE_SIZE(turn);
+    LIVE_SIZE(step);
+    test(abi.sample == sizeof(struct onfiseq_live_sample), "the size of live_sample");
+}
+
+static void test_job(void) {
+    struct onfiseq_live_sample sample = onfiseq_live_sample();
+    LIVE(job.magic, 1);
+    LIVE(job.ce, 2);
+    LIVE(job.lun, 3);
+    LIVE(job.has_ended, 4);
+    LIVE(job.code, 5);
+    LIVE(job.base, 6);
+    LIVE(job.buffer, 7);
+    LIVE(job.index, 8);
+    LIVE(job.place, 9);
+    LIVE(job.column, 10);
+    LIVE(job.at, 11);
+    LIVE(job.plane, 12);
+    LIVE(job.status, 13);
+    LIVE(job.loops.depth, 14);
+    for (unsigned k = 0; k < 4; k++) {
+        LIVE(job.loops.around[k].start, 15 + k);
+        LIVE(job.loops.around[k].left, (15 + k) ^ 0x100);
+    }
+}
+
+static void test_turn(void) {
+    struct onfiseq_live_sample sample = onfiseq_live_sample();
+    LIVE(turn.letter, 23);
+    LIVE(turn.number, 24);
+    LIVE(turn.count, 25);
+    LIVE(turn.taken, 26);
+    for (unsigned k = 0; k < 3; k++) {
+        LIVE(turn.bursts[k].kind, 27 + k);
+        LIVE(turn.bursts[k].ce, (27 + k) ^ 0x40);
+        LIVE(turn.bursts[k].bytes[0], 27 + k);
+        for (unsigned byte = 1; byte < 5; byte++) LIVE(turn.bursts[k].bytes[byte], 18 + byte);
+        LIVE(turn.bursts[k].place, (27 + k) ^ 0x80);
+        LIVE(turn.bursts[k].len, (27 + k) ^ 0x100);
+    }
+    LIVE(step.letter, 30);
+    LIVE(step.number, 31);
+}
+
+/* A channel of the sequencer, which no sample holds: one that a job of its second target has the bus of. */
+static void test_live(void) {
+    static const uint8_t file[20] = {'N', 'M', 'P', '2', 1, 0, 1, 0, 0, 0, 0, 0, 0, 0, 0, 0, 6, 0, 3, 0}; /* col 3 */
+    struct onfiseq_geometry chip = {512, 16, 4, 8, 1, 0, true, false, true};
+    struct onfiseq_live live = onfiseq_live_begin(&chip, 2);
+    struct onfiseq_job job;
+    test(live.bus.count == 2 && live.bus.geometry.page_bytes == 512 && live.magic != 0 && live.has_holder == 0, "live");
+    test(onfiseq_job_begin(&live, 1, 0, 5, file, sizeof file, 0, &job).letter == 0, "a job begins");
+    test(job.ce == 1 && job.lun == 0 && job.base == 5 && job.index == 5 && job.magic != 0, "job");
+    test(onfiseq_job_finish(&live, &job, file, sizeof file, NULL, 0).letter == 0, "a step is finished");
+    test(job.column == 3 && job.at == 1 && live.has_holder == 1 && live.ce == 1 && live.lun == 0, "what a step leaves");
+}
+
 int main(void) {
     none = onfiseq_sample(0);
     all = onfiseq_sample(~0u);
@@ -123,6 +192,10 @@ int main(void) {
     test_luns();
     test_flags();
     test_others();
+    test_live_sizes();
+    test_job();
+    test_turn();
+    test_live();
     if (wrong == 0) printf("onfiseq.h is as the library, version %d\n", ONFISEQ_VERSION);
     return wrong != 0;
 }

@@ -44,6 +44,20 @@ static void *do_assemble(void *it) {
     size_t length = onfiseq_disassemble(file, file_length, text, sizeof text).length;
     return onfiseq_assemble(text, length, room, sizeof room), it;
 }
+/* A program from its first word to its end, on a die that is always ready; or some thousand words of it. */
+static void *do_job(void *it) {
+    static struct onfiseq_live live;
+    static struct onfiseq_job job;
+    static uint8_t taken[65536];
+    live = onfiseq_live_begin(&chip, 1);
+    onfiseq_job_begin(&live, 0, 0, 0, file, file_length, file_length > 10 ? file[8] | (size_t)file[9] << 8 : 0, &job);
+    for (int k = 0; k < 5000 && !job.has_ended; k++) {
+        struct onfiseq_turn turn = onfiseq_job_next(&live, &job, file, file_length);
+        taken[0] = 0xe0;
+        if (turn.taken <= sizeof taken) onfiseq_job_finish(&live, &job, file, file_length, taken, turn.taken);
+    }
+    return it;
+}
 static void *do_words(void *it) { return onfiseq_words('V', 14, (char *)room, 160), it; }
 
 static size_t stack_of(void *(*call)(void *)) {
@@ -87,6 +101,7 @@ int main(int count, char **words) {
         file_length = read_all(words[k], file, sizeof file);
         tell("verify", do_verify, idle);
         tell("verify_run", do_verify_run, idle);
+        tell("job", do_job, idle);
         tell("disassemble", do_disassemble, idle);
         tell("assemble", do_assemble, idle);
     }

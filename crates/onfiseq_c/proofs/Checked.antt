@@ -4,9 +4,10 @@ use Rattle.nand_geometry.specs.declared.parts.Parts.{Parts}
 use Rattle.onfi_cycle.specs.declared.item.Item.{Item}
 use Rattle.onfi_cycle.specs.declared.forbidden.Forbidden.{Forbidden}
 use Rattle.onfi_cycle.specs.Permitted.{broken}
-use Rattle.onfiseq_c.specs.Item.{item_of}
-use Rattle.onfiseq_c.specs.Check.{checked, answer, rule_number}
-use Rattle.onfiseq_c.specs.declared.item.OnfiseqItem.{OnfiseqItem}
+use Rattle.bus_record.specs.Item.{item_of}
+use Rattle.bus_record.specs.Rule.{rule_number}
+use Rattle.onfiseq_c.specs.Check.{checked, answer}
+use Rattle.bus_record.specs.declared.item.OnfiseqItem.{OnfiseqItem}
 
 pub ends : (g : Parts) (n : ℕ) (past : List Item) (items : List OnfiseqItem) (at : ℕ) → items ≡ [] → checked g n past items at ≡ answer 0 0 at
 unfolding checked

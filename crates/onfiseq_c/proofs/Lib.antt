@@ -1,5 +1,1 @@
 pub mod Checked
-pub mod Stored
-pub mod Pushed
-pub mod Fresh
-pub mod AllPushed

@@ -4,39 +4,15 @@ use Rattle.nand_geometry.specs.declared.parts.Parts.{Parts}
 use Rattle.nand_geometry.specs.declared.page_fault.PageFault.{PageFault}
 use Rattle.nand_geometry.specs.Limits.{fault_of}
 use Rattle.onfi_cycle.specs.declared.item.Item.{Item}
-use Rattle.onfi_cycle.specs.declared.forbidden.Forbidden.{Forbidden}
-use Rattle.onfi_cycle.specs.declared.forbidden.Forbidden.TheVariants.{NotThere, CommandUnknown, SequenceOpen, SeveralLuns, NoColumnToChange, CommandMisplaced, AddressMisplaced, RowOutside, LunBusy, QueueClash, InputMisplaced, NoSoleDriver, DataNotReady, ColumnOutside, CacheReadMisplaced}
 use Rattle.onfi_cycle.specs.Permitted.{broken}
+use Rattle.bus_record.specs.Rule.{rule_number, by_option}
 use Rattle.onfiseq_c.specs.Geometry.{number_of_fault}
-use Rattle.onfiseq_c.specs.Item.{item_of}
-use Rattle.onfiseq_c.specs.declared.item.OnfiseqItem.{OnfiseqItem}
+use Rattle.bus_record.specs.Item.{item_of}
+use Rattle.bus_record.specs.declared.item.OnfiseqItem.{OnfiseqItem}
 use Rattle.onfiseq_c.specs.declared.check.OnfiseqAnswer.{OnfiseqAnswer}
-
--- the number of a rule's code, F1 to F15
-abbrev pub rule_number : Forbidden → ℕ
-rule_number NotThere = 1
-rule_number CommandUnknown = 2
-rule_number SequenceOpen = 3
-rule_number SeveralLuns = 4
-rule_number NoColumnToChange = 5
-rule_number CommandMisplaced = 6
-rule_number AddressMisplaced = 7
-rule_number RowOutside = 8
-rule_number LunBusy = 9
-rule_number QueueClash = 10
-rule_number InputMisplaced = 11
-rule_number NoSoleDriver = 12
-rule_number DataNotReady = 13
-rule_number ColumnOutside = 14
-rule_number CacheReadMisplaced = 15
 
 abbrev pub answer : ℕ → ℕ → ℕ → OnfiseqAnswer
 answer letter number at = record { letter = letter; number = number; at = at }
-
--- by whether there is a value
-abbrev pub by_option : {A B : Type 0} → Option A → B → (A → B) → B
-by_option None none some = none
-by_option (Some x) none some = some x
 
 -- the items after this past, the first of them at place at: F and the rule at the first that isn't permitted, I at the first that is none
 unfoldable pub checked : Parts → ℕ → List Item → List OnfiseqItem → ℕ → OnfiseqAnswer

@@ -1,13 +1,10 @@
--- The geometry and the page that the caller's numbers stand for.
+-- The page that the caller's numbers stand for.
 use Rattle.std.specs.Prelude.{◌≡◌, ℕ, Result, Ok, Err}
 use Rattle.nand_geometry.specs.declared.parts.Parts.{Parts}
 use Rattle.nand_geometry.specs.declared.page_fault.PageFault.{PageFault}
 use Rattle.nand_geometry.specs.declared.page_fault.PageFault.TheVariants.{TooShort, NoSignature, WrongChecksum, WideBus, AddressCycles, SizeOutOfRange, LunsOutOfRange, PlanesOutOfRange, LunCommandsMissing}
-use Rattle.onfiseq_c.specs.declared.geometry.OnfiseqGeometry.{OnfiseqGeometry}
+use Rattle.bus_record.specs.Geometry.{parts_of}
 use Rattle.onfiseq_c.specs.declared.geometry.OnfiseqPage.{OnfiseqPage}
-
-abbrev pub parts_of : OnfiseqGeometry → Parts
-parts_of g = record { page_bytes = g.page_bytes; spare_bytes = g.spare_bytes; pages = g.pages; blocks = g.blocks; luns = g.luns; plane_bits = g.plane_bits; enhanced = g.enhanced; multi_plane = g.multi_plane; cache = g.cache }
 
 -- the number of a fault's code, P1 to P9
 abbrev pub number_of_fault : PageFault → ℕ

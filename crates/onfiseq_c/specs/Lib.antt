@@ -1,9 +1,3 @@
 pub mod Geometry
-pub mod Item
 pub mod Check
-pub mod Record
-pub mod Kept
-pub mod Bus
-pub mod Many
-pub mod Look
 pub mod Status

@@ -5,7 +5,7 @@ use Rattle.onfi_cycle.specs.declared.latch.Latch.TheVariants.{Off, Status, Data}
 use Rattle.onfi_cycle.specs.declared.lun_state.LunState.{LunState}
 use Rattle.onfi_cycle.specs.Look.{looked}
 use Rattle.onfi_cycle.specs.State.{BusView}
-use Rattle.onfiseq_c.specs.declared.item.OnfiseqItem.{OnfiseqItem}
+use Rattle.bus_record.specs.declared.item.OnfiseqItem.{OnfiseqItem}
 
 abbrev pub is_status : Latch → Bool
 is_status Status = true

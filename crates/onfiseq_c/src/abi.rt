@@ -1,12 +1,11 @@
 //! What the library says of its own layout, so that a test can compare a header with it.
 ghost use Rattle.std.specs.Prelude.{◌≡◌};
 
-use crate::bus::OnfiseqBus;
 use crate::check::OnfiseqAnswer;
-use crate::geometry::{OnfiseqGeometry, OnfiseqPage};
-use crate::item::OnfiseqItem;
-use crate::look::OnfiseqLook;
-use crate::record::{OnfiseqLun, OnfiseqQueued, OnfiseqTarget};
+use crate::geometry::OnfiseqPage;
+use bus_record::{
+    OnfiseqBus, OnfiseqGeometry, OnfiseqItem, OnfiseqLook, OnfiseqLun, OnfiseqQueued, OnfiseqTarget,
+};
 use std::mem::size_of;
 
 /// The version of these calls and records, and the size of each record in bytes.

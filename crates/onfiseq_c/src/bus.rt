@@ -2,80 +2,12 @@
 ghost use Rattle.std.specs.Prelude.{◌≡◌, ℕ, ◌≤◌, List, [], Some};
 ghost use Rattle.nand_geometry.specs.declared.parts.Parts.{Parts};
 ghost use Rattle.onfi_cycle.specs.declared.item.Item.{Item as ItemValue};
-ghost use Rattle.onfi_cycle.specs.State.{Follows, target_view};
-ghost use Rattle.onfiseq_c.specs.Geometry.{parts_of};
-ghost use Rattle.onfiseq_c.specs.Item.{item_of};
-ghost use Rattle.onfiseq_c.specs.Bus.{bus_view, CanBegin, IsTarget, answered_there, target_pushed, pushed, bus_pushed, GoesOn};
-ghost use Rattle.onfiseq_c.specs.Record.{target_of};
-ghost use Rattle.onfi_cycle.specs.Bounds.{TargetFits};
-ghost use Rattle.nand_geometry.specs.Limits.{InLimits};
+ghost use Rattle.onfi_cycle.specs.State.{Follows};
+ghost use Rattle.bus_record.specs.Geometry.{parts_of};
+ghost use Rattle.bus_record.specs.Bus.{bus_view, CanBegin, pushed, bus_pushed, GoesOn};
+ghost use Rattle.bus_record.specs.Item.{item_of};
 
-use crate::check::rule_number;
-use crate::geometry::OnfiseqGeometry;
-use crate::item::OnfiseqItem;
-use crate::record::{NO_TARGET, OnfiseqTarget, target_of, target_record};
-use nand_geometry::Geometry;
-use onfi_cycle::{Item, TargetState, judge};
-use std::marker::Model;
-
-/// The state of a channel. The caller keeps it, and may copy it, but only a call of this library changes it.
-#[repr(C)]
-#[derive(Drop)]
-pub struct OnfiseqBus {
-    pub geometry: OnfiseqGeometry,
-    /// How many targets it has; 0 where no channel was begun.
-    pub count: usize,
-    pub targets: [OnfiseqTarget; 4],
-}
-
-impl Model for OnfiseqBus {
-    ghost use Rattle.onfiseq_c.specs.Kept.{Kept};
-    ghost use Rattle.onfiseq_c.specs.Bus.{IsSound};
-
-    ghost Value = { Kept };
-
-    ghost view = { λ b. record { geometry = b.geometry; count = b.count; targets = b.targets } };
-
-    ghost invariant = { λ b. IsSound (record { geometry = b.geometry; count = b.count; targets = b.targets }) };
-
-    ghost inverse = { λ k. record { geometry = k.geometry; count = k.count; targets = k.targets } };
-}
-
-// The record of no channel.
-fn no_channel(geometry: OnfiseqGeometry) -> OnfiseqBus
-    ensures { result.count ≡ 0 }
-{
-    OnfiseqBus {
-        geometry,
-        count: 0,
-        targets: [NO_TARGET; 4],
-    }
-}
-
-// The record of a target to which nothing has happened.
-fn fresh_target(luns: u8) -> OnfiseqTarget
-    requires { luns ≤ 4 }
-    ensures value { (g : Parts) (ce : ℕ) → g.luns ≡ luns → target_of result ≡ target_view g [] ce }
-    ensures numbers { IsTarget result }
-{
-    target_record(&TargetState::new(luns))
-}
-
-// A channel of so many targets with so many LUNs.
-fn fresh(geometry: OnfiseqGeometry, targets: u8, luns: u8) -> OnfiseqBus
-    requires limits { InLimits (parts_of geometry) }
-    requires luns { (parts_of geometry).luns ≡ luns }
-    requires few { targets ≤ 4 }
-    ensures follows { Follows (parts_of geometry) targets (bus_view result) [] }
-    ensures count { result.count ≡ targets }
-{
-    let target = fresh_target(luns);
-    OnfiseqBus {
-        geometry,
-        count: usize::from(targets),
-        targets: [target; 4],
-    }
-}
+use bus_record::{OnfiseqBus, OnfiseqGeometry, OnfiseqItem, begin, push};
 
 /// A channel of so many targets of this geometry, to which nothing has happened. Where the geometry has a fault or the targets aren't 1 to 4 there is no
 /// such channel, and its `count` is 0.
@@ -84,46 +16,7 @@ pub extern "C" fn onfiseq_begin(geometry: &OnfiseqGeometry, targets: u8) -> Onfi
     ensures begins { CanBegin (parts_of geometry.now) targets → Follows (parts_of geometry.now) targets (bus_view result) [] }
     ensures only { 1 ≤ result.count → CanBegin (parts_of geometry.now) targets }
 {
-    match Geometry::of(geometry.parts()) {
-        Ok(known) if targets >= 1 && targets <= 4 => fresh(*geometry, targets, known.parts().luns),
-        _ => no_channel(*geometry),
-    }
-}
-
-// A target goes on by an item: 0 where it is permitted, else the number of the first rule that it breaks, and nothing changes.
-fn step_target(geometry: &Geometry, targets: u8, kept: &mut OnfiseqTarget, item: Item) -> u32
-    requires limits { InLimits geometry.now }
-    requires numbers { IsTarget kept.old }
-    requires fits { TargetFits geometry.now (target_of kept.old) }
-    ensures answer { result ≡ answered_there geometry.now targets (target_of kept.old) item }
-    ensures state { target_of kept.new ≡ target_pushed geometry.now targets (target_of kept.old) item }
-    ensures numbers { IsTarget kept.new }
-    ensures fits { TargetFits geometry.now (target_of kept.new) }
-{
-    let mut target = target_of(kept);
-    if let Some(rule) = judge(geometry, targets, target.tail, target.luns.as_slice(), item) {
-        return rule_number(rule);
-    }
-    target.apply(geometry, item);
-    *kept = target_record(&target);
-    0
-}
-
-// A channel goes on by an item: 0, or the number of the first rule that it breaks.
-fn step(bus: &mut OnfiseqBus, item: Item) -> u32
-    ensures answer { result ≡ pushed (bus_view bus.old) (Some item) }
-    ensures state { bus_view bus.new ≡ bus_pushed (bus_view bus.old) (Some item) }
-{
-    let ce = usize::from(item.target());
-    if bus.count <= ce {
-        return 1;
-    }
-    let geometry = Geometry::of(bus.geometry.parts()).unwrap();
-    let count = bus.count as u8;
-    let mut kept = bus.targets[ce];
-    let answer = step_target(&geometry, count, &mut kept, item);
-    bus.targets[ce] = kept;
-    answer
+    begin(geometry, targets)
 }
 
 /// The channel goes on by an item: 0 where it is permitted after those before. Else nothing changes, and the answer is the number of the first rule that it
@@ -139,5 +32,5 @@ pub extern "C" fn onfiseq_push(bus: &mut OnfiseqBus, item: &OnfiseqItem) -> u32
     let Some(item) = item.item() else {
         return 255;
     };
-    step(bus, item)
+    push(bus, item)
 }

@@ -1,12 +1,12 @@
 //! The check of a whole trace.
 ghost use Rattle.std.specs.Prelude.{◌≡◌, ◌≤◌, []};
-ghost use Rattle.onfiseq_c.specs.Geometry.{parts_of};
-ghost use Rattle.onfiseq_c.specs.Check.{rule_number, checked, answered};
+ghost use Rattle.bus_record.specs.Geometry.{parts_of};
+ghost use Rattle.onfiseq_c.specs.Check.{checked, answered};
 
-use crate::geometry::{OnfiseqGeometry, number_of_page_fault};
-use crate::item::OnfiseqItem;
+use crate::geometry::number_of_page_fault;
+use bus_record::{OnfiseqGeometry, OnfiseqItem, rule_number};
 use nand_geometry::Geometry;
-use onfi_cycle::{BusState, Forbidden};
+use onfi_cycle::BusState;
 
 /// An answer. `letter` is 0 where all is well, and `at` counts the items. Else `letter` and `number` are those of the code, as F and 9 of F9: F is the rule that the
 /// item at `at` breaks first, P the fault of the geometry. I says that the numbers at `at` are no item, and T that the targets aren't 1 to 4.
@@ -24,29 +24,6 @@ impl OnfiseqAnswer {
         ensures { result ≡ record { letter = letter; number = number; at = at } }
     {
         OnfiseqAnswer { letter, number, at }
-    }
-}
-
-// The number of a rule's code.
-pub(crate) fn rule_number(rule: Forbidden) -> u32
-    ensures { result ≡ rule_number rule }
-{
-    match rule {
-        Forbidden::NotThere => 1,
-        Forbidden::CommandUnknown => 2,
-        Forbidden::SequenceOpen => 3,
-        Forbidden::SeveralLuns => 4,
-        Forbidden::NoColumnToChange => 5,
-        Forbidden::CommandMisplaced => 6,
-        Forbidden::AddressMisplaced => 7,
-        Forbidden::RowOutside => 8,
-        Forbidden::LunBusy => 9,
-        Forbidden::QueueClash => 10,
-        Forbidden::InputMisplaced => 11,
-        Forbidden::NoSoleDriver => 12,
-        Forbidden::DataNotReady => 13,
-        Forbidden::ColumnOutside => 14,
-        Forbidden::CacheReadMisplaced => 15,
     }
 }
 

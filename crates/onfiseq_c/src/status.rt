@@ -1,15 +1,13 @@
 //! The readies that a status output shows, on a bus whose R/B# isn't seen.
 ghost use Rattle.std.specs.Prelude.{◌≡◌, ◌≤◌, length};
-ghost use Rattle.onfiseq_c.specs.Bus.{bus_view};
-ghost use Rattle.onfiseq_c.specs.Look.{look_of};
-ghost use Rattle.onfiseq_c.specs.Many.{all_pushed, went};
+ghost use Rattle.bus_record.specs.Bus.{bus_view};
+ghost use Rattle.bus_record.specs.Look.{look_of};
+ghost use Rattle.bus_record.specs.Many.{all_pushed, went};
 ghost use Rattle.onfiseq_c.specs.Status.{array_becomes_ready, array_item, becomes_ready, completed, drives, driving_lun, lun_drives, readies_at, readies_of, ready_item, shows_bit};
 
-use crate::bus::OnfiseqBus;
-use crate::item::OnfiseqItem;
-use crate::look::{OnfiseqLook, onfiseq_look};
 use crate::many::onfiseq_push_all;
 use arrayvec::ArrayVec;
+use bus_record::{OnfiseqBus, OnfiseqItem, OnfiseqLook, look_at_lun};
 
 // A ready, that of an array, and the item itself.
 type Completed = ArrayVec<OnfiseqItem, 3>;
@@ -24,7 +22,7 @@ fn drives(look: OnfiseqLook) -> bool
 fn lun_drives(bus: &OnfiseqBus, ce: u8, lun: u8) -> bool
     ensures { result ≡ lun_drives (bus_view bus.now) ce lun }
 {
-    drives(onfiseq_look(bus, ce, lun))
+    drives(look_at_lun(bus, ce, lun))
 }
 
 // The one LUN of a target that drives the bus.
@@ -110,7 +108,7 @@ fn readies(bus: &OnfiseqBus, item: &OnfiseqItem) -> Completed
 {
     match driving_lun(bus, item.ce) {
         None => ArrayVec::new(),
-        Some(lun) => readies_of(item, lun, onfiseq_look(bus, item.ce, lun)),
+        Some(lun) => readies_of(item, lun, look_at_lun(bus, item.ce, lun)),
     }
 }
 

@@ -132,12 +132,7 @@ fn address(
 }
 
 /// The bursts of a word on a LUN, whose program has these registers; None where the row of its address isn't there.
-pub(crate) fn bursts_of(
-    geometry: &Geometry,
-    lun: Lun,
-    registers: Registers,
-    word: Word,
-) -> Option<Bursts>
+pub fn bursts_of(geometry: &Geometry, lun: Lun, registers: Registers, word: Word) -> Option<Bursts>
     requires { EndsWithFive word }
     ensures some { IfSome result (λ bursts. bursts_at geometry.now lun registers word ≡ Some bursts.items) }
     ensures none { IfNone result (bursts_at geometry.now lun registers word ≡ None) }
@@ -160,7 +155,7 @@ pub(crate) fn bursts_of(
 }
 
 /// How many bytes the outputs of a word give.
-pub(crate) fn taken_by(word: Word) -> usize
+pub fn taken_by(word: Word) -> usize
     ensures { result ≡ taken_by word }
 {
     match word {

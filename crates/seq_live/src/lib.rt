@@ -20,10 +20,12 @@ mod run;
 mod slot_steps;
 
 pub use begun::Begun;
-pub use burst::{Burst, Bursts, MAX_BURSTS};
+pub use burst::{Burst, Bursts, MAX_BURSTS, bursts_of, taken_by};
 pub use live::{Live, StepGoingOn};
 pub use live_job::{LiveJob, OnLun};
 pub use out_of_turn::OutOfTurn;
 pub use pause::{LastCycle, Pause, pause_before};
 pub use pins::{Pins, step_on};
+pub use playing::status_of;
 pub use run::{RunEnd, RunLimits, run_live};
+pub use slot_steps::is_poll;

@@ -13,8 +13,8 @@ use onfi_cycle::{BusState, Lun};
 use seq_core::{Slot, Stepped};
 use std::alloc::Allocator;
 
-// The status that a word brought, 0 for a word without a poll.
-fn status_of(word: Word, taken: &[u8]) -> u8
+/// The status that a word brought, 0 for a word without a poll.
+pub fn status_of(word: Word, taken: &[u8]) -> u8
     ensures { result ≡ status_of word taken.now }
 {
     match word {

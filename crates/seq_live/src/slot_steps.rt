@@ -14,7 +14,7 @@ use seq_core::{Slot, Stepped};
 use std::alloc::Allocator;
 
 /// The word polls the status of its LUN.
-pub(crate) fn is_poll(word: Word) -> bool
+pub fn is_poll(word: Word) -> bool
     ensures { result ≡ is_poll word }
 {
     matches!(word, Word::Wait | Word::ReadStatus)

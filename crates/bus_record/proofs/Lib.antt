@@ -1,0 +1,5 @@
+pub mod Stored
+pub mod Pushed
+pub mod Fresh
+pub mod AllPushed
+pub mod Runs

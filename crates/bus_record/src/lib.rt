@@ -1,0 +1,24 @@
+//! The state of a channel as a record of numbers in the caller's memory, which the libraries for C share (include/onfiseq.h).
+//!
+//! [`begin`] makes one, [`push`] and [`push_item`] go on by an item, [`push_all`] by many, [`push_inputs`] and [`push_outputs`] by a run of data cycles at the cost of one.
+//! [`ask`] and [`look_at_lun`] change
+//! nothing.
+#![tactic(auto)]
+
+mod bus;
+mod geometry;
+mod item;
+mod look;
+mod many;
+mod record;
+mod rule;
+mod run;
+
+pub use bus::{OnfiseqBus, begin, push, push_item};
+pub use geometry::OnfiseqGeometry;
+pub use item::OnfiseqItem;
+pub use look::{OnfiseqLook, ask, copy_of, geometry_of, has_lun, look_at_lun};
+pub use many::push_all;
+pub use record::{OnfiseqLun, OnfiseqQueued, OnfiseqTarget};
+pub use rule::rule_number;
+pub use run::{push_inputs, push_outputs};

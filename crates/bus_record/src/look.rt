@@ -1,0 +1,161 @@
+//! A look at a LUN, and whether an item would be permitted: questions that change nothing.
+ghost use Rattle.std.specs.Prelude.{◌≡◌, ◌≤◌, Some, None, IfSome, IfNone};
+ghost use Rattle.nand_geometry.specs.Limits.{InLimits};
+ghost use Rattle.onfi_cycle.specs.Bounds.{TargetFits};
+ghost use Rattle.onfi_cycle.specs.Look.{look_at, look_on, looked};
+ghost use Rattle.onfi_cycle.specs.Lun.{output_column};
+ghost use Rattle.bus_record.specs.Bus.{IsTarget, bus_view, answered_there, pushed};
+ghost use Rattle.bus_record.specs.Channel.{is_on};
+ghost use Rattle.bus_record.specs.Look.{look_of};
+ghost use Rattle.bus_record.specs.Record.{IsRecord, lun_of, target_of};
+
+use crate::bus::OnfiseqBus;
+use crate::record::{OnfiseqLun, OnfiseqTarget, closer_of, given_of, target_of};
+use crate::rule::rule_number;
+use nand_geometry::Geometry;
+use onfi_cycle::{Item, Lun, ReadColumn, is_cache_read, judge};
+
+/// A look at a LUN. `latch`: what it drives the bus with, 0 nothing, 1 its status, 2 data. `register`: what its register holds, 0 nothing, 1 the page of `block`
+/// and `page`, 2 the parameter page, 3 the identifier. `column`, where `has_column`: the place that the next output gives. `queued`: the rows of its queue.
+#[repr(C)]
+#[derive(Clone, Copy)]
+pub struct OnfiseqLook {
+    pub is_there: bool,
+    pub latch: u8,
+    pub busy: bool,
+    pub array_busy: bool,
+    pub caching: bool,
+    pub register: u8,
+    pub has_column: bool,
+    pub block: u32,
+    pub page: u64,
+    pub column: u64,
+    pub queued: usize,
+}
+
+// What is told where no LUN is there.
+const NO_LOOK: OnfiseqLook = OnfiseqLook {
+    is_there: false,
+    latch: 0,
+    busy: false,
+    array_busy: false,
+    caching: false,
+    register: 0,
+    has_column: false,
+    block: 0,
+    page: 0,
+    column: 0,
+    queued: 0,
+};
+
+// The column of the next output.
+fn output_column(kept: &OnfiseqLun) -> Option<u64>
+    requires { IsRecord kept.now }
+    ensures { result ≡ output_column (lun_of kept.now).column }
+{
+    let column = ReadColumn {
+        given: given_of(kept.has_column, kept.column),
+        outputs: kept.outputs,
+        lost: kept.lost,
+    };
+    column.output_column()
+}
+
+// A look at the LUN of a record.
+fn look_at(kept: &OnfiseqLun) -> OnfiseqLook
+    requires { IsRecord kept.now }
+    ensures { look_of result ≡ Some (look_at (lun_of kept.now)) }
+{
+    let column = output_column(kept);
+    OnfiseqLook {
+        is_there: true,
+        latch: kept.latch,
+        busy: kept.busy,
+        array_busy: kept.array_busy,
+        caching: is_cache_read(closer_of(kept.has_closer, kept.closer)),
+        register: kept.register,
+        has_column: column.is_some(),
+        block: kept.register_block,
+        page: kept.register_page,
+        column: column.unwrap_or(0),
+        queued: kept.queued,
+    }
+}
+
+// A look at a LUN of a target.
+fn look_on(kept: &OnfiseqTarget, lun: u8) -> OnfiseqLook
+    requires { IsTarget kept.now }
+    ensures { look_of result ≡ look_on (Some (target_of kept.now)) lun }
+{
+    let lun = usize::from(lun);
+    if kept.count <= lun {
+        return NO_LOOK;
+    }
+    look_at(&kept.luns[lun])
+}
+
+/// A look at a LUN; `is_there` is false, and all is zero, where no such LUN is there.
+pub fn look_at_lun(bus: &OnfiseqBus, ce: u8, lun: u8) -> OnfiseqLook
+    ensures { look_of result ≡ looked (bus_view bus.now) (record { ce = ce; lun = lun }) }
+{
+    let ce = usize::from(ce);
+    if bus.count <= ce {
+        return NO_LOOK;
+    }
+    look_on(&bus.targets[ce], lun)
+}
+
+// What would be answered to an item on its target.
+fn ask_target(geometry: &Geometry, targets: u8, kept: &OnfiseqTarget, item: Item) -> u32
+    requires limits { InLimits geometry.now }
+    requires numbers { IsTarget kept.now }
+    requires fits { TargetFits geometry.now (target_of kept.now) }
+    ensures { result ≡ answered_there geometry.now targets (target_of kept.now) item }
+{
+    let target = target_of(kept);
+    match judge(geometry, targets, target.tail, target.luns.as_slice(), item) {
+        Some(rule) => rule_number(rule),
+        None => 0,
+    }
+}
+
+/// What [`push`](crate::push) would answer to an item; nothing changes.
+pub fn ask(bus: &OnfiseqBus, item: Item) -> u32
+    ensures { result ≡ pushed (bus_view bus.now) (Some item) }
+{
+    let ce = usize::from(item.target());
+    if bus.count <= ce {
+        return 1;
+    }
+    let geometry = Geometry::of(bus.geometry.parts()).unwrap();
+    ask_target(&geometry, bus.count as u8, &bus.targets[ce], item)
+}
+
+/// The geometry of the targets of a channel; None where none was begun.
+pub fn geometry_of(bus: &OnfiseqBus) -> Option<Geometry>
+    ensures some { IfSome result (λ g. g ≡ (bus_view bus.now).geometry) }
+    ensures none { IfNone result (bus.now.count ≡ 0) }
+{
+    if bus.count == 0 {
+        return None;
+    }
+    Some(Geometry::of(bus.geometry.parts()).unwrap())
+}
+
+/// Whether a LUN is there.
+pub fn has_lun(bus: &OnfiseqBus, lun: Lun) -> bool
+    ensures { result ≡ is_on (bus_view bus.now) lun }
+{
+    usize::from(lun.ce) < bus.count && lun.lun < bus.geometry.luns
+}
+
+/// The same channel in a record of its own.
+pub fn copy_of(bus: &OnfiseqBus) -> OnfiseqBus
+    ensures { result ≡ bus.now }
+{
+    OnfiseqBus {
+        geometry: bus.geometry,
+        count: bus.count,
+        targets: bus.targets,
+    }
+}

@@ -1,0 +1,10 @@
+pub mod Stop
+pub mod Job
+pub mod Live
+pub mod Bursts
+pub mod Due
+pub mod Next
+pub mod Finish
+pub mod Begin
+pub mod Permits
+pub mod Verified

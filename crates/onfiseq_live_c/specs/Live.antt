@@ -1,0 +1,30 @@
+-- What the record of a channel stands for.
+use Rattle.std.specs.Prelude.{◌≡◌, ◌==◌, ◌&&◌, not, Bool, if◌then◌else◌, Option, Some, None}
+use Rattle.onfi_cycle.specs.declared.lun.Lun.{Lun}
+use Rattle.onfi_cycle.specs.State.{BusView}
+use Rattle.bus_record.specs.Bus.{bus_view}
+use Rattle.bus_record.specs.Channel.{is_on}
+use Rattle.onfiseq_live_c.specs.declared.live.OnfiseqLive.{OnfiseqLive}
+use Rattle.onfiseq_live_c.specs.declared.job.OnfiseqJob.{OnfiseqJob}
+use Rattle.onfiseq_live_c.specs.Job.{is_whole, lun_in}
+
+-- the state of the channel
+abbrev pub state_of : OnfiseqLive → BusView
+state_of v = bus_view v.bus
+
+-- the LUN that has the bus, if one has it
+abbrev pub holder_of : OnfiseqLive → Option Lun
+holder_of v = if v.has_holder == 0 then None else Some (record { ce = v.ce; lun = v.lun })
+
+-- the record is one that a call left, as far as it can be told, and a channel was begun
+abbrev pub is_live : OnfiseqLive → Bool
+is_live v = v.magic == 0x4556494c && not (v.bus.count == 0)
+
+-- both records are, and the job is one of the channel
+abbrev pub are_whole : OnfiseqLive → OnfiseqJob → Bool
+are_whole v j = is_live v && (is_whole j && is_on (state_of v) (lun_in j))
+
+-- the LUN that has the bus is as it was, and the record is whole if it was
+pub record KeepsHolder (v later : OnfiseqLive) : Type 0 where
+  pub holder : holder_of later ≡ holder_of v
+  pub live : is_live later ≡ is_live v

@@ -1,0 +1,66 @@
+-- A verified job breaks no rule: what the records stand for, and the law.
+use Rattle.std.specs.Prelude.{[], ◌∷◌, ◌++◌, ◌≡◌, ℕ, true, false, List, Some, None, Ok, length, slice_get}
+use Rattle.micro_word.specs.declared.word.Word.{Word}
+use Rattle.micro_word.specs.Text.{IsFileOf}
+use Rattle.seq_core.specs.After.{is_held}
+use Rattle.seq_core.specs.Reply.{Reply, ToStep}
+use Rattle.seq_core.specs.Progress.{Progress, outcome_of, status_of, progress_after}
+use Rattle.seq_live.specs.declared.burst.Burst.{Burst}
+use Rattle.seq_live.specs.Burst.{bursts_at, taken_by}
+use Rattle.seq_live.specs.Kept.{LiveView, IsLive}
+use Rattle.seq_live.specs.Event.{Step}
+use Rattle.seq_live.specs.Calls.{IsLiveRun, live_slot, shown}
+use Rattle.onfiseq_live_c.specs.declared.live.OnfiseqLive.{OnfiseqLive}
+use Rattle.onfiseq_live_c.specs.declared.job.OnfiseqJob.{OnfiseqJob}
+use Rattle.onfiseq_live_c.specs.Job.{job_view, lun_in, loops_in, registers_in, code_in}
+use Rattle.onfiseq_live_c.specs.Live.{state_of, holder_of, are_whole}
+use Rattle.onfiseq_live_c.specs.Next.{next_of}
+use Rattle.onfiseq_live_c.specs.Finish.{Finished, finish_of}
+
+-- the records stand for what the sequencer of `seq_live` keeps: the state of the channel, the LUN that has the bus, and the program in progress on the job's LUN,
+-- whose text the file is
+pub record StandsFor (kept : LiveView) (p : Progress) (v : OnfiseqLive) (j : OnfiseqJob) (file : List ℕ) : Type 0 where
+  pub whole : are_whole v j ≡ true
+  pub state : state_of v ≡ kept.state
+  pub holder : holder_of v ≡ kept.holder
+  pub slot : live_slot kept (lun_in j) ≡ Some p
+  pub text : IsFileOf file p.job.text
+  pub base : j.base ≡ p.job.base
+  pub buffer : j.buffer ≡ length p.job.buffer
+  pub at : j.at ≡ p.at
+  pub loops : loops_in j.loops ≡ p.loops
+  pub registers : registers_in j ≡ p.registers
+  pub code : code_in j.has_ended j.code ≡ p.code
+
+-- the bursts of the program's next word are told
+pub record TellsItsBursts (kept : LiveView) (p : Progress) (v : OnfiseqLive) (j : OnfiseqJob) (file : List ℕ) : Type 0 where
+  pub word : Word
+  pub here : slice_get p.job.text.words p.at ≡ Some word
+  pub bursts : List Burst
+  pub are_bursts : bursts_at kept.state.geometry p.job.lun p.registers word ≡ Some bursts
+  pub tells : next_of v j file ≡ Ok (record { bursts = bursts; taken = taken_by word })
+
+-- the law: where the records stand for what that sequencer keeps, which its main theorem speaks of, a program that goes on and isn't held is told the bursts of its
+-- next word, so none of their cycles breaks a rule
+abbrev pub VerifiedJobsBreakNone : Type 0
+VerifiedJobsBreakNone =
+    (kept : LiveView) (p : Progress) (v : OnfiseqLive) (j : OnfiseqJob) (file : List ℕ) → IsLive kept → StandsFor kept p v j file
+    → p.code ≡ None → is_held kept.holder (lun_in j) ≡ false → TellsItsBursts kept p v j file
+
+-- a step of the program's next word, whose outputs gave these bytes, is what it is for that sequencer: the readies that a poll shows and the step, as one run of
+-- events. The records that it leaves stand for what that keeps then
+pub record StepsAlong (kept : LiveView) (p : Progress) (v : OnfiseqLive) (j : OnfiseqJob) (file bytes : List ℕ) (word : Word) : Type 0 where
+  pub later : LiveView
+  pub is_live : IsLive later
+  pub replies : List Reply
+  pub run : IsLiveRun kept (shown (lun_in j) word bytes ++ (Step (lun_in j) bytes ∷ [])) (replies ++ (ToStep (outcome_of word (status_of word bytes)) ∷ [])) later
+  pub f : Finished
+  pub finishes : finish_of v j file bytes ≡ Ok f
+  pub stands : (w : OnfiseqLive) (i : OnfiseqJob) → state_of w ≡ f.state → holder_of w ≡ f.holder → job_view i ≡ f.job → are_whole w i ≡ true → StandsFor later (progress_after p word bytes) w i file
+
+-- the law: where the records stand for what that sequencer keeps, a program that goes on and isn't held makes its step, whatever its outputs give
+abbrev pub VerifiedJobsGoAlong : Type 0
+VerifiedJobsGoAlong =
+    (kept : LiveView) (p : Progress) (v : OnfiseqLive) (j : OnfiseqJob) (file bytes : List ℕ) (word : Word) → IsLive kept → StandsFor kept p v j file
+    → p.code ≡ None → is_held kept.holder (lun_in j) ≡ false → slice_get p.job.text.words p.at ≡ Some word → length bytes ≡ taken_by word
+    → StepsAlong kept p v j file bytes word

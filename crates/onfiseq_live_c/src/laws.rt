@@ -1,0 +1,19 @@
+//! The laws of what is told.
+ghost use Rattle.onfiseq_live_c.specs.Permits.{BurstsArePermitted};
+ghost use Rattle.onfiseq_live_c.specs.Verified.{VerifiedJobsBreakNone, VerifiedJobsGoAlong};
+
+/// Where bursts are told, each of their cycles is permitted where it comes, after each past that the channel's state follows, whatever stands in the buffer and
+/// whatever the chip gives.
+pub fn bursts_are_permitted()
+    ensures { BurstsArePermitted }
+{}
+
+/// A verified job whose records stand for what the sequencer of `seq_live` keeps is told the bursts of its next word: no rule is in their way.
+pub fn verified_jobs_break_none()
+    ensures { VerifiedJobsBreakNone }
+{}
+
+/// It makes its step, whatever its outputs give, and the records that the step leaves stand for what that sequencer keeps then.
+pub fn verified_jobs_go_along()
+    ensures { VerifiedJobsGoAlong }
+{}

@@ -1,0 +1,28 @@
+//! onfiseq for C (include/onfiseq.h): the sequencer on a channel's pins.
+//!
+//! A channel is a record in the caller's memory, and so is each job; the job's word file and the bytes that its outputs gave come in as slices at each call. A
+//! call tells only bursts whose every cycle is permitted where it stands, whatever the records, the file and the chips say. It takes no memory and keeps
+//! nothing.
+#![tactic(auto)]
+
+mod abi;
+mod begin;
+mod bursts;
+mod due;
+mod finish;
+mod job;
+pub mod laws;
+mod live;
+mod loops;
+mod next;
+mod outcome;
+mod stop;
+
+pub use abi::{OnfiseqLiveAbi, OnfiseqLiveSample, onfiseq_live_abi, onfiseq_live_sample};
+pub use begin::onfiseq_job_begin;
+pub use finish::{OnfiseqStep, onfiseq_job_finish};
+pub use job::OnfiseqJob;
+pub use live::{OnfiseqLive, onfiseq_live_array_ready, onfiseq_live_begin, onfiseq_live_ready};
+pub use loops::{OnfiseqLoop, OnfiseqLoops};
+pub use next::{OnfiseqBurst, OnfiseqTurn, onfiseq_job_next};
+pub use stop::Stop;

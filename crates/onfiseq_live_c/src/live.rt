@@ -1,0 +1,145 @@
+//! A channel on whose pins jobs run, as a record in the caller's memory.
+ghost use Rattle.std.specs.Prelude.{◌≡◌, ◌≤◌, true, false, [], Some, None, IfSome, IfNone, if◌then◌else◌};
+ghost use Rattle.onfi_cycle.specs.State.{Follows};
+ghost use Rattle.onfi_cycle.specs.declared.item.Item.TheVariants.{Rdy, Ard};
+ghost use Rattle.bus_record.specs.Bus.{CanBegin, pushed, bus_pushed};
+ghost use Rattle.bus_record.specs.Geometry.{parts_of};
+ghost use Rattle.onfiseq_live_c.specs.Live.{state_of, holder_of, is_live, are_whole, KeepsHolder};
+
+use crate::job::OnfiseqJob;
+use bus_record::{OnfiseqBus, OnfiseqGeometry, begin, geometry_of, has_lun, push};
+use nand_geometry::Geometry;
+use onfi_cycle::{Item, Lun};
+
+// What stands first in a record that a call left: `LIVE`.
+const MAGIC: u32 = 0x4556_494c;
+
+// The answer of a call to which a record was given that no call left.
+const DAMAGED: u32 = 254;
+
+/// A channel on whose pins jobs run: its state, and the LUN that has the bus, if one has it.
+#[repr(C)]
+#[derive(Drop)]
+pub struct OnfiseqLive {
+    pub magic: u32,
+    /// 0 where no LUN has the bus.
+    pub has_holder: u8,
+    pub ce: u8,
+    pub lun: u8,
+    pub bus: OnfiseqBus,
+}
+
+impl OnfiseqLive {
+    // Whether the record is one that a call left, as far as it can be told.
+    fn is_live(&self) -> bool
+        ensures { result ≡ is_live self.now }
+    {
+        self.magic == MAGIC && self.bus.count != 0
+    }
+
+    /// The geometry of its channel, where its record is whole.
+    pub(crate) fn geometry(&self) -> Option<Geometry>
+        ensures some { IfSome result (λ g. g ≡ (state_of self.now).geometry) }
+        ensures live { IfSome result (λ g. is_live self.now ≡ true) }
+        ensures none { IfNone result (is_live self.now ≡ false) }
+    {
+        if !self.is_live() {
+            return None;
+        }
+        geometry_of(&self.bus)
+    }
+
+    /// The geometry of its channel, where both records are whole.
+    pub(crate) fn geometry_for(&self, job: &OnfiseqJob) -> Option<Geometry>
+        ensures some { IfSome result (λ g. g ≡ (state_of self.now).geometry) }
+        ensures whole { IfSome result (λ g. are_whole self.now job.now ≡ true) }
+        ensures few { IfSome result (λ g. job.now.loops.depth ≤ 4) }
+        ensures none { IfNone result (are_whole self.now job.now ≡ false) }
+    {
+        if !job.is_whole() || !has_lun(&self.bus, job.on()) {
+            return None;
+        }
+        self.geometry()
+    }
+
+    /// The LUN that has the bus, if one has it.
+    pub(crate) fn holder(&self) -> Option<Lun>
+        ensures { result ≡ holder_of self.now }
+    {
+        if self.has_holder == 0 {
+            return None;
+        }
+        Some(Lun {
+            ce: self.ce,
+            lun: self.lun,
+        })
+    }
+
+    /// This LUN has the bus now, or none.
+    pub(crate) fn hand_over(&mut self, holder: Option<Lun>)
+        ensures holder { holder_of self.new ≡ holder }
+        ensures bus { self.new.bus ≡ self.old.bus }
+        ensures magic { self.new.magic ≡ self.old.magic }
+    {
+        match holder {
+            None => self.has_holder = 0,
+            Some(lun) => {
+                self.has_holder = 1;
+                self.ce = lun.ce;
+                self.lun = lun.lun;
+            }
+        }
+    }
+}
+
+/// A channel of so many targets of this geometry, to which nothing has happened, and on which no job runs. Where the geometry has a fault or the targets
+/// aren't 1 to 4 there is no such channel, and its `bus.count` is 0.
+#[unsafe(no_mangle)]
+pub extern "C" fn onfiseq_live_begin(geometry: &OnfiseqGeometry, targets: u8) -> OnfiseqLive
+    ensures begins { CanBegin (parts_of geometry.now) targets → Follows (parts_of geometry.now) targets (state_of result) [] }
+    ensures only { 1 ≤ result.bus.count → CanBegin (parts_of geometry.now) targets }
+    ensures live { 1 ≤ result.bus.count → is_live result ≡ true }
+    ensures free { holder_of result ≡ None }
+{
+    OnfiseqLive {
+        magic: MAGIC,
+        has_holder: 0,
+        ce: 0,
+        lun: 0,
+        bus: begin(geometry, targets),
+    }
+}
+
+// The channel goes on by a ready.
+fn go_on(live: &mut OnfiseqLive, item: Item) -> u32
+    ensures answer { result ≡ (if is_live live.old then pushed (state_of live.old) (Some item) else 254) }
+    ensures state { state_of live.new ≡ (if is_live live.old then bus_pushed (state_of live.old) (Some item) else state_of live.old) }
+    ensures holder { KeepsHolder live.old live.new }
+{
+    if !live.is_live() {
+        return DAMAGED;
+    }
+    push(&mut live.bus, item)
+}
+
+/// A LUN becomes ready, with failure or without, as R/B# tells. 0, or the number of the rule that speaks against it: 1 where the LUN isn't there or isn't
+/// busy. 254 where the record is none. What a poll shows needs no call.
+#[unsafe(no_mangle)]
+pub extern "C" fn onfiseq_live_ready(live: &mut OnfiseqLive, ce: u8, lun: u8, failed: bool) -> u32
+    ensures answer { result ≡ (if is_live live.old then pushed (state_of live.old) (Some (Rdy ce lun failed)) else 254) }
+    ensures state { state_of live.new ≡ (if is_live live.old then bus_pushed (state_of live.old) (Some (Rdy ce lun failed)) else state_of live.old) }
+    ensures holder { KeepsHolder live.old live.new }
+{
+    let fail = failed;
+    go_on(live, Item::Rdy { ce, lun, fail })
+}
+
+/// The array of a LUN becomes ready after a cache read. The answers are those of `onfiseq_live_ready`.
+#[unsafe(no_mangle)]
+pub extern "C" fn onfiseq_live_array_ready(live: &mut OnfiseqLive, ce: u8, lun: u8) -> u32
+    ensures answer { result ≡ (if is_live live.old then pushed (state_of live.old) (Some (Ard ce lun)) else 254) }
+    ensures state { state_of live.new ≡ (if is_live live.old then bus_pushed (state_of live.old) (Some (Ard ce lun)) else state_of live.old) }
+    ensures holder { KeepsHolder live.old live.new }
+{
+    go_on(live, Item::Ard { ce, lun })
+}

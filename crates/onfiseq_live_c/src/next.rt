@@ -1,0 +1,171 @@
+//! What is to be done on the pins for a job's next word.
+ghost use Rattle.std.specs.Prelude.{◌≡◌, Ok, Err, slice_get};
+ghost use Rattle.seq_core.specs.Playing.{EndsWithFive};
+ghost use Rattle.bus_record.specs.Bus.{bus_view};
+ghost use Rattle.onfiseq_live_c.specs.Job.{job_view};
+ghost use Rattle.onfiseq_live_c.specs.Next.{shown, shown_some, three, told, next_of, turn_of};
+
+use crate::bursts::push_bursts;
+use crate::due::due;
+use crate::job::OnfiseqJob;
+use crate::live::OnfiseqLive;
+use crate::stop::Stop;
+use bus_record::{OnfiseqBus, copy_of};
+use micro_word::Word;
+use nand_geometry::Geometry;
+use seq_live::{Burst, bursts_of, taken_by};
+
+/// What is to be done on the pins in one go, with the chip enable `ce` low and the others high. `kind` is a letter: C and A give `len` of the bytes, from
+/// `place` on, with CLE or ALE high; I gives `len` bytes of the job's buffer, from `place` on; O takes `len` bytes from the chip.
+#[repr(C)]
+#[derive(Clone, Copy)]
+pub struct OnfiseqBurst {
+    pub kind: u8,
+    pub ce: u8,
+    pub bytes: [u8; 5],
+    pub place: usize,
+    pub len: usize,
+}
+
+/// What is due of a job. `letter` is 0 where its next word is due: the first `count` bursts are to be done, one after another, and their outputs give
+/// `taken` bytes. Else nothing is to be done, and `letter` and `number` say why.
+#[repr(C)]
+#[derive(Clone, Copy)]
+pub struct OnfiseqTurn {
+    pub letter: u8,
+    pub number: u32,
+    pub count: usize,
+    pub taken: usize,
+    pub bursts: [OnfiseqBurst; 3],
+}
+
+impl OnfiseqBurst {
+    // A burst as numbers.
+    fn of(burst: Burst) -> OnfiseqBurst
+        ensures { result ≡ shown burst }
+    {
+        match burst {
+            Burst::Command { ce, byte } => OnfiseqBurst {
+                kind: b'C',
+                ce,
+                bytes: [byte, 0, 0, 0, 0],
+                place: 0,
+                len: 1,
+            },
+            Burst::Address {
+                ce,
+                five,
+                from,
+                count,
+            } => OnfiseqBurst {
+                kind: b'A',
+                ce,
+                bytes: five,
+                place: usize::from(from),
+                len: usize::from(count),
+            },
+            Burst::Input { ce, place, len } => OnfiseqBurst {
+                kind: b'I',
+                ce,
+                bytes: [0; 5],
+                place,
+                len,
+            },
+            Burst::Output { ce, len } => OnfiseqBurst {
+                kind: b'O',
+                ce,
+                bytes: [0; 5],
+                place: 0,
+                len,
+            },
+        }
+    }
+
+    // The burst of this number as numbers, all 0 where there are fewer.
+    fn at(bursts: &[Burst], number: usize) -> OnfiseqBurst
+        ensures { result ≡ shown_some (slice_get bursts.now number) }
+    {
+        match bursts.get(number) {
+            Some(burst) => OnfiseqBurst::of(*burst),
+            None => OnfiseqBurst {
+                kind: 0,
+                ce: 0,
+                bytes: [0; 5],
+                place: 0,
+                len: 0,
+            },
+        }
+    }
+}
+
+// The first three bursts as numbers.
+fn three(bursts: &[Burst]) -> [OnfiseqBurst; 3]
+    ensures { result ≡ three bursts.now }
+{
+    [
+        OnfiseqBurst::at(bursts, 0),
+        OnfiseqBurst::at(bursts, 1),
+        OnfiseqBurst::at(bursts, 2),
+    ]
+}
+
+impl OnfiseqTurn {
+    // Nothing is due.
+    fn stopped(stop: Stop) -> OnfiseqTurn
+        ensures { result ≡ turn_of (Err stop) }
+    {
+        OnfiseqTurn {
+            letter: stop.letter(),
+            number: stop.number(),
+            count: 0,
+            taken: 0,
+            bursts: three(&[]),
+        }
+    }
+
+    // These bursts are due.
+    fn told(bursts: &[Burst], taken: usize) -> OnfiseqTurn
+        ensures { result ≡ turn_of (Ok (record { bursts = bursts.now; taken = taken })) }
+    {
+        OnfiseqTurn {
+            letter: 0,
+            number: 0,
+            count: bursts.len(),
+            taken,
+            bursts: three(bursts),
+        }
+    }
+}
+
+// What is to be done for a word of a job.
+fn tell(geometry: &Geometry, bus: &mut OnfiseqBus, job: &OnfiseqJob, word: Word) -> OnfiseqTurn
+    requires geometry { geometry.now ≡ (bus_view bus.old).geometry }
+    requires range { EndsWithFive word }
+    ensures { result ≡ turn_of (told (bus_view bus.old) (job_view job.now) word) }
+{
+    let Some(bursts) = bursts_of(geometry, job.on(), job.registers(), word) else {
+        return OnfiseqTurn::stopped(Stop::RowOutside);
+    };
+    match push_bursts(bus, bursts.as_slice()) {
+        Some(rule) => OnfiseqTurn::stopped(Stop::Breaks(rule)),
+        None => OnfiseqTurn::told(bursts.as_slice(), taken_by(word)),
+    }
+}
+
+/// What is to be done on the pins for the next word of a job; nothing changes. Whatever the records, the file and the chips say: each cycle of the bursts that
+/// are told is permitted where it stands, as the state of the channel judges it.
+#[unsafe(no_mangle)]
+pub extern "C" fn onfiseq_job_next(live: &OnfiseqLive, job: &OnfiseqJob, file: &[u8]) -> OnfiseqTurn
+    ensures { result ≡ turn_of (next_of live.now job.now file.now) }
+{
+    let Some(geometry) = live.geometry_for(job) else {
+        return OnfiseqTurn::stopped(Stop::Damaged);
+    };
+    match due(live.holder(), job, file) {
+        Err(stop) => OnfiseqTurn::stopped(stop),
+        Ok(word) => {
+            let mut bus = copy_of(&live.bus);
+            tell(&geometry, &mut bus, job, word)
+        }
+    }
+}

@@ -1,0 +1,2 @@
+pub mod Continues
+pub mod Read
