@@ -8,3 +8,4 @@ pub mod Along
 pub mod Others
 pub mod Stepped
 pub mod Begun
+pub mod Going

@@ -1,22 +1,24 @@
 -- A verified job breaks no rule: what the records stand for, and the law.
-use Rattle.std.specs.Prelude.{◌*◌, ◌^◌, ◌<◌, ◌≤◌, replicate, None, [], ◌∷◌, ◌++◌, ◌≡◌, ℕ, true, false, List, Some, Ok, length, slice_get}
+use Rattle.std.specs.Prelude.{◌*◌, ◌^◌, ◌<◌, ◌≤◌, replicate, None, [], ◌∷◌, ◌++◌, ◌≡◌, ℕ, true, false, List, Some, Ok, length, slice_get, Bool}
 use Rattle.nand_geometry.specs.declared.parts.Parts.{Parts}
 use Rattle.nand_geometry.specs.Limits.{InLimits}
 use Rattle.onfi_cycle.specs.declared.lun.Lun.{Lun}
 use Rattle.onfi_cycle.specs.Channel.{same_lun}
-use Rattle.onfi_cycle.specs.State.{Follows}
+use Rattle.onfi_cycle.specs.State.{BusView, Follows}
+use Rattle.onfi_cycle.specs.declared.item.Item.TheVariants.{Rdy, Ard}
+use Rattle.bus_record.specs.Bus.{bus_pushed}
 use Rattle.micro_word.specs.declared.word.Word.{Word}
 use Rattle.micro_word.specs.Text.{IsFileOf}
 use Rattle.micro_program.specs.Places.{IsShaped}
 use Rattle.micro_program.specs.Program.{Job}
 use Rattle.seq_core.specs.After.{is_held}
 use Rattle.seq_core.specs.Event.{IsVerified}
-use Rattle.seq_core.specs.Reply.{Reply, ToLoad, ToStep, Loaded}
+use Rattle.seq_core.specs.Reply.{Reply, ToLoad, ToStep, ToUnload, Loaded, Unloaded}
 use Rattle.seq_core.specs.Progress.{Progress, fresh_progress, outcome_of, status_of, progress_after}
 use Rattle.seq_live.specs.declared.burst.Burst.{Burst}
 use Rattle.seq_live.specs.Burst.{bursts_at, taken_by}
 use Rattle.seq_live.specs.Kept.{LiveView, IsLive}
-use Rattle.seq_live.specs.Event.{Load, Step}
+use Rattle.seq_live.specs.Event.{LiveEvent, Load, Step, Ready, ArrayReady, Unload}
 use Rattle.seq_live.specs.Calls.{IsLiveEvent, IsLiveRun, live_load_fault, live_slot, shown}
 use Rattle.onfiseq_live_c.specs.declared.live.OnfiseqLive.{OnfiseqLive}
 use Rattle.onfiseq_live_c.specs.declared.job.OnfiseqJob.{OnfiseqJob}
@@ -94,3 +96,29 @@ abbrev pub ChannelsBegin : Type 0
 ChannelsBegin =
     (v : OnfiseqLive) (g : Parts) (targets : ℕ) → InLimits g → targets ≤ 4 → Follows g targets (state_of v) []
     → IsLive (record { state = state_of v; slots = replicate (targets * g.luns) None; holder = None; going = None })
+
+-- a ready that R/B# tells, or one of an array, is one that comes there: each program is as it was
+pub record ReadiesAlong (kept : LiveView) (e : LiveEvent) (s : BusView) : Type 0 where
+  pub is_live : IsLive (record kept { state = s })
+  pub reply : Reply
+  pub run : IsLiveEvent kept e reply (record kept { state = s })
+  pub programs : (m : Lun) → live_slot (record kept { state = s }) m ≡ live_slot kept m
+
+-- the law: of both
+pub record ReadiesGoAlong : Type 0 where
+  pub ready : (kept : LiveView) (l : Lun) (fail : Bool) → IsLive kept → ReadiesAlong kept (Ready l fail) (bus_pushed kept.state (Some (Rdy l.ce l.lun fail)))
+  pub array : (kept : LiveView) (l : Lun) → IsLive kept → ReadiesAlong kept (ArrayReady l) (bus_pushed kept.state (Some (Ard l.ce l.lun)))
+
+-- a program that has ended is taken away: the channel and the LUN that has the bus are as they were, and its LUN is free
+pub record EndsAlong (kept : LiveView) (l : Lun) (p : Progress) (code : ℕ) : Type 0 where
+  pub later : LiveView
+  pub is_live : IsLive later
+  pub run : IsLiveEvent kept (Unload l) (ToUnload (Unloaded p.job code)) later
+  pub state : later.state ≡ kept.state
+  pub holder : later.holder ≡ kept.holder
+  pub free : live_slot later l ≡ None
+  pub others : (m : Lun) → same_lun l m ≡ false → live_slot later m ≡ live_slot kept m
+
+-- the law: each that has ended may be forgotten, and another job begin on its LUN
+abbrev pub EndedJobsGo : Type 0
+EndedJobsGo = (kept : LiveView) (l : Lun) (p : Progress) (code : ℕ) → IsLive kept → live_slot kept l ≡ Some p → p.code ≡ Some code → EndsAlong kept l p code
