@@ -198,7 +198,7 @@ size_t onfiseq_words(uint8_t letter, uint32_t number, char *text, size_t room);
  *
  * Each cycle of the bursts that are told is permitted where it stands, whatever the file, the job's record and the chip's answers are. A file that
  * onfiseq_verify accepts for the chip, one job at a time on each LUN, and chips that say ready only when they are, break no rule at all: then 'F' is never
- * answered. Several jobs share the channel: one that is answered 'H' waits until the LUN that has the bus lets it go. */
+ * answered, which is proved. Several jobs share the channel: one that is answered 'H' waits until the LUN that has the bus lets it go. */
 
 /* The loops around a word: the first depth of them, the innermost first. start is its first word, left the turns after this one. */
 struct onfiseq_loop {

@@ -5,4 +5,7 @@ pub mod Finished
 pub mod Verified
 pub mod Noted
 pub mod Along
+pub mod Others
 pub mod Stepped
+pub mod Begun
+pub mod Going

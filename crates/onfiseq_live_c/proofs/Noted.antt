@@ -31,7 +31,7 @@ abbrev pub with_state : LiveView → BusView → LiveView
 with_state kept s = record kept { state = s }
 
 -- a push is going on where that is permitted
-went_on : (s : BusView) (i : Item) → WentOnIf s (bus_pushed s (Some i)) i (is_none (judged s i))
+pub went_on : (s : BusView) (i : Item) → WentOnIf s (bus_pushed s (Some i)) i (is_none (judged s i))
 went_on s i g n past f = at (judged s i) refl
   where
     at : (o : Option Forbidden) → judged s i ≡ o → (is_none o ≡ is_none (broken g n past i)) × Follows g n (by_option o (bus_after i s) (λ (r : Forbidden). s)) (cond (is_none o) (i ∷ past) past)

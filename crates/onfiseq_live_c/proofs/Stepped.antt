@@ -1,11 +1,10 @@
 -- The step of a verified job.
-use Rattle.std.proofs.Common.{◌≡◌, ℕ, suc, ◌+◌, ◌≤◌, Bool, true, false, cond, List, [], ◌∷◌, ◌++◌, Option, Some, None, Ok, length, get_or, set, refl, sym, ap, ◌∙◌, subst, arith}
+use Rattle.std.proofs.Common.{◌≡◌, ℕ, suc, ◌+◌, ◌≤◌, Bool, true, false, cond, List, [], ◌∷◌, ◌++◌, Option, Some, None, Ok, length, set, refl, sym, ap, ◌∙◌, subst, arith}
 use Rattle.std.specs.Prelude.{slice_get}
-use Rattle.nand_geometry.specs.declared.parts.Parts.{Parts}
 use Rattle.onfi_cycle.specs.declared.item.Kind.TheVariants.{Dout}
 use Rattle.onfi_cycle.specs.declared.item.Item.TheVariants.{Rdy, Ard}
 use Rattle.onfi_cycle.specs.declared.lun.Lun.{Lun}
-use Rattle.onfi_cycle.specs.Channel.{cycle, is_there}
+use Rattle.onfi_cycle.specs.Channel.{cycle, is_there, same_lun}
 use Rattle.onfi_cycle.specs.State.{BusView, judged, bus_after}
 use Rattle.onfi_cycle.proofs.Following.{bus_goes_on}
 use Rattle.onfi_cycle.proofs.Runs.{cycle_followed}
@@ -51,6 +50,7 @@ use Rattle.onfiseq_live_c.proofs.Told.{bursts_are_own}
 use Rattle.onfiseq_live_c.proofs.Finished.{finish_is, same_lun_after}
 use Rattle.onfiseq_live_c.proofs.Verified.{own_bursts, word_range, due_now}
 use Rattle.onfiseq_live_c.proofs.Noted.{with_state, noted, Noted}
+use Rattle.onfiseq_live_c.proofs.Others.{same_slot, other_slot, there_of_slot}
 use Rattle.onfiseq_live_c.proofs.Along.{Along, goes_along, same_text, slot_again}
 
 -- ---- moves that are made on a state
@@ -97,16 +97,6 @@ moves_keep ce (Give kind byte ∷ rest) s =
     then_same s (bus_after (cycle ce kind byte) s) (after_moves ce rest (bus_after (cycle ce kind byte) s)) (after_keeps s (cycle ce kind byte)) (moves_keep ce rest (bus_after (cycle ce kind byte) s))
 moves_keep ce (Take ∷ rest) s =
     then_same s (bus_after (cycle ce Dout 0) s) (after_moves ce rest (bus_after (cycle ce Dout 0) s)) (after_keeps s (cycle ce Dout 0)) (moves_keep ce rest (bus_after (cycle ce Dout 0) s))
-
--- what is kept of a LUN hangs on the channel and the slots alone
-abbrev slot_in : Parts → ℕ → List (Option Progress) → Lun → Option Progress
-slot_in g n slots l = cond (is_there (channel_on g n []) l) (get_or slots (number (channel_on g n []) l) None) None
-
-same_slot : (a b : BusView) (slots : List (Option Progress)) (l : Lun) → IsSameChannel a b → slot_in b.geometry (length b.targets) slots l ≡ slot_in a.geometry (length a.targets) slots l
-same_slot a b slots l same = ap (λ (g : Parts). slot_in g (length b.targets) slots l) same.geometry ∙ ap (λ (n : ℕ). slot_in a.geometry n slots l) same.count
-
-same_number : (a b : BusView) (l : Lun) → IsSameChannel a b → number (channel_on b.geometry (length b.targets) []) l ≡ number (channel_on a.geometry (length a.targets) []) l
-same_number a b l same = ap (λ (g : Parts). number (channel_on g (length b.targets) []) l) same.geometry ∙ ap (λ (n : ℕ). number (channel_on a.geometry n []) l) same.count
 
 some_same : {X : Type 0} (x y : X) → Some x ≡ Some y → x ≡ y
 some_same x y h = cc
@@ -162,7 +152,7 @@ verified_jobs_go_along kept p v j file bytes word k st running free here many = 
     at : (o : Option (List Burst)) → bursts_at s1.geometry p.job.lun p.registers word ≡ o → StepsAlong kept p v j file bytes word
     at None are = absurd (bursts_there s1.geometry p.job.lun p.job.buffer p.registers word can.0.can.moved is_moved are)
     at (Some bursts) are =
-        record { later = later; is_live = live; replies = run.0; run = run.1; f = finished (job_view j) word (status_of word bytes) left; finishes = came; stands = stands }
+        record { later = later; is_live = live; replies = run.0; run = run.1; f = finished (job_view j) word (status_of word bytes) left; finishes = came; others = others; stands = stands }
       where
         a : AreBursts p.job.buffer p.registers.place word can.0.can.moved bursts
         a = bursts_are_moves s1.geometry p.job.lun p.job.buffer p.registers word can.0.can.moved bursts range inside is_moved are
@@ -222,6 +212,12 @@ verified_jobs_go_along kept p v j file bytes word k st running free here many = 
         slot_later =
             same_slot s1 left later.slots l channel
             ∙ slot_again (is_there (channel_on s1.geometry (length s1.targets) []) l) kept.slots (number (channel_on s1.geometry (length s1.targets) []) l) p u slot
+
+        others : (m : Lun) → same_lun l m ≡ false → live_slot later m ≡ live_slot kept m
+        others m differs =
+            same_slot s1 left later.slots m channel
+            ∙ (other_slot (channel_on s1.geometry (length s1.targets) []) kept.slots l m (Some u) (there_of_slot (channel_on s1.geometry (length s1.targets) []) kept.slots l p slot) differs
+            ∙ same_slot kept.state s1 kept.slots m kept_channel)
 
         along : Along (job_behind (job_view j) word (status_of word bytes)) u
         along = goes_along (job_view j) p word bytes

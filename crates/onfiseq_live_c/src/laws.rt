@@ -1,6 +1,6 @@
 //! The laws of what is told.
 ghost use Rattle.onfiseq_live_c.specs.Permits.{BurstsArePermitted};
-ghost use Rattle.onfiseq_live_c.specs.Verified.{VerifiedJobsBreakNone, VerifiedJobsGoAlong};
+ghost use Rattle.onfiseq_live_c.specs.Verified.{ChannelsBegin, EndedJobsGo, ReadiesGoAlong, VerifiedJobsBegin, VerifiedJobsBreakNone, VerifiedJobsGoAlong};
 
 /// Where bursts are told, each of their cycles is permitted where it comes, after each past that the channel's state follows, whatever stands in the buffer and
 /// whatever the chip gives.
@@ -16,4 +16,24 @@ pub fn verified_jobs_break_none()
 /// It makes its step, whatever its outputs give, and the records that the step leaves stand for what that sequencer keeps then.
 pub fn verified_jobs_go_along()
     ensures { VerifiedJobsGoAlong }
+{}
+
+/// A channel that begins stands for a sequencer without jobs.
+pub fn channels_begin()
+    ensures { ChannelsBegin }
+{}
+
+/// A job of a verified text begins in its record and in that sequencer.
+pub fn verified_jobs_begin()
+    ensures { VerifiedJobsBegin }
+{}
+
+/// A ready that R/B# tells comes in both, and each program is as it was.
+pub fn readies_go_along()
+    ensures { ReadiesGoAlong }
+{}
+
+/// A job that has ended may be forgotten, and another begin on its LUN.
+pub fn ended_jobs_go()
+    ensures { EndedJobsGo }
 {}
