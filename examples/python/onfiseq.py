@@ -10,7 +10,7 @@
 import ctypes
 
 u8, u32, u64, flag, size = ctypes.c_uint8, ctypes.c_uint32, ctypes.c_uint64, ctypes.c_bool, ctypes.c_size_t
-VERSION, NO_ITEM = 1, 255
+VERSION, NO_ITEM, DAMAGED = 1, 255, 254
 
 
 def record(name, **fields):
@@ -26,7 +26,7 @@ Queued = record("Queued", page=u64, block=u32, is_program=flag)
 Lun = record("Lun", latch=u8, busy=flag, has_closer=flag, closer=u8, array_busy=flag, register=u8, has_column=flag, lost=flag, column=u32, array_block=u32,
              array_page=u64, register_block=u32, register_page=u64, outputs=size, queued=size, queue=Queued * 4)
 Target = record("Target", is_open=flag, opener=u8, phase=u8, r1=u8, r2=u8, r3=u8, is_empty=flag, column=u32, addresses=size, inputs=size, count=size, luns=Lun * 4)
-Bus = record("Bus", geometry=Geometry, count=size, targets=Target * 4)
+Bus = record("Bus", magic=u32, geometry=Geometry, count=size, targets=Target * 4)
 Look = record("Look", is_there=flag, latch=u8, busy=flag, array_busy=flag, caching=flag, register=u8, has_column=flag, block=u32, page=u64, column=u64, queued=size)
 Placed = record("Placed", letter=u8, number=u32, at=size, length=size)
 Abi = record("Abi", version=u32, geometry=size, page=size, item=size, answer=size, queued=size, lun=size, target=size, bus=size, look=size, sample=size)
@@ -84,7 +84,7 @@ class Broken(Exception):
 
     def __init__(self, lib, number, count, item):
         said = "item %d, %d %s %02x: " % (count, item.ce, chr(item.kind), item.byte)
-        super().__init__(said + ("no item" if number == NO_ITEM else "%s (F%d)" % (words(lib, "F", number), number)))
+        super().__init__(said + ("no item" if number == NO_ITEM else "no channel" if number == DAMAGED else "%s (F%d)" % (words(lib, "F", number), number)))
         self.rule, self.count = number, count
 
 
