@@ -194,13 +194,12 @@ size_t onfiseq_words(uint8_t letter, uint32_t number, char *text, size_t room);
  *
  *     struct onfiseq_turn turn = onfiseq_job_next(&live, &job, file, length);
  *     if (turn.letter == 0) {
- *         for (size_t k = 0; k < turn.count; k++) do_on_pins(&turn.bursts[k], buffer, job.place, taken);
+ *         for (size_t k = 0; k < turn.count; k++) do_on_pins(&turn.bursts[k], buffer, taken);
  *         struct onfiseq_step step = onfiseq_job_finish(&live, &job, file, length, taken, turn.taken);
  *     }
  *
- * Each cycle of the bursts that are told is permitted where it stands, whatever the file, the job's record and the chip's answers are. A file that
- * onfiseq_verify accepts for the chip, one job at a time on each LUN, and chips that say ready only when they are, break no rule at all: then 'F' is never
- * answered, which is proved. Several jobs share the channel: one that is answered 'H' waits until the LUN that has the bus lets it go. */
+ * Each cycle of the bursts that are told is permitted where it stands, whatever the file, the job's record and the chip's answers are. Where onfiseq_verify
+ * accepts the file for the chip, and one job at a time runs on each LUN, 'F' is never answered, whatever the chips say. Both are proved. Several jobs share the channel: one that is answered 'H' waits until the LUN that has the bus lets it go. */
 
 /* The loops around a word: the first depth of them, the innermost first. start is its first word, left the turns after this one. */
 struct onfiseq_loop {
