@@ -108,6 +108,7 @@ struct onfiseq_target {
 };
 
 struct onfiseq_bus {
+    uint32_t magic;
     struct onfiseq_geometry geometry;
     size_t count; /* how many targets it has; 0 where no channel was begun */
     struct onfiseq_target targets[4];
@@ -117,8 +118,9 @@ struct onfiseq_bus {
 struct onfiseq_bus onfiseq_begin(const struct onfiseq_geometry *geometry, uint8_t targets);
 
 /* The channel goes on by an item: 0 where it is permitted after those before. Else nothing changes, and the answer is the number of the first rule that it
- * breaks, n of the code Fn, or ONFISEQ_NO_ITEM where the numbers are no item. */
+ * breaks, n of the code Fn, or ONFISEQ_NO_ITEM where the numbers are no item, or ONFISEQ_DAMAGED where the record isn't one that a call left: its magic is wrong. */
 #define ONFISEQ_NO_ITEM 255
+#define ONFISEQ_DAMAGED 254
 uint32_t onfiseq_push(struct onfiseq_bus *bus, const struct onfiseq_item *item);
 
 /* Pushes items one by one up to the first that is refused; the answer is its, or 0, and *done says how many went. Many items cost much less in one call. */
@@ -133,7 +135,7 @@ uint32_t onfiseq_push_status(struct onfiseq_bus *bus, const struct onfiseq_item 
 uint32_t onfiseq_ask(const struct onfiseq_bus *bus, const struct onfiseq_item *item);
 
 /* A look at a LUN. latch and register_ are as in struct onfiseq_lun; block and page are of the page that the register holds; column, where has_column, is the
- * place in the register that the next output gives; queued counts the rows of its queue. is_there is false where no such LUN is there. */
+ * place in the register that the next output gives; queued counts the rows of its queue. is_there is false where no such LUN is there, or the record is damaged. */
 struct onfiseq_look {
     bool is_there;
     uint8_t latch;
@@ -192,13 +194,12 @@ size_t onfiseq_words(uint8_t letter, uint32_t number, char *text, size_t room);
  *
  *     struct onfiseq_turn turn = onfiseq_job_next(&live, &job, file, length);
  *     if (turn.letter == 0) {
- *         for (size_t k = 0; k < turn.count; k++) do_on_pins(&turn.bursts[k], buffer, job.place, taken);
+ *         for (size_t k = 0; k < turn.count; k++) do_on_pins(&turn.bursts[k], buffer, taken);
  *         struct onfiseq_step step = onfiseq_job_finish(&live, &job, file, length, taken, turn.taken);
  *     }
  *
- * Each cycle of the bursts that are told is permitted where it stands, whatever the file, the job's record and the chip's answers are. A file that
- * onfiseq_verify accepts for the chip, one job at a time on each LUN, and chips that say ready only when they are, break no rule at all: then 'F' is never
- * answered, which is proved. Several jobs share the channel: one that is answered 'H' waits until the LUN that has the bus lets it go. */
+ * Each cycle of the bursts that are told is permitted where it stands, whatever the file, the job's record and the chip's answers are. Where onfiseq_verify
+ * accepts the file for the chip, and one job at a time runs on each LUN, 'F' is never answered, whatever the chips say. Both are proved. Several jobs share the channel: one that is answered 'H' waits until the LUN that has the bus lets it go. */
 
 /* The loops around a word: the first depth of them, the innermost first. start is its first word, left the turns after this one. */
 struct onfiseq_loop {
@@ -273,7 +274,6 @@ struct onfiseq_turn onfiseq_job_next(const struct onfiseq_live *live, const stru
 struct onfiseq_step onfiseq_job_finish(struct onfiseq_live *live, struct onfiseq_job *job, const uint8_t *file, size_t file_length, const uint8_t *taken, size_t count);
 
 /* A LUN, or its array, becomes ready, as R/B# tells: 0, or the number of the rule against it, 1 where it isn't there or isn't busy, or ONFISEQ_DAMAGED. */
-#define ONFISEQ_DAMAGED 254
 uint32_t onfiseq_live_ready(struct onfiseq_live *live, uint8_t ce, uint8_t lun, bool failed);
 uint32_t onfiseq_live_array_ready(struct onfiseq_live *live, uint8_t ce, uint8_t lun);
 

@@ -91,6 +91,19 @@ static size_t play_status(struct onfiseq_bus *bus, struct onfiseq_item *kept) {
     return done;
 }
 
+/* A record with another magic number is refused by every call, and stays. */
+static void refuse_damaged(struct onfiseq_bus bus) {
+    struct onfiseq_item item = likely_item(&bus);
+    size_t done = 99;
+    bus.magic ^= 1u << draw(32);
+    struct onfiseq_bus copy = bus;
+    must(onfiseq_ask(&bus, &item) == ONFISEQ_DAMAGED && onfiseq_push(&bus, &item) == ONFISEQ_DAMAGED, "a damaged record is taken");
+    must(onfiseq_push_all(&bus, &item, 1, &done) == ONFISEQ_DAMAGED && done == 0, "a damaged record is taken by many");
+    must(onfiseq_push_status(&bus, &item, &done) == ONFISEQ_DAMAGED && done == 0, "a damaged record is taken by a status");
+    must(!onfiseq_look(&bus, 0, 0).is_there, "a damaged record is looked at");
+    must(memcmp(&copy, &bus, sizeof bus) == 0, "a damaged record is written");
+}
+
 /* A channel of its own with random items, permitted ones more often than not. */
 static unsigned long play_channel(void) {
     static struct onfiseq_item kept[HISTORY], some[8];
@@ -125,6 +138,7 @@ static unsigned long play_channel(void) {
             calls += done + 4;
         }
     }
+    refuse_damaged(bus);
     struct onfiseq_answer answer = onfiseq_check(&chip, targets, kept, length);
     if (bus.count) must(answer.letter == 0 && answer.at == length, "check refuses what push permitted");
     else must(answer.letter == 'P' || answer.letter == 'T', "check knows a channel that can't begin");

@@ -110,7 +110,7 @@ static void test_others(void) {
     struct onfiseq_geometry chip = {512, 16, 4, 8, 2, 1, true, false, true};
     struct onfiseq_bus bus = onfiseq_begin(&chip, 3);
     struct onfiseq_page page = onfiseq_page(NULL, 0);
-    test(bus.count == 3 && bus.geometry.page_bytes == 512 && bus.geometry.cache && !bus.geometry.multi_plane, "bus");
+    test(bus.magic != 0 && bus.count == 3 && bus.geometry.page_bytes == 512 && bus.geometry.cache && !bus.geometry.multi_plane, "bus");
     test(bus.targets[0].count == 2 && bus.targets[2].count == 2 && bus.targets[2].is_empty, "bus.targets");
     test(page.fault == 1 && page.geometry.blocks == 0, "page");
 }

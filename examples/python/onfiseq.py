@@ -9,8 +9,8 @@
 """
 import ctypes
 
-u8, u32, u64, flag, size = ctypes.c_uint8, ctypes.c_uint32, ctypes.c_uint64, ctypes.c_bool, ctypes.c_size_t
-VERSION, NO_ITEM = 1, 255
+u8, u16, u32, u64, flag, size = ctypes.c_uint8, ctypes.c_uint16, ctypes.c_uint32, ctypes.c_uint64, ctypes.c_bool, ctypes.c_size_t
+VERSION, NO_ITEM, DAMAGED = 1, 255, 254
 
 
 def record(name, **fields):
@@ -26,10 +26,18 @@ Queued = record("Queued", page=u64, block=u32, is_program=flag)
 Lun = record("Lun", latch=u8, busy=flag, has_closer=flag, closer=u8, array_busy=flag, register=u8, has_column=flag, lost=flag, column=u32, array_block=u32,
              array_page=u64, register_block=u32, register_page=u64, outputs=size, queued=size, queue=Queued * 4)
 Target = record("Target", is_open=flag, opener=u8, phase=u8, r1=u8, r2=u8, r3=u8, is_empty=flag, column=u32, addresses=size, inputs=size, count=size, luns=Lun * 4)
-Bus = record("Bus", geometry=Geometry, count=size, targets=Target * 4)
+Bus = record("Bus", magic=u32, geometry=Geometry, count=size, targets=Target * 4)
 Look = record("Look", is_there=flag, latch=u8, busy=flag, array_busy=flag, caching=flag, register=u8, has_column=flag, block=u32, page=u64, column=u64, queued=size)
 Placed = record("Placed", letter=u8, number=u32, at=size, length=size)
 Abi = record("Abi", version=u32, geometry=size, page=size, item=size, answer=size, queued=size, lun=size, target=size, bus=size, look=size, sample=size)
+Loop = record("Loop", start=u16, left=u16)
+Loops = record("Loops", depth=u8, around=Loop * 4)
+Job = record("Job", magic=u32, ce=u8, lun=u8, has_ended=u8, code=u8, base=u32, buffer=u32, index=u32, place=u32, column=u16, at=u16, plane=u8, status=u8, loops=Loops)
+Live = record("Live", magic=u32, has_holder=u8, ce=u8, lun=u8, bus=Bus)
+Burst = record("Burst", kind=u8, ce=u8, bytes=u8 * 5, place=size, len=size)
+Turn = record("Turn", letter=u8, number=u32, count=size, taken=size, bursts=Burst * 3)
+Step = record("Step", letter=u8, number=u32)
+LiveAbi = record("LiveAbi", version=u32, loops=size, job=size, live=size, burst=size, turn=size, step=size, sample=size)
 
 # What each call answers, and what it takes.
 CALLS = {
@@ -47,6 +55,13 @@ CALLS = {
     "onfiseq_disassemble": (Placed, [ctypes.c_char_p, size, ctypes.c_char_p, size]),
     "onfiseq_words": (size, [u8, u32, ctypes.c_char_p, size]),
     "onfiseq_abi": (Abi, []),
+    "onfiseq_live_begin": (Live, [ctypes.POINTER(Geometry), u8]),
+    "onfiseq_live_ready": (u32, [ctypes.POINTER(Live), u8, u8, flag]),
+    "onfiseq_live_array_ready": (u32, [ctypes.POINTER(Live), u8, u8]),
+    "onfiseq_job_begin": (Step, [ctypes.POINTER(Live), u8, u8, u32, ctypes.c_char_p, size, size, ctypes.POINTER(Job)]),
+    "onfiseq_job_next": (Turn, [ctypes.POINTER(Live), ctypes.POINTER(Job), ctypes.c_char_p, size]),
+    "onfiseq_job_finish": (Step, [ctypes.POINTER(Live), ctypes.POINTER(Job), ctypes.c_char_p, size, ctypes.c_char_p, size]),
+    "onfiseq_live_abi": (LiveAbi, []),
 }
 
 
@@ -56,10 +71,11 @@ def load(path):
     for name, (answers, takes) in CALLS.items():
         call = getattr(lib, name)
         call.restype, call.argtypes = answers, takes
-    abi = lib.onfiseq_abi()
     sizes = dict(geometry=Geometry, page=Page, item=Item, answer=Answer, queued=Queued, lun=Lun, target=Target, bus=Bus, look=Look)
-    if abi.version != VERSION or any(getattr(abi, name) != ctypes.sizeof(it) for name, it in sizes.items()):
-        raise ValueError("%s isn't the library of this module: version %d" % (path, abi.version))
+    live_sizes = dict(loops=Loops, job=Job, live=Live, burst=Burst, turn=Turn, step=Step)
+    for abi, its in ((lib.onfiseq_abi(), sizes), (lib.onfiseq_live_abi(), live_sizes)):
+        if abi.version != VERSION or any(getattr(abi, name) != ctypes.sizeof(it) for name, it in its.items()):
+            raise ValueError("%s isn't the library of this module: version %d" % (path, abi.version))
     return lib
 
 
@@ -84,7 +100,7 @@ class Broken(Exception):
 
     def __init__(self, lib, number, count, item):
         said = "item %d, %d %s %02x: " % (count, item.ce, chr(item.kind), item.byte)
-        super().__init__(said + ("no item" if number == NO_ITEM else "%s (F%d)" % (words(lib, "F", number), number)))
+        super().__init__(said + ("no item" if number == NO_ITEM else "no channel" if number == DAMAGED else "%s (F%d)" % (words(lib, "F", number), number)))
         self.rule, self.count = number, count
 
 

@@ -35,7 +35,7 @@ all_same P x p (suc n) zero d h = p
 all_same P x p (suc n) (suc k) d h = let low : k < length (replicate n x) = omega (arith, h) in all_same P x p n k d low
 
 pub fresh_sound : (g : OnfiseqGeometry) (t : OnfiseqTarget) (n : ℕ) → InLimits (parts_of g) → IsTarget t → ((ce : ℕ) → target_of t ≡ target_view (parts_of g) [] ce) → n ≤ 4
-    → IsSound (record { geometry = g; count = n; targets = t ∷ t ∷ t ∷ t ∷ [] })
+    → IsSound (record { magic = 0x5355424f; geometry = g; count = n; targets = t ∷ t ∷ t ∷ t ∷ [] })
 fresh_sound g t n limits numbers all few =
     record {
       few = few;
@@ -45,5 +45,5 @@ fresh_sound g t n limits numbers all few =
     }
 
 pub fresh_follows : (g : OnfiseqGeometry) (t : OnfiseqTarget) (n : ℕ) → ((ce : ℕ) → target_of t ≡ target_view (parts_of g) [] ce) → n ≤ 4
-    → Follows (parts_of g) n (bus_view (record { geometry = g; count = n; targets = t ∷ t ∷ t ∷ t ∷ [] })) []
+    → Follows (parts_of g) n (bus_view (record { magic = 0x5355424f; geometry = g; count = n; targets = t ∷ t ∷ t ∷ t ∷ [] })) []
 fresh_follows g t n all few = record { legal = refl; geometry = refl; facts = fresh_views (parts_of g) t all n few }

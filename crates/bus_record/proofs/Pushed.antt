@@ -126,7 +126,7 @@ pub limits_there : (k : Kept) → IsSound k → (ce : ℕ) → ce < k.count → 
 limits_there k s ce low = let some : 1 ≤ k.count = omega (arith, low) in (s.fits some).limits
 
 pub sound_after : (k : Kept) → IsSound k → (ce : ℕ) → ce < k.count → (t : OnfiseqTarget) → IsTarget t → TargetFits (parts_of k.geometry) (target_of t)
-    → IsSound (record { geometry = k.geometry; count = k.count; targets = slice_set k.targets ce t })
+    → IsSound (record { magic = k.magic; geometry = k.geometry; count = k.count; targets = slice_set k.targets ce t })
 sound_after k s ce low t numbers fits =
     record {
       few = s.few;

@@ -140,7 +140,7 @@ left_keeps kind ce count s = at (judged_run kind ce count s)
     at (Some r) = same_channel s
 
 pub run_sound : (kind : Kind) → IsData kind → (k : Kept) → IsSound k → (ce count : ℕ) → ce < k.count → (u : OnfiseqTarget) → IsTarget u → with_target k ce u ≡ run_pushed kind ce count (bus_view k)
-    → IsSound (record { geometry = k.geometry; count = k.count; targets = slice_set k.targets ce u })
+    → IsSound (record { magic = k.magic; geometry = k.geometry; count = k.count; targets = slice_set k.targets ce u })
 run_sound kind sees_none k s ce count low u numbers is =
     record {
       few = s.few;

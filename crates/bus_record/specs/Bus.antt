@@ -1,5 +1,5 @@
 -- The state of a channel in the caller's memory.
-use Rattle.std.specs.Prelude.{◌≡◌, ℕ, ◌≤◌, List, ◌∷◌, Option, Some, None, map, take, length}
+use Rattle.std.specs.Prelude.{◌==◌, Bool, ◌≡◌, ℕ, ◌≤◌, List, ◌∷◌, Option, Some, None, map, take, length}
 use Rattle.std.specs.List.{All}
 use Rattle.nand_geometry.specs.declared.parts.Parts.{Parts}
 use Rattle.nand_geometry.specs.Limits.{fault_of}
@@ -16,6 +16,10 @@ use Rattle.bus_record.specs.declared.record.OnfiseqTarget.{OnfiseqTarget}
 -- the state that the numbers stand for: of the targets the first ones count
 abbrev pub bus_view : Kept → BusView
 bus_view k = record { geometry = parts_of k.geometry; targets = map target_of (take k.count k.targets) }
+
+-- the record is one that a call left, as far as it can be told
+abbrev pub is_bus : Kept → Bool
+is_bus k = k.magic == 0x5355424f
 
 -- the numbers of a target's record
 pub record IsTarget (t : OnfiseqTarget) : Type 0 where

@@ -4,6 +4,7 @@ use Rattle.bus_record.specs.declared.geometry.OnfiseqGeometry.{OnfiseqGeometry}
 use Rattle.bus_record.specs.declared.record.OnfiseqTarget.{OnfiseqTarget}
 
 pub record Kept : Type 0 where
+  pub magic : ℕ
   pub geometry : OnfiseqGeometry
   pub count : ℕ
   pub targets : List OnfiseqTarget

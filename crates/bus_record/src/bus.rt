@@ -1,10 +1,10 @@
 //! The state of a channel in the caller's memory, and how it goes on item by item.
-ghost use Rattle.std.specs.Prelude.{◌≡◌, ℕ, ◌≤◌, [], Some, None};
+ghost use Rattle.std.specs.Prelude.{◌≡◌, ℕ, ◌≤◌, [], Some, None, true};
 ghost use Rattle.nand_geometry.specs.declared.parts.Parts.{Parts};
 ghost use Rattle.onfi_cycle.specs.State.{Follows, bus_after, judged, target_view};
 ghost use Rattle.onfi_cycle.specs.Permitted.{judge};
 ghost use Rattle.bus_record.specs.Geometry.{parts_of};
-ghost use Rattle.bus_record.specs.Bus.{bus_view, CanBegin, IsTarget, target_pushed, pushed, bus_pushed};
+ghost use Rattle.bus_record.specs.Bus.{bus_view, is_bus, CanBegin, IsTarget, target_pushed, pushed, bus_pushed};
 ghost use Rattle.bus_record.specs.Channel.{IsSameChannel};
 ghost use Rattle.bus_record.specs.Record.{target_of};
 ghost use Rattle.onfi_cycle.specs.Bounds.{TargetFits};
@@ -17,10 +17,17 @@ use nand_geometry::Geometry;
 use onfi_cycle::{Forbidden, Item, TargetState, judge};
 use std::marker::Model;
 
+// What stands first in a record that a call left: `OBUS`.
+const MAGIC: u32 = 0x5355_424f;
+
+/// The answer of a call to which a record was given that no call left.
+pub const DAMAGED: u32 = 254;
+
 /// The state of a channel. The caller keeps it, and may copy it, but only a call of this library changes it.
 #[repr(C)]
 #[derive(Drop)]
 pub struct OnfiseqBus {
+    pub magic: u32,
     pub geometry: OnfiseqGeometry,
     /// How many targets it has; 0 where no channel was begun.
     pub count: usize,
@@ -33,18 +40,20 @@ impl Model for OnfiseqBus {
 
     ghost Value = { Kept };
 
-    ghost view = { λ b. record { geometry = b.geometry; count = b.count; targets = b.targets } };
+    ghost view = { λ b. record { magic = b.magic; geometry = b.geometry; count = b.count; targets = b.targets } };
 
-    ghost invariant = { λ b. IsSound (record { geometry = b.geometry; count = b.count; targets = b.targets }) };
+    ghost invariant = { λ b. IsSound (record { magic = b.magic; geometry = b.geometry; count = b.count; targets = b.targets }) };
 
-    ghost inverse = { λ k. record { geometry = k.geometry; count = k.count; targets = k.targets } };
+    ghost inverse = { λ k. record { magic = k.magic; geometry = k.geometry; count = k.count; targets = k.targets } };
 }
 
 // The record of no channel.
 fn no_channel(geometry: OnfiseqGeometry) -> OnfiseqBus
-    ensures { result.count ≡ 0 }
+    ensures count { result.count ≡ 0 }
+    ensures magic { is_bus result ≡ true }
 {
     OnfiseqBus {
+        magic: MAGIC,
         geometry,
         count: 0,
         targets: [NO_TARGET; 4],
@@ -67,9 +76,11 @@ fn fresh(geometry: OnfiseqGeometry, targets: u8, luns: u8) -> OnfiseqBus
     requires few { targets ≤ 4 }
     ensures follows { Follows (parts_of geometry) targets (bus_view result) [] }
     ensures count { result.count ≡ targets }
+    ensures magic { is_bus result ≡ true }
 {
     let target = fresh_target(luns);
     OnfiseqBus {
+        magic: MAGIC,
         geometry,
         count: usize::from(targets),
         targets: [target; 4],
@@ -81,11 +92,19 @@ fn fresh(geometry: OnfiseqGeometry, targets: u8, luns: u8) -> OnfiseqBus
 pub fn begin(geometry: &OnfiseqGeometry, targets: u8) -> OnfiseqBus
     ensures begins { CanBegin (parts_of geometry.now) targets → Follows (parts_of geometry.now) targets (bus_view result) [] }
     ensures only { 1 ≤ result.count → CanBegin (parts_of geometry.now) targets }
+    ensures magic { is_bus result ≡ true }
 {
     match Geometry::of(geometry.parts()) {
         Ok(known) if targets >= 1 && targets <= 4 => fresh(*geometry, targets, known.parts().luns),
         _ => no_channel(*geometry),
     }
+}
+
+/// Whether a record is one that a call left, as far as it can be told.
+pub fn is_bus(bus: &OnfiseqBus) -> bool
+    ensures { result ≡ is_bus bus.now }
+{
+    bus.magic == MAGIC
 }
 
 // A target goes on by an item that is permitted. Else the answer is the first rule that it breaks, and nothing changes.

@@ -14,10 +14,10 @@ mod record;
 mod rule;
 mod run;
 
-pub use bus::{OnfiseqBus, begin, push, push_item};
+pub use bus::{DAMAGED, OnfiseqBus, begin, is_bus, push, push_item};
 pub use geometry::OnfiseqGeometry;
 pub use item::OnfiseqItem;
-pub use look::{OnfiseqLook, ask, copy_of, geometry_of, has_lun, look_at_lun};
+pub use look::{OnfiseqLook, ask, copy_of, geometry_of, has_lun, look_at_lun, no_look};
 pub use many::push_all;
 pub use record::{OnfiseqLun, OnfiseqQueued, OnfiseqTarget};
 pub use rule::rule_number;

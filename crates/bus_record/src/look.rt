@@ -61,6 +61,13 @@ fn output_column(kept: &OnfiseqLun) -> Option<u64>
     column.output_column()
 }
 
+/// What is told where no LUN is there.
+pub fn no_look() -> OnfiseqLook
+    ensures { look_of result ≡ None }
+{
+    NO_LOOK
+}
+
 // A look at the LUN of a record.
 fn look_at(kept: &OnfiseqLun) -> OnfiseqLook
     requires { IsRecord kept.now }
@@ -154,6 +161,7 @@ pub fn copy_of(bus: &OnfiseqBus) -> OnfiseqBus
     ensures { result ≡ bus.now }
 {
     OnfiseqBus {
+        magic: bus.magic,
         geometry: bus.geometry,
         count: bus.count,
         targets: bus.targets,

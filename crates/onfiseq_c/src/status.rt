@@ -1,13 +1,12 @@
 //! The readies that a status output shows, on a bus whose R/B# isn't seen.
-ghost use Rattle.std.specs.Prelude.{◌≡◌, ◌≤◌, length};
-ghost use Rattle.bus_record.specs.Bus.{bus_view};
+ghost use Rattle.std.specs.Prelude.{◌≡◌, ◌≤◌, length, if◌then◌else◌};
+ghost use Rattle.bus_record.specs.Bus.{bus_view, is_bus};
 ghost use Rattle.bus_record.specs.Look.{look_of};
 ghost use Rattle.bus_record.specs.Many.{all_pushed, went};
 ghost use Rattle.onfiseq_c.specs.Status.{array_becomes_ready, array_item, becomes_ready, completed, drives, driving_lun, lun_drives, readies_at, readies_of, ready_item, shows_bit};
 
-use crate::many::onfiseq_push_all;
 use arrayvec::ArrayVec;
-use bus_record::{OnfiseqBus, OnfiseqItem, OnfiseqLook, look_at_lun};
+use bus_record::{DAMAGED, OnfiseqBus, OnfiseqItem, OnfiseqLook, is_bus, look_at_lun, push_all};
 
 // A ready, that of an array, and the item itself.
 type Completed = ArrayVec<OnfiseqItem, 3>;
@@ -121,9 +120,14 @@ pub extern "C" fn onfiseq_push_status(
     item: &OnfiseqItem,
     done: &mut usize,
 ) -> u32
-    ensures { went result done.new (bus_view bus.new) ≡ all_pushed (bus_view bus.old) (completed (bus_view bus.old) item.now) 0 }
+    ensures { went result done.new (bus_view bus.new) ≡ (if is_bus bus.old then all_pushed (bus_view bus.old) (completed (bus_view bus.old) item.now) 0
+        else went 254 0 (bus_view bus.old)) }
 {
+    if !is_bus(bus) {
+        *done = 0;
+        return DAMAGED;
+    }
     let mut items = readies(bus, item);
     items.push(*item);
-    onfiseq_push_all(bus, items.as_slice(), done)
+    push_all(bus, items.as_slice(), done)
 }

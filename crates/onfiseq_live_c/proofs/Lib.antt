@@ -9,3 +9,4 @@ pub mod Others
 pub mod Stepped
 pub mod Begun
 pub mod Going
+pub mod Made

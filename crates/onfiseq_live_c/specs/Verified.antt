@@ -11,6 +11,8 @@ use Rattle.micro_word.specs.declared.word.Word.{Word}
 use Rattle.micro_word.specs.Text.{IsFileOf}
 use Rattle.micro_program.specs.Places.{IsShaped}
 use Rattle.micro_program.specs.Program.{Job}
+use Rattle.micro_program.specs.Safe.{IsMade}
+use Rattle.bus_record.specs.Channel.{is_on}
 use Rattle.seq_core.specs.After.{is_held}
 use Rattle.seq_core.specs.Event.{IsVerified}
 use Rattle.seq_core.specs.Reply.{Reply, ToLoad, ToStep, ToUnload, Loaded, Unloaded}
@@ -22,9 +24,10 @@ use Rattle.seq_live.specs.Event.{LiveEvent, Load, Step, Ready, ArrayReady, Unloa
 use Rattle.seq_live.specs.Calls.{IsLiveEvent, IsLiveRun, live_load_fault, live_slot, shown}
 use Rattle.onfiseq_live_c.specs.declared.live.OnfiseqLive.{OnfiseqLive}
 use Rattle.onfiseq_live_c.specs.declared.job.OnfiseqJob.{OnfiseqJob}
-use Rattle.onfiseq_live_c.specs.Job.{fresh_job, job_view, lun_in, loops_in, registers_in, code_in}
+use Rattle.onfiseq_live_c.specs.Job.{JobView, fresh_job, job_view, lun_in, loops_in, registers_in, code_in}
 use Rattle.onfiseq_live_c.specs.Live.{state_of, holder_of, are_whole}
 use Rattle.onfiseq_live_c.specs.Next.{next_of}
+use Rattle.onfiseq_live_c.specs.Begin.{begin_of}
 use Rattle.onfiseq_live_c.specs.Finish.{Finished, finish_of}
 
 -- the records stand for what the sequencer of `seq_live` keeps: the state of the channel, the LUN that has the bus, and the program in progress on the job's LUN,
@@ -75,6 +78,17 @@ VerifiedJobsGoAlong =
     (kept : LiveView) (p : Progress) (v : OnfiseqLive) (j : OnfiseqJob) (file bytes : List ℕ) (word : Word) → IsLive kept → StandsFor kept p v j file
     → p.code ≡ None → is_held kept.holder (lun_in j) ≡ false → slice_get p.job.text.words p.at ≡ Some word → length bytes ≡ taken_by word
     → StepsAlong kept p v j file bytes word
+
+-- a job may be made, and its LUN is one of the channel
+pub record IsMadeThere (v : OnfiseqLive) (x : Job) : Type 0 where
+  pub on : is_on (state_of v) x.lun ≡ true
+  pub made : IsMade x
+
+-- the law: where `onfiseq_job_begin` refuses a job of a text for the channel's geometry for no reason, it may be made
+abbrev pub BegunJobsAreMade : Type 0
+BegunJobsAreMade =
+    (v : OnfiseqLive) (x : Job) (file : List ℕ) (j : JobView) → IsFileOf file x.text → x.geometry ≡ (state_of v).geometry
+    → begin_of v x.lun x.base (length x.buffer) file ≡ Ok j → IsMadeThere v x
 
 -- a job that begins is one that is loaded there: its record stands for what is kept then
 pub record BeginsAlong (kept : LiveView) (x : Job) (v : OnfiseqLive) (j : OnfiseqJob) (file : List ℕ) : Type 0 where

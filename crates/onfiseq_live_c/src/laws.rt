@@ -1,6 +1,6 @@
 //! The laws of what is told.
 ghost use Rattle.onfiseq_live_c.specs.Permits.{BurstsArePermitted};
-ghost use Rattle.onfiseq_live_c.specs.Verified.{ChannelsBegin, EndedJobsGo, ReadiesGoAlong, VerifiedJobsBegin, VerifiedJobsBreakNone, VerifiedJobsGoAlong};
+ghost use Rattle.onfiseq_live_c.specs.Verified.{BegunJobsAreMade, ChannelsBegin, EndedJobsGo, ReadiesGoAlong, VerifiedJobsBegin, VerifiedJobsBreakNone, VerifiedJobsGoAlong};
 
 /// Where bursts are told, each of their cycles is permitted where it comes, after each past that the channel's state follows, whatever stands in the buffer and
 /// whatever the chip gives.
@@ -36,4 +36,9 @@ pub fn readies_go_along()
 /// A job that has ended may be forgotten, and another begin on its LUN.
 pub fn ended_jobs_go()
     ensures { EndedJobsGo }
+{}
+
+/// A job that `onfiseq_job_begin` takes may be made: its rows, its buffer and its base are right, and its LUN is there.
+pub fn begun_jobs_are_made()
+    ensures { BegunJobsAreMade }
 {}

@@ -76,3 +76,32 @@ words_are_read file x e k w there =
   where
     words_of : (rows buffer budget : ℕ) (ws : List Word) → read (text rows buffer budget ws) ≡ read x → ws ≡ x.words
     words_of rows buffer budget ws r = let whole : text rows buffer budget ws ≡ x = cc in ap (λ (y : Microprogram). y.words) whole
+
+-- so many words are read
+so_many : (f : Format) (n rows buffer budget place left : ℕ) (bytes : List ℕ) (ws : List Word)
+    → words_at (record { format = f; words = n; rows = rows; buffer = buffer; budget = budget }) place left bytes ≡ Ok ws → length ws ≡ left
+unfolding words_at
+so_many f n rows buffer budget place zero bytes ws e = let none : [] ≡ ws = let g : done [] ≡ done ws = e in cc in sym (ap length none)
+so_many f n rows buffer budget place (suc left) bytes ws e =
+    let first = bind_ok (word_at (record { format = f; words = n; rows = rows; buffer = buffer; budget = budget }) place bytes)
+    (λ word. words_at (record { format = f; words = n; rows = rows; buffer = buffer; budget = budget }) (place + 1) left (drop 4 bytes) >>= λ others. Ok (word ∷ others)) ws e in
+    let others = bind_ok (words_at (record { format = f; words = n; rows = rows; buffer = buffer; budget = budget }) (place + 1) left (drop 4 bytes)) (λ others. Ok (first.0 ∷ others)) ws first.2 in
+    let last : first.0 ∷ others.0 ≡ ws = let g : done (first.0 ∷ others.0) ≡ done ws = others.2 in cc in
+    sym (ap length last) ∙ ap suc (so_many f n rows buffer budget (place + 1) left (drop 4 bytes) others.0 others.1)
+
+-- what hangs on the header of a file of a text hangs on that text
+pub header_is_read : {B : Type 0} (file : List ℕ) (x : Microprogram) (fault : WordRefusal → B) (value : (rows buffer words : ℕ) → B) → reading file ≡ Ok x
+    → by_result (header_at file) fault (λ h. value h.rows h.buffer h.words) ≡ value x.rows x.buffer (length x.words)
+unfolding reading
+header_is_read {B} file x fault value e =
+    let a = bind_ok (header_at file) (λ h. words_at h 0 h.words (drop 16 file) >>= λ ws. cond (ltb (16 + 4 * h.words) (length file)) (Err (Fault TrailingBytes 0)) (Ok (text h.rows h.buffer h.budget ws))) x e in
+    let h = a.0 in
+    let b = bind_ok (words_at h 0 h.words (drop 16 file)) (λ ws. cond (ltb (16 + 4 * h.words) (length file)) (Err (Fault TrailingBytes 0)) (Ok (text h.rows h.buffer h.budget ws))) x a.2 in
+    let g = passed_false (ltb (16 + 4 * h.words) (length file)) (Fault TrailingBytes 0) (Ok (text h.rows h.buffer h.budget b.0)) x b.2 in
+    let same : text h.rows h.buffer h.budget b.0 ≡ x = the_text (text h.rows h.buffer h.budget b.0) x g.1 in
+    let count = so_many h.format h.words h.rows h.buffer h.budget 0 h.words (drop 16 file) b.0 b.1 in
+    ap (λ r. by_result r fault (λ h. value h.rows h.buffer h.words)) a.1
+    ∙ (ap (value h.rows h.buffer) (sym count) ∙ ap (λ (y : Microprogram). value y.rows y.buffer (length y.words)) same)
+  where
+    the_text : (y z : Microprogram) → read y ≡ read z → y ≡ z
+    the_text y z r = cc

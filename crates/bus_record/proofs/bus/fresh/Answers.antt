@@ -16,5 +16,5 @@ pub returns-clause-follows : goal.returns-clause-follows
 returns-clause-follows c =
     let t = c.fresh_target-target.result in
     let same = c.from.ensures in let most = c.requires.few in
-    subst (λ (n : ℕ). Follows (parts_of c.args.geometry) c.args.targets (bus_view (record { geometry = c.args.geometry; count = n; targets = t ∷ t ∷ t ∷ t ∷ [] })) []) (sym same)
+    subst (λ (n : ℕ). Follows (parts_of c.args.geometry) c.args.targets (bus_view (record { magic = 0x5355424f; geometry = c.args.geometry; count = n; targets = t ∷ t ∷ t ∷ t ∷ [] })) []) (sym same)
     (fresh_follows c.args.geometry t c.args.targets (λ ce. c.fresh_target-target.ensures.value (parts_of c.args.geometry) ce c.requires.luns) most)

@@ -16,26 +16,26 @@ use Rattle.bus_record.proofs.bus.push_item.Goals as goal
 pub step_target-rule-requires-clause-limits : goal.step_target-rule-requires-clause-limits
 step_target-rule-requires-clause-limits c =
     let known = of_ok c.of.result c.parts.result c.unwrap-geometry.result c.of.ensures c.unwrap-geometry.ensures ∙ c.parts.ensures in
-    let k : Kept = record { geometry = c.bus.inside.geometry; count = c.bus.inside.count; targets = c.bus.inside.targets } in
+    let k : Kept = record { magic = c.bus.inside.magic; geometry = c.bus.inside.geometry; count = c.bus.inside.count; targets = c.bus.inside.targets } in
     subst InLimits (sym known) (limits_there k c.bus.invariant c.from-ce.result c.if-bus-ce.false)
 
 pub step_target-rule-requires-clause-fits : goal.step_target-rule-requires-clause-fits
 step_target-rule-requires-clause-fits c =
     let known = of_ok c.of.result c.parts.result c.unwrap-geometry.result c.of.ensures c.unwrap-geometry.ensures ∙ c.parts.ensures in
-    let k : Kept = record { geometry = c.bus.inside.geometry; count = c.bus.inside.count; targets = c.bus.inside.targets } in
+    let k : Kept = record { magic = c.bus.inside.magic; geometry = c.bus.inside.geometry; count = c.bus.inside.count; targets = c.bus.inside.targets } in
     subst (λ (g : Parts). TargetFits g (target_of (get_or k.targets c.from-ce.result _))) (sym known) (fits_there k c.bus.invariant c.from-ce.result c.if-bus-ce.false _)
 
 pub invariant_of-bus : goal.invariant_of-bus
 invariant_of-bus c =
     let known = of_ok c.of.result c.parts.result c.unwrap-geometry.result c.of.ensures c.unwrap-geometry.ensures ∙ c.parts.ensures in
-    let k : Kept = record { geometry = c.bus.inside.geometry; count = c.bus.inside.count; targets = c.bus.inside.targets } in
+    let k : Kept = record { magic = c.bus.inside.magic; geometry = c.bus.inside.geometry; count = c.bus.inside.count; targets = c.bus.inside.targets } in
     sound_after k c.bus.invariant c.from-ce.result c.if-bus-ce.false c.step_target-rule.new.kept c.step_target-rule.ensures.numbers
     (subst (λ (g : Parts). TargetFits g (target_of c.step_target-rule.new.kept)) known c.step_target-rule.ensures.fits)
 
 pub returns-clause-rule : goal.returns-clause-rule
 returns-clause-rule c =
     let known = of_ok c.of.result c.parts.result c.unwrap-geometry.result c.of.ensures c.unwrap-geometry.ensures ∙ c.parts.ensures in
-    let k : Kept = record { geometry = c.bus.inside.geometry; count = c.bus.inside.count; targets = c.bus.inside.targets } in
+    let k : Kept = record { magic = c.bus.inside.magic; geometry = c.bus.inside.geometry; count = c.bus.inside.count; targets = c.bus.inside.targets } in
     let t = target_of (get_or k.targets c.from-ce.result _) in
     c.step_target-rule.ensures.rule
     ∙ (ap (λ (g : Parts). judge g k.count t.tail t.luns c.args.item) known
@@ -45,7 +45,7 @@ returns-clause-rule c =
 pub returns-clause-state : goal.returns-clause-state
 returns-clause-state c =
     let known = of_ok c.of.result c.parts.result c.unwrap-geometry.result c.of.ensures c.unwrap-geometry.ensures ∙ c.parts.ensures in
-    let k : Kept = record { geometry = c.bus.inside.geometry; count = c.bus.inside.count; targets = c.bus.inside.targets } in
+    let k : Kept = record { magic = c.bus.inside.magic; geometry = c.bus.inside.geometry; count = c.bus.inside.count; targets = c.bus.inside.targets } in
     state_there k c.bus.invariant c.args.item c.from-ce.result (c.from-ce.ensures ∙ c.target.ensures) c.if-bus-ce.false _ c.step_target-rule.new.kept
     (c.step_target-rule.ensures.state ∙ ap (λ (g : Parts). target_pushed g k.count (target_of (get_or k.targets c.from-ce.result _)) c.args.item) known)
     ∙ ap (λ (x : Kept). bus_pushed (bus_view x) (Some c.args.item)) c.bus.view_is

@@ -13,13 +13,13 @@ use Rattle.bus_record.proofs.look.ask.Goals as goal
 pub ask_target-requires-clause-fits : goal.ask_target-requires-clause-fits
 ask_target-requires-clause-fits c =
     let known = of_ok c.of.result c.parts.result c.unwrap-geometry.result c.of.ensures c.unwrap-geometry.ensures ∙ c.parts.ensures in
-    let k : Kept = record { geometry = c.bus.inside.geometry; count = c.bus.inside.count; targets = c.bus.inside.targets } in
+    let k : Kept = record { magic = c.bus.inside.magic; geometry = c.bus.inside.geometry; count = c.bus.inside.count; targets = c.bus.inside.targets } in
     subst (λ (g : Parts). TargetFits g (target_of (get_or k.targets c.from-ce.result _))) (sym known) (fits_there k c.bus.invariant c.from-ce.result c.if-bus-ce.false _)
 
 pub returns : goal.returns
 returns c =
     let known = of_ok c.of.result c.parts.result c.unwrap-geometry.result c.of.ensures c.unwrap-geometry.ensures ∙ c.parts.ensures in
-    let k : Kept = record { geometry = c.bus.inside.geometry; count = c.bus.inside.count; targets = c.bus.inside.targets } in
+    let k : Kept = record { magic = c.bus.inside.magic; geometry = c.bus.inside.geometry; count = c.bus.inside.count; targets = c.bus.inside.targets } in
     let there = judged_there k c.bus.invariant c.args.item c.from-ce.result (c.from-ce.ensures ∙ c.target.ensures) c.if-bus-ce.false _ in
     c.ask_target.ensures
     ∙ ap (λ (g : Parts). answered_there g k.count (target_of (get_or k.targets c.from-ce.result _)) c.args.item) known

@@ -18,7 +18,7 @@ returns-in-None c =
 
 pub returns-in-Some : goal.returns-in-Some
 returns-in-Some c =
-    let k : Kept = record { geometry = c.bus.inside.geometry; count = c.bus.inside.count; targets = c.bus.inside.targets } in
+    let k : Kept = record { magic = c.bus.inside.magic; geometry = c.bus.inside.geometry; count = c.bus.inside.count; targets = c.bus.inside.targets } in
     let none : k.count ≡ 0 = omega (arith, c.if-bus-gt0.false) in
     let stopped : went c.answer_nowhere.result 0 (bus_view c.args.bus.now) ≡ all_pushed (bus_view c.args.bus.now) c.args.items.now 0 =
     subst (λ (x : Kept). went c.answer_nowhere.result 0 (bus_view x) ≡ all_pushed (bus_view x) c.args.items.now 0) c.bus.view_is

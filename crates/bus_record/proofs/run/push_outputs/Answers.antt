@@ -16,13 +16,13 @@ use Rattle.bus_record.proofs.run.push_outputs.Goals as goal
 pub push_outputs_there-rule-requires-clause-fits : goal.push_outputs_there-rule-requires-clause-fits
 push_outputs_there-rule-requires-clause-fits c =
     let known = of_ok c.of.result c.parts.result c.unwrap-geometry.result c.of.ensures c.unwrap-geometry.ensures ∙ c.parts.ensures in
-    let k : Kept = record { geometry = c.bus.inside.geometry; count = c.bus.inside.count; targets = c.bus.inside.targets } in
+    let k : Kept = record { magic = c.bus.inside.magic; geometry = c.bus.inside.geometry; count = c.bus.inside.count; targets = c.bus.inside.targets } in
     subst (λ (g : Parts). TargetFits g (target_of (get_or k.targets c.from-place.result no_target))) (sym known) (fits_there k c.bus.invariant c.from-place.result c.if-bus-place.false no_target)
 
 pub push_outputs_there-rule-requires-clause-few : goal.push_outputs_there-rule-requires-clause-few
 push_outputs_there-rule-requires-clause-few c none =
     let known = of_ok c.of.result c.parts.result c.unwrap-geometry.result c.of.ensures c.unwrap-geometry.ensures ∙ c.parts.ensures in
-    let k : Kept = record { geometry = c.bus.inside.geometry; count = c.bus.inside.count; targets = c.bus.inside.targets } in
+    let k : Kept = record { magic = c.bus.inside.magic; geometry = c.bus.inside.geometry; count = c.bus.inside.count; targets = c.bus.inside.targets } in
     let some : 0 < c.args.count = omega (arith, c.if-count-eq0.false) in
     few_there k c.bus.invariant c.from-place.result c.args.count c.if-bus-place.false some no_target
     (sym (outputs_judged k c.bus.invariant c.from-place.result c.args.count c.if-bus-place.false some no_target)
@@ -32,7 +32,7 @@ push_outputs_there-rule-requires-clause-few c none =
 pub returns-clause-rule : goal.returns-clause-rule
 returns-clause-rule c =
     let known = of_ok c.of.result c.parts.result c.unwrap-geometry.result c.of.ensures c.unwrap-geometry.ensures ∙ c.parts.ensures in
-    let k : Kept = record { geometry = c.bus.inside.geometry; count = c.bus.inside.count; targets = c.bus.inside.targets } in
+    let k : Kept = record { magic = c.bus.inside.magic; geometry = c.bus.inside.geometry; count = c.bus.inside.count; targets = c.bus.inside.targets } in
     let some : 0 < c.args.count = omega (arith, c.if-count-eq0.false) in
     c.push_outputs_there-rule.ensures.rule
     ∙ (ap (λ (g : Parts). outputs_rule g k.count c.args.ce c.args.count (target_of (get_or k.targets c.from-place.result no_target))) known
@@ -44,7 +44,7 @@ returns-clause-rule c =
 pub invariant_of-bus : goal.invariant_of-bus
 invariant_of-bus c =
     let known = of_ok c.of.result c.parts.result c.unwrap-geometry.result c.of.ensures c.unwrap-geometry.ensures ∙ c.parts.ensures in
-    let k : Kept = record { geometry = c.bus.inside.geometry; count = c.bus.inside.count; targets = c.bus.inside.targets } in
+    let k : Kept = record { magic = c.bus.inside.magic; geometry = c.bus.inside.geometry; count = c.bus.inside.count; targets = c.bus.inside.targets } in
     let some : 0 < c.args.count = omega (arith, c.if-count-eq0.false) in
     run_sound Dout outputs_are_data k c.bus.invariant c.from-place.result c.args.count c.if-bus-place.false c.push_outputs_there-rule.new.kept c.push_outputs_there-rule.ensures.numbers
     (outputs_left k c.bus.invariant c.from-place.result c.args.count c.if-bus-place.false some no_target c.push_outputs_there-rule.new.kept
@@ -55,7 +55,7 @@ invariant_of-bus c =
 pub returns-clause-state : goal.returns-clause-state
 returns-clause-state c none =
     let known = of_ok c.of.result c.parts.result c.unwrap-geometry.result c.of.ensures c.unwrap-geometry.ensures ∙ c.parts.ensures in
-    let k : Kept = record { geometry = c.bus.inside.geometry; count = c.bus.inside.count; targets = c.bus.inside.targets } in
+    let k : Kept = record { magic = c.bus.inside.magic; geometry = c.bus.inside.geometry; count = c.bus.inside.count; targets = c.bus.inside.targets } in
     let some : 0 < c.args.count = omega (arith, c.if-count-eq0.false) in
     let left = outputs_left k c.bus.invariant c.from-place.result c.args.count c.if-bus-place.false some no_target c.push_outputs_there-rule.new.kept
     (c.push_outputs_there-rule.ensures.state
