@@ -46,7 +46,11 @@ fn say_mistake<W: Write, E: Write, P>(
 ) -> Exit {
     match mistake {
         Mistake::Words(error) => show(alloc, console, &error),
-        Mistake::NoCommand | Mistake::Base(_) | Mistake::Mapping(_) | Mistake::Paths(_) => {
+        Mistake::NoCommand
+        | Mistake::Base(_)
+        | Mistake::Steps(_)
+        | Mistake::Mapping(_)
+        | Mistake::Paths(_) => {
             let _ = write!(&mut console.errors, "{}", Escaped(&mistake));
             Exit::Usage
         }

@@ -6,7 +6,7 @@ use bus_capture::{CaptureForm, Family, named, plain_of};
 use clap::{Arg, ArgAction, ArgMatches, Error};
 use seq_commands::{CaptureRequest, CheckRequest, DrawForm, DrawRequest, LintOutput, Targets};
 use seq_inputs::Style;
-use seq_run::RunRequest;
+use seq_run::{MOST_STEPS, RunRequest};
 use std::alloc::Global;
 use trace_faults::Readies;
 use trace_text::TraceForm;
@@ -109,7 +109,7 @@ impl Verb {
             Verb::Once => Command::Once {
                 base: read_base(find_word(matches, "base"))?,
             },
-            Verb::Run => Command::Run(read_run(matches)),
+            Verb::Run => Command::Run(read_run(matches)?),
             Verb::Capture => Command::Capture(read_capture(matches)?),
             Verb::Check => Command::Check(read_check(matches)),
             Verb::Wave => Command::Draw(read_draw(matches, DrawForm::Waveform)),
@@ -213,6 +213,16 @@ fn workers<'a>(alloc: Global) -> Arg<'a> {
         )
 }
 
+// How many words the programs of a run may step at most.
+fn max_steps<'a>(alloc: Global) -> Arg<'a> {
+    Arg::new(alloc, "max-steps")
+        .long("max-steps")
+        .value_name("n")
+        .help(
+            "How many words the programs may step at most, all together and with their loops written out, before the run is refused; 10000000000 if not given",
+        )
+}
+
 fn run<'a>(alloc: Global) -> Result<clap::Command<'a>, Error> {
     let quiet = Arg::new(alloc, "quiet")
         .long("quiet")
@@ -237,6 +247,7 @@ fn run<'a>(alloc: Global) -> Result<clap::Command<'a>, Error> {
             "The run file, as docs/use/RUNFILES.md has it",
         ))?
         .arg(workers(alloc))?
+        .arg(max_steps(alloc))?
         .arg(quiet)?
         .arg(trace)?
         .arg(stats)?;
@@ -554,15 +565,24 @@ fn count_workers(word: &str) -> u8 {
     }
 }
 
+// How many words the programs of a run may step at most.
+fn read_max_steps<'a>(given: Option<&'a str>) -> Result<u64, Mistake<'a>> {
+    let Some(word) = given else {
+        return Ok(MOST_STEPS);
+    };
+    u64::from_str_radix(word, 10).map_err(|_| Mistake::Steps(word))
+}
+
 // What a run is asked for.
-fn read_run<'a>(matches: &ArgMatches<'a>) -> RunRequest<'a> {
-    RunRequest {
+fn read_run<'a>(matches: &ArgMatches<'a>) -> Result<RunRequest<'a>, Mistake<'a>> {
+    Ok(RunRequest {
         path: find_word(matches, "FILE"),
+        max_steps: read_max_steps(matches.get_str("max-steps"))?,
         workers: count_workers(find_word(matches, "workers")),
         is_quiet: matches.get_flag("quiet"),
         trace: matches.get_str("trace"),
         has_stats: matches.get_flag("stats"),
-    }
+    })
 }
 
 // A row: decimal digits, or 0x and hexadecimal ones.

@@ -61,6 +61,8 @@ pub enum Mistake<'a> {
     NoCommand,
     /// The index of `--base` isn't a number.
     Base(&'a str),
+    /// The number of `--max-steps` isn't one of 64 bits.
+    Steps(&'a str),
     /// A part of `--map` isn't a role and the name of a signal.
     Mapping(&'a str),
     /// The paths don't go together.
@@ -84,6 +86,11 @@ impl fmt::Display for Mistake<'_> {
             Mistake::Base(word) => writeln!(
                 f,
                 "error: --base takes a row, 0 to 31, as a decimal number or as 0x and hexadecimal digits, and not `{}`",
+                Shown::line(word)
+            ),
+            Mistake::Steps(word) => writeln!(
+                f,
+                "error: --max-steps takes a decimal number, 0 to 18446744073709551615, and not `{}`",
                 Shown::line(word)
             ),
             Mistake::Mapping(part) => writeln!(

@@ -34,6 +34,7 @@ use seq_inputs::{
     Console, Exit, Fault, Stop, fail, finish, is_source, push_end_line, read_source, read_words,
     words_of_job, words_of_reason,
 };
+use seq_run::{Phase, RunProgress};
 use std::alloc::{AllocError, Allocator};
 use std::io::{Read, Write};
 use target_bus::{Bus, BusFault};
@@ -239,9 +240,10 @@ fn tell_run<'a, A: Allocator>(alloc: &'a A, job: Job<&'a A>) -> Result<String<&'
     lines_of(alloc, core.trace(), code)
 }
 
-// What is written of the run of a word file.
-fn run_words<'a, A: Allocator>(
+// What is written of the run of a word file. The progress is told that it runs.
+fn run_words<'a, A: Allocator, P: RunProgress>(
     alloc: &'a A,
+    progress: &mut P,
     file: &[u8],
     given: &[u8],
     base: u32,
@@ -250,11 +252,12 @@ fn run_words<'a, A: Allocator>(
     ensures err { IfErr result (Says (MayBeRefused base file.now)) }
 {
     let job = make_job(alloc, file, given, base)?;
+    progress.begin(Phase::Running { jobs: 1 });
     Ok(tell_run(alloc, job)?)
 }
 
 // Runs a word file and writes what becomes of it.
-fn print_run<A: Allocator, W: Write, E: Write, P>(
+fn print_run<A: Allocator, W: Write, E: Write, P: RunProgress>(
     alloc: &A,
     console: &mut Console<W, E, P>,
     file: &[u8],
@@ -266,22 +269,25 @@ fn print_run<A: Allocator, W: Write, E: Write, P>(
     ensures refused { (refusal : Refusal) → result ≡ Exit.Refused refusal → Tells (MayBeRefused base file.now) refusal
         × Appends (W.contents console.old.output) (W.contents console.new.output) (line_of refusal) }
 {
-    match run_words(alloc, file, given, base) {
-        Ok(lines) => finish(console, lines.as_str()),
+    match run_words(alloc, &mut console.progress, file, given, base) {
+        Ok(lines) => {
+            console.progress.begin(Phase::Writing);
+            finish(console, lines.as_str())
+        }
         Err(stop) => fail(alloc, console, None, stop),
     }
 }
 
 /// Reads a word file from an input, and runs it on a channel of one LUN of 8 blocks of 4 pages of 512 + 16 bytes, in one plane,
 /// whose pages are all FF. Its rows are counted from the index `base`; its buffer is all 00. The LUN becomes ready without failure after
-/// each poll that says busy.
+/// each poll that says busy. The console's progress is told what it does.
 ///
 /// `Done`: the output has the lines of the trace (docs/use/TRACES.md) and then `end CODE`. `Refused`: it has the line
 /// `refused NAME at N`, and nothing was run: an M fault of the file with its word, a V reason against the text with its word, or an
 /// S fault of the job. `FileFault`: the input couldn't be read, or has no end after 1,048,576 reads, or the output
 /// couldn't be written. `ReaderGone`: nobody reads the output any more. `OutOfMemory`: nothing of a trace is written, unless it is the output
 /// that asked for memory.
-pub fn once_on<A: Allocator, R: Read, W: Write, E: Write, P>(
+pub fn once_on<A: Allocator, R: Read, W: Write, E: Write, P: RunProgress>(
     alloc: &A,
     input: &mut R,
     console: &mut Console<W, E, P>,
@@ -292,6 +298,7 @@ pub fn once_on<A: Allocator, R: Read, W: Write, E: Write, P>(
     ensures refused { (refusal : Refusal) → result ≡ Exit.Refused refusal → IfSome (R.remaining input.old) (λ bytes.
         Tells (MayBeRefused base bytes) refusal × Appends (W.contents console.old.output) (W.contents console.new.output) (line_of refusal)) }
 {
+    console.progress.begin(Phase::Reading);
     match read_all(alloc, input) {
         Ok(bytes) => print_run(alloc, console, bytes.as_slice(), bytes.as_slice(), base),
         Err(error) => fail(alloc, console, None, Stop::<&A>::of_file(STREAM, error)),
@@ -311,7 +318,7 @@ fn spell_words<'a, A: Allocator>(
 }
 
 // Runs an assembly text and writes what becomes of it.
-fn print_source<A: Allocator, W: Write, E: Write, P>(
+fn print_source<A: Allocator, W: Write, E: Write, P: RunProgress>(
     alloc: &A,
     console: &mut Console<W, E, P>,
     text: &[u8],
@@ -330,7 +337,7 @@ fn print_source<A: Allocator, W: Write, E: Write, P>(
 
 /// The same of a word file or an assembly text, whichever the input is. Of a text an A fault is told with its line, and else it is run as the word
 /// file that it spells.
-pub fn run_program<A: Allocator, R: Read, W: Write, E: Write, P>(
+pub fn run_program<A: Allocator, R: Read, W: Write, E: Write, P: RunProgress>(
     alloc: &A,
     input: &mut R,
     console: &mut Console<W, E, P>,
@@ -342,6 +349,7 @@ pub fn run_program<A: Allocator, R: Read, W: Write, E: Write, P>(
         → IfSome (R.remaining input.old) (λ bytes. Tells (ProgramMayBeRefused base bytes) refusal)
         × Appends (W.contents console.old.output) (W.contents console.new.output) (line_of refusal) }
 {
+    console.progress.begin(Phase::Reading);
     let bytes = match read_all(alloc, input) {
         Ok(bytes) => bytes,
         Err(error) => return fail(alloc, console, None, Stop::<&A>::of_file(STREAM, error)),

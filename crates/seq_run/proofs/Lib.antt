@@ -10,4 +10,5 @@ pub mod Resting
 pub mod FilesMade
 pub mod Outcomes
 pub mod JobPlans
+pub mod Stepping
 pub mod Settings

@@ -1,5 +1,5 @@
 -- What has come of a plan has come of the run file that was planned.
-use Rattle.std.proofs.Common.{◌≡◌, ◌⊎◌, List, [], ◌++◌, ℕ, ◌*◌, true, length, drop, reverse, Option, Some, None, Result, Ok, Err, OnOk, OnErr, refl, sym, ap, ◌∙◌, subst, inl, inr}
+use Rattle.std.proofs.Common.{◌≡◌, ◌⊎◌, List, [], ◌++◌, ℕ, ◌*◌, ◌≤◌, true, length, drop, reverse, Option, Some, None, Result, Ok, Err, OnOk, OnErr, refl, sym, ap, ◌∙◌, subst, inl, inr}
 use Rattle.std.proofs.lemmas.List.{append-nil}
 use Rattle.std.specs.Option.{option_copied}
 use Rattle.seq_files.specs.Store.{Store, Holds, Written, with_all}
@@ -24,8 +24,8 @@ use Rattle.seq_inputs.specs.declared.stop.Stop.{Stop}
 use Rattle.seq_inputs.specs.declared.stop.Stop.TheVariants.{Refused, FileFault, ReaderGone, BuffersTooLarge, OutOfMemory}
 use Rattle.seq_inputs.specs.Stops.{refusal_in, SaysAt, TellsAt, RefusesNothing}
 
-pub is_planned : (files : Option Store) (request : RunRequest) (text : List ℕ) (plan : RunPlan) (o : Outcome) → Holds files request.path.now text → PlanPasses files (told text) plan.dies.geometry plan.dies.targets → planned_outputs plan.jobs.all.items ≡ outputs_of (drop 2 (told text).statements) → planned_images plan.images.items ≡ images_in plan.dies.geometry (drop 2 (told text).statements) → IsSetUpFrom files plan.dies.geometry plan.dies.targets (drop 2 (told text).statements) plan → IsOutcomeOf plan o → IsPlanned files request o
-is_planned files request text plan o is_there passes outputs images setup is = record {
+pub is_planned : (files : Option Store) (request : RunRequest) (text : List ℕ) (plan : RunPlan) (o : Outcome) → Holds files request.path.now text → PlanPasses files (told text) plan.dies.geometry plan.dies.targets → planned_outputs plan.jobs.all.items ≡ outputs_of (drop 2 (told text).statements) → planned_images plan.images.items ≡ images_in plan.dies.geometry (drop 2 (told text).statements) → IsSetUpFrom files plan.dies.geometry plan.dies.targets (drop 2 (told text).statements) plan → plan.jobs.steps ≤ request.max_steps → IsOutcomeOf plan o → IsPlanned files request o
+is_planned files request text plan o is_there passes outputs images setup few is = record {
   text = text;
   is_there = is_there;
   passes = subst (λ (g : Parts). PlanPasses files (told text) g o.bus.targets) (sym is.geometry) (subst (λ (n : ℕ). PlanPasses files (told text) plan.dies.geometry n) (sym is.targets) passes);
@@ -34,6 +34,7 @@ is_planned files request text plan o is_there passes outputs images setup is = r
   setup = setup.setup;
   sets_up = subst (λ (g : Parts). SetsUp files g (drop 2 (told text).statements) (erased g o.bus.targets) setup.setup) (sym is.geometry)
       (subst (λ (n : ℕ). SetsUp files plan.dies.geometry (drop 2 (told text).statements) (erased plan.dies.geometry n) setup.setup) (sym is.targets) setup.sets_up);
+  few = subst (λ (n : ℕ). n ≤ request.max_steps) setup.is.steps few;
   happened = is.happened setup.setup setup.is;
 }
 
@@ -106,10 +107,15 @@ pub record IsPlanOf (files : Option Store) (text : List ℕ) (plan : RunPlan) : 
   pub images : planned_images plan.images.items ≡ images_in plan.dies.geometry (drop 2 (told text).statements)
   pub setup : IsSetUpFrom files plan.dies.geometry plan.dies.targets (drop 2 (told text).statements) plan
 
-planned_of : (files : Option Store) (request : RunRequest) (text : List ℕ) (plan : RunPlan) (o : Outcome) → Holds files request.path.now text → IsPlanOf files text plan → IsOutcomeOf plan o → IsPlanned files request o
-planned_of files request text plan o is_there is of_plan = is_planned files request text plan o is_there is.passes is.outputs is.images is.setup of_plan
+-- the same, and the jobs step no more words than the request allows
+pub record MayRun (files : Option Store) (request : RunRequest) (text : List ℕ) (plan : RunPlan) : Type 0 where
+  pub plan_of : IsPlanOf files text plan
+  pub few : plan.jobs.steps ≤ request.max_steps
 
-pub run_is_done : (request : RunRequest) (text : List ℕ) (plan : RunPlan) (files now later : Option Store) (Prints : List ℕ → Type 0) → now ≡ files → Holds files request.path.now text → IsPlanOf files text plan → (o : Outcome) × IsOutcomeOf plan o × (later ≡ with_all (writes_of request o) now) × Prints (lines_of request o) → (printed : List ℕ) × IsRunDone files later request printed × Prints printed
+planned_of : (files : Option Store) (request : RunRequest) (text : List ℕ) (plan : RunPlan) (o : Outcome) → Holds files request.path.now text → MayRun files request text plan → IsOutcomeOf plan o → IsPlanned files request o
+planned_of files request text plan o is_there is of_plan = is_planned files request text plan o is_there is.plan_of.passes is.plan_of.outputs is.plan_of.images is.plan_of.setup is.few of_plan
+
+pub run_is_done : (request : RunRequest) (text : List ℕ) (plan : RunPlan) (files now later : Option Store) (Prints : List ℕ → Type 0) → now ≡ files → Holds files request.path.now text → MayRun files request text plan → (o : Outcome) × IsOutcomeOf plan o × (later ≡ with_all (writes_of request o) now) × Prints (lines_of request o) → (printed : List ℕ) × IsRunDone files later request printed × Prints printed
 run_is_done request text plan files now later Prints same is_there is (o, of_plan, left, prints) = (
   lines_of request o,
   record {
@@ -121,14 +127,14 @@ run_is_done request text plan files now later Prints same is_there is (o, of_pla
   prints,
 )
 
-pub done_leaves : (request : RunRequest) (text : List ℕ) (plan : RunPlan) (files now later : Option Store) (Prints : List ℕ → Type 0) → now ≡ files → Holds files request.path.now text → IsPlanOf files text plan → (o : Outcome) × IsOutcomeOf plan o × (later ≡ with_all (writes_of request o) now) × Prints (lines_of request o) → RunMayLeave files later request
+pub done_leaves : (request : RunRequest) (text : List ℕ) (plan : RunPlan) (files now later : Option Store) (Prints : List ℕ → Type 0) → now ≡ files → Holds files request.path.now text → MayRun files request text plan → (o : Outcome) × IsOutcomeOf plan o × (later ≡ with_all (writes_of request o) now) × Prints (lines_of request o) → RunMayLeave files later request
 done_leaves request text plan files now later Prints same is_there is (o, of_plan, left, prints) = inr (record {
   o = o;
   planned = planned_of files request text plan o is_there is of_plan;
   left = left ∙ ap (λ (s : Option Store). with_all (writes_of request o) s) same;
 })
 
-pub written_leaves : (request : RunRequest) (text : List ℕ) (plan : RunPlan) (files now later : Option Store) → now ≡ files → Holds files request.path.now text → IsPlanOf files text plan → (later ≡ now) ⊎ ((o : Outcome) × IsOutcomeOf plan o × (later ≡ with_all (writes_of request o) now)) → RunMayLeave files later request
+pub written_leaves : (request : RunRequest) (text : List ℕ) (plan : RunPlan) (files now later : Option Store) → now ≡ files → Holds files request.path.now text → MayRun files request text plan → (later ≡ now) ⊎ ((o : Outcome) × IsOutcomeOf plan o × (later ≡ with_all (writes_of request o) now)) → RunMayLeave files later request
 written_leaves request text plan files now later same is_there is (inl none) = inl (none ∙ same)
 written_leaves request text plan files now later same is_there is (inr (o, of_plan, left)) = inr (record {
   o = o;

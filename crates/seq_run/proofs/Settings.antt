@@ -16,7 +16,9 @@ use Rattle.seq_run.specs.Judged.{Numbered, lun_at}
 use Rattle.seq_run.specs.Planned.{jobs_of, planned_names}
 use Rattle.seq_run.specs.Setup.{Setup, HasImageOf, IsJobOf, SetsOne, SetsUp, ArePlanned, PlansMore, erased}
 use Rattle.seq_run.specs.Runs.{HasSetUp, PlansOne, PlansJob, PlansAll, IsSetUpFrom}
+use Rattle.seq_run.specs.Steps.{capped, steps_of}
 use Rattle.seq_run.proofs.Resting.{from_place, none_left}
+use Rattle.seq_run.proofs.Stepping.{one_job_counted}
 
 -- an image was put in its place
 pub image_set : (files : Option Store) (g : Parts) (target lun : ℕ) (path : List ℕ) (die : Die) (old new : RunPlan) → HasImageOf files g path die
@@ -27,17 +29,22 @@ image_set files g target lun path die old new image put same setup was = (
   record {
     dies = put ∙ ap (λ (l : List Die). set l (target * g.luns + lun) die) was.dies;
     jobs = subst (λ (p : PlannedJobs). ArePlanned setup.jobs (jobs_of p.by_target.items) (planned_names p.all.items)) (sym same) was.jobs;
+    steps = ap (λ (p : PlannedJobs). p.steps) same ∙ was.steps;
   },
 )
 
 -- a job came behind the others
 pub job_planned : (files : Option Store) (g : Parts) (l : Lun) (base : ℕ) (text : List ℕ) (input : Option (List ℕ)) (job : Job) (old new : RunPlan) → IsJobOf files g l base text input job
     → new.dies ≡ old.dies → PlansMore job (jobs_of old.jobs.by_target.items) (planned_names old.jobs.all.items) (jobs_of new.jobs.by_target.items) (planned_names new.jobs.all.items)
-    → PlansJob files g l base text input old new
-job_planned files g l base text input job old new is same more setup was = (
+    → new.jobs.steps ≡ capped (old.jobs.steps + capped (steps_of job)) → PlansJob files g l base text input old new
+job_planned files g l base text input job old new is same more counts setup was = (
   job,
   is,
-  record { dies = ap (λ (d : ChannelDies). d.dies.items) same ∙ was.dies; jobs = more setup.jobs was.jobs },
+  record {
+    dies = ap (λ (d : ChannelDies). d.dies.items) same ∙ was.dies;
+    jobs = more setup.jobs was.jobs;
+    steps = counts ∙ ap (λ (n : ℕ). capped (n + capped (steps_of job))) was.steps ∙ one_job_counted setup.jobs job;
+  },
 )
 
 pub job_set : (files : Option Store) (g : Parts) (target lun : ℕ) (l : Lun) (base : ℕ) (text : List ℕ) (input output : Option (List ℕ)) (old new : RunPlan) → l ≡ lun_at target lun
@@ -50,6 +57,7 @@ stays : (old new : RunPlan) (setup : Setup) → new.dies ≡ old.dies → new.jo
 stays old new setup dies jobs was = record {
   dies = ap (λ (d : ChannelDies). d.dies.items) dies ∙ was.dies;
   jobs = subst (λ (p : PlannedJobs). ArePlanned setup.jobs (jobs_of p.by_target.items) (planned_names p.all.items)) (sym jobs) was.jobs;
+  steps = ap (λ (p : PlannedJobs). p.steps) jobs ∙ was.steps;
 }
 
 pub polls_set : (files : Option Store) (g : Parts) (count : ℕ) (old new : RunPlan) → new.dies ≡ old.dies → new.jobs ≡ old.jobs → PlansOne files g (PollsLine count) old new

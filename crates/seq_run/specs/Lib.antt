@@ -1,6 +1,7 @@
 pub mod Lines
 pub mod Judged
 pub mod Setup
+pub mod Steps
 pub mod Happened
 pub mod Endings
 pub mod Written

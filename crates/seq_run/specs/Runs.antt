@@ -1,5 +1,5 @@
 -- A run: what its files say, what happens on its channel, and what is written and printed of it.
-use Rattle.std.specs.Prelude.{◌≡◌, ◌⊎◌, ℕ, ◌*◌, ⊤, true, List, [], ◌∷◌, ◌++◌, length, reverse, drop, Option}
+use Rattle.std.specs.Prelude.{◌≡◌, ◌⊎◌, ℕ, ◌*◌, ◌≤◌, ⊤, true, List, [], ◌∷◌, ◌++◌, length, reverse, drop, Option}
 use Rattle.std.specs.Option.{option_copied}
 use Rattle.seq_files.specs.Store.{Store, Holds, Written, with_all}
 use Rattle.onfi_cycle.specs.declared.lun.Lun.{Lun}
@@ -21,6 +21,7 @@ use Rattle.seq_run.specs.Judged.{Numbered, PlanPasses, PlanIsRefused}
 use Rattle.seq_run.specs.Setup.{Setup, IsJobOf, SetsOne, SetsUp, erased, ArePlanned}
 use Rattle.seq_run.specs.Planned.{outputs_of, images_in, planned_outputs, planned_images, planned_names, jobs_of, ended_outputs}
 use Rattle.seq_run.specs.Lines.{job_lines}
+use Rattle.seq_run.specs.Steps.{steps_of_all}
 use Rattle.seq_run.specs.Happened.{HasHappened}
 use Rattle.seq_run.specs.Written.{buffers_of, images_of, trace_at, printed_trace, codes_of}
 
@@ -49,10 +50,11 @@ pub record ShowsAll (ran : Ran) (o : Outcome) : Type 0 where
   pub jobs : o.jobs ≡ ran.jobs.items
   pub images : o.images ≡ ran.images.items
 
--- what was planned is this: its dies, the jobs of each host, and the name of each line's job
+-- what was planned is this: its dies, the jobs of each host, the name of each line's job, and how many words they step at most
 pub record HasSetUp (plan : RunPlan) (setup : Setup) : Type 0 where
   pub dies : plan.dies.dies.items ≡ setup.dies
   pub jobs : ArePlanned setup.jobs (jobs_of plan.jobs.by_target.items) (planned_names plan.jobs.all.items)
+  pub steps : plan.jobs.steps ≡ steps_of_all setup.jobs
 
 -- what happened on a bus is of what was planned
 abbrev pub HappenedAsPlanned : RunPlan → Traced → List EndedJob → Type 0
@@ -86,7 +88,7 @@ pub record IsOutcomeOf (plan : RunPlan) (o : Outcome) : Type 0 where
   pub happened : HappenedAsPlanned plan o.bus o.jobs
 
 -- the run file is there, and all that it says passes on the channel of this outcome; there are its jobs, with the outputs that it gives them, and its
--- images; and what happened is of the dies and the jobs that it sets up
+-- images; the jobs step no more words than the request allows; and what happened is of the dies and the jobs that it sets up
 pub record IsPlanned (files : Option Store) (request : RunRequest) (o : Outcome) : Type 0 where
   pub text : List ℕ
   pub is_there : Holds files request.path.now text
@@ -95,6 +97,7 @@ pub record IsPlanned (files : Option Store) (request : RunRequest) (o : Outcome)
   pub images : planned_images o.images ≡ images_in o.bus.geometry (drop 2 (told text).statements)
   pub setup : Setup
   pub sets_up : SetsUp files o.bus.geometry (drop 2 (told text).statements) (erased o.bus.geometry o.bus.targets) setup
+  pub few : steps_of_all setup.jobs ≤ request.max_steps
   pub happened : HasHappened setup o.bus o.jobs
 
 -- the run is done: everything is written and printed

@@ -1,13 +1,15 @@
 //! What a run file comes to: the dies of the channel, the jobs of each target, and what is told of readies.
 
-ghost use Rattle.std.specs.Prelude.{◌≡◌, ◌≤◌, [], ◌∷◌, ◌++◌, IfOk, OnOk};
+ghost use Rattle.std.specs.Prelude.{◌≡◌, ◌+◌, ◌≤◌, [], ◌∷◌, ◌++◌, IfOk, OnOk};
 ghost use Rattle.std.specs.Option.{option_copied};
 ghost use Rattle.seq_run.specs.Planned.{planned_outputs, planned_names, jobs_of};
 ghost use Rattle.seq_run.specs.Setup.{erased, ArePlanned, PlansMore, HaveNoJobs, IsJobPushed};
 ghost use Rattle.seq_run.specs.Runs.{HasSetUp};
+ghost use Rattle.seq_run.specs.Steps.{capped, steps_of};
 
 use crate::dies::ChannelDies;
 use crate::gate::Failing;
+use crate::steps::count_steps;
 use channel_work::Name;
 use nand_geometry::Geometry;
 use seq_core::Job;
@@ -32,6 +34,10 @@ pub struct TargetJobs {
 pub struct PlannedJob<'a> {
     pub name: Name,
     pub output: Option<&'a str>,
+    /// The line of the run file that names it.
+    pub line: usize,
+    /// How many words it and the jobs before it step at most, all together.
+    pub steps: u64,
 }
 
 /// The jobs of a run.
@@ -45,6 +51,8 @@ pub struct PlannedJobs<'a> {
     pub all: Vec<PlannedJob<'a>>,
     /// How many bytes their buffers have.
     pub buffer_bytes: u64,
+    /// How many words they step at most, all together.
+    pub steps: u64,
 }
 
 /// What a run file comes to.
@@ -108,7 +116,7 @@ impl<'a> PlannedJobs<'a> {
     /// No jobs yet, of so many targets.
     #[tactic(auto, using(crate::proofs::JobPlans::none_planned))]
     fn new(alloc: Global, targets: u8) -> Result<PlannedJobs<'a>, AllocError>
-        ensures outputs { IfOk result (λ jobs. jobs.all.items ≡ []) }
+        ensures outputs { IfOk result (λ jobs. (jobs.all.items ≡ []) × (jobs.steps ≡ 0)) }
         ensures planned { IfOk result (λ jobs. ArePlanned [] (jobs_of jobs.by_target.items) (planned_names jobs.all.items)) }
     {
         Ok(PlannedJobs {
@@ -116,6 +124,7 @@ impl<'a> PlannedJobs<'a> {
             places: make_places(alloc, targets)?,
             all: Vec::new(alloc),
             buffer_bytes: 0,
+            steps: 0,
         })
     }
 
@@ -125,16 +134,25 @@ impl<'a> PlannedJobs<'a> {
         self.buffer_bytes.saturating_add(bytes)
     }
 
-    /// Adds a job after the others. Its target is one of the channel's.
+    /// Adds the job of a line after the others. Its target is one of the channel's.
     #[tactic(auto, using(crate::proofs::JobPlans::plan_more))]
-    pub(crate) fn push(&mut self, job: Job, output: Option<&'a str>) -> Result<(), AllocError>
+    pub(crate) fn push(
+        &mut self,
+        alloc: Global,
+        line: usize,
+        job: Job,
+        output: Option<&'a str>,
+    ) -> Result<(), AllocError>
         ensures outputs { OnOk result (planned_outputs self.new.all.items ≡ planned_outputs self.old.all.items
             ++ (option_copied output.entry ∷ [])) }
         ensures planned { OnOk result (PlansMore job (jobs_of self.old.by_target.items) (planned_names self.old.all.items)
             (jobs_of self.new.by_target.items) (planned_names self.new.all.items)) }
+        ensures steps { OnOk result (self.new.steps ≡ capped (self.old.steps + capped (steps_of job))) }
     {
         let place = self.all.len();
         self.buffer_bytes = self.count_buffer_bytes(&job);
+        let steps = count_steps(alloc, job.text().words())?;
+        self.steps = self.steps.saturating_add(steps);
         let target = job.lun().ce;
         let number = push_to_target(&mut self.by_target, usize::from(target), job)?;
         push_place(&mut self.places, usize::from(target), place)?;
@@ -142,7 +160,12 @@ impl<'a> PlannedJobs<'a> {
             host: u32::from(target),
             number,
         };
-        self.all.push(PlannedJob { name, output })?;
+        self.all.push(PlannedJob {
+            name,
+            output,
+            line,
+            steps: self.steps,
+        })?;
         Ok(())
     }
 }

@@ -106,12 +106,13 @@ fn read_job<'a, F: Files>(
 }
 
 impl<'a> RunPlan<'a> {
-    // Adds a statement after the page and the targets.
+    // Adds the statement of a line after the page and the targets.
     #[tactic(auto, using(crate::proofs::Settings::job_set, crate::proofs::Settings::polls_set, crate::proofs::Settings::fail_set))]
     fn add<F: Files>(
         &mut self,
         alloc: Global,
         files: &mut F,
+        line: usize,
         statement: Statement<'a>,
     ) -> Result<(), Stop<'a>>
         ensures ok { OnOk result (Passes (F.store files.old) self.old.dies.geometry self.old.dies.targets
@@ -142,7 +143,7 @@ impl<'a> RunPlan<'a> {
                 output,
             } => {
                 let lun = find_lun(alloc, &self.dies.geometry, self.dies.targets, target, lun)?;
-                self.add_job(alloc, files, lun, base, text, input, output)
+                self.add_job(alloc, files, line, lun, base, text, input, output)
             }
             Statement::Polls { count } => {
                 self.polls = u64::from(count);
@@ -180,12 +181,13 @@ impl<'a> RunPlan<'a> {
         Ok(())
     }
 
-    // Adds a job on a LUN of the channel.
+    // Adds the job of a line on a LUN of the channel.
     #[tactic(auto, using(crate::proofs::Settings::job_planned))]
     fn add_job<F: Files>(
         &mut self,
         alloc: Global,
         files: &mut F,
+        line: usize,
         lun: Lun,
         base: u32,
         text: &'a str,
@@ -209,7 +211,7 @@ impl<'a> RunPlan<'a> {
         if bytes > MOST_BUFFER_BYTES {
             return Err(Stop::BuffersTooLarge { bytes, line: None });
         }
-        self.jobs.push(job, output)?;
+        self.jobs.push(alloc, line, job, output)?;
         Ok(())
     }
 
@@ -259,7 +261,7 @@ impl<'a> RunPlan<'a> {
         ensures stays { F.store files.new ≡ F.store files.old }
     {
         let Numbered { line, statement } = numbered;
-        match self.add(alloc, files, statement) {
+        match self.add(alloc, files, line, statement) {
             Ok(()) => Ok(()),
             Err(stop) => Err(stop.at(line)),
         }

@@ -1,10 +1,15 @@
 //! What a run is asked for.
 
+/// How many words the programs of a run may step at most, all together, where the command line doesn't say: they take about a quarter of an hour.
+pub const MOST_STEPS: u64 = 10_000_000_000;
+
 /// What a run is asked for.
 #[derive(Clone, Copy, Debug, PartialEq, Eq)]
 pub struct RunRequest<'a> {
     /// The run file.
     pub path: &'a str,
+    /// How many words the programs of its jobs may step at most, all together; the greatest number of 64 bits is no limit.
+    pub max_steps: u64,
     /// How many workers run the channel, 1 to 8.
     pub workers: u8,
     /// Whether the trace isn't printed.

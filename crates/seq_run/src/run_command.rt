@@ -1,5 +1,5 @@
 //! The command that runs a channel.
-ghost use Rattle.std.specs.Prelude.{◌≡◌, ◌⊎◌, List, ℕ, drop, IfOk, IfErr, OnOk, OnErr};
+ghost use Rattle.std.specs.Prelude.{◌≡◌, ◌<◌, ◌≤◌, ◌⊎◌, List, ℕ, drop, IfOk, IfErr, OnOk, OnErr, IsTrue, IsFalse};
 ghost use Rattle.std.specs.Io.KnownBytes.{Appends};
 ghost use Rattle.run_file.specs.Told.{told};
 ghost use Rattle.seq_files.specs.Store.{Holds, with_all};
@@ -11,7 +11,7 @@ ghost use Rattle.seq_run.specs.Planned.{outputs_of, images_in, planned_outputs, 
 ghost use Rattle.seq_run.specs.Runs.{Outcome, IsOutcomeOf, writes_of, lines_of, IsRunDone, RunIsRefused, RunMayLeave, IsSetUpFrom};
 
 use crate::phases::{NoClock, Phase, RunProgress, Times};
-use crate::plan::RunPlan;
+use crate::plan::{PlannedJob, PlannedJobs, RunPlan};
 use crate::planning::plan_run;
 use crate::request::RunRequest;
 use crate::running::run_plan;
@@ -20,8 +20,9 @@ use crate::writing::write_run;
 use run_file::{RunMessage, RunRefusal, parse_run};
 use seq_files::Files;
 use seq_inputs::{Console, Exit, Fault, Refusal, Stop, Words, fail, read_file, text_of};
+use shown_text::Shown;
 use std::alloc::Global;
-use std::io::Write;
+use std::io::{self, Write};
 use std::sync::Wait;
 use std::thread::Threads;
 use std::time::Clock;
@@ -110,6 +111,51 @@ fn explain_line<'a>(alloc: Global, text: &str, stop: Stop<'a>) -> Stop<'a>
     }
 }
 
+// The line of the first job with which the jobs step more words than these at most.
+fn find_line(jobs: &[PlannedJob<'_>], most: u64) -> Option<usize> {
+    for job in jobs {
+        if job.steps > most {
+            return Some(job.line);
+        }
+    }
+    None
+}
+
+// Says which job steps more words than the run may, and how the run can be had all the same.
+fn say_too_long<E: Write>(
+    errors: &mut E,
+    request: RunRequest<'_>,
+    jobs: &PlannedJobs<'_>,
+) -> io::Result<()> {
+    let most = request.max_steps;
+    if let Some(line) = find_line(jobs.all.as_slice(), most) {
+        write!(errors, "{}:{line}: ", Shown::path(request.path))?;
+    }
+    let steps = jobs.steps;
+    writeln!(
+        errors,
+        "with this job the programs may take more than {most} steps"
+    )?;
+    writeln!(
+        errors,
+        "all jobs together may take {steps}, and `--max-steps {steps}` runs them"
+    )?;
+    errors.flush()
+}
+
+// Whether the jobs may run: their programs step no more words than the run may. If not, that is said.
+fn admit_steps<E: Write>(errors: &mut E, request: RunRequest<'_>, jobs: &PlannedJobs<'_>) -> bool
+    ensures admitted { IsTrue result → jobs.now.steps ≤ request.entry.max_steps }
+    ensures refused { IsFalse result → request.entry.max_steps < jobs.now.steps }
+{
+    let admitted = jobs.steps <= request.max_steps;
+    if !admitted {
+        // Where standard error takes nothing, the status alone says it.
+        let _ = say_too_long(errors, request, jobs);
+    }
+    admitted
+}
+
 // Runs the text of the run file.
 fn run_text<R: Threads + Wait + Sync, C: Clock, F: Files, W: Write, E: Write, P: RunProgress>(
     rt: &R,
@@ -135,6 +181,9 @@ fn run_text<R: Threads + Wait + Sync, C: Clock, F: Files, W: Write, E: Write, P:
             return fail(alloc, console, run, stop);
         }
     };
+    if !admit_steps(&mut console.errors, request, &plan.jobs) {
+        return Exit::OutOfMemory;
+    }
     match carry_out(rt, alloc, files, console, times, request, plan) {
         Ok(summary) => {
             if request.has_stats {

@@ -9,7 +9,7 @@ use seq_commands::{CheckRequest, Targets};
 use seq_core::JobFault;
 use seq_files::{MapFiles, SlowReader, SlowWriter};
 use seq_inputs::{Console, Exit, Fault, Style};
-use seq_run::{NoClock, RunRequest};
+use seq_run::{MOST_STEPS, NoClock, RunRequest};
 use std::alloc::{AllocError, Global};
 use std::io::{self, Write};
 use std::process::Abort;
@@ -571,6 +571,7 @@ const COMMANDS: [(Command<'static>, u8, &str); 7] = [
     (
         Command::Run(RunRequest {
             path: "r",
+            max_steps: MOST_STEPS,
             workers: 1,
             is_quiet: true,
             trace: None,

@@ -6,7 +6,7 @@ use clap::error::ErrorKind as UsageKind;
 use seq_cli::{Command, Mistake, PathMistake, once_on, parse};
 use seq_commands::{CaptureRequest, DrawForm, DrawRequest, Targets};
 use seq_inputs::Exit;
-use seq_run::RunRequest;
+use seq_run::{MOST_STEPS, RunRequest};
 use std::alloc::{AllocError, Global};
 use std::io::{self, Read};
 use std::process::Abort;
@@ -26,6 +26,7 @@ fn words_of(alloc: Global, line: &str) -> Result<Vec<String>, AllocError> {
 
 const RUN: RunRequest<'static> = RunRequest {
     path: "f",
+    max_steps: MOST_STEPS,
     workers: 1,
     is_quiet: false,
     trace: None,
@@ -33,7 +34,7 @@ const RUN: RunRequest<'static> = RunRequest {
 };
 
 // Words, and what they ask for.
-const REQUESTS: [(&str, RunRequest<'static>); 6] = [
+const REQUESTS: [(&str, RunRequest<'static>); 7] = [
     ("run f", RUN),
     (
         "run f --quiet",
@@ -58,9 +59,17 @@ const REQUESTS: [(&str, RunRequest<'static>); 6] = [
     ),
     ("run --workers=8 f", RunRequest { workers: 8, ..RUN }),
     (
-        "run --stats --trace out f --workers 6 --quiet",
+        "run f --max-steps 18446744073709551615",
+        RunRequest {
+            max_steps: u64::MAX,
+            ..RUN
+        },
+    ),
+    (
+        "run --stats --trace out f --max-steps 7 --workers 6 --quiet",
         RunRequest {
             path: "f",
+            max_steps: 7,
             workers: 6,
             is_quiet: true,
             trace: Some("out"),
@@ -97,6 +106,20 @@ fn options_of_a_run(rt: HostRuntime) -> Result<(), Fail> {
     }
     for line in ["run f --workers 0", "run f --workers 9"] {
         assert!(rt; is_no_value(rt.alloc(), line)?, "{line}");
+    }
+    Ok(())
+}
+
+// What is no number of steps is named.
+#[test]
+fn steps_that_are_none(rt: HostRuntime) -> Result<(), Fail> {
+    for word in ["", "-1", "0x10", "1e9", "18446744073709551616"] {
+        let line = format!(in rt.alloc(); "run f --max-steps={word}")?;
+        let words = words_of(rt.alloc(), line.as_str())?;
+        match parse(rt.alloc(), words.as_slice()) {
+            Err(Mistake::Steps(told)) => assert_eq!(rt; told, word),
+            Ok(_) | Err(_) => return Err("the word is taken".into()),
+        }
     }
     Ok(())
 }

@@ -217,7 +217,7 @@ fn kind_of(mistake: &Mistake<'_>) -> UsageKind {
     match mistake {
         Mistake::Words(error) => error.kind(),
         Mistake::NoCommand => UsageKind::MissingSubcommand,
-        Mistake::Base(_) | Mistake::Mapping(_) => UsageKind::ValueValidation,
+        Mistake::Base(_) | Mistake::Steps(_) | Mistake::Mapping(_) => UsageKind::ValueValidation,
         Mistake::Paths(_) => UsageKind::ArgumentConflict,
     }
 }

@@ -74,7 +74,7 @@ fn make_files(alloc: Global) -> Result<MapFiles, Fail> {
     Ok(files)
 }
 
-// The status of these words, and what is said of how far they have come.
+// The status of these words with an erase on standard input, and what is said of how far they have come.
 fn follow<R: Threads + Wait + Sync + AllocGlobal>(
     rt: &R,
     words: &[&str],
@@ -100,7 +100,7 @@ fn follow<R: Threads + Wait + Sync + AllocGlobal>(
         alloc,
         Ok(given),
         &mut make_files(alloc)?,
-        &mut [].as_slice(),
+        &mut ERASE.as_slice(),
         &mut console,
     );
     drop(console);
@@ -117,6 +117,20 @@ fn what_a_run_shows(rt: HostRuntime) -> Result<(), Fail> {
         "reading\nrunning 1 job\nwriting\n"
     );
     let (status, nothing) = follow(&rt, &run, false)?;
+    assert_eq!(rt; status, 0);
+    assert!(rt; nothing.is_empty());
+    Ok(())
+}
+
+#[test]
+fn what_once_shows(rt: HostRuntime) -> Result<(), Fail> {
+    let (status, shown) = follow(&rt, &["onfiseq", "once"], true)?;
+    assert_eq!(rt; status, 0);
+    assert_eq!(rt;
+        str::from_utf8(shown.as_slice())?,
+        "reading\nrunning 1 job\nwriting\n"
+    );
+    let (status, nothing) = follow(&rt, &["onfiseq", "once"], false)?;
     assert_eq!(rt; status, 0);
     assert!(rt; nothing.is_empty());
     // Other commands take no time worth telling.

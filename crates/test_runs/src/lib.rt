@@ -14,6 +14,8 @@ mod option_tests;
 #[cfg(test)]
 mod refusal_tests;
 #[cfg(test)]
+mod steps_tests;
+#[cfg(test)]
 mod tests;
 #[cfg(test)]
 mod thread_tests;

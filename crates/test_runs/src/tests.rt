@@ -1,7 +1,7 @@
 use nand_geometry::{Geometry, Parts, SMALL_CHIP};
 use seq_files::MapFiles;
 use seq_inputs::{Console, Exit};
-use seq_run::{RunRequest, run_on};
+use seq_run::{MOST_STEPS, RunRequest, run_on};
 use std::alloc::{AllocError, Global};
 use std::process::Abort;
 use std::sync::Wait;
@@ -73,6 +73,7 @@ pub(crate) fn make_files(alloc: Global) -> Result<MapFiles, Fail> {
 pub(crate) fn ask(workers: u8) -> RunRequest<'static> {
     RunRequest {
         path: "run",
+        max_steps: MOST_STEPS,
         workers,
         is_quiet: false,
         trace: None,

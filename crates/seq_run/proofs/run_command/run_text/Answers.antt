@@ -21,25 +21,25 @@ pub returns-then-request-clause-done : goal.returns-then-request-clause-done
 returns-then-request-clause-done g c is =
     run_is_done c.args.request c.args.text.now c.in-Ok.plan (g.F.Files.store c.args.files.now) (g.F.Files.store c.plan_text.new.files) (g.F.Files.store c.carry_out.new.files)
     (λ (lines : List ℕ). Appends (g.W.Write.contents c.args.console.now.output) (g.W.Write.contents c.carry_out.new.console.output) lines)
-    c.in-Ok.ensures.stays c.requires (record { passes = c.in-Ok.ensures.ok; outputs = c.in-Ok.ensures.jobs; images = c.in-Ok.ensures.images; setup = c.in-Ok.ensures.setup }) c.in-Ok-carry_out.ensures.ok
+    c.in-Ok.ensures.stays c.requires (record { plan_of = record { passes = c.in-Ok.ensures.ok; outputs = c.in-Ok.ensures.jobs; images = c.in-Ok.ensures.images; setup = c.in-Ok.ensures.setup }; few = c.admit_steps.ensures.admitted c.if-not-admit_steps.false }) c.in-Ok-carry_out.ensures.ok
 
 pub returns-then-request-clause-leaves : goal.returns-then-request-clause-leaves
 returns-then-request-clause-leaves g c =
     done_leaves c.args.request c.args.text.now c.in-Ok.plan (g.F.Files.store c.args.files.now) (g.F.Files.store c.plan_text.new.files) (g.F.Files.store c.carry_out.new.files)
     (λ (lines : List ℕ). Appends (g.W.Write.contents c.args.console.now.output) (g.W.Write.contents c.carry_out.new.console.output) lines)
-    c.in-Ok.ensures.stays c.requires (record { passes = c.in-Ok.ensures.ok; outputs = c.in-Ok.ensures.jobs; images = c.in-Ok.ensures.images; setup = c.in-Ok.ensures.setup }) c.in-Ok-carry_out.ensures.ok
+    c.in-Ok.ensures.stays c.requires (record { plan_of = record { passes = c.in-Ok.ensures.ok; outputs = c.in-Ok.ensures.jobs; images = c.in-Ok.ensures.images; setup = c.in-Ok.ensures.setup }; few = c.admit_steps.ensures.admitted c.if-not-admit_steps.false }) c.in-Ok-carry_out.ensures.ok
 
 pub returns-else-request-clause-done : goal.returns-else-request-clause-done
 returns-else-request-clause-done g c is =
     run_is_done c.args.request c.args.text.now c.in-Ok.plan (g.F.Files.store c.args.files.now) (g.F.Files.store c.plan_text.new.files) (g.F.Files.store c.carry_out.new.files)
     (λ (lines : List ℕ). Appends (g.W.Write.contents c.args.console.now.output) (g.W.Write.contents c.carry_out.new.console.output) lines)
-    c.in-Ok.ensures.stays c.requires (record { passes = c.in-Ok.ensures.ok; outputs = c.in-Ok.ensures.jobs; images = c.in-Ok.ensures.images; setup = c.in-Ok.ensures.setup }) c.in-Ok-carry_out.ensures.ok
+    c.in-Ok.ensures.stays c.requires (record { plan_of = record { passes = c.in-Ok.ensures.ok; outputs = c.in-Ok.ensures.jobs; images = c.in-Ok.ensures.images; setup = c.in-Ok.ensures.setup }; few = c.admit_steps.ensures.admitted c.if-not-admit_steps.false }) c.in-Ok-carry_out.ensures.ok
 
 pub returns-else-request-clause-leaves : goal.returns-else-request-clause-leaves
 returns-else-request-clause-leaves g c =
     done_leaves c.args.request c.args.text.now c.in-Ok.plan (g.F.Files.store c.args.files.now) (g.F.Files.store c.plan_text.new.files) (g.F.Files.store c.carry_out.new.files)
     (λ (lines : List ℕ). Appends (g.W.Write.contents c.args.console.now.output) (g.W.Write.contents c.carry_out.new.console.output) lines)
-    c.in-Ok.ensures.stays c.requires (record { passes = c.in-Ok.ensures.ok; outputs = c.in-Ok.ensures.jobs; images = c.in-Ok.ensures.images; setup = c.in-Ok.ensures.setup }) c.in-Ok-carry_out.ensures.ok
+    c.in-Ok.ensures.stays c.requires (record { plan_of = record { passes = c.in-Ok.ensures.ok; outputs = c.in-Ok.ensures.jobs; images = c.in-Ok.ensures.images; setup = c.in-Ok.ensures.setup }; few = c.admit_steps.ensures.admitted c.if-not-admit_steps.false }) c.in-Ok-carry_out.ensures.ok
 
 pub returns-in-Err-carry_out-clause-refused : goal.returns-in-Err-carry_out-clause-refused
 returns-in-Err-carry_out-clause-refused g c refusal is =
@@ -48,4 +48,4 @@ returns-in-Err-carry_out-clause-refused g c refusal is =
 pub returns-in-Err-carry_out-clause-leaves : goal.returns-in-Err-carry_out-clause-leaves
 returns-in-Err-carry_out-clause-leaves g c =
     written_leaves c.args.request c.args.text.now c.in-Ok.plan (g.F.Files.store c.args.files.now) (g.F.Files.store c.plan_text.new.files) (g.F.Files.store c.carry_out.new.files)
-    c.in-Ok.ensures.stays c.requires (record { passes = c.in-Ok.ensures.ok; outputs = c.in-Ok.ensures.jobs; images = c.in-Ok.ensures.images; setup = c.in-Ok.ensures.setup }) c.in-Err-carry_out.ensures.err
+    c.in-Ok.ensures.stays c.requires (record { plan_of = record { passes = c.in-Ok.ensures.ok; outputs = c.in-Ok.ensures.jobs; images = c.in-Ok.ensures.images; setup = c.in-Ok.ensures.setup }; few = c.admit_steps.ensures.admitted c.if-not-admit_steps.false }) c.in-Err-carry_out.ensures.err

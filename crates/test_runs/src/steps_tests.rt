@@ -1,0 +1,115 @@
+// How many words the programs of a run step at most, and runs that may step fewer.
+use crate::tests::{ask, make_files, play};
+use run_file::parse_run;
+use seq_inputs::Exit;
+use seq_run::{RunRequest, plan_run};
+use std::alloc::Global;
+use std::process::Abort;
+use std::test::Fail;
+
+// A program without cycles in loops, and how many words it steps: counted word by word, as a reader would, and not by the code.
+const LOOPS: &str =
+    "rows 1\nbuffer 0\nbudget 0\nloop 3\nloop 2\nseek 0\nnext\nnext\nseek 0\nend 0\n";
+
+const STEPS_OF_LOOPS: u64 = 21;
+
+// Four loops of 4,096 turns each around one word.
+const DEEP: &str =
+    "rows 1\nbuffer 0\nbudget 0\nloop 4096\nloop 4096\nloop 4096\nloop 4096\nseek 0\nnext\nnext\nnext\nnext\nend 0\n";
+
+const STEPS_OF_DEEP: u64 = 563_087_425_937_410;
+
+// An erase that ends by its status: five words to the branch, and two ends, of which it comes to one.
+const TELLING: &str =
+    "rows 1\nbuffer 0\nbudget 5\ncmd 60\naddr 2 3\ncmd d0\nwait\nbrs 01 failed\nend 0\nfailed:\nend 1\n";
+
+const STEPS_OF_TELLING: u64 = 7;
+
+// How many words the jobs of a run file step at most.
+fn count(alloc: Global, run: &str) -> Result<Option<u64>, Fail> {
+    let mut files = make_files(alloc)?;
+    files.put("loops", LOOPS.as_bytes())?;
+    files.put("deep", DEEP.as_bytes())?;
+    files.put("telling", TELLING.as_bytes())?;
+    let text = parse_run(run, alloc)?;
+    let plan = plan_run(alloc, &mut files, &text);
+    Ok(plan.ok().map(|plan| plan.jobs.steps))
+}
+
+#[test]
+fn steps_are_counted(rt: HostRuntime) -> Result<(), Fail> {
+    let counted = [
+        ("", 0),
+        ("job 0 0 0 erase - -\n", 5),
+        ("job 0 0 0 loops - -\n", STEPS_OF_LOOPS),
+        ("job 0 0 0 telling - -\n", STEPS_OF_TELLING),
+        ("job 0 0 0 deep - -\n", STEPS_OF_DEEP),
+        (
+            "job 0 0 0 loops - -\njob 0 0 4 erase - -\n",
+            STEPS_OF_LOOPS + 5,
+        ),
+    ];
+    for (jobs, steps) in counted {
+        let run = format!(in rt.alloc(); "page one\ntargets 1\n{jobs}")?;
+        assert_eq!(rt; count(rt.alloc(), run.as_str())?, Some(steps), "{jobs}");
+    }
+    Ok(())
+}
+
+// Two erases, of five words each, the second with a file for its buffer.
+const TWICE: &str = "page one\ntargets 1\njob 0 0 0 erase - -\njob 0 0 4 erase - out\n";
+
+#[test]
+fn as_many_steps_as_a_run_may(rt: HostRuntime) -> Result<(), Fail> {
+    let mut files = make_files(rt.alloc())?;
+    files.put("run", TWICE.as_bytes())?;
+    let request = RunRequest {
+        max_steps: 10,
+        is_quiet: true,
+        ..ask(1)
+    };
+    let played = play(&rt, &mut files, request);
+    assert_eq!(rt; played.end, Exit::Done);
+    assert_eq!(rt;
+        str::from_utf8(played.output.as_slice())?,
+        "job 1 end 0\njob 2 end 0\n"
+    );
+    Ok(())
+}
+
+// The line is that of the job with which it is too many, and nothing has run.
+#[test]
+fn one_step_more(rt: HostRuntime) -> Result<(), Fail> {
+    let mut files = make_files(rt.alloc())?;
+    files.put("run", TWICE.as_bytes())?;
+    let request = RunRequest {
+        max_steps: 9,
+        trace: Some("trace"),
+        ..ask(1)
+    };
+    let played = play(&rt, &mut files, request);
+    assert_eq!(rt; played.end, Exit::OutOfMemory);
+    assert!(rt; played.output.is_empty());
+    assert_eq!(rt; (files.get("out"), files.get("trace")), (None, None));
+    let told = str::from_utf8(played.errors.as_slice())?;
+    assert_eq!(rt;
+        told,
+        "run:4: with this job the programs may take more than 9 steps\nall jobs together may take 10, and `--max-steps 10` runs them\n"
+    );
+    Ok(())
+}
+
+// Nobody waits 200 days in silence.
+#[test]
+fn loops_of_loops(rt: HostRuntime) -> Result<(), Fail> {
+    let mut files = make_files(rt.alloc())?;
+    files.put("deep", DEEP.as_bytes())?;
+    files.put("run", b"page one\ntargets 1\njob 0 0 0 deep - -\n")?;
+    let played = play(&rt, &mut files, ask(1));
+    assert_eq!(rt; played.end, Exit::OutOfMemory);
+    assert!(rt; played.output.is_empty());
+    let told = str::from_utf8(played.errors.as_slice())?;
+    assert!(rt; told.starts_with("run:3: with this job the programs may take more than "));
+    assert!(rt; told.ends_with("`--max-steps 563087425937410` runs them\n"));
+    Ok(())
+}
