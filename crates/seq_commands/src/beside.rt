@@ -152,7 +152,7 @@ fn push_unknown<A: Allocator + Clone>(
     let granted = unknown.granted.as_slice();
     push_granted(lines, alloc.clone()?, request, text, granted)?;
     let words = format!(in alloc;
-        "from the middle: {} cycles passed over, {} items taken for granted",
+        "from the middle: cycles passed over {}, taken for granted {}",
         unknown.passed_over,
         granted.len()
     )?;

@@ -46,7 +46,7 @@ fn see(alloc: Global, text: &str) -> Result<Seen, Fail> {
     })
 }
 
-// The text is assembled with the header of a page's read: 1 row, 512 bytes, and of cycles 7, a poll of 2, 1 and 512.
+// The text is assembled with the header of a page's read: 1 row, 512 bytes, and of cycles 7, 1 and 512.
 fn expect_read(rt: &(impl Abort + AllocGlobal), seen: &Seen) -> Result<(), Fail> {
     assert_eq!(rt; seen.exit, Exit::Done);
     assert_eq!(rt; str::from_utf8(seen.output.as_slice())?, "ok\n");

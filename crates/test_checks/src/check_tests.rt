@@ -292,7 +292,7 @@ fn a_trace_from_the_middle(rt: HostRuntime) -> Result<(), Fail> {
         &seen,
         0,
         "legal\n",
-        "bus.trace:3: item 2, `0 O 55`: taken for granted, since what was before isn't known: an output comes in an open sequence, or with other than one driver (F12)\nfrom the middle: 1 cycles passed over, 1 items taken for granted\n",
+        "bus.trace:3: item 2, `0 O 55`: taken for granted, since what was before isn't known: an output comes in an open sequence, or with other than one driver (F12)\nfrom the middle: cycles passed over 1, taken for granted 1\n",
     )
 }
 
