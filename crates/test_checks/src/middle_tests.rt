@@ -52,15 +52,24 @@ struct Middle<'a> {
     faults: &'a [BrokenRule],
 }
 
+// These rules were found.
+fn expect_rules(
+    rt: &(impl Abort + AllocGlobal),
+    found: &[BrokenRule],
+    rules: &[BrokenRule],
+) -> Result<(), Fail> {
+    assert_eq!(rt; found, rules);
+    Ok(())
+}
+
 fn expect_middle(rt: &(impl Abort + AllocGlobal), middle: Middle<'_>) -> Result<(), Fail> {
     let items = items_of(rt.alloc(), middle.text)?;
     let geometry = Geometry::of(SMALL_CHIP)?;
     let items = items.as_slice();
     let found = find_faults_from_middle(rt.alloc(), &geometry, 1, items, Readies::Written)?;
-    assert_eq!(rt; found.passed_over, middle.passed_over, "{}", middle.text);
-    assert_eq!(rt; found.granted.as_slice(), middle.granted, "{}", middle.text);
-    assert_eq!(rt; found.faults.as_slice(), middle.faults, "{}", middle.text);
-    Ok(())
+    assert_eq!(rt; found.passed_over, middle.passed_over);
+    expect_rules(rt, found.granted.as_slice(), middle.granted)?;
+    expect_rules(rt, found.faults.as_slice(), middle.faults)
 }
 
 // A recording of this trace may begin at each of its items.
