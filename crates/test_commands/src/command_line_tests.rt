@@ -267,12 +267,9 @@ fn each_command_of_the_help_is_asked_for(rt: HostRuntime) -> Result<(), Fail> {
 
 // ---- checks of several traces
 
-// The trace that a check reads.
-fn trace_of(command: Command<'_>) -> Option<&str> {
-    match command {
-        Command::Check(request) => Some(request.input),
-        _ => None,
-    }
+// The command checks this trace.
+fn is_check_of(command: Command<'_>, trace: &str) -> bool {
+    matches!(command, Command::Check(request) if request.input == trace)
 }
 
 #[test]
@@ -281,10 +278,12 @@ fn a_check_of_several_traces(rt: HostRuntime) -> Result<(), Fail> {
     let Ok(commands) = parse_all(rt.alloc(), words.as_slice()) else {
         return Err(Fail::from("no commands"));
     };
-    assert_eq!(rt; commands.len(), 3);
-    for (command, trace) in commands.iter().zip(["a", "b", "c"].iter()) {
-        assert_eq!(rt; trace_of(*command), Some(*trace));
-    }
+    let [first, second, third] = commands.as_slice() else {
+        return Err(Fail::from("not three commands"));
+    };
+    assert!(rt; is_check_of(*first, "a"));
+    assert!(rt; is_check_of(*second, "b"));
+    assert!(rt; is_check_of(*third, "c"));
     Ok(())
 }
 
