@@ -1,43 +1,30 @@
 -- The items of a capture are on one of four targets, and of one of four LUNs.
-use Rattle.std.proofs.Common.{◌≡◌, ◌≤◌, ◌<◌, ◌+◌, ◌*◌, ◌/◌, ◌%◌, ◌&&◌, ℕ, zero, suc, true, false, Bool, List, [], ◌∷◌, ◌++◌, Option, Some, None, Result, Ok, Err, refl, subst, arith, cond, not, eqb, map}
+use Rattle.std.proofs.Common.{◌≡◌, ◌≤◌, ◌<◌, ◌+◌, ◌*◌, ◌/◌, ◌%◌, ℕ, zero, suc, true, false, Bool, List, [], ◌∷◌, ◌++◌, Option, Some, None, Result, Ok, Err, refl, subst, arith, cond, drop}
 use Rattle.std.proofs.lemmas.Nat.{mod_below}
-use Rattle.std.specs.Prelude.{IfOk}
-use Rattle.nand_geometry.specs.declared.parts.Parts.{Parts}
 use Rattle.onfi_cycle.specs.declared.item.Item.{Item}
 use Rattle.onfi_cycle.specs.declared.item.Item.TheVariants.{Cyc, Rdy, Ard}
 use Rattle.onfi_cycle.specs.State.{BusView}
 use Rattle.trace_faults.specs.ShownReadies.{ready_before, array_ready_before, with_ready}
-use Rattle.trace_faults.specs.Faults.{fresh}
 use Rattle.trace_faults.specs.Inside.{IsInside}
 use Rattle.trace_faults.proofs.Inside.{ready_inside, array_ready_inside}
 use Rattle.vcd_text.specs.declared.tokens.Level.{Level}
 use Rattle.vcd_text.specs.declared.tokens.Level.TheVariants.{Low, High, Unknown}
 use Rattle.vcd_text.specs.Tokens.{◌>>=◌}
-use Rattle.vcd_text.specs.Header.{header}
-use Rattle.vcd_text.specs.Body.{Told, Time, Change, told_from}
-use Rattle.vcd_text.specs.Dumps.{beginning}
 use Rattle.bus_capture.specs.declared.fault.BusFault.{BusFault}
-use Rattle.bus_capture.specs.declared.fault.CaptureRefusal.{CaptureRefusal}
-use Rattle.bus_capture.specs.declared.role.Role.TheVariants as role
-use Rattle.bus_capture.specs.declared.mapping.Mapping.{Mapping}
-use Rattle.bus_capture.specs.declared.source.Source.{Source}
+use Rattle.bus_signals.specs.declared.role.Role.TheVariants as role
 use Rattle.bus_capture.specs.declared.sampling.Seen.{Seen}
 use Rattle.bus_capture.specs.declared.sampling.Seen.TheVariants.{Nothing, Unselected, Sampled}
 use Rattle.bus_capture.specs.declared.sampling.Strobe.{Strobe}
 use Rattle.bus_capture.specs.declared.sampling.Strobe.TheVariants as strobe
-use Rattle.bus_capture.specs.declared.sampler.Observation.{Observation}
 use Rattle.bus_capture.specs.declared.sampler.Observation.TheVariants as observation
 use Rattle.bus_capture.specs.declared.sampler.Observed.{Observed}
 use Rattle.bus_capture.specs.declared.sampler.Sampler.{Sampler}
+use Rattle.bus_capture.specs.declared.sampler.Strobing.{Strobing}
 use Rattle.bus_capture.specs.declared.inferring.Stamped.{Stamped}
-use Rattle.bus_capture.specs.Sampling.{level, with_enable, enabled_from, kind_of, byte_of, apart, cycle_of, cycle_if, rises, is_lost, lost_if, line_of, other_line, seen_of, item_of, falls, is_low, is_high, ready_of}
-use Rattle.bus_capture.specs.Capturing.{with_item, with_release, with_releases, with_readies, at_time, with_seen, settled, begun, later, changed, capturing, in_file, unknown, sources_in, body_items, tells_readies, Shown, shown_in, in_roles, told_items, shown_in_csv}
-use Rattle.bus_capture.specs.Roles.{carrier_of, sources_of}
-use Rattle.csv_text.specs.Rows.{rows}
-use Rattle.csv_text.specs.Table.{table_of}
-use Rattle.csv_text.specs.Body.{told}
-use Rattle.bus_capture.specs.Inferring.{stamps, with_shown, state_after, sure_after, is_waiting, release_of, released, inferred_by, inferred, items_shown, fails_from}
-use Rattle.bus_capture.specs.Inside.{AreInside}
+use Rattle.bus_capture.specs.Sampling.{level, with_enable, enabled_from, kind_of, byte_of, apart, cycle_of, cycle_if, rises, is_lost, lost_if, line_of, other_line, seen_of, is_short, steady, item_of, falls, is_high, array_is_done, ready_of}
+use Rattle.bus_capture.specs.Capturing.{with_item, with_release, with_releases, with_readies, at_time, with_seen, strobe_seen, settled}
+use Rattle.bus_capture.specs.Inferring.{stamps, with_shown, is_waiting, release_of, fails_within}
+use Rattle.bus_capture.specs.Inside.{AreInside, IsSeenInside, AreSeenInside}
 
 -- ---- results
 
@@ -50,27 +37,19 @@ same_ok x y h = cc
 
 -- ---- what is seen
 
-abbrev IsFine : Observation → Type 0
-IsFine (observation.Item i) = IsInside i
-IsFine (observation.Released n) = n ≤ 3
-
-abbrev AreFine : List Observed → Type 0
-AreFine [] = Unit {0}
-AreFine (o ∷ os) = IsFine o.observation × AreFine os
-
-fine_more : (os : List Observed) (o : Observed) → AreFine os → IsFine o.observation → AreFine (os ++ o ∷ [])
+fine_more : (os : List Observed) (o : Observed) → AreSeenInside os → IsSeenInside o.observation → AreSeenInside (os ++ o ∷ [])
 fine_more [] o rest here = (here, tt)
 fine_more (x ∷ os) o rest here = (rest.0, fine_more os o rest.1 here)
 
-fine_item : (time : ℕ) (o : Option Item) (os : List Observed) → ((i : Item) → o ≡ Some i → IsInside i) → AreFine os → AreFine (with_item time o os)
+fine_item : (time : ℕ) (o : Option Item) (os : List Observed) → ((i : Item) → o ≡ Some i → IsInside i) → AreSeenInside os → AreSeenInside (with_item time o os)
 fine_item time None os here rest = rest
 fine_item time (Some i) os here rest = fine_more os (record { time = time; observation = observation.Item i }) rest (here i refl)
 
-fine_if : (b : Bool) (xs ys : List Observed) → AreFine xs → AreFine ys → AreFine (cond b xs ys)
+fine_if : (b : Bool) (xs ys : List Observed) → AreSeenInside xs → AreSeenInside ys → AreSeenInside (cond b xs ys)
 fine_if true xs ys x y = x
 fine_if false xs ys x y = y
 
-fine_releases : (time : ℕ) (before after : List Level) (os : List Observed) (count n : ℕ) → n + count ≤ 4 → AreFine os → AreFine (with_releases time before after os count n)
+fine_releases : (time : ℕ) (before after : List Level) (os : List Observed) (count n : ℕ) → n + count ≤ 4 → AreSeenInside os → AreSeenInside (with_releases time before after os count n)
 fine_releases time before after os zero n few rest = rest
 fine_releases time before after os (suc count) n few rest =
     fine_releases time before after (with_release time before after n os) count (n + 1) (omega (arith, few))
@@ -93,11 +72,11 @@ none_is i h = cc
 model_ready : (before after : List Level) (ce lun : ℕ) (i : Item) → ce ≤ 3 → lun ≤ 3 → ready_of before after ce lun ≡ Some i → IsInside i
 model_ready before after ce lun i few little h =
     some_of (falls (level before (role.Busy ce lun)) (level after (role.Busy ce lun))) (Rdy ce lun (is_high (level after (role.Failed ce lun)))) i
-    (cond (is_low (level before (role.Busy ce lun)) && falls (level before (role.ArrayBusy ce lun)) (level after (role.ArrayBusy ce lun))) (Some (Ard ce lun)) None)
+    (cond (array_is_done before after ce lun) (Some (Ard ce lun)) None)
     h (few, little)
-    (λ g. some_of (is_low (level before (role.Busy ce lun)) && falls (level before (role.ArrayBusy ce lun)) (level after (role.ArrayBusy ce lun))) (Ard ce lun) i None g (few, little) (none_is i))
+    (λ g. some_of (array_is_done before after ce lun) (Ard ce lun) i None g (few, little) (none_is i))
 
-fine_readies : (time : ℕ) (before after : List Level) (os : List Observed) (count n : ℕ) → n + count ≤ 16 → AreFine os → AreFine (with_readies time before after os count n)
+fine_readies : (time : ℕ) (before after : List Level) (os : List Observed) (count n : ℕ) → n + count ≤ 16 → AreSeenInside os → AreSeenInside (with_readies time before after os count n)
 fine_readies time before after os zero n few rest = rest
 fine_readies time before after os (suc count) n few rest =
     fine_readies time before after (with_item time (ready_of before after (n / 4) (n % 4)) os) count (n + 1) (omega (arith, few))
@@ -171,32 +150,27 @@ at_time_ok : {A : Type 0} (time : ℕ) (x : Result A BusFault) (a : A) → at_ti
 at_time_ok time (Ok x) a h = cc
 at_time_ok time (Err e) a h = cc
 
-settled_fine : (s : Sampler) (os now : List Observed) → s.targets ≤ 4 → AreFine os → settled s os ≡ Ok now → AreFine now
+strobe_fine : (s : Sampler) (strobe : Strobe) (known : Strobing) (seen : Seen) → s.targets ≤ 4 → strobe_seen s strobe known ≡ Ok seen → IsSeenFine seen
+strobe_fine s strobe known seen few h =
+    let k = bind_ok (steady s.targets strobe (is_short s.glitch s.time known.since) s.before.of s.after.of) (λ _. seen_of s.targets strobe known.driven s.before.of s.after.of) seen h in
+    seen_fine s.targets strobe known.driven s.before.of s.after.of seen few k.2
+
+pub settled_fine : (s : Sampler) (os now : List Observed) → s.targets ≤ 4 → AreSeenInside os → settled s os ≡ Ok now → AreSeenInside now
 settled_fine s os now few rest h =
-    let w = bind_ok (at_time s.time (seen_of s.targets strobe.Write s.we_driven s.before.of s.after.of))
-    (λ written. at_time s.time (seen_of s.targets strobe.Read s.re_driven s.before.of s.after.of) >>= λ read. Ok (with_seen s written read os)) now h in
-    let r = bind_ok (at_time s.time (seen_of s.targets strobe.Read s.re_driven s.before.of s.after.of)) (λ read. Ok (with_seen s w.0 read os)) now w.2 in
-    let written = seen_fine s.targets strobe.Write s.we_driven s.before.of s.after.of w.0 few (at_time_ok s.time (seen_of s.targets strobe.Write s.we_driven s.before.of s.after.of) w.0 w.1) in
-    let read = seen_fine s.targets strobe.Read s.re_driven s.before.of s.after.of r.0 few (at_time_ok s.time (seen_of s.targets strobe.Read s.re_driven s.before.of s.after.of) r.0 r.1) in
-    subst AreFine (same_ok (with_seen s w.0 r.0 os) now r.2)
+    let w = bind_ok (at_time s.time (strobe_seen s strobe.Write s.we)) (λ written. at_time s.time (strobe_seen s strobe.Read s.re) >>= λ read. Ok (with_seen s written read os)) now h in
+    let r = bind_ok (at_time s.time (strobe_seen s strobe.Read s.re)) (λ read. Ok (with_seen s w.0 read os)) now w.2 in
+    let written = strobe_fine s strobe.Write s.we w.0 few (at_time_ok s.time (strobe_seen s strobe.Write s.we) w.0 w.1) in
+    let read = strobe_fine s strobe.Read s.re r.0 few (at_time_ok s.time (strobe_seen s strobe.Read s.re) r.0 r.1) in
+    subst AreSeenInside (same_ok (with_seen s w.0 r.0 os) now r.2)
     (fine_releases s.time s.before.of s.after.of (with_readies s.time s.before.of s.after.of (with_item s.time (item_of r.0) (with_item s.time (item_of w.0) os)) (4 * s.targets) 0) s.targets 0 (omega (arith, few))
     (fine_readies s.time s.before.of s.after.of (with_item s.time (item_of r.0) (with_item s.time (item_of w.0) os)) (4 * s.targets) 0 (omega (arith, few))
     (fine_item s.time (item_of r.0) (with_item s.time (item_of w.0) os) (λ i is. item_fine r.0 i read is)
     (fine_item s.time (item_of w.0) os (λ i is. item_fine w.0 i written is) rest))))
 
-capturing_fine : (sources : List Source) (s : Sampler) (os : List Observed) (told : List Told) (now : List Observed) → s.targets ≤ 4 → AreFine os → capturing sources s os told ≡ Ok now → AreFine now
-capturing_fine sources s os [] now few rest h = settled_fine s os now few rest h
-capturing_fine sources s os (Err f ∷ told) now few rest h = cc
-capturing_fine sources s os (Ok (Change code bits) ∷ told) now few rest h = capturing_fine sources (changed sources code bits s) os told now few rest h
-capturing_fine sources s os (Ok (Time time) ∷ told) now few rest h =
-    at (eqb time s.time) (capturing_fine sources s os told now few rest) (λ more fine. capturing_fine sources (later s time) more told now few fine) h
-  where
-    at : (b : Bool) → (capturing sources s os told ≡ Ok now → AreFine now) → ((more : List Observed) → AreFine more → capturing sources (later s time) more told ≡ Ok now → AreFine now)
-        → cond b (capturing sources s os told) (settled s os >>= λ more. capturing sources (later s time) more told) ≡ Ok now → AreFine now
-    at true same next g = same g
-    at false same next g =
-        let k = bind_ok (settled s os) (λ more. capturing sources (later s time) more told) now g in
-        next k.0 (settled_fine s os k.0 few rest k.1) k.2
+pub seen_drop : (n : ℕ) (os : List Observed) → AreSeenInside os → AreSeenInside (drop n os)
+seen_drop zero os inside = inside
+seen_drop (suc n) [] inside = inside
+seen_drop (suc n) (o ∷ os) inside = seen_drop n os inside.1
 
 -- ---- the items with the readies that they show
 
@@ -211,7 +185,7 @@ stamps_inside time (Some i) here = (here i refl, tt)
 some_inside : (i j : Item) → IsInside i → Some i ≡ Some j → IsInside j
 some_inside i j here h = let same : i ≡ j = cc in subst IsInside same here
 
-shown_inside : (sure : Bool) (state : BusView) (time : ℕ) (i : Item) (stamped : List Stamped) → IsInside i → AreInside stamped → AreInside (with_shown sure state time i stamped)
+pub shown_inside : (sure : Bool) (state : BusView) (time : ℕ) (i : Item) (stamped : List Stamped) → IsInside i → AreInside stamped → AreInside (with_shown sure state time i stamped)
 shown_inside false state time i stamped here rest = inside_append stamped (stamps time (Some i)) rest (stamps_inside time (Some i) (λ j is. some_inside i j here is))
 shown_inside true state time i stamped here rest =
     inside_append ((stamped ++ stamps time (ready_before state i)) ++ stamps time (array_ready_before (with_ready state i) i)) (stamps time (Some i))
@@ -223,53 +197,9 @@ shown_inside true state time i stamped here rest =
 release_inside : (sure : Bool) (state : BusView) (luns ce : ℕ) (os : List Observed) (i : Item) → ce ≤ 3 → release_of sure state luns ce os ≡ Some i → IsInside i
 release_inside false state luns ce os i few h = cc
 release_inside true state luns ce os i few h =
-    some_of (is_waiting state luns ce) (Rdy ce 0 (fails_from false ce os)) i None h (few, omega arith) (none_is i)
+    some_of (is_waiting state luns ce) (Rdy ce 0 (fails_within 65536 false ce os)) i None h (few, omega arith) (none_is i)
 
-inferred_inside : (luns : ℕ) (sure : Bool) (state : BusView) (stamped : List Stamped) (os : List Observed) → AreFine os → AreInside stamped → AreInside (inferred luns sure state stamped os)
-inferred_inside luns sure state stamped [] fine rest = rest
-inferred_inside luns sure state stamped (o ∷ os) fine rest = at o.observation (λ sure state stamped. inferred_inside luns sure state stamped os fine.1) fine.0
-  where
-    at : (seen : Observation) → ((sure : Bool) (state : BusView) (stamped : List Stamped) → AreInside stamped → AreInside (inferred luns sure state stamped os)) → IsFine seen
-        → AreInside (inferred_by seen o.time luns sure state os stamped (λ sure state stamped. inferred luns sure state stamped os))
-    at (observation.Item i) next here =
-        next (sure_after sure state i) (state_after sure state i) (with_shown sure state o.time i stamped) (shown_inside sure state o.time i stamped here rest)
-    at (observation.Released ce) next here =
-        next sure (released (release_of sure state luns ce os) state) (stamped ++ stamps o.time (release_of sure state luns ce os))
-        (inside_append stamped (stamps o.time (release_of sure state luns ce os)) rest (stamps_inside o.time (release_of sure state luns ce os) (λ i is. release_inside sure state luns ce os i here is)))
-
--- ---- a whole capture
-
-items_inside : (g : Parts) (targets : ℕ) (shown : Shown) → AreFine shown.observed → AreInside (items_shown g targets shown)
-items_inside g targets shown fine = inferred_inside g.luns (not shown.tells_readies) (fresh g targets) [] shown.observed fine tt
-
--- what the sources of a capture show of what is told
-told_fine : (targets : ℕ) (sources : List Source) (ts : List Told) (shown : Shown) → targets ≤ 4 → (told_items targets sources ts >>= λ observed. Ok (record { observed = observed; tells_readies = tells_readies sources })) ≡ Ok shown → AreFine shown.observed
-told_fine targets sources ts shown few h =
-    let b = bind_ok (told_items targets sources ts) (λ observed. Ok (record { observed = observed; tells_readies = tells_readies sources })) shown h in
-    let seen : Shown = record { observed = b.0; tells_readies = tells_readies sources } in
-    subst (λ (shown : Shown). AreFine shown.observed) (same_ok seen shown b.2) (capturing_fine sources (begun targets unknown) [] ts b.0 few tt b.1)
-
-dump_fine : (targets : ℕ) (mappings : List Mapping) (text : List ℕ) (shown : Shown) → targets ≤ 4 → shown_in targets mappings text ≡ Ok shown → AreFine shown.observed
-dump_fine targets mappings text shown few h =
-    let r = bind_ok (in_file (header text)) (λ read. sources_in targets mappings read >>= λ sources. body_items targets read sources >>= λ observed. Ok (record { observed = observed; tells_readies = tells_readies sources })) shown h in
-    let q = bind_ok (sources_in targets mappings r.0) (λ sources. body_items targets r.0 sources >>= λ observed. Ok (record { observed = observed; tells_readies = tells_readies sources })) shown r.2 in
-    told_fine targets q.0 (told_from r.0.header.widths beginning r.0.line r.0.rest) shown few q.2
-
-table_fine : (targets : ℕ) (mappings : List Mapping) (text : List ℕ) (shown : Shown) → targets ≤ 4 → shown_in_csv targets mappings text ≡ Ok shown → AreFine shown.observed
-table_fine targets mappings text shown few h =
-    let r = bind_ok (in_file (table_of (rows text))) (λ table. in_roles (sources_of targets (map (carrier_of mappings) table.columns.variables)) >>= λ sources. told_items targets sources (told table) >>= λ observed. Ok (record { observed = observed; tells_readies = tells_readies sources })) shown h in
-    let q = bind_ok (in_roles (sources_of targets (map (carrier_of mappings) r.0.columns.variables))) (λ sources. told_items targets sources (told r.0) >>= λ observed. Ok (record { observed = observed; tells_readies = tells_readies sources })) shown r.2 in
-    told_fine targets q.0 (told r.0) shown few q.2
-
--- the same as a capture is read
-stamped_inside : {X : Type 0} (view : X → List Stamped) (g : Parts) (targets : ℕ) (shown : Shown) (r : Result X CaptureRefusal) → AreFine shown.observed → IfOk r (λ c. items_shown g targets shown ≡ view c) → IfOk r (λ c. AreInside (view c))
-stamped_inside view g targets shown (Ok c) fine is = subst AreInside is (items_inside g targets shown fine)
-stamped_inside view g targets shown (Err e) fine is = tt
-
-pub dump_inside : {X : Type 0} (view : X → List Stamped) (g : Parts) (targets : ℕ) (mappings : List Mapping) (text : List ℕ) (shown : Shown) (r : Result X CaptureRefusal) → targets ≤ 4 → shown_in targets mappings text ≡ Ok shown
-    → IfOk r (λ c. items_shown g targets shown ≡ view c) → IfOk r (λ c. AreInside (view c))
-dump_inside view g targets mappings text shown r few h is = stamped_inside view g targets shown r (dump_fine targets mappings text shown few h) is
-
-pub table_inside : {X : Type 0} (view : X → List Stamped) (g : Parts) (targets : ℕ) (mappings : List Mapping) (text : List ℕ) (shown : Shown) (r : Result X CaptureRefusal) → targets ≤ 4 → shown_in_csv targets mappings text ≡ Ok shown
-    → IfOk r (λ c. items_shown g targets shown ≡ view c) → IfOk r (λ c. AreInside (view c))
-table_inside view g targets mappings text shown r few h is = stamped_inside view g targets shown r (table_fine targets mappings text shown few h) is
+pub released_inside : (sure : Bool) (state : BusView) (luns ce time : ℕ) (os : List Observed) (stamped : List Stamped) → ce ≤ 3 → AreInside stamped
+    → AreInside (stamped ++ stamps time (release_of sure state luns ce os))
+released_inside sure state luns ce time os stamped few rest =
+    inside_append stamped (stamps time (release_of sure state luns ce os)) rest (stamps_inside time (release_of sure state luns ce os) (λ i is. release_inside sure state luns ce os i few is))

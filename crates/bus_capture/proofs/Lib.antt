@@ -1,4 +1,6 @@
-pub mod Joined
-pub mod Added
-pub mod Carriers
 pub mod Captured
+pub mod Refused
+pub mod Unchanged
+pub mod Looking
+pub mod Tracing
+pub mod Spanning

@@ -11,26 +11,28 @@ use Rattle.vcd_text.specs.Dumps.{beginning}
 use Rattle.csv_text.specs.Rows.{rows}
 use Rattle.csv_text.specs.Table.{table_of}
 use Rattle.csv_text.specs.Body.{told}
-use Rattle.bus_capture.specs.declared.fault.RoleFault.{RoleFault}
+use Rattle.bus_signals.specs.declared.fault.RoleFault.{RoleFault}
 use Rattle.bus_capture.specs.declared.fault.BusFault.{BusFault}
 use Rattle.bus_capture.specs.declared.fault.CaptureFault.{CaptureFault}
 use Rattle.bus_capture.specs.declared.fault.CaptureFault.TheVariants.{File, Bus}
 use Rattle.bus_capture.specs.declared.fault.CaptureFault.TheVariants as fault
 use Rattle.bus_capture.specs.declared.fault.CaptureRefusal.{CaptureRefusal}
 use Rattle.bus_capture.specs.declared.fault.CaptureRefusal.TheVariants.{Fault, OutOfMemory}
-use Rattle.bus_capture.specs.declared.role.Role.{Role}
-use Rattle.bus_capture.specs.declared.role.Role.TheVariants.{We, Re}
-use Rattle.bus_capture.specs.declared.role.Role.TheVariants as role
-use Rattle.bus_capture.specs.declared.mapping.Mapping.{Mapping}
-use Rattle.bus_capture.specs.declared.source.Source.{Source}
+use Rattle.bus_signals.specs.declared.role.Role.{Role}
+use Rattle.bus_signals.specs.declared.role.Role.TheVariants.{We, Re}
+use Rattle.bus_signals.specs.declared.role.Role.TheVariants as role
+use Rattle.bus_signals.specs.declared.source.Source.{Source}
 use Rattle.bus_capture.specs.declared.sampling.Seen.{Seen}
+use Rattle.bus_capture.specs.declared.sampling.Strobe.{Strobe}
 use Rattle.bus_capture.specs.declared.sampling.Strobe.TheVariants.{Write}
 use Rattle.bus_capture.specs.declared.sampling.Strobe.TheVariants as strobe
 use Rattle.bus_capture.specs.declared.sampler.Observation.TheVariants as observation
 use Rattle.bus_capture.specs.declared.sampler.Observed.{Observed}
 use Rattle.bus_capture.specs.declared.sampler.Sampler.{Sampler}
-use Rattle.bus_capture.specs.Roles.{carrier_of, sources_of}
-use Rattle.bus_capture.specs.Sampling.{level, with_change, seen_of, item_of, rises, ready_of}
+use Rattle.bus_capture.specs.declared.sampler.Strobing.{Strobing}
+use Rattle.bus_capture.specs.declared.reading.Setup.{Setup}
+use Rattle.bus_signals.specs.Roles.{carrier_of, sources_of}
+use Rattle.bus_capture.specs.Sampling.{level, with_change, seen_of, item_of, rises, is_edge, is_short, steady, ready_of}
 
 -- ---- what is seen at a time
 
@@ -63,11 +65,17 @@ with_seen s written read observed =
     with_releases s.time s.before.of s.after.of
     (with_readies s.time s.before.of s.after.of (with_item s.time (item_of read) (with_item s.time (item_of written) observed)) (4 * s.targets) 0) s.targets 0
 
--- items with what is seen where the levels before become those of now: of WE#, of RE#, and of a model
+-- what is seen of a strobe of which this is known, where the levels before become those of now
+abbrev pub strobe_seen : Sampler → Strobe → Strobing → Result Seen BusFault
+strobe_seen s strobe known = do
+  _ ← steady s.targets strobe (is_short s.glitch s.time known.since) s.before.of s.after.of
+  seen_of s.targets strobe known.driven s.before.of s.after.of
+
+-- items with what is seen: of WE#, of RE#, of a model, and of R/B#
 abbrev pub settled : Sampler → List Observed → Result (List Observed) CaptureFault
 settled s observed = do
-  written ← at_time s.time (seen_of s.targets Write s.we_driven s.before.of s.after.of)
-  read ← at_time s.time (seen_of s.targets strobe.Read s.re_driven s.before.of s.after.of)
+  written ← at_time s.time (strobe_seen s Write s.we)
+  read ← at_time s.time (strobe_seen s strobe.Read s.re)
   Ok (with_seen s written read observed)
 
 -- ---- from time to time
@@ -77,15 +85,27 @@ is_known Low = true
 is_known High = true
 is_known Unknown = false
 
+abbrev pub untouched : Strobing
+untouched = record { driven = false; since = None }
+
+-- what is known of a strobe after these levels before and after a time
+abbrev pub strobing_after : Strobing → ℕ → (before after : Level) → Strobing
+strobing_after known time before after =
+    record { driven = known.driven || is_known after; since = if is_edge before after then Some time else known.since }
+
 -- nothing has been seen
-abbrev pub begun : ℕ → List Level → Sampler
-begun targets unknown =
-    record { targets = targets; time = 0; before = record { of = unknown }; after = record { of = unknown }; we_driven = false; re_driven = false }
+abbrev pub begun : ℕ → (glitch : ℕ) → List Level → Sampler
+begun targets glitch unknown =
+    record { targets = targets; glitch = glitch; time = 0; before = record { of = unknown }; after = record { of = unknown }; we = untouched; re = untouched }
 
 -- at a later time
 abbrev pub later : Sampler → ℕ → Sampler
-later s time =
-    record s { time = time; before = s.after; we_driven = s.we_driven || is_known (level s.after.of We); re_driven = s.re_driven || is_known (level s.after.of Re) }
+later s time = record s {
+  time = time;
+  before = s.after;
+  we = strobing_after s.we s.time (level s.before.of We) (level s.after.of We);
+  re = strobing_after s.re s.time (level s.before.of Re) (level s.after.of Re);
+}
 
 -- after a change
 abbrev pub changed : List Source → ℕ → List ℕ → Sampler → Sampler
@@ -117,16 +137,16 @@ unknown_from (suc count) = Unknown ∷ unknown_from count
 abbrev pub unknown : List Level
 unknown = unknown_from 68
 
-abbrev pub sources_in : ℕ → List Mapping → Read → Result (List Source) CaptureFault
-sources_in targets mappings read = in_roles (sources_of targets (map (carrier_of mappings) read.header.variables))
+abbrev pub sources_in : Setup → Read → Result (List Source) CaptureFault
+sources_in setup read = in_roles (sources_of setup.targets (map (carrier_of setup.mappings.now) read.header.variables))
 
 -- the items of what is told
-abbrev pub told_items : ℕ → List Source → List Told → Result (List Observed) CaptureFault
-told_items targets sources told = capturing sources (begun targets unknown) [] told
+abbrev pub told_items : Setup → List Source → List Told → Result (List Observed) CaptureFault
+told_items setup sources told = capturing sources (begun setup.targets setup.glitch unknown) [] told
 
 -- the items of a body
-abbrev pub body_items : ℕ → Read → List Source → Result (List Observed) CaptureFault
-body_items targets read sources = told_items targets sources (told_from read.header.widths beginning read.line read.rest)
+abbrev pub body_items : Setup → Read → List Source → Result (List Observed) CaptureFault
+body_items setup read sources = told_items setup sources (told_from read.header.widths beginning read.line read.rest)
 
 -- lines of a model tell when a LUN becomes ready
 abbrev pub is_busy_line : Role → Bool
@@ -150,19 +170,19 @@ pub record Shown : Type 0 where
   pub observed : List Observed
   pub tells_readies : Bool
 
-abbrev pub shown_in : ℕ → List Mapping → List ℕ → Result Shown CaptureFault
-shown_in targets mappings text = do
+abbrev pub shown_in : Setup → List ℕ → Result Shown CaptureFault
+shown_in setup text = do
   read ← in_file (header text)
-  sources ← sources_in targets mappings read
-  observed ← body_items targets read sources
+  sources ← sources_in setup read
+  observed ← body_items setup read sources
   Ok (record { observed = observed; tells_readies = tells_readies sources })
 
 -- the same of a CSV
-abbrev pub shown_in_csv : ℕ → List Mapping → List ℕ → Result Shown CaptureFault
-shown_in_csv targets mappings text = do
+abbrev pub shown_in_csv : Setup → List ℕ → Result Shown CaptureFault
+shown_in_csv setup text = do
   table ← in_file (table_of (rows text))
-  sources ← in_roles (sources_of targets (map (carrier_of mappings) table.columns.variables))
-  observed ← told_items targets sources (told table)
+  sources ← in_roles (sources_of setup.targets (map (carrier_of setup.mappings.now) table.columns.variables))
+  observed ← told_items setup sources (told table)
   Ok (record { observed = observed; tells_readies = tells_readies sources })
 
 -- a refusal is this fault; of memory that was refused nothing is said

@@ -4,7 +4,7 @@ use Rattle.vcd_text.specs.Codes.{code}
 use Rattle.bus_capture.specs.declared.fault.CaptureFault.{CaptureFault}
 use Rattle.bus_capture.specs.declared.fault.CaptureFault.TheVariants.{File, Role, Bus}
 use Rattle.bus_capture.specs.declared.fault.BusFault.{BusFault}
-use Rattle.bus_capture.specs.declared.fault.BusFault.TheVariants.{UnknownEnable, UnknownLatch, UnknownData, UnknownStrobe, BothLatches, LatchAtOutput, SeveralEnabled, StrobesTogether}
+use Rattle.bus_capture.specs.declared.fault.BusFault.TheVariants.{UnknownEnable, UnknownLatch, UnknownData, UnknownStrobe, BothLatches, LatchAtOutput, SeveralEnabled, StrobesTogether, Glitch}
 
 abbrev pub bus_code : BusFault → List ℕ
 bus_code UnknownEnable = codes "G5"
@@ -15,6 +15,7 @@ bus_code BothLatches = codes "G6"
 bus_code LatchAtOutput = codes "G6"
 bus_code SeveralEnabled = codes "G7"
 bus_code StrobesTogether = codes "G8"
+bus_code Glitch = codes "G10"
 
 abbrev pub capture_code : CaptureFault → List ℕ
 capture_code (File at) = code at.fault

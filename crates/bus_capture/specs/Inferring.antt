@@ -1,6 +1,5 @@
 -- The readies that a capture without a model shows: by status outputs, and by R/B# of a target of one LUN.
-use Rattle.std.specs.Prelude.{ℕ, ◌==◌, ◌&&◌, not, Bool, true, false, if◌then◌else◌, List, [], ◌∷◌, ◌++◌, Option, Some, None, Result, Ok}
-use Rattle.nand_geometry.specs.declared.parts.Parts.{Parts}
+use Rattle.std.specs.Prelude.{ℕ, zero, suc, ◌==◌, ◌&&◌, not, Bool, true, false, if◌then◌else◌, List, [], ◌∷◌, ◌++◌, Option, Some, None, Result, Ok}
 use Rattle.onfi_cycle.specs.declared.item.Kind.{Kind}
 use Rattle.onfi_cycle.specs.declared.item.Kind.TheVariants.{Cmd, Adr, Din, Dout}
 use Rattle.onfi_cycle.specs.declared.item.Cycle.{Cycle}
@@ -14,7 +13,7 @@ use Rattle.trace_faults.specs.Recovery.{gone_on}
 use Rattle.trace_faults.specs.ShownReadies.{ready_before, array_ready_before, with_ready, with_readies, has_fail}
 use Rattle.trace_faults.specs.Faults.{fresh}
 use Rattle.bus_capture.specs.declared.fault.CaptureFault.{CaptureFault}
-use Rattle.bus_capture.specs.declared.mapping.Mapping.{Mapping}
+use Rattle.bus_capture.specs.declared.reading.Setup.{Setup}
 use Rattle.bus_capture.specs.declared.sampler.Observation.{Observation}
 use Rattle.bus_capture.specs.declared.sampler.Observation.TheVariants as observation
 use Rattle.bus_capture.specs.declared.sampler.Observed.{Observed}
@@ -47,10 +46,11 @@ abbrev pub fails_by : Ahead → (Bool → Bool) → Bool
 fails_by (Known fail) later = fail
 fails_by (Going asked) later = later asked
 
--- whether the status tells failure that the target of this number is asked for next
-abbrev pub fails_from : (asked : Bool) → ℕ → List Observed → Bool
-fails_from asked ce [] = false
-fails_from asked ce (o ∷ later) = fails_by (ahead_of asked ce o.observation) (λ asked. fails_from asked ce later)
+-- whether the status tells failure that the target of this number is asked for next, among so many of what is seen
+abbrev pub fails_within : (most : ℕ) → (asked : Bool) → ℕ → List Observed → Bool
+fails_within zero asked ce later = false
+fails_within (suc most) asked ce [] = false
+fails_within (suc most) asked ce (o ∷ later) = fails_by (ahead_of asked ce o.observation) (λ asked. fails_within most asked ce later)
 
 -- ---- an item, with the readies that its byte shows as long as all before it were permitted
 
@@ -88,7 +88,7 @@ is_waiting state luns ce = luns == 1 && is_busy (looked state (record { ce = ce;
 -- the ready that this shows
 abbrev pub release_of : (sure : Bool) → BusView → (luns ce : ℕ) → List Observed → Option Item
 release_of false state luns ce later = None
-release_of true state luns ce later = if is_waiting state luns ce then Some (Rdy ce 0 (fails_from false ce later)) else None
+release_of true state luns ce later = if is_waiting state luns ce then Some (Rdy ce 0 (fails_within 65536 false ce later)) else None
 
 abbrev pub released : Option Item → BusView → BusView
 released None state = state
@@ -109,17 +109,18 @@ inferred luns sure state stamped (o ∷ later) =
 
 -- ---- a whole capture: its items, each with its time
 
-abbrev pub items_shown : Parts → ℕ → Shown → List Stamped
-items_shown g targets shown = inferred g.luns (not shown.tells_readies) (fresh g targets) [] shown.observed
+-- the items of what is shown, after these
+abbrev pub items_after : Setup → List Stamped → Shown → List Stamped
+items_after setup stamped shown = inferred setup.geometry.luns (not shown.tells_readies) (fresh setup.geometry setup.targets) stamped shown.observed
 
-abbrev pub captured : Parts → ℕ → List Mapping → List ℕ → Result (List Stamped) CaptureFault
-captured g targets mappings text = shown_in targets mappings text >>= λ shown. Ok (items_shown g targets shown)
+-- the items of the text of a dump, and of that of a CSV, after these
+abbrev pub captured_by : CaptureForm → Setup → List Stamped → List ℕ → Result (List Stamped) CaptureFault
+captured_by Dump setup stamped text = shown_in setup text >>= λ shown. Ok (items_after setup stamped shown)
+captured_by Table setup stamped text = shown_in_csv setup text >>= λ shown. Ok (items_after setup stamped shown)
 
--- the same of a CSV
-abbrev pub captured_csv : Parts → ℕ → List Mapping → List ℕ → Result (List Stamped) CaptureFault
-captured_csv g targets mappings text = shown_in_csv targets mappings text >>= λ shown. Ok (items_shown g targets shown)
+abbrev pub captured_after : Setup → List Stamped → List ℕ → Result (List Stamped) CaptureFault
+captured_after setup stamped text = captured_by setup.form setup stamped text
 
--- the same of a capture of this form
-abbrev pub captured_as : CaptureForm → Parts → ℕ → List Mapping → List ℕ → Result (List Stamped) CaptureFault
-captured_as Dump g targets mappings text = captured g targets mappings text
-captured_as Table g targets mappings text = captured_csv g targets mappings text
+-- the items of a text
+abbrev pub captured : Setup → List ℕ → Result (List Stamped) CaptureFault
+captured setup text = captured_after setup [] text

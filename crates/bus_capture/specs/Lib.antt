@@ -1,10 +1,9 @@
-pub mod Names
-pub mod Spots
-pub mod Roles
-pub mod Sources
 pub mod Sampling
 pub mod Capturing
 pub mod Inferring
 pub mod Recorded
 pub mod Codes
 pub mod Inside
+pub mod Still
+pub mod Tracing
+pub mod Spans

@@ -1,14 +1,13 @@
 -- A capture in memory.
 use Rattle.std.specs.Prelude.{◌≡◌, List, [], ◌∷◌, Option, Some, None, Result, Ok, Err}
+use Rattle.vcd_text.specs.declared.body.Body.{Body}
 use Rattle.vcd_text.specs.declared.body.Event.{Event}
-use Rattle.vcd_text.specs.Body.{Told}
-use Rattle.vcd_text.specs.Shown.{shown_event}
-use Rattle.bus_capture.specs.declared.fault.CaptureFault.{CaptureFault}
+use Rattle.vcd_text.specs.Words.{Word}
+use Rattle.vcd_text.specs.Body.{Widths, Told}
+use Rattle.vcd_text.specs.Shown.{shown_event, told_before, IsOver}
 use Rattle.bus_capture.specs.declared.fault.CaptureFault.TheVariants.{File, Role, Bus}
 use Rattle.bus_capture.specs.declared.fault.CaptureRefusal.{CaptureRefusal}
 use Rattle.bus_capture.specs.declared.fault.CaptureRefusal.TheVariants.{Fault, OutOfMemory}
-use Rattle.bus_capture.specs.declared.capturing.Observations.{Observations}
-use Rattle.bus_capture.specs.Capturing.{Shown, IsRefusalOf}
 
 -- an answer is the first of what is told, after which these are left; or there is nothing, or a fault of the file
 abbrev pub IsNext : Result (Option Event) CaptureRefusal → List Told → List Told → Type 0
@@ -19,10 +18,11 @@ IsNext (Err (Fault (Role f))) told later = ⊥
 IsNext (Err (Fault (Bus f time))) told later = ⊥
 IsNext (Err OutOfMemory) told later = ⊥
 
--- what a capture comes to stays what it was, or it is this refusal
-abbrev pub IsTaken : {A U : Type 0} → Result U CaptureRefusal → Result A CaptureFault → Result A CaptureFault → Type 0
-IsTaken (Ok u) old new = old ≡ new
-IsTaken (Err e) old new = IsRefusalOf e old
-
-abbrev pub shown_observations : {A : Type 0} → Observations A → Shown
-shown_observations c = record { observed = c.observed.items; tells_readies = c.tells_readies }
+-- the same of a piece of a dump, whatever words come later
+abbrev pub IsNextOf : Widths → Body → Result (Option Event) CaptureRefusal → Body → Type 0
+IsNextOf widths old (Ok (Some e)) new = (later : List Word) → told_before widths old later ≡ Ok (shown_event e) ∷ told_before widths new later
+IsNextOf widths old (Ok None) new = ((later : List Word) → told_before widths old later ≡ told_before widths new later) × IsOver widths new
+IsNextOf widths old (Err (Fault (File f))) new = (later : List Word) → told_before widths old later ≡ Err f ∷ []
+IsNextOf widths old (Err (Fault (Role f))) new = ⊥
+IsNextOf widths old (Err (Fault (Bus f time))) new = ⊥
+IsNextOf widths old (Err OutOfMemory) new = ⊥

@@ -1,5 +1,5 @@
 -- What is sampled of the levels of a bus, where a strobe rises, and what lines of a model tell beside it.
-use Rattle.std.specs.Prelude.{ℕ, zero, suc, ◌+◌, ◌-◌, ◌==◌, ◌&&◌, Bool, true, false, nat_lt, if◌then◌else◌, List, [], ◌∷◌, length, slice_get, slice_index, slice_set, Option, Some, None, Result, Ok, Err}
+use Rattle.std.specs.Prelude.{ℕ, zero, suc, ◌+◌, ◌-◌, ◌==◌, ◌&&◌, ◌||◌, not, Bool, true, false, nat_lt, if◌then◌else◌, List, [], ◌∷◌, length, slice_get, slice_index, slice_set, Option, Some, None, Result, Ok, Err}
 use Rattle.std.specs.Option.{unwrap_or}
 use Rattle.onfi_cycle.specs.declared.item.Kind.{Kind}
 use Rattle.onfi_cycle.specs.declared.item.Kind.TheVariants.{Cmd, Adr, Din, Dout}
@@ -8,16 +8,16 @@ use Rattle.onfi_cycle.specs.declared.item.Item.TheVariants.{Cyc, Rdy, Ard}
 use Rattle.vcd_text.specs.declared.tokens.Level.{Level}
 use Rattle.vcd_text.specs.declared.tokens.Level.TheVariants.{Low, High, Unknown}
 use Rattle.vcd_text.specs.Tokens.{◌>>=◌, level_of}
-use Rattle.bus_capture.specs.declared.role.Role.{Role}
-use Rattle.bus_capture.specs.declared.role.Role.TheVariants.{Enable, Cle, Ale, We, Re, Dq, Busy, ArrayBusy, Failed}
-use Rattle.bus_capture.specs.declared.source.Source.{Source}
+use Rattle.bus_signals.specs.declared.role.Role.{Role}
+use Rattle.bus_signals.specs.declared.role.Role.TheVariants.{Enable, Cle, Ale, We, Re, Dq, Busy, ArrayBusy, Failed}
+use Rattle.bus_signals.specs.declared.source.Source.{Source}
 use Rattle.bus_capture.specs.declared.fault.BusFault.{BusFault}
-use Rattle.bus_capture.specs.declared.fault.BusFault.TheVariants.{UnknownEnable, UnknownLatch, UnknownData, UnknownStrobe, BothLatches, LatchAtOutput, SeveralEnabled, StrobesTogether}
+use Rattle.bus_capture.specs.declared.fault.BusFault.TheVariants.{UnknownEnable, UnknownLatch, UnknownData, UnknownStrobe, BothLatches, LatchAtOutput, SeveralEnabled, StrobesTogether, Glitch}
 use Rattle.bus_capture.specs.declared.sampling.Strobe.{Strobe}
 use Rattle.bus_capture.specs.declared.sampling.Strobe.TheVariants.{Write, Read}
 use Rattle.bus_capture.specs.declared.sampling.Seen.{Seen}
 use Rattle.bus_capture.specs.declared.sampling.Seen.TheVariants.{Nothing, Unselected, Sampled}
-use Rattle.bus_capture.specs.Roles.{place_of}
+use Rattle.bus_signals.specs.Roles.{place_of}
 
 -- ---- levels
 
@@ -163,6 +163,32 @@ item_of Nothing = None
 item_of Unselected = None
 item_of (Sampled c) = Some (Cyc c)
 
+-- ---- a strobe that changes too early
+
+-- it goes from low to high or back
+abbrev pub is_edge : (before after : Level) → Bool
+is_edge Low High = true
+is_edge High Low = true
+is_edge Low Low = false
+is_edge Low Unknown = false
+is_edge High High = false
+is_edge High Unknown = false
+is_edge Unknown _ = false
+
+-- less time than that of a glitch has gone since it went so, if it ever did
+abbrev pub is_short : (glitch time : ℕ) → (since : Option ℕ) → Bool
+is_short glitch time None = false
+is_short glitch time (Some t) = nat_lt (time - t) glitch
+
+abbrev pub glitch_if : Option ℕ → Result Bool BusFault
+glitch_if None = Ok false
+glitch_if (Some ce) = Err Glitch
+
+-- as far as a chip is enabled, a strobe doesn't change so early
+abbrev pub steady : ℕ → Strobe → (short : Bool) → (before after : List Level) → Result Bool BusFault
+steady targets strobe short before after =
+    if short && is_edge (level before (line_of strobe)) (level after (line_of strobe)) then (enabled_from before targets 0 None >>= λ enabled. glitch_if enabled) else Ok false
+
 -- ---- what lines of a model tell
 
 abbrev pub falls : (before after : Level) → Bool
@@ -182,8 +208,16 @@ is_low Low = true
 is_low High = false
 is_low Unknown = false
 
--- busy falls: a ready, with failure if that is told then; the array's line falls of a LUN that wasn't busy: a ready of the array
+-- a strobe rises
+abbrev pub strobe_rises : (before after : List Level) → Bool
+strobe_rises before after = rises (level before We) (level after We) || rises (level before Re) (level after Re)
+
+-- the array's line of a LUN that wasn't busy falls, and not with a cycle: a command that starts work or a reset ends what the array did, and that is no ready
+abbrev pub array_is_done : (before after : List Level) → (ce lun : ℕ) → Bool
+array_is_done before after ce lun = is_low (level before (Busy ce lun)) && (falls (level before (ArrayBusy ce lun)) (level after (ArrayBusy ce lun)) && not (strobe_rises before after))
+
+-- busy falls: a ready, with failure if that is told then; the array is done: a ready of the array
 abbrev pub ready_of : (before after : List Level) → (ce lun : ℕ) → Option Item
 ready_of before after ce lun =
     if falls (level before (Busy ce lun)) (level after (Busy ce lun)) then Some (Rdy ce lun (is_high (level after (Failed ce lun)))) else (
-    if is_low (level before (Busy ce lun)) && falls (level before (ArrayBusy ce lun)) (level after (ArrayBusy ce lun)) then Some (Ard ce lun) else None)
+    if array_is_done before after ce lun then Some (Ard ce lun) else None)

@@ -1,7 +1,7 @@
 //! How work ended that R/B# shows to be done.
-ghost use Rattle.std.specs.Prelude.{◌≡◌, false};
+ghost use Rattle.std.specs.Prelude.{◌≡◌, false, List, [], ◌++◌, IfSome, IfNone};
 ghost use Rattle.trace_faults.specs.ShownReadies.{has_fail};
-ghost use Rattle.bus_capture.specs.Inferring.{ahead_by, ahead_in, ahead_of, fails_from};
+ghost use Rattle.bus_capture.specs.Inferring.{ahead_by, ahead_in, ahead_of, fails_within};
 
 use crate::sampler::{Observation, Observed};
 use onfi_cycle::{Cycle, Item, Kind, Status};
@@ -66,16 +66,28 @@ fn ahead_of(asked: bool, ce: u8, observation: Observation) -> Ahead
     }
 }
 
-/// Whether the status tells failure that this target is asked for next, of what is seen later; if it isn't asked for, it doesn't.
-pub(crate) fn fails_ahead(ce: u8, later: &[Observed]) -> bool
-    ensures { result ≡ fails_from false ce later.now }
+// The verdict among what is seen later hangs on no more than so much of it.
+const MOST_AHEAD: usize = 65_536;
+
+/// Whether the status tells failure that this target is asked for next, of what is seen later; None where that hangs on what is seen after that. If it isn't
+/// asked for, it doesn't.
+pub(crate) fn fails_ahead(ce: u8, later: &[Observed]) -> Option<bool>
+    ensures some { IfSome result (λ fail. (more : List Observed) → fails_within 65536 false ce (later.now ++ more) ≡ fail) }
+    ensures none { IfNone result (fails_within 65536 false ce (later.now ++ []) ≡ false) }
 {
     let mut asked = false;
-    for observed in later {
-        match ahead_of(asked, ce, observed.observation) {
-            Ahead::Known(fail) => return fail,
+    let mut most = MOST_AHEAD;
+    let mut rest = later;
+    'rest: while let Some((first, others)) = rest.split_first() {
+        if most == 0 {
+            return Some(false);
+        }
+        match ahead_of(asked, ce, first.observation) {
+            Ahead::Known(fail) => return Some(fail),
             Ahead::Going(now) => asked = now,
         }
+        most -= 1;
+        rest = others;
     }
-    false
+    None
 }

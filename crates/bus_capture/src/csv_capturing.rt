@@ -1,17 +1,20 @@
-//! What a CSV shows of a bus.
-ghost use Rattle.std.specs.Prelude.{◌≡◌, ◌<◌, ◌≤◌, Ok, IfErr, IfOk, IfSome, OnOk};
+//! A CSV, read whole.
+ghost use Rattle.std.specs.Prelude.{◌≡◌, ◌<◌, ◌≤◌, List, [], Ok, IfErr, IfOk, IfSome, OnOk};
 ghost use Rattle.csv_text.specs.Rows.{rows};
 ghost use Rattle.csv_text.specs.Table.{table_of};
 ghost use Rattle.csv_text.specs.Body.{told};
 ghost use Rattle.csv_text.specs.Shown.{told_left, HasRoom, bytes_left, shown_table};
-ghost use Rattle.bus_capture.specs.Capturing.{unknown, begun, capturing, in_file, shown_in_csv, IsRefusalOf};
-ghost use Rattle.bus_capture.specs.Recorded.{IsNext, shown_observations};
+ghost use Rattle.bus_capture.specs.Capturing.{in_file, IsRefusalOf};
+ghost use Rattle.bus_capture.specs.Inferring.{captured_by};
+ghost use Rattle.bus_capture.specs.Inside.{AreInside};
+ghost use Rattle.bus_capture.specs.Recorded.{IsNext};
+ghost use Rattle.bus_capture.specs.Tracing.{traced, IsTracing};
 
-use crate::capturing::{Observations, find_sources, take_event, tells_readies};
-use crate::fault::{CaptureFault, CaptureRefusal};
-use crate::mapping::Mapping;
-use crate::sampler::{Observed, Sampler};
-use crate::source::Source;
+use crate::dump_reader::find_sources;
+use crate::fault::{CaptureFault, CaptureRefusal, copy_of};
+use crate::inferring::Stamped;
+use crate::reading::{CaptureForm, Setup};
+use crate::tracer::Tracer;
 use csv_text::{Body, Table, read_table};
 use std::alloc::Allocator;
 use vcd_text::{Event, HeaderRefusal};
@@ -30,25 +33,22 @@ fn next_of<'a>(body: &mut Body<'a>) -> Result<Option<Event<'a>>, CaptureRefusal>
     }
 }
 
-// Adds the items of rows, and counts the strobes that are none of ours.
-fn push_rows<A: Allocator>(
-    observed: &mut Vec<Observed, A>,
-    unselected: &mut u64,
-    targets: u8,
-    sources: &[Source],
+// Goes on by what rows tell.
+fn take_rows<A: Allocator + Clone>(
+    tracer: &mut Tracer<A>,
     whole: Body<'_>,
 ) -> Result<(), CaptureRefusal>
-    requires few { targets ≤ 4 }
+    requires tracing { IsTracing tracer.old }
     requires room { HasRoom whole }
-    ensures ok { OnOk result (capturing sources.now (begun targets unknown) observed.old.items (told_left whole.entry) ≡ Ok observed.new.items) }
-    ensures err { IfErr result (λ e. IsRefusalOf e (capturing sources.now (begun targets unknown) observed.old.items (told_left whole.entry))) }
+    ensures ok { OnOk result ((stamped : List Stamped) → traced tracer.old stamped (told_left whole.entry) ≡ traced tracer.new stamped []) }
+    ensures tracing { OnOk result (IsTracing tracer.new) }
+    ensures err { IfErr result (λ e. (stamped : List Stamped) → IsRefusalOf e (traced tracer.old stamped (told_left whole.entry))) }
 {
-    let mut sampler = Sampler::begun(targets);
     let mut body = whole;
     'events: while let Some(event) = next_of(&mut body)? {
-        take_event(&mut sampler, observed, unselected, sources, event)?;
+        tracer.take_event(event)?;
     }
-    sampler.settle(observed, unselected)
+    Ok(())
 }
 
 // The row of names of a CSV.
@@ -67,37 +67,27 @@ fn table_in<'a, A: Allocator>(alloc: A, text: &'a [u8]) -> Result<Table<'a, A>, 
     }
 }
 
-/// What a CSV shows of the bus of so many targets.
-pub(crate) fn observe_csv<A: Allocator + Clone>(
+/// Adds the items of a CSV: how many strobes rose with no chip enabled.
+pub(crate) fn read_table_into<A: Allocator + Clone, B: Allocator>(
     alloc: A,
-    targets: u8,
-    mappings: &[Mapping<'_>],
+    setup: &Setup<'_>,
     text: &[u8],
-) -> Result<Observations<A>, CaptureRefusal>
-    requires few { targets ≤ 4 }
-    ensures ok { IfOk result (λ c. shown_in_csv targets mappings.now text.now ≡ Ok (shown_observations c)) }
-    ensures err { IfErr result (λ e. IsRefusalOf e (shown_in_csv targets mappings.now text.now)) }
+    stamped: &mut Vec<Stamped, B>,
+) -> Result<u64, CaptureRefusal>
+    requires few { setup.now.targets ≤ 4 }
+    requires inside { AreInside stamped.old.items }
+    ensures ok { OnOk result (captured_by CaptureForm.Table setup.now stamped.old.items text.now ≡ Ok stamped.new.items) }
+    ensures inside { OnOk result (AreInside stamped.new.items) }
+    ensures err { IfErr result (λ e. IsRefusalOf e (captured_by CaptureForm.Table setup.now stamped.old.items text.now)) }
 {
-    let Ok(first) = alloc.clone() else {
-        return Err(CaptureRefusal::OutOfMemory);
-    };
-    let table = table_in(first, text)?;
-    let Ok(second) = alloc.clone() else {
-        return Err(CaptureRefusal::OutOfMemory);
-    };
-    let sources = find_sources(second, targets, mappings, table.variables.as_slice())?;
-    let mut observed = Vec::new(alloc);
-    let mut unselected = 0;
-    push_rows(
-        &mut observed,
-        &mut unselected,
-        targets,
-        sources.as_slice(),
-        table.body,
-    )?;
-    Ok(Observations {
-        observed,
-        tells_readies: tells_readies(sources.as_slice()),
-        unselected,
-    })
+    let table = table_in(copy_of(&alloc)?, text)?;
+    let sources = find_sources(copy_of(&alloc)?, setup, table.variables.as_slice())?;
+    let mut tracer = Tracer::begun(alloc, setup, sources)?;
+    match take_rows(&mut tracer, table.body) {
+        Ok(()) => match tracer.finish(stamped) {
+            Ok(()) => Ok(tracer.unselected),
+            Err(refusal) => Err(refusal),
+        },
+        Err(refusal) => Err(refusal),
+    }
 }

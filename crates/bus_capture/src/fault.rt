@@ -1,46 +1,10 @@
 //! What is wrong with a capture.
-ghost use Rattle.std.specs.Prelude.{◌≡◌};
+ghost use Rattle.std.specs.Prelude.{◌≡◌, IfErr};
 ghost use Rattle.bus_capture.specs.Codes.{bus_code, capture_code, capture_number};
 
-use crate::role::Role;
-use std::fmt;
+use bus_signals::RoleFault;
 use thiserror::Error;
 use vcd_text::LineFault;
-
-impl fmt::Display for Role {
-    fn fmt<W: fmt::Write>(&self, f: &mut fmt::Formatter<W>) -> fmt::Result {
-        match *self {
-            Role::Enable(number) => write!(f, "CE{number}"),
-            Role::Cle => write!(f, "CLE"),
-            Role::Ale => write!(f, "ALE"),
-            Role::We => write!(f, "WE"),
-            Role::Re => write!(f, "RE"),
-            Role::Dq(bit) => write!(f, "DQ{bit}"),
-            Role::ReadyBusy(number) => write!(f, "RB{number}"),
-            Role::Busy { ce, lun } => write!(f, "busy{ce}_{lun}"),
-            Role::ArrayBusy { ce, lun } => write!(f, "array{ce}_{lun}"),
-            Role::Failed { ce, lun } => write!(f, "fail{ce}_{lun}"),
-        }
-    }
-}
-
-/// G3: a line has no signal, or two.
-#[derive(Clone, Copy, Debug, PartialEq, Eq, Error)]
-pub enum RoleFault {
-    #[error("no signal is {0} by its name: say which one it is by --map {0}=NAME")]
-    Missing(Role),
-    #[error("two signals are {0} by their names: say which one it is by --map {0}=NAME")]
-    Twice(Role),
-}
-
-/// Why the lines of a bus aren't found.
-#[derive(Clone, Copy, Debug, PartialEq, Eq, Error)]
-pub enum RoleRefusal {
-    #[error("{0}")]
-    Fault(RoleFault),
-    #[error("out of memory")]
-    OutOfMemory,
-}
 
 /// What is wrong with the levels of a bus at some time.
 #[derive(Clone, Copy, Debug, PartialEq, Eq, Error)]
@@ -69,10 +33,13 @@ pub enum BusFault {
     /// G8: the other strobe is low.
     #[error("WE# and RE# are low together")]
     StrobesTogether,
+    /// G10: a strobe went from low to high or back less than `--glitch` after it did so last, while a chip is enabled.
+    #[error("a strobe changes sooner after its last change than --glitch allows")]
+    Glitch,
 }
 
 impl BusFault {
-    /// Its code, G5 to G8.
+    /// Its code, G5 to G8, or G10.
     pub fn code(self) -> &'static str
         ensures { result.now ≡ bus_code self }
     {
@@ -84,6 +51,7 @@ impl BusFault {
             BusFault::BothLatches | BusFault::LatchAtOutput => "G6",
             BusFault::SeveralEnabled => "G7",
             BusFault::StrobesTogether => "G8",
+            BusFault::Glitch => "G10",
         }
     }
 }
@@ -100,7 +68,7 @@ pub enum CaptureFault {
 }
 
 impl CaptureFault {
-    /// Its code, G1 to G8.
+    /// Its code, G1 to G10.
     pub fn code(self) -> &'static str
         ensures { result.now ≡ capture_code self }
     {
@@ -130,4 +98,14 @@ pub enum CaptureRefusal {
     Fault(CaptureFault),
     #[error("out of memory")]
     OutOfMemory,
+}
+
+/// One more allocator.
+pub(crate) fn copy_of<A: Clone>(alloc: &A) -> Result<A, CaptureRefusal>
+    ensures err { IfErr result (λ e. e ≡ CaptureRefusal.OutOfMemory) }
+{
+    match alloc.clone() {
+        Ok(copy) => Ok(copy),
+        Err(_) => Err(CaptureRefusal::OutOfMemory),
+    }
 }

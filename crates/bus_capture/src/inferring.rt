@@ -1,10 +1,12 @@
 //! The readies that a capture without a model shows.
-ghost use Rattle.std.specs.Prelude.{◌≡◌, ◌≤◌, [], ◌∷◌, ◌++◌, true, not, IfOk, OnOk};
+ghost use Rattle.std.specs.Prelude.{◌≡◌, ◌≤◌, List, [], ◌∷◌, ◌++◌, true, false, not, length, drop, Ok, IfOk, OnOk, IfSome, IfNone};
 ghost use Rattle.onfi_cycle.specs.State.{judged};
 ghost use Rattle.onfi_cycle.specs.Look.{looked};
 ghost use Rattle.trace_faults.specs.ShownReadies.{with_readies};
 ghost use Rattle.trace_faults.specs.Faults.{fresh};
-ghost use Rattle.bus_capture.specs.Inferring.{stamps, with_shown, state_after, is_permitted, sure_after, is_busy, is_waiting, release_of, released, inferred};
+ghost use Rattle.bus_capture.specs.Inferring.{stamps, with_shown, state_after, is_permitted, sure_after, is_busy, is_waiting, release_of, released};
+ghost use Rattle.bus_capture.specs.Inside.{AreInside, IsSeenInside, AreSeenInside};
+ghost use Rattle.bus_capture.specs.Tracing.{MayFollow, inferred_on};
 
 use crate::ahead::fails_ahead;
 use crate::sampler::{Observation, Observed};
@@ -98,19 +100,31 @@ fn is_waiting(state: &BusState, luns: u8, ce: u8) -> bool
     luns == 1 && is_busy(state.lun_state(Lun { ce, lun: 0 }))
 }
 
-// The ready that a rise of R/B# shows.
-fn release_of(state: &BusState, luns: u8, sure: bool, ce: u8, later: &[Observed]) -> Option<Item>
-    ensures { result ≡ release_of sure state.now luns ce later.now }
+// The ready that a rise of R/B# shows, by what is seen later; None where that isn't known yet.
+fn release_of(
+    state: &BusState,
+    luns: u8,
+    sure: bool,
+    ce: u8,
+    later: &[Observed],
+    is_last: bool,
+) -> Option<Option<Item>>
+    ensures known { IfSome result (λ ready. (more : List Observed) → MayFollow is_last more → release_of sure state.now luns ce (later.now ++ more) ≡ ready) }
+    ensures open { IfNone result (is_last ≡ false) }
 {
-    if sure && is_waiting(state, luns, ce) {
-        Some(Item::Rdy {
-            ce,
-            lun: 0,
-            fail: fails_ahead(ce, later),
-        })
-    } else {
-        None
+    if !sure || !is_waiting(state, luns, ce) {
+        return Some(None);
     }
+    let fail = match fails_ahead(ce, later) {
+        Some(fail) => fail,
+        None => {
+            if !is_last {
+                return None;
+            }
+            false
+        }
+    };
+    Some(Some(Item::Rdy { ce, lun: 0, fail }))
 }
 
 // Goes on by a ready, if there is one.
@@ -122,48 +136,102 @@ fn release(state: &mut BusState, ready: Option<Item>)
     }
 }
 
-// Adds the items of the first of what is seen: whether all were permitted.
-fn infer_first<A: Allocator>(
-    state: &mut BusState,
-    stamped: &mut Vec<Stamped, A>,
-    luns: u8,
-    sure: bool,
-    first: Observed,
-    later: &[Observed],
-) -> Result<bool, AllocError>
-    ensures { IfOk result (λ now. inferred luns sure state.old stamped.old.items (first ∷ later.now) ≡ inferred luns now state.new stamped.new.items later.now) }
-{
-    match first.observation {
-        Observation::Item(item) => infer_item(state, stamped, sure, first.time, item),
-        Observation::Released(ce) => {
-            let ready = release_of(state, luns, sure, ce, later);
-            release(state, ready);
-            push_some(stamped, first.time, ready)?;
-            Ok(sure)
-        }
-    }
+/// How far items are made of what is seen on targets of so many LUNs: whether all were permitted so far, and the state of the bus then.
+#[derive(Drop)]
+pub(crate) struct Inferring {
+    pub(crate) luns: u8,
+    pub(crate) sure: bool,
+    pub(crate) state: BusState,
 }
 
-/// The items of what is seen of a bus, each with its time. A model tells the readies. Without one, they are those that status outputs show, each before its
-/// output, and on targets of one LUN those that R/B# shows, as long as all items are permitted.
-pub(crate) fn infer<A: Allocator>(
-    alloc: A,
-    geometry: &Geometry,
-    targets: u8,
-    tells_readies: bool,
-    observed: &[Observed],
-) -> Result<Vec<Stamped, A>, AllocError>
-    requires { targets ≤ 4 }
-    ensures { IfOk result (λ stamped. stamped.items ≡ inferred geometry.now.luns (not tells_readies) (fresh geometry.now targets) [] observed.now) }
-{
-    let luns = geometry.parts().luns;
-    let mut state = BusState::new(*geometry, targets);
-    let mut stamped = Vec::new(alloc);
-    let mut sure = !tells_readies;
-    let mut rest = observed;
-    'rest: while let Some((first, later)) = rest.split_first() {
-        sure = infer_first(&mut state, &mut stamped, luns, sure, *first, later)?;
-        rest = later;
+impl Inferring {
+    /// Nothing is seen yet. Lines of a model may tell the readies, or what is seen shows them.
+    pub(crate) fn begun(geometry: &Geometry, targets: u8, tells_readies: bool) -> Inferring
+        requires few { targets ≤ 4 }
+        ensures luns { result.luns ≡ geometry.now.luns }
+        ensures sure { result.sure ≡ not tells_readies }
+        ensures state { result.state ≡ fresh geometry.now targets }
+    {
+        Inferring {
+            luns: geometry.parts().luns,
+            sure: !tells_readies,
+            state: BusState::new(*geometry, targets),
+        }
     }
-    Ok(stamped)
+
+    // Adds the items of a rise of R/B#; false where they aren't known yet.
+    fn infer_release<A: Allocator>(
+        &mut self,
+        stamped: &mut Vec<Stamped, A>,
+        time: u64,
+        ce: u8,
+        later: &[Observed],
+        is_last: bool,
+    ) -> Result<bool, AllocError>
+        ensures same { self.new.luns ≡ self.old.luns × self.new.sure ≡ self.old.sure }
+        ensures taken { result ≡ Ok true → (more : List Observed) → MayFollow is_last more
+            → (self.new.state ≡ released (release_of self.old.sure self.old.state self.old.luns ce (later.now ++ more)) self.old.state)
+            × (stamped.new.items ≡ stamped.old.items ++ stamps time (release_of self.old.sure self.old.state self.old.luns ce (later.now ++ more))) }
+        ensures inside { result ≡ Ok true → ce ≤ 3 → AreInside stamped.old.items → AreInside stamped.new.items }
+        ensures open { result ≡ Ok false → (is_last ≡ false) × (self.new ≡ self.old) × (stamped.new.items ≡ stamped.old.items) }
+    {
+        match release_of(&self.state, self.luns, self.sure, ce, later, is_last) {
+            None => Ok(false),
+            Some(ready) => {
+                release(&mut self.state, ready);
+                push_some(stamped, time, ready)?;
+                Ok(true)
+            }
+        }
+    }
+
+    // Adds the items of the first of what is seen; false where they aren't known yet.
+    #[tactic(auto, using(crate::proofs::Captured::shown_inside))]
+    fn infer_first<A: Allocator>(
+        &mut self,
+        stamped: &mut Vec<Stamped, A>,
+        first: Observed,
+        later: &[Observed],
+        is_last: bool,
+    ) -> Result<bool, AllocError>
+        ensures taken { result ≡ Ok true → (more : List Observed) → MayFollow is_last more
+            → inferred_on self.old stamped.old.items (first ∷ (later.now ++ more)) ≡ inferred_on self.new stamped.new.items (later.now ++ more) }
+        ensures inside { result ≡ Ok true → IsSeenInside first.observation → AreInside stamped.old.items → AreInside stamped.new.items }
+        ensures open { result ≡ Ok false → (is_last ≡ false) × (self.new ≡ self.old) × (stamped.new.items ≡ stamped.old.items) }
+    {
+        match first.observation {
+            Observation::Item(item) => {
+                self.sure = infer_item(&mut self.state, stamped, self.sure, first.time, item)?;
+                Ok(true)
+            }
+            Observation::Released(ce) => {
+                self.infer_release(stamped, first.time, ce, later, is_last)
+            }
+        }
+    }
+
+    /// Adds the items of what is seen, as far as they don't hang on what is seen later: of how much. Where it is the last, of all.
+    pub(crate) fn infer<A: Allocator>(
+        &mut self,
+        stamped: &mut Vec<Stamped, A>,
+        observed: &[Observed],
+        is_last: bool,
+    ) -> Result<usize, AllocError>
+        ensures within { IfOk result (λ count. count ≤ length observed.now) }
+        ensures taken { IfOk result (λ count. (more : List Observed) → MayFollow is_last more
+            → inferred_on self.old stamped.old.items (observed.now ++ more) ≡ inferred_on self.new stamped.new.items (drop count observed.now ++ more)) }
+        ensures inside { OnOk result (AreSeenInside observed.now → AreInside stamped.old.items → AreInside stamped.new.items) }
+        ensures all { IfOk result (λ count. is_last ≡ true → count ≡ length observed.now) }
+    {
+        let mut count = 0;
+        let mut rest = observed;
+        'rest: while let Some((first, later)) = rest.split_first() {
+            if !self.infer_first(stamped, *first, later, is_last)? {
+                return Ok(count);
+            }
+            count += 1;
+            rest = later;
+        }
+        Ok(count)
+    }
 }

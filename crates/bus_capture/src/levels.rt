@@ -1,11 +1,10 @@
 //! The levels of all lines.
-ghost use Rattle.std.specs.Prelude.{◌≡◌, slice_set};
-ghost use Rattle.bus_capture.specs.Roles.{place_of};
+ghost use Rattle.std.specs.Prelude.{◌≡◌, false, slice_set, drop};
+ghost use Rattle.bus_signals.specs.Roles.{place_of};
 ghost use Rattle.bus_capture.specs.Capturing.{unknown};
 ghost use Rattle.bus_capture.specs.Sampling.{level, shown_bit, filled, bit_at, with_source, with_change};
 
-use crate::role::Role;
-use crate::source::Source;
+use bus_signals::{Role, Source};
 use vcd_text::{Level, level_of};
 
 /// The levels of all lines; of a line that hasn't been seen it is unknown.
@@ -74,23 +73,31 @@ impl Levels {
         self.of[role.place()] = level;
     }
 
-    // After a change of a code.
+    // After a change of a code: whether one of the lines beside the bus may have changed.
     #[inline(always)]
-    fn change_one(&mut self, source: Source, code: u64, bits: &[u8])
-        ensures { self.new.of ≡ with_source source code bits.now self.old.of }
+    fn change_one(&mut self, source: Source, code: u64, bits: &[u8]) -> bool
+        ensures levels { self.new.of ≡ with_source source code bits.now self.old.of }
+        ensures beside { result ≡ false → drop 16 self.new.of ≡ drop 16 self.old.of }
     {
         if source.code == code {
             self.set(source.role, bit_at(bits, source.place));
+            return source.role.place() >= 16;
         }
+        false
     }
 
-    /// After a change of a code.
+    /// After a change of a code: whether one of the lines beside the bus may have changed.
     #[inline(always)]
-    pub fn change(&mut self, sources: &[Source], code: u64, bits: &[u8])
-        ensures { self.new.of ≡ with_change sources.now code bits.now self.old.of }
+    pub fn change(&mut self, sources: &[Source], code: u64, bits: &[u8]) -> bool
+        ensures levels { self.new.of ≡ with_change sources.now code bits.now self.old.of }
+        ensures beside { result ≡ false → drop 16 self.new.of ≡ drop 16 self.old.of }
     {
+        let mut beside = false;
         for source in sources {
-            self.change_one(*source, code, bits);
+            if self.change_one(*source, code, bits) {
+                beside = true;
+            }
         }
+        beside
     }
 }

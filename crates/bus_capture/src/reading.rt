@@ -1,17 +1,246 @@
 //! Reading a capture.
-ghost use Rattle.std.specs.Prelude.{◌≡◌, ◌≤◌, Ok, IfOk, IfErr};
+ghost use Rattle.std.specs.Prelude.{◌≡◌, ◌≤◌, ◌++◌, List, ℕ, [], None, Ok, IfOk, IfErr, OnOk};
 ghost use Rattle.bus_capture.specs.Capturing.{IsRefusalOf};
-ghost use Rattle.bus_capture.specs.Inferring.{items_shown, captured, captured_csv, captured_as};
+ghost use Rattle.bus_capture.specs.Inferring.{captured_by, captured_after, captured};
 ghost use Rattle.bus_capture.specs.Inside.{AreInside};
-ghost use Rattle.bus_capture.specs.Recorded.{shown_observations};
+ghost use Rattle.bus_capture.specs.Tracing.{comes, comes_dump, dump_after, IsReading, IsCapturing, IsTracing, OpensAs};
 
-use crate::capturing::{Observations, observe};
-use crate::csv_capturing::observe_csv;
-use crate::fault::CaptureRefusal;
-use crate::inferring::{Stamped, infer};
-use crate::mapping::Mapping;
+use crate::csv_capturing::read_table_into;
+use crate::dump_reader::DumpReader;
+use crate::fault::{CaptureFault, CaptureRefusal, copy_of};
+use crate::inferring::Stamped;
+use bus_signals::Mapping;
 use nand_geometry::Geometry;
 use std::alloc::Allocator;
+use vcd_text::{HeaderRefusal, LineFault, read_header, whole_len};
+
+/// As what a capture is read.
+#[derive(Clone, Copy, Debug, PartialEq, Eq)]
+pub enum CaptureForm {
+    /// A value change dump.
+    Dump,
+    /// A CSV: the export of Saleae Logic 2, which has a row at each change, or of sigrok-cli, which has one at each sample. Its first row has to name the
+    /// columns. A time of a Saleae export is in picoseconds; without a column of times it is the number of the sample, from 0.
+    Table,
+}
+
+/// What a capture is read by.
+#[derive(Clone, Copy, Debug, PartialEq, Eq)]
+pub struct Setup<'m> {
+    pub form: CaptureForm,
+    /// That of each die.
+    pub geometry: Geometry,
+    /// How many chip enables the channel has.
+    pub targets: u8,
+    /// What a caller says that signals are.
+    pub mappings: &'m [Mapping<'m>],
+    /// A strobe that changes again before so much time, in the capture's unit, is a fault; 0 where none is.
+    pub glitch: u64,
+}
+
+// What a header comes to: the body after it, or it isn't whole yet.
+#[derive(Drop)]
+pub(crate) enum Opened<A: Allocator> {
+    Whole(DumpReader<A>),
+    Unended(LineFault),
+}
+
+/// A capture that is read piece by piece: its pieces are given one after the other to [`CaptureReader::take`], which adds the items that are known then,
+/// and at its end [`CaptureReader::finish`] adds the others.
+///
+/// A cycle is sampled where a strobe rises and a chip is enabled, by the levels before that time. Where lines of a model are there (`busy0_1`), they tell the
+/// readies; else a ready stands before the status output that shows it, and on a target of one LUN where R/B# rises, as long as all items are permitted.
+///
+/// The faults of a dump, in this order: of the header (G1, G2), of the lines' signals (G3), and then of the changes (G4) and of the levels (G5 to G8, G10) in
+/// the order of the file. Those of a CSV: of the row of names (G9), of the lines' signals (G3), and then of the rows (G9) and of the levels. `OutOfMemory` is
+/// answered only where memory was refused, or where a text has 2^64 lines. The items are on one of four targets, and of one of four LUNs.
+///
+/// A dump takes memory for its header, for its longest word, and for what is seen after a rise of R/B# before it is known how the work ended (at most 65,536
+/// items); a CSV is kept whole until its end.
+#[derive(Drop)]
+pub struct CaptureReader<'m, A: Allocator> {
+    alloc: A,
+    setup: &'m Setup<'m>,
+    // The text whose header isn't whole yet, and how long it was when that was last tried.
+    head: Vec<u8, A>,
+    tried: usize,
+    dump: Option<DumpReader<A>>,
+}
+
+impl<'m, A: Allocator + Clone> CaptureReader<'m, A> {
+    /// A capture of which nothing is read yet.
+    pub fn new(alloc: A, setup: &'m Setup<'m>) -> Result<CaptureReader<'m, A>, CaptureRefusal>
+        requires few { setup.now.targets ≤ 4 }
+        ensures comes { IfOk result (λ r. (stamped : List Stamped) (text : List ℕ) → comes r stamped text ≡ captured_after setup.entry.now stamped text) }
+        ensures capturing { IfOk result (λ r. IsCapturing r) }
+        ensures err { IfErr result (λ e. e ≡ CaptureRefusal.OutOfMemory) }
+    {
+        let Ok(copy) = alloc.clone() else {
+            return Err(CaptureRefusal::OutOfMemory);
+        };
+        Ok(CaptureReader {
+            alloc,
+            setup,
+            head: Vec::new(copy),
+            tried: 0,
+            dump: None,
+        })
+    }
+
+    // Reads the header of a text, with this text after it.
+    fn open(&self, whole: &[u8], tail: &[u8]) -> Result<Opened<A>, CaptureRefusal>
+        requires few { self.now.setup.now.targets ≤ 4 }
+        ensures { OpensAs self.now.setup.now whole.now tail.now result }
+    {
+        let Ok(copy) = self.alloc.clone() else {
+            return Err(CaptureRefusal::OutOfMemory);
+        };
+        match read_header(copy_of(&self.alloc)?, whole) {
+            Ok(dump) => match DumpReader::begun(copy, self.setup, dump, tail) {
+                Ok(reader) => Ok(Opened::Whole(reader)),
+                Err(refusal) => Err(refusal),
+            },
+            Err(HeaderRefusal::Fault(fault)) => {
+                if fault.fault.is_unended() {
+                    Ok(Opened::Unended(fault))
+                } else {
+                    Err(CaptureRefusal::Fault(CaptureFault::File(fault)))
+                }
+            }
+            Err(HeaderRefusal::OutOfMemory) => Err(CaptureRefusal::OutOfMemory),
+        }
+    }
+    // Takes a piece of a text whose header isn't whole, or of a CSV.
+    fn push_head(&mut self, piece: &[u8]) -> Result<(), CaptureRefusal>
+        ensures head { OnOk result (self.new.head.items ≡ self.old.head.items ++ piece.now) }
+        ensures same { (self.new.setup ≡ self.old.setup) × (self.new.dump ≡ self.old.dump) }
+        ensures err { IfErr result (λ e. e ≡ CaptureRefusal.OutOfMemory) }
+    {
+        match self.head.extend_from_slice(piece) {
+            Ok(()) => Ok(()),
+            Err(_) => Err(CaptureRefusal::OutOfMemory),
+        }
+    }
+
+    // Goes on to the body if the header is whole.
+    fn open_head(&mut self) -> Result<(), CaptureRefusal>
+        requires few { self.old.setup.now.targets ≤ 4 }
+        requires none { self.old.dump ≡ None }
+        ensures ok { OnOk result ((stamped : List Stamped) (rest : List ℕ) → captured_by CaptureForm.Dump self.old.setup.now stamped (self.old.head.items ++ rest)
+            ≡ comes_dump self.new.dump self.new.setup.now self.new.head.items stamped rest) }
+        ensures err { IfErr result (λ e. (stamped : List Stamped) (rest : List ℕ) → IsRefusalOf e (captured_by CaptureForm.Dump self.old.setup.now stamped (self.old.head.items ++ rest))) }
+        ensures reading { OnOk result (IsReading self.new.dump) }
+        ensures same { self.new.setup ≡ self.old.setup }
+    {
+        let count = whole_len(self.head.as_slice());
+        let (whole, tail) = self.head.as_slice().split_at(count);
+        match self.open(whole, tail)? {
+            Opened::Whole(dump) => {
+                self.dump = Some(dump);
+                self.head.clear();
+            }
+            Opened::Unended(_) => self.tried = self.head.len(),
+        }
+        Ok(())
+    }
+    // Takes a piece of a dump.
+    fn take_dump<B: Allocator>(
+        &mut self,
+        piece: &[u8],
+        stamped: &mut Vec<Stamped, B>,
+    ) -> Result<(), CaptureRefusal>
+        requires capturing { IsCapturing self.old }
+        requires inside { AreInside stamped.old.items }
+        ensures ok { OnOk result ((rest : List ℕ) → comes_dump self.old.dump self.old.setup.now self.old.head.items stamped.old.items (piece.now ++ rest)
+            ≡ comes_dump self.new.dump self.new.setup.now self.new.head.items stamped.new.items rest) }
+        ensures capturing { OnOk result (IsCapturing self.new) }
+        ensures inside { OnOk result (AreInside stamped.new.items) }
+        ensures same { self.new.setup ≡ self.old.setup }
+        ensures err { IfErr result (λ e. (rest : List ℕ) → IsRefusalOf e (comes_dump self.old.dump self.old.setup.now self.old.head.items stamped.old.items (piece.now ++ rest))) }
+    {
+        if let Some(dump) = &mut self.dump {
+            return dump.take(piece, stamped);
+        }
+        self.push_head(piece)?;
+        if self.tried <= self.head.len() / 2 {
+            return self.open_head();
+        }
+        Ok(())
+    }
+
+    /// Goes on by a piece of the text, of any length, and adds the items that are known then. After a refusal nothing more is to be asked for.
+    pub fn take<B: Allocator>(
+        &mut self,
+        piece: &[u8],
+        stamped: &mut Vec<Stamped, B>,
+    ) -> Result<(), CaptureRefusal>
+        requires capturing { IsCapturing self.old }
+        requires inside { AreInside stamped.old.items }
+        ensures ok { OnOk result ((rest : List ℕ) → comes self.old stamped.old.items (piece.now ++ rest) ≡ comes self.new stamped.new.items rest) }
+        ensures capturing { OnOk result (IsCapturing self.new) }
+        ensures inside { OnOk result (AreInside stamped.new.items) }
+        ensures err { IfErr result (λ e. (rest : List ℕ) → IsRefusalOf e (comes self.old stamped.old.items (piece.now ++ rest))) }
+    {
+        match self.setup.form {
+            CaptureForm::Dump => self.take_dump(piece, stamped),
+            CaptureForm::Table => self.push_head(piece),
+        }
+    }
+
+    // The dump at its end: its header has to be whole.
+    fn open_last(&mut self) -> Result<DumpReader<A>, CaptureRefusal>
+        requires capturing { IsCapturing self.old }
+        ensures ok { IfOk result (λ d. (stamped : List Stamped) → comes_dump self.old.dump self.old.setup.now self.old.head.items stamped [] ≡ dump_after d stamped []) }
+        ensures tracing { IfOk result (λ d. IsTracing d.tracer) }
+        ensures err { IfErr result (λ e. (stamped : List Stamped) → IsRefusalOf e (comes_dump self.old.dump self.old.setup.now self.old.head.items stamped [])) }
+    {
+        if let Some(dump) = self.dump.take() {
+            return Ok(dump);
+        }
+        match self.open(self.head.as_slice(), &[])? {
+            Opened::Whole(dump) => Ok(dump),
+            Opened::Unended(fault) => Err(CaptureRefusal::Fault(CaptureFault::File(fault))),
+        }
+    }
+
+    // Adds the items that are left of a dump: how many strobes rose with no chip enabled.
+    fn finish_dump<B: Allocator>(
+        &mut self,
+        stamped: &mut Vec<Stamped, B>,
+    ) -> Result<u64, CaptureRefusal>
+        requires capturing { IsCapturing self.old }
+        requires inside { AreInside stamped.old.items }
+        ensures ok { OnOk result (comes_dump self.old.dump self.old.setup.now self.old.head.items stamped.old.items [] ≡ Ok stamped.new.items) }
+        ensures inside { OnOk result (AreInside stamped.new.items) }
+        ensures err { IfErr result (λ e. IsRefusalOf e (comes_dump self.old.dump self.old.setup.now self.old.head.items stamped.old.items [])) }
+    {
+        let mut dump = self.open_last()?;
+        dump.finish(stamped)?;
+        Ok(dump.tracer.unselected)
+    }
+
+    /// Adds the items that are left where the text ends: how many strobes rose with no chip enabled. Nothing more is to be asked for then.
+    pub fn finish<B: Allocator>(
+        &mut self,
+        stamped: &mut Vec<Stamped, B>,
+    ) -> Result<u64, CaptureRefusal>
+        requires capturing { IsCapturing self.old }
+        requires inside { AreInside stamped.old.items }
+        ensures ok { OnOk result (comes self.old stamped.old.items [] ≡ Ok stamped.new.items) }
+        ensures inside { OnOk result (AreInside stamped.new.items) }
+        ensures err { IfErr result (λ e. IsRefusalOf e (comes self.old stamped.old.items [])) }
+    {
+        match self.setup.form {
+            CaptureForm::Dump => self.finish_dump(stamped),
+            CaptureForm::Table => {
+                let Ok(copy) = self.alloc.clone() else {
+                    return Err(CaptureRefusal::OutOfMemory);
+                };
+                read_table_into(copy, self.setup, self.head.as_slice(), stamped)
+            }
+        }
+    }
+}
 
 /// A capture, read.
 #[derive(Debug, Drop)]
@@ -22,107 +251,30 @@ pub struct Capture<A: Allocator> {
     pub unselected: u64,
 }
 
-// A capture of what was seen.
-fn infer_items<A: Allocator>(
-    alloc: A,
-    geometry: &Geometry,
-    targets: u8,
-    seen: Observations<A>,
-) -> Result<Capture<A>, CaptureRefusal>
-    requires few { targets ≤ 4 }
-    ensures ok { IfOk result (λ c. items_shown geometry.now targets (shown_observations seen) ≡ c.stamped.items) }
-    ensures err { IfErr result (λ e. e ≡ CaptureRefusal.OutOfMemory) }
-{
-    match infer(
-        alloc,
-        geometry,
-        targets,
-        seen.tells_readies,
-        seen.observed.as_slice(),
-    ) {
-        Ok(stamped) => Ok(Capture {
-            stamped,
-            unselected: seen.unselected,
-        }),
-        Err(_) => Err(CaptureRefusal::OutOfMemory),
-    }
-}
-
-/// Reads a capture of the bus of a channel of so many targets of this geometry: a value change dump, of whose signals a caller may say what they are.
-///
-/// A cycle is sampled where a strobe rises and a chip is enabled, by the levels before that time. Where lines of a model are there (`busy0_1`), they tell the
-/// readies; else a ready stands before the status output that shows it, and on a target of one LUN where R/B# rises, as long as all items are permitted.
-///
-/// The faults, in this order: of the header (G1, G2), of the lines' signals (G3), and then of the changes (G4) and of the levels (G5 to G8) in the order of
-/// the file. The items are on one of four targets, and of one of four LUNs. `OutOfMemory` is answered only where memory was refused, and before a fault was met.
+/// Reads a whole capture, as [`CaptureReader`] does.
 pub fn read_capture<A: Allocator + Clone>(
     alloc: A,
-    geometry: &Geometry,
-    targets: u8,
-    mappings: &[Mapping<'_>],
+    setup: &Setup<'_>,
     text: &[u8],
 ) -> Result<Capture<A>, CaptureRefusal>
-    requires few { targets ≤ 4 }
-    ensures ok { IfOk result (λ c. captured geometry.now targets mappings.now text.now ≡ Ok c.stamped.items) }
+    requires few { setup.now.targets ≤ 4 }
+    ensures ok { IfOk result (λ c. captured setup.now text.now ≡ Ok c.stamped.items) }
     ensures inside { IfOk result (λ c. AreInside c.stamped.items) }
-    ensures err { IfErr result (λ e. IsRefusalOf e (captured geometry.now targets mappings.now text.now)) }
+    ensures err { IfErr result (λ e. IsRefusalOf e (captured setup.now text.now)) }
 {
     let Ok(copy) = alloc.clone() else {
         return Err(CaptureRefusal::OutOfMemory);
     };
-    let seen = observe(copy, targets, mappings, text)?;
-    infer_items(alloc, geometry, targets, seen)
-}
-
-/// The same of a CSV: the export of Saleae Logic 2, which has a row at each change, or of sigrok-cli, which has one at each sample. Its first row has to name
-/// the columns. A time of a Saleae export is in picoseconds; without a column of times it is the number of the sample, from 0.
-///
-/// The faults, in this order: of the row of names (G9), of the lines' signals (G3), and then of the rows (G9) and of the levels (G5 to G8) in the order of the
-/// file. `OutOfMemory` is answered only where memory was refused, and before a fault was met.
-pub fn read_capture_csv<A: Allocator + Clone>(
-    alloc: A,
-    geometry: &Geometry,
-    targets: u8,
-    mappings: &[Mapping<'_>],
-    text: &[u8],
-) -> Result<Capture<A>, CaptureRefusal>
-    requires few { targets ≤ 4 }
-    ensures ok { IfOk result (λ c. captured_csv geometry.now targets mappings.now text.now ≡ Ok c.stamped.items) }
-    ensures inside { IfOk result (λ c. AreInside c.stamped.items) }
-    ensures err { IfErr result (λ e. IsRefusalOf e (captured_csv geometry.now targets mappings.now text.now)) }
-{
-    let Ok(copy) = alloc.clone() else {
-        return Err(CaptureRefusal::OutOfMemory);
-    };
-    let seen = observe_csv(copy, targets, mappings, text)?;
-    infer_items(alloc, geometry, targets, seen)
-}
-
-/// As what a capture is read.
-#[derive(Clone, Copy, Debug, PartialEq, Eq)]
-pub enum CaptureForm {
-    /// A value change dump, as [`read_capture`] reads it.
-    Dump,
-    /// A CSV, as [`read_capture_csv`] reads it.
-    Table,
-}
-
-/// Reads a capture of this form, by [`read_capture`] or [`read_capture_csv`].
-pub fn read_capture_as<A: Allocator + Clone>(
-    alloc: A,
-    geometry: &Geometry,
-    targets: u8,
-    mappings: &[Mapping<'_>],
-    text: &[u8],
-    form: CaptureForm,
-) -> Result<Capture<A>, CaptureRefusal>
-    requires few { targets ≤ 4 }
-    ensures ok { IfOk result (λ c. captured_as form geometry.now targets mappings.now text.now ≡ Ok c.stamped.items) }
-    ensures inside { IfOk result (λ c. AreInside c.stamped.items) }
-    ensures err { IfErr result (λ e. IsRefusalOf e (captured_as form geometry.now targets mappings.now text.now)) }
-{
-    match form {
-        CaptureForm::Dump => read_capture(alloc, geometry, targets, mappings, text),
-        CaptureForm::Table => read_capture_csv(alloc, geometry, targets, mappings, text),
+    let mut reader = CaptureReader::new(alloc, setup)?;
+    let mut stamped = Vec::new(copy);
+    match reader.take(text, &mut stamped) {
+        Ok(()) => match reader.finish(&mut stamped) {
+            Ok(unselected) => Ok(Capture {
+                stamped,
+                unselected,
+            }),
+            Err(refusal) => Err(refusal),
+        },
+        Err(refusal) => Err(refusal),
     }
 }

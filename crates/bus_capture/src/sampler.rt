@@ -1,13 +1,13 @@
 //! What is seen of a bus, from one time to the next.
 ghost use Rattle.std.specs.Prelude.{◌≡◌, ◌+◌, ◌*◌, ◌/◌, ◌%◌, ◌<◌, ◌≤◌, [], ◌∷◌, ◌++◌, Ok, IfErr, OnOk};
-ghost use Rattle.bus_capture.specs.Sampling.{item_of, seen_of};
-ghost use Rattle.bus_capture.specs.Capturing.{with_item, with_release, with_releases, with_readies, with_seen, at_time, settled, is_known, unknown, begun, later, changed, IsSeen, IsRefusalOf};
+ghost use Rattle.bus_capture.specs.Sampling.{level, item_of};
+ghost use Rattle.bus_capture.specs.Capturing.{with_item, with_release, with_releases, with_readies, with_seen, at_time, settled, is_known, unknown, untouched, strobing_after, begun, later, changed, strobe_seen, IsSeen, IsRefusalOf};
+ghost use Rattle.bus_capture.specs.Still.{IsStill, IsStillUnless};
 
-use crate::fault::{CaptureFault, CaptureRefusal};
+use crate::fault::{BusFault, CaptureFault, CaptureRefusal};
 use crate::levels::Levels;
-use crate::role::Role;
-use crate::sampling::{Seen, Strobe, ready_of, rises, seen_of};
-use crate::source::Source;
+use crate::sampling::{Seen, Strobe, is_edge, is_short, ready_of, rises, seen_of, steady};
+use bus_signals::{Role, Source};
 use onfi_cycle::Item;
 use std::alloc::Allocator;
 use vcd_text::Level;
@@ -28,15 +28,24 @@ pub struct Observed {
     pub observation: Observation,
 }
 
-// The bus of so many targets at a time: its levels before and after it, and whether somebody has driven the strobes before.
+// What is known of a strobe: whether somebody has driven it, and when it last went from low to high or back.
+#[derive(Clone, Copy)]
+pub(crate) struct Strobing {
+    driven: bool,
+    since: Option<u64>,
+}
+
+// The bus of so many targets at a time: its levels before and after it, and what is known of the strobes before. A strobe that changes again before the time
+// of a glitch is one.
 #[derive(Clone, Copy)]
 pub(crate) struct Sampler {
     pub(crate) targets: u8,
+    pub(crate) glitch: u64,
     pub(crate) time: u64,
     before: Levels,
     after: Levels,
-    we_driven: bool,
-    re_driven: bool,
+    we: Strobing,
+    re: Strobing,
 }
 
 #[inline(always)]
@@ -170,28 +179,74 @@ fn push_readies<A: Allocator>(
     }
 }
 
+impl Strobing {
+    // Nothing is known of it.
+    fn untouched() -> Strobing
+        ensures { result ≡ untouched }
+    {
+        Strobing {
+            driven: false,
+            since: None,
+        }
+    }
+
+    // After these levels of the strobe before and after a time.
+    #[inline(always)]
+    fn after(self, time: u64, before: Level, after: Level) -> Strobing
+        ensures { result ≡ strobing_after self time before after }
+    {
+        Strobing {
+            driven: self.driven || is_known(after),
+            since: if is_edge(before, after) {
+                Some(time)
+            } else {
+                self.since
+            },
+        }
+    }
+}
+
 impl Sampler {
     /// Nothing has been seen of a bus of so many targets.
-    pub(crate) fn begun(targets: u8) -> Sampler
-        ensures { result ≡ begun targets unknown }
+    pub(crate) fn begun(targets: u8, glitch: u64) -> Sampler
+        ensures begun { result ≡ begun targets glitch unknown }
+        ensures still { IsStill result }
     {
         Sampler {
             targets,
+            glitch,
             time: 0,
             before: Levels::unknown(),
             after: Levels::unknown(),
-            we_driven: false,
-            re_driven: false,
+            we: Strobing::untouched(),
+            re: Strobing::untouched(),
         }
     }
 
     // What is seen of a strobe now.
     #[inline(always)]
-    fn seen(&self, strobe: Strobe, driven: bool) -> Result<Seen, CaptureRefusal>
+    fn look(&self, strobe: Strobe, known: Strobing) -> Result<Seen, BusFault>
         requires few { self.now.targets ≤ 4 }
-        ensures { IsSeen result (at_time self.now.time (seen_of self.now.targets strobe driven self.now.before.of self.now.after.of)) }
+        ensures { result ≡ strobe_seen self.now strobe known }
     {
-        match seen_of(self.targets, strobe, driven, &self.before, &self.after) {
+        let short = is_short(self.glitch, self.time, known.since);
+        let _ = steady(self.targets, strobe, short, &self.before, &self.after)?;
+        seen_of(
+            self.targets,
+            strobe,
+            known.driven,
+            &self.before,
+            &self.after,
+        )
+    }
+
+    // The same, with the time of what is wrong.
+    #[inline(always)]
+    fn seen(&self, strobe: Strobe, known: Strobing) -> Result<Seen, CaptureRefusal>
+        requires few { self.now.targets ≤ 4 }
+        ensures { IsSeen result (at_time self.now.time (strobe_seen self.now strobe known)) }
+    {
+        match self.look(strobe, known) {
             Ok(seen) => Ok(seen),
             Err(fault) => Err(CaptureRefusal::Fault(CaptureFault::Bus {
                 fault,
@@ -200,20 +255,16 @@ impl Sampler {
         }
     }
 
-    // Adds what strobes and a model tell now.
-    #[inline(always)]
-    fn push_seen<A: Allocator>(
+    // Adds what the lines beside the bus tell now.
+    fn push_beside<A: Allocator>(
         &self,
         observed: &mut Vec<Observed, A>,
-        written: Seen,
-        read: Seen,
     ) -> Result<(), CaptureRefusal>
         requires few { self.now.targets ≤ 4 }
-        ensures ok { OnOk result (observed.new.items ≡ with_seen self.now written read observed.old.items) }
+        ensures ok { OnOk result (observed.new.items ≡ with_releases self.now.time self.now.before.of self.now.after.of
+            (with_readies self.now.time self.now.before.of self.now.after.of observed.old.items (4 * self.now.targets) 0) self.now.targets 0) }
         ensures err { IfErr result (λ e. e ≡ CaptureRefusal.OutOfMemory) }
     {
-        push_item(observed, self.time, item_of(written))?;
-        push_item(observed, self.time, item_of(read))?;
         push_readies(
             observed,
             self.time,
@@ -232,23 +283,49 @@ impl Sampler {
         )
     }
 
-    /// Adds what is seen where the levels before become those of now.
+    // Adds what strobes and the lines beside the bus tell now; of those one may have changed.
+    #[inline(always)]
+    #[tactic(auto, using(crate::proofs::Unchanged::nothing_beside))]
+    fn push_seen<A: Allocator>(
+        &self,
+        observed: &mut Vec<Observed, A>,
+        beside: bool,
+        written: Seen,
+        read: Seen,
+    ) -> Result<(), CaptureRefusal>
+        requires few { self.now.targets ≤ 4 }
+        requires still { IsStillUnless beside self.now }
+        ensures ok { OnOk result (observed.new.items ≡ with_seen self.now written read observed.old.items) }
+        ensures err { IfErr result (λ e. e ≡ CaptureRefusal.OutOfMemory) }
+    {
+        push_item(observed, self.time, item_of(written))?;
+        push_item(observed, self.time, item_of(read))?;
+        if beside {
+            self.push_beside(observed)
+        } else {
+            Ok(())
+        }
+    }
+
+    /// Adds what is seen where the levels before become those of now. One of the lines beside the bus may have changed.
     #[inline(always)]
     pub(crate) fn settle<A: Allocator>(
         &self,
         observed: &mut Vec<Observed, A>,
+        beside: bool,
         unselected: &mut u64,
     ) -> Result<(), CaptureRefusal>
         requires few { self.now.targets ≤ 4 }
+        requires still { IsStillUnless beside self.now }
         ensures ok { OnOk result (settled self.now observed.old.items ≡ Ok observed.new.items) }
         ensures err { IfErr result (λ e. IsRefusalOf e (settled self.now observed.old.items)) }
     {
-        match self.seen(Strobe::Write, self.we_driven) {
-            Ok(written) => match self.seen(Strobe::Read, self.re_driven) {
+        match self.seen(Strobe::Write, self.we) {
+            Ok(written) => match self.seen(Strobe::Read, self.re) {
                 Ok(read) => {
                     count_unselected(unselected, written);
                     count_unselected(unselected, read);
-                    self.push_seen(observed, written, read)
+                    self.push_seen(observed, beside, written, read)
                 }
                 Err(refusal) => Err(refusal),
             },
@@ -259,19 +336,29 @@ impl Sampler {
     /// Goes on to a later time.
     #[inline(always)]
     pub(crate) fn go_on_to(&mut self, time: u64)
-        ensures { self.new ≡ later self.old time }
+        ensures later { self.new ≡ later self.old time }
+        ensures still { IsStill self.new }
     {
-        self.we_driven = self.we_driven || is_known(self.after.level(Role::We));
-        self.re_driven = self.re_driven || is_known(self.after.level(Role::Re));
+        self.we = self.we.after(
+            self.time,
+            self.before.level(Role::We),
+            self.after.level(Role::We),
+        );
+        self.re = self.re.after(
+            self.time,
+            self.before.level(Role::Re),
+            self.after.level(Role::Re),
+        );
         self.before = self.after;
         self.time = time;
     }
 
-    /// A code changes.
+    /// A code changes: whether one of the lines beside the bus may have.
     #[inline(always)]
-    pub(crate) fn change(&mut self, sources: &[Source], code: u64, bits: &[u8])
-        ensures { self.new ≡ changed sources.now code bits.now self.old }
+    pub(crate) fn change(&mut self, sources: &[Source], code: u64, bits: &[u8]) -> bool
+        ensures changed { self.new ≡ changed sources.now code bits.now self.old }
+        ensures still { IsStill self.old → IsStillUnless result self.new }
     {
-        self.after.change(sources, code, bits);
+        self.after.change(sources, code, bits)
     }
 }

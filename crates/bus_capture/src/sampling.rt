@@ -1,10 +1,10 @@
 //! What is sampled where the levels of a bus change.
 ghost use Rattle.std.specs.Prelude.{◌≡◌, ◌+◌, ◌*◌, ◌/◌, ◌%◌, ◌<◌, ◌≤◌, IfOk, None};
-ghost use Rattle.bus_capture.specs.Sampling.{level, with_enable, enabled_from, written_kind, read_kind, kind_of, line_of, other_line, weighed, byte_of, apart, cycle_of, cycle_if, rises, is_lost, lost_if, seen_of, falls, is_high, is_low, ready_of};
+ghost use Rattle.bus_capture.specs.Sampling.{level, with_enable, enabled_from, written_kind, read_kind, kind_of, line_of, other_line, weighed, byte_of, apart, cycle_of, cycle_if, rises, is_lost, lost_if, seen_of, is_edge, is_short, glitch_if, steady, falls, is_high, is_low, strobe_rises, array_is_done, ready_of};
 
 use crate::fault::BusFault;
 use crate::levels::Levels;
-use crate::role::Role;
+use bus_signals::Role;
 use onfi_cycle::{Cycle, Item, Kind};
 use vcd_text::Level;
 
@@ -232,6 +232,58 @@ pub fn seen_of(
     Ok(Seen::Nothing)
 }
 
+// The strobe goes from low to high or back.
+#[inline(always)]
+pub(crate) fn is_edge(before: Level, after: Level) -> bool
+    ensures { result ≡ is_edge before after }
+{
+    match (before, after) {
+        (Level::Low, Level::High) | (Level::High, Level::Low) => true,
+        (Level::Low, Level::Low | Level::Unknown)
+        | (Level::High, Level::High | Level::Unknown)
+        | (Level::Unknown, _) => false,
+    }
+}
+
+// Less time than that of a glitch has gone since the strobe went from low to high or back, if it ever did.
+#[inline(always)]
+pub(crate) fn is_short(glitch: u64, time: u64, since: Option<u64>) -> bool
+    ensures { result ≡ is_short glitch time since }
+{
+    match since {
+        None => false,
+        Some(since) => time.saturating_sub(since) < glitch,
+    }
+}
+
+fn glitch_if(enabled: Option<u8>) -> Result<bool, BusFault>
+    ensures { result ≡ glitch_if enabled }
+{
+    match enabled {
+        None => Ok(false),
+        Some(_) => Err(BusFault::Glitch),
+    }
+}
+
+// A strobe doesn't change too early, as far as a chip is enabled.
+#[inline(always)]
+pub(crate) fn steady(
+    targets: u8,
+    strobe: Strobe,
+    short: bool,
+    before: &Levels,
+    after: &Levels,
+) -> Result<bool, BusFault>
+    requires few { targets ≤ 4 }
+    ensures { result ≡ steady targets strobe short before.now.of after.now.of }
+{
+    if short && is_edge(before.level(strobe.line()), after.level(strobe.line())) {
+        let enabled = enabled_from(before, targets, 0, None)?;
+        return glitch_if(enabled);
+    }
+    Ok(false)
+}
+
 #[inline(always)]
 fn falls(before: Level, after: Level) -> bool
     ensures { result ≡ falls before after }
@@ -256,6 +308,28 @@ fn is_low(level: Level) -> bool
     matches!(level, Level::Low)
 }
 
+// A strobe rises.
+#[inline(always)]
+fn strobe_rises(before: &Levels, after: &Levels) -> bool
+    ensures { result ≡ strobe_rises before.now.of after.now.of }
+{
+    rises(before.level(Role::We), after.level(Role::We))
+        || rises(before.level(Role::Re), after.level(Role::Re))
+}
+
+// The line of a LUN's array tells that it is done, and no cycle has ended what it did.
+#[inline(always)]
+fn array_is_done(before: &Levels, after: &Levels, ce: u8, lun: u8) -> bool
+    ensures { result ≡ array_is_done before.now.of after.now.of ce lun }
+{
+    is_low(before.level(Role::Busy { ce, lun }))
+        && falls(
+            before.level(Role::ArrayBusy { ce, lun }),
+            after.level(Role::ArrayBusy { ce, lun }),
+        )
+        && !strobe_rises(before, after)
+}
+
 /// The ready that lines of a model tell of a LUN.
 #[inline(always)]
 pub fn ready_of(before: &Levels, after: &Levels, ce: u8, lun: u8) -> Option<Item>
@@ -269,12 +343,7 @@ pub fn ready_of(before: &Levels, after: &Levels, ce: u8, lun: u8) -> Option<Item
             fail: is_high(after.level(Role::Failed { ce, lun })),
         });
     }
-    if is_low(was_busy)
-        && falls(
-            before.level(Role::ArrayBusy { ce, lun }),
-            after.level(Role::ArrayBusy { ce, lun }),
-        )
-    {
+    if array_is_done(before, after, ce, lun) {
         return Some(Item::Ard { ce, lun });
     }
     None

@@ -1,5 +1,6 @@
 use crate::reading::{with_changes, words_of};
-use bus_capture::{CaptureRefusal, Mapping, Stamped, read_capture_csv};
+use bus_capture::{CaptureForm, CaptureRefusal, Setup, Stamped, read_capture};
+use bus_signals::Mapping;
 use nand_geometry::{Geometry, SMALL_CHIP};
 use std::alloc::Global;
 use std::process::Abort;
@@ -220,8 +221,14 @@ fn text_of(alloc: Global, stamped: &[Stamped]) -> Result<String, Fail> {
 
 // The items that a CSV shows of a channel of one small chip, or what is wrong with it.
 fn shown(alloc: Global, mappings: &[Mapping<'_>], csv: &[u8]) -> Result<String, Fail> {
-    let geometry = Geometry::of(SMALL_CHIP)?;
-    match read_capture_csv(alloc, &geometry, 1, mappings, csv) {
+    let setup = Setup {
+        form: CaptureForm::Table,
+        geometry: Geometry::of(SMALL_CHIP)?,
+        targets: 1,
+        mappings,
+        glitch: 0,
+    };
+    match read_capture(alloc, &setup, csv) {
         Ok(capture) => text_of(alloc, capture.stamped.as_slice()),
         Err(CaptureRefusal::Fault(fault)) => words_of(alloc, fault),
         Err(CaptureRefusal::OutOfMemory) => Err(Fail::from("out of memory")),

@@ -8,7 +8,11 @@ mod csv_text_tests;
 #[cfg(test)]
 mod fault_tests;
 #[cfg(test)]
+mod made_trace_tests;
+#[cfg(test)]
 mod name_tests;
+#[cfg(test)]
+mod piece_tests;
 #[cfg(test)]
 mod reading;
 #[cfg(test)]

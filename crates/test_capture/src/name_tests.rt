@@ -1,5 +1,5 @@
 use crate::reading::{STATUS, STATUS_TRACE, shown, with_changes};
-use bus_capture::Mapping;
+use bus_signals::Mapping;
 use std::alloc::Global;
 use std::process::Abort;
 use std::test::Fail;

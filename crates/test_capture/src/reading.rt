@@ -1,6 +1,7 @@
 //! Reading a dump in a test, and spoiling it.
 
-use bus_capture::{CaptureFault, CaptureRefusal, Mapping, Stamped, read_capture};
+use bus_capture::{CaptureFault, CaptureForm, CaptureRefusal, Setup, Stamped, read_capture};
+use bus_signals::Mapping;
 use nand_geometry::{Geometry, Parts, SMALL_CHIP};
 use onfi_cycle::Item;
 use std::alloc::{AllocError, Global};
@@ -99,8 +100,14 @@ pub(crate) fn shown_on(
     if targets > 4 {
         return Err(Fail::from("more than 4 targets"));
     }
-    let geometry = Geometry::of(parts)?;
-    match read_capture(alloc, &geometry, targets, mappings, dump) {
+    let setup = Setup {
+        form: CaptureForm::Dump,
+        geometry: Geometry::of(parts)?,
+        targets,
+        mappings,
+        glitch: 0,
+    };
+    match read_capture(alloc, &setup, dump) {
         Ok(capture) => {
             let items = items_of(alloc, capture.stamped.as_slice())?;
             text_of(alloc, items.as_slice())

@@ -1,2 +1,5 @@
 pub mod Stops
 pub mod Begins
+pub mod Pieces
+pub mod Going
+pub mod Headers

@@ -1,5 +1,5 @@
 -- The changes of a dump, in the order of the file, up to the first fault.
-use Rattle.std.specs.Prelude.{ℕ, ◌==◌, ◌||◌, Bool, nat_le, if◌then◌else◌, List, [], ◌∷◌, length, Option, Some, None, Result, Ok, Err, ok_or, codes}
+use Rattle.std.specs.Prelude.{ℕ, ◌==◌, ◌||◌, Bool, nat_le, if◌then◌else◌, List, [], ◌∷◌, length, Option, Result, Ok, Err, ok_or, codes}
 use Rattle.std.specs.Ordering.{nat_cmp}
 use Rattle.std.specs.Map.{lookup}
 use Rattle.std.specs.BTreeMap.{is_at}
@@ -33,38 +33,30 @@ pub record Place : Type 0 where
   pub time : ℕ
   pub next : Next
 
--- after a word: where reading is then, and what the word tells
-pub record Step : Type 0 where
-  pub place : Place
-  pub event : Option Event
-
--- nothing is told
-abbrev pub quiet : ℕ → Next → Step
-quiet time next = record { place = record { time = time; next = next }; event = None }
-
--- something is told, after which anything may follow
-abbrev pub telling : ℕ → Event → Step
-telling time event = record { place = record { time = time; next = Anything }; event = Some event }
+-- what a word says: nothing, and the next word is this; or something, after which anything may follow
+pub data Said : Type 0 where
+  Quiet : (next : Next) → Said
+  Tells : (event : Event) → Said
 
 -- the bits fit the width that was declared
 abbrev pub fits : ℕ → List ℕ → Bool
 fits width bits = (width == 0) || nat_le (length bits) width
 
 -- a change of a code
-abbrev pub change : Widths → ℕ → List ℕ → List ℕ → Result Step DumpFault
-change widths time bits word = do
+abbrev pub change : Widths → List ℕ → List ℕ → Result Said DumpFault
+change widths bits word = do
   code ← ok_or (code_of word) NotDeclared
   width ← ok_or (width_of widths code) NotDeclared
-  if fits width bits then Ok (telling time (Change code bits)) else Err VectorTooLong
+  if fits width bits then Ok (Tells (Change code bits)) else Err VectorTooLong
 
-abbrev pub new_time : ℕ → List ℕ → Result Step DumpFault
+abbrev pub new_time : ℕ → List ℕ → Result Said DumpFault
 new_time time word = do
   later ← ok_or (decimal word) BadTime
-  if nat_le time later then Ok (telling later (Time later)) else Err TimeGoesBack
+  if nat_le time later then Ok (Tells (Time later)) else Err TimeGoesBack
 
-abbrev pub vector : ℕ → List ℕ → Result Step DumpFault
-vector time [] = Err BadVector
-vector time (b ∷ bits) = if are_bits (b ∷ bits) then Ok (quiet time (CodeOf (b ∷ bits))) else Err BadVector
+abbrev pub vector : List ℕ → Result Said DumpFault
+vector [] = Err BadVector
+vector (b ∷ bits) = if are_bits (b ∷ bits) then Ok (Quiet (CodeOf (b ∷ bits))) else Err BadVector
 
 -- the marks of a dump, of which nothing is told
 abbrev pub is_mark : List ℕ → Bool
@@ -72,9 +64,8 @@ is_mark word =
     is_named word (codes "$dumpvars") || (is_named word (codes "$end") || (is_named word (codes "$dumpall") || (
     is_named word (codes "$dumpon") || is_named word (codes "$dumpoff"))))
 
-abbrev pub mark : ℕ → List ℕ → Result Step DumpFault
-mark time word =
-    if is_mark word then Ok (quiet time Anything) else (if is_named word (codes "$comment") then Ok (quiet time Comment) else Err UnknownChange)
+abbrev pub mark : List ℕ → Result Said DumpFault
+mark word = if is_mark word then Ok (Quiet Anything) else (if is_named word (codes "$comment") then Ok (Quiet Comment) else Err UnknownChange)
 
 -- b and B begin a vector
 abbrev pub begins_vector : ℕ → Bool
@@ -84,27 +75,29 @@ begins_vector b = b == 98 || b == 66
 abbrev pub begins_other : ℕ → Bool
 begins_other b = b == 114 || (b == 82 || (b == 115 || b == 83))
 
+-- a word that is neither a time nor a bit in front of its code
+abbrev pub other_word : List ℕ → Result Said DumpFault
+other_word [] = Err UnknownChange
+other_word (b ∷ word) = if begins_vector b then vector word else (if begins_other b then Ok (Quiet OtherCode) else mark (b ∷ word))
+
 -- a word that may be anything: # begins a time, a bit stands in front of its code
-abbrev pub any_word : Widths → ℕ → List ℕ → Result Step DumpFault
+abbrev pub any_word : Widths → ℕ → List ℕ → Result Said DumpFault
 any_word widths time [] = Err UnknownChange
 any_word widths time (b ∷ word) =
-    if b == 35 then new_time time word else (
-    if is_known (level_of b) then change widths time (b ∷ []) word else (
-    if begins_vector b then vector time word else (
-    if begins_other b then Ok (quiet time OtherCode) else mark time (b ∷ word))))
+    if b == 35 then new_time time word else (if is_known (level_of b) then change widths (b ∷ []) word else other_word (b ∷ word))
 
-abbrev pub comment : ℕ → List ℕ → Step
-comment time word = if is_named word (codes "$end") then quiet time Anything else quiet time Comment
+abbrev pub comment : List ℕ → Said
+comment word = if is_named word (codes "$end") then Quiet Anything else Quiet Comment
 
--- what a word does, by what it is
-abbrev pub step_by : Widths → ℕ → Next → List ℕ → Result Step DumpFault
-step_by widths time Anything word = any_word widths time word
-step_by widths time (CodeOf bits) word = change widths time bits word
-step_by widths time OtherCode word = Ok (quiet time Anything)
-step_by widths time Comment word = Ok (comment time word)
+-- what a word says, by what it is
+abbrev pub said_by : Widths → ℕ → Next → List ℕ → Result Said DumpFault
+said_by widths time Anything word = any_word widths time word
+said_by widths time (CodeOf bits) word = change widths bits word
+said_by widths time OtherCode word = Ok (Quiet Anything)
+said_by widths time Comment word = Ok (comment word)
 
-abbrev pub step : Widths → Place → List ℕ → Result Step DumpFault
-step widths place word = step_by widths place.time place.next word
+abbrev pub said : Widths → Place → List ℕ → Result Said DumpFault
+said widths place word = said_by widths place.time place.next word
 
 abbrev pub Told : Type 0
 Told = Result Event LineFault
@@ -119,15 +112,18 @@ ended_by line (CodeOf bits) = fault_in line NoCode ∷ []
 ended_by line OtherCode = fault_in line NoCode ∷ []
 ended_by line Comment = fault_in line SectionNotEnded ∷ []
 
-abbrev pub with_event : Option Event → List Told → List Told
-with_event None told = told
-with_event (Some event) told = Ok event ∷ told
+-- the time after this is told
+abbrev pub time_after : ℕ → Event → ℕ
+time_after time (Time later) = later
+time_after time (Change code bits) = time
 
-abbrev pub after_step : ℕ → Result Step DumpFault → (Place → List Told) → List Told
-after_step line (Err fault) later = fault_in line fault ∷ []
-after_step line (Ok s) later = with_event s.event (later s.place)
+-- what is told by a word of this line, which says this at this time, and later
+abbrev pub after_word : (line time : ℕ) → Result Said DumpFault → (Place → List Told) → List Told
+after_word line time (Err fault) later = fault_in line fault ∷ []
+after_word line time (Ok (Quiet next)) later = later (record { time = time; next = next })
+after_word line time (Ok (Tells event)) later = Ok event ∷ later (record { time = time_after time event; next = Anything })
 
 -- what words tell, after a word of this line
 abbrev pub told_from : Widths → Place → (line : ℕ) → List Word → List Told
 told_from widths place line [] = ended_by line place.next
-told_from widths place line (w ∷ words) = after_step w.line (step widths place w.text) (λ later. told_from widths later w.line words)
+told_from widths place line (w ∷ words) = after_word w.line place.time (said widths place w.text) (λ later. told_from widths later w.line words)

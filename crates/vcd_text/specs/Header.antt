@@ -162,6 +162,12 @@ reading h s line (w ∷ ws) = elim (ends s w.text) [
   | Some t ↦ (at_line w.line (closed h t) >>= λ h. if ends_header t.keyword then Ok (record { header = h; line = w.line; rest = ws }) else reading h None w.line ws)
 ]
 
+-- the text ended within the header: more of it may be all that is wanting
+abbrev pub is_unended : DumpFault → Bool
+is_unended SectionNotEnded = true
+is_unended HeaderNotEnded = true
+is_unended _ = false
+
 -- the header of a text
 abbrev pub header : List ℕ → Result Read LineFault
 header text = reading blank None 1 (words text)

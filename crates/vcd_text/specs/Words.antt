@@ -1,5 +1,5 @@
 -- The words of a dump: what stands between white space, and the line in which it stands.
-use Rattle.std.specs.Prelude.{◌≡◌, ⊤, ℕ, ◌+◌, ◌==◌, Bool, false, nat_le, if◌then◌else◌, List, [], ◌∷◌, ◌++◌, Option, Some, None}
+use Rattle.std.specs.Prelude.{◌≡◌, ⊤, ℕ, ◌+◌, ◌≤◌, ◌==◌, Bool, true, false, nat_le, length, if◌then◌else◌, List, [], ◌∷◌, ◌++◌, Option, Some, None}
 use Rattle.vcd_text.specs.declared.words.Word.{Word as WordInMemory}
 use Rattle.vcd_text.specs.declared.words.Words.{Words}
 
@@ -40,6 +40,24 @@ words_left w = words_from w.line [] w.rest.now
 abbrev pub with_word : Option WordInMemory → List Word → List Word
 with_word None words = words
 with_word (Some w) words = word_of w ∷ words
+
+-- the line after all bytes
+abbrev pub lines_from : ℕ → List ℕ → ℕ
+lines_from line [] = line
+lines_from line (b ∷ bytes) = lines_from (line_after line b) bytes
+
+-- a text is empty, or it ends in white space: no word goes on behind it
+abbrev pub IsCut : List ℕ → Type 0
+IsCut [] = ⊤
+IsCut (b ∷ []) = is_blank b ≡ true
+IsCut (b ∷ c ∷ bytes) = IsCut (c ∷ bytes)
+
+-- the words that are left are the last of those that were
+pub record GoesOn (old new : Words) : Type 0 where
+  pub lines : lines_from new.line new.rest.now ≡ lines_from old.line old.rest.now
+  pub cut : IsCut old.rest.now → IsCut new.rest.now
+  pub room : new.line + length new.rest.now ≤ old.line + length old.rest.now
+  pub shorter : length new.rest.now ≤ length old.rest.now
 
 -- a text is empty, or a word stands at its front
 abbrev pub StartsWord : List ℕ → Type 0

@@ -1,12 +1,13 @@
 //! The changes of a dump.
-ghost use Rattle.std.specs.Prelude.{◌≡◌, ◌+◌, ◌<◌, ◌≤◌, ◌^◌, ◌==◌, length, Ok, Err, IfOk, IfSome};
+ghost use Rattle.std.specs.Prelude.{◌≡◌, ℕ, ◌+◌, ◌<◌, ◌≤◌, ◌^◌, ◌==◌, List, length, Ok, Err, IfOk, IfSome};
 ghost use Rattle.vcd_text.specs.Tokens.{is_known, level_of};
-ghost use Rattle.vcd_text.specs.Body.{quiet, telling, width_of, fits, change, new_time, vector, is_mark, mark, begins_vector, begins_other, any_word, comment, step_by, step, ended_by};
-ghost use Rattle.vcd_text.specs.Shown.{IsStep, IsRead, shown_event, shown_step, shown_next, place_of, told_left, IsFirst, IsEnd};
+ghost use Rattle.vcd_text.specs.Words.{words_left, GoesOn, IsCut};
+ghost use Rattle.vcd_text.specs.Body.{width_of, fits, change, new_time, vector, is_mark, mark, begins_vector, begins_other, other_word, any_word, comment, said, ended_by, time_after, Anything};
+ghost use Rattle.vcd_text.specs.Shown.{IsTelling, IsSaid, IsCoded, IsProgress, IsNext, IsOver, IsEnd, Moves, shown_event, shown_said, place_of, told_left, standing_of};
 
 use crate::fault::{DumpFault, LineFault};
 use crate::tokens::{are_bits, code_of, decimal, is_bit, is_named};
-use crate::words::{Word, Words};
+use crate::words::Words;
 use std::alloc::Allocator;
 use std::collections::BTreeMap;
 
@@ -21,43 +22,31 @@ pub enum Event<'a> {
 
 // What the next word is.
 #[derive(Clone, Copy, Debug)]
-pub(crate) enum Next<'a> {
+pub(crate) enum Next {
     Anything,
-    CodeOf(&'a [u8]),
     OtherCode,
     Comment,
 }
 
-// What a word did: the time, what the next word is, and what the word tells.
+// What a word says.
 #[derive(Clone, Copy)]
-pub(crate) struct Step<'a> {
-    time: u64,
-    next: Next<'a>,
-    event: Option<Event<'a>>,
+pub(crate) enum Said<'a> {
+    // Nothing, and the next word is this.
+    Nothing(Next),
+    // This, and anything may follow.
+    Told(Event<'a>),
+    // The bits of a vector, whose code is the next word.
+    Bits(&'a [u8]),
 }
 
-// Nothing is told.
-#[inline(always)]
-fn quiet(time: u64, next: Next<'_>) -> Step<'_>
-    ensures { shown_step result ≡ quiet time (shown_next next.entry) }
-{
-    Step {
-        time,
-        next,
-        event: None,
-    }
-}
-
-// Something is told, after which anything may follow.
-#[inline(always)]
-fn telling(time: u64, event: Event<'_>) -> Step<'_>
-    ensures { shown_step result ≡ telling time (shown_event event.entry) }
-{
-    Step {
-        time,
-        next: Next::Anything,
-        event: Some(event),
-    }
+// What came of reading on.
+#[derive(Clone, Copy)]
+pub(crate) enum Progress<'a> {
+    Told(Event<'a>),
+    // Nothing is told yet.
+    Quiet,
+    // No whole change is left.
+    Over,
 }
 
 // The bits fit the width that was declared.
@@ -80,37 +69,51 @@ fn width_of<A: Allocator>(widths: &BTreeMap<u64, usize, A>, code: u64) -> Option
 #[inline(always)]
 fn change<'a, A: Allocator>(
     widths: &BTreeMap<u64, usize, A>,
-    time: u64,
     bits: &'a [u8],
     word: &[u8],
-) -> Result<Step<'a>, DumpFault>
-    ensures { IsStep result (change widths.now.entries time bits.entry.now word.now) }
+) -> Result<Event<'a>, DumpFault>
+    ensures { IsTelling result (change widths.now.entries bits.entry.now word.now) }
 {
     let code = code_of(word).ok_or(DumpFault::NotDeclared)?;
     let width = width_of(widths, code).ok_or(DumpFault::NotDeclared)?;
     if fits(width, bits) {
-        Ok(telling(time, Event::Change { code, bits }))
+        Ok(Event::Change { code, bits })
     } else {
         Err(DumpFault::VectorTooLong)
     }
 }
 
-fn new_time<'a>(time: u64, word: &[u8]) -> Result<Step<'a>, DumpFault>
-    ensures { IsStep result (new_time time word.now) }
+// The same as what a word says.
+#[inline(always)]
+fn say_change<'a, A: Allocator>(
+    widths: &BTreeMap<u64, usize, A>,
+    bits: &'a [u8],
+    word: &[u8],
+) -> Result<Said<'a>, DumpFault>
+    ensures { IsSaid result (change widths.now.entries bits.entry.now word.now) }
+{
+    match change(widths, bits, word) {
+        Ok(event) => Ok(Said::Told(event)),
+        Err(fault) => Err(fault),
+    }
+}
+
+fn new_time<'a>(time: u64, word: &[u8]) -> Result<Said<'a>, DumpFault>
+    ensures { IsSaid result (new_time time word.now) }
 {
     let later = decimal(word).ok_or(DumpFault::BadTime)?;
     if time <= later {
-        Ok(telling(later, Event::Time(later)))
+        Ok(Said::Told(Event::Time(later)))
     } else {
         Err(DumpFault::TimeGoesBack)
     }
 }
 
-fn vector(time: u64, bits: &[u8]) -> Result<Step<'_>, DumpFault>
-    ensures { IsStep result (vector time bits.entry.now) }
+fn vector(bits: &[u8]) -> Result<Said<'_>, DumpFault>
+    ensures { IsSaid result (vector bits.entry.now) }
 {
     if !bits.is_empty() && are_bits(bits) {
-        Ok(quiet(time, Next::CodeOf(bits)))
+        Ok(Said::Bits(bits))
     } else {
         Err(DumpFault::BadVector)
     }
@@ -127,19 +130,18 @@ fn is_mark(word: &[u8]) -> bool
         || is_named(word, "$dumpoff")
 }
 
-fn mark<'a>(time: u64, word: &[u8]) -> Result<Step<'a>, DumpFault>
-    ensures { IsStep result (mark time word.now) }
+fn mark<'a>(word: &[u8]) -> Result<Said<'a>, DumpFault>
+    ensures { IsSaid result (mark word.now) }
 {
     if is_mark(word) {
-        Ok(quiet(time, Next::Anything))
+        Ok(Said::Nothing(Next::Anything))
     } else if is_named(word, "$comment") {
-        Ok(quiet(time, Next::Comment))
+        Ok(Said::Nothing(Next::Comment))
     } else {
         Err(DumpFault::UnknownChange)
     }
 }
 
-#[inline(always)]
 fn begins_vector(byte: u8) -> bool
     ensures { result ≡ begins_vector byte }
 {
@@ -152,14 +154,30 @@ fn begins_other(byte: u8) -> bool
     byte == b'r' || byte == b'R' || byte == b's' || byte == b'S'
 }
 
-// A word that may be anything: a time, a bit in front of its code, the bits of a vector, or something without bits.
+// A word that is neither a time nor a bit in front of its code: the bits of a vector, something without bits, or a mark.
+fn other_word(word: &[u8]) -> Result<Said<'_>, DumpFault>
+    ensures { IsSaid result (other_word word.entry.now) }
+{
+    let [byte, rest @ ..] = word else {
+        return Err(DumpFault::UnknownChange);
+    };
+    if begins_vector(*byte) {
+        return vector(rest);
+    }
+    if begins_other(*byte) {
+        return Ok(Said::Nothing(Next::OtherCode));
+    }
+    mark(word)
+}
+
+// A word that may be anything: a time, a bit in front of its code, or something else.
 #[inline(always)]
 fn any_word<'a, A: Allocator>(
     widths: &BTreeMap<u64, usize, A>,
     time: u64,
     word: &'a [u8],
-) -> Result<Step<'a>, DumpFault>
-    ensures { IsStep result (any_word widths.now.entries time word.entry.now) }
+) -> Result<Said<'a>, DumpFault>
+    ensures { IsSaid result (any_word widths.now.entries time word.entry.now) }
 {
     if word.is_empty() {
         return Err(DumpFault::UnknownChange);
@@ -170,61 +188,118 @@ fn any_word<'a, A: Allocator>(
         return new_time(time, rest);
     }
     if is_bit(byte) {
-        return change(widths, time, first, rest);
+        return say_change(widths, first, rest);
     }
-    if begins_vector(byte) {
-        return vector(time, rest);
-    }
-    if begins_other(byte) {
-        return Ok(quiet(time, Next::OtherCode));
-    }
-    mark(time, word)
+    other_word(word)
 }
 
-fn comment<'a>(time: u64, word: &[u8]) -> Step<'a>
-    ensures { shown_step result ≡ comment time word.now }
+fn comment<'a>(word: &[u8]) -> Said<'a>
+    ensures { shown_said result ≡ comment word.now }
 {
     if is_named(word, "$end") {
-        quiet(time, Next::Anything)
+        Said::Nothing(Next::Anything)
     } else {
-        quiet(time, Next::Comment)
+        Said::Nothing(Next::Comment)
     }
 }
 
-/// What is left of the changes of a dump.
+/// What is left of the changes of a dump, or of a piece of them.
 #[derive(Clone, Copy, Debug)]
 pub struct Body<'a> {
     pub(crate) words: Words<'a>,
     pub(crate) time: u64,
-    pub(crate) next: Next<'a>,
+    pub(crate) next: Next,
+    // The line of the last word.
     pub(crate) line: usize,
 }
 
-impl<'a> Body<'a> {
-    // What a word does.
-    #[inline(always)]
-    fn step<A: Allocator>(
-        self,
-        widths: &BTreeMap<u64, usize, A>,
-        word: &'a [u8],
-    ) -> Result<Step<'a>, DumpFault>
-        ensures { IsStep result (step widths.now.entries (place_of self.entry) word.entry.now) }
+/// Where reading of the changes of a dump is between two pieces of its text.
+#[derive(Clone, Copy, Debug)]
+pub struct Standing {
+    pub(crate) time: u64,
+    pub(crate) next: Next,
+    // The line of the last word, and that of the byte that comes next.
+    pub(crate) line: usize,
+    pub(crate) next_line: usize,
+}
+
+impl Standing {
+    /// Goes on with this text.
+    pub fn with<'a>(self, text: &'a [u8]) -> Body<'a>
+        ensures standing { standing_of result ≡ self }
+        ensures rest { result.words.rest.now ≡ text.entry.now }
     {
-        match self.next {
-            Next::Anything => any_word(widths, self.time, word),
-            Next::CodeOf(bits) => change(widths, self.time, bits, word),
-            Next::OtherCode => Ok(quiet(self.time, Next::Anything)),
-            Next::Comment => Ok(comment(self.time, word)),
+        Body {
+            words: Words {
+                line: self.next_line,
+                rest: text,
+            },
+            time: self.time,
+            next: self.next,
+            line: self.line,
         }
     }
 
-    // What is told at the end of the file.
-    fn end(self) -> Option<LineFault>
-        ensures { IsEnd result (ended_by self.entry.line (shown_next self.entry.next)) }
+    /// The line of the byte that comes next.
+    pub fn next_line(self) -> usize
+        ensures { result ≡ self.next_line }
     {
+        self.next_line
+    }
+}
+
+impl<'a> Body<'a> {
+    /// Where reading is.
+    pub fn standing(self) -> Standing
+        ensures { result ≡ standing_of self.entry }
+    {
+        Standing {
+            time: self.time,
+            next: self.next,
+            line: self.line,
+            next_line: self.words.line,
+        }
+    }
+
+    /// The text that isn't read yet.
+    pub fn rest(self) -> &'a [u8]
+        ensures { result.now ≡ self.entry.words.rest.now }
+    {
+        self.words.rest
+    }
+
+    // What a word says.
+    #[inline(always)]
+    fn say<A: Allocator>(
+        self,
+        widths: &BTreeMap<u64, usize, A>,
+        word: &'a [u8],
+    ) -> Result<Said<'a>, DumpFault>
+        ensures { IsSaid result (said widths.now.entries (place_of self.entry) word.entry.now) }
+    {
+        match self.next {
+            Next::Anything => any_word(widths, self.time, word),
+            Next::OtherCode => Ok(Said::Nothing(Next::Anything)),
+            Next::Comment => Ok(comment(word)),
+        }
+    }
+
+    /// What is wrong at the end of the file, where no whole change is left.
+    pub fn end<A: Allocator>(self, widths: &BTreeMap<u64, usize, A>) -> Option<LineFault>
+        requires room { self.words.line + length self.words.rest.now < 2 ^ 64 }
+        requires over { IsOver widths.now.entries self }
+        ensures { IsEnd result (told_left widths.now.entries self.entry) }
+    {
+        let mut words = self.words;
+        if let Some(word) = words.next_word() {
+            return Some(LineFault {
+                fault: DumpFault::NoCode,
+                line: word.line,
+            });
+        }
         let fault = match self.next {
             Next::Anything => return None,
-            Next::CodeOf(_) | Next::OtherCode => DumpFault::NoCode,
+            Next::OtherCode => DumpFault::NoCode,
             Next::Comment => DumpFault::SectionNotEnded,
         };
         Some(LineFault {
@@ -233,22 +308,40 @@ impl<'a> Body<'a> {
         })
     }
 
-    // Goes on by a word, and tells what that tells.
+    // Tells something, after a word of this line.
     #[inline(always)]
-    fn read_word<A: Allocator>(
-        &mut self,
-        widths: &BTreeMap<u64, usize, A>,
-        word: Word<'a>,
-    ) -> Result<Option<Event<'a>>, LineFault>
-        ensures read { IsRead widths.now.entries self.old word.entry result self.new }
+    fn tell(&mut self, event: Event<'a>, line: usize)
+        ensures place { place_of self.new ≡ record { time = time_after self.old.time (shown_event event.entry); next = Anything } }
+        ensures line { self.new.line ≡ line }
         ensures words { self.new.words ≡ self.old.words }
     {
-        match self.step(widths, word.text) {
-            Ok(step) => {
-                self.time = step.time;
-                self.next = step.next;
-                self.line = word.line;
-                Ok(step.event)
+        self.next = Next::Anything;
+        self.line = line;
+        if let Event::Time(time) = event {
+            self.time = time;
+        }
+    }
+
+    // Reads the code of a vector with these bits, if it is there.
+    #[inline(always)]
+    fn read_code<A: Allocator>(
+        &mut self,
+        widths: &BTreeMap<u64, usize, A>,
+        words: Words<'a>,
+        bits: &'a [u8],
+    ) -> Result<Progress<'a>, LineFault>
+        requires room { words.line + length words.rest.now < 2 ^ 64 }
+        ensures coded { IsCoded widths.now.entries self.old words.entry bits.entry.now result self.new }
+    {
+        let mut left = words;
+        let Some(word) = left.next_word() else {
+            return Ok(Progress::Over);
+        };
+        match change(widths, bits, word.text) {
+            Ok(event) => {
+                self.words = left;
+                self.tell(event, word.line);
+                Ok(Progress::Told(event))
             }
             Err(fault) => Err(LineFault {
                 fault,
@@ -257,25 +350,62 @@ impl<'a> Body<'a> {
         }
     }
 
-    /// The next of what the dump tells, with the widths of its header; None at its end. After a fault nothing more is to be asked for.
+    // Reads a word, and where it has the bits of a vector its code too, if that is there.
     #[inline(always)]
-    pub fn next_event<A: Allocator>(
+    #[tactic(auto, using(crate::proofs::Going::coded_moves))]
+    fn read_on<A: Allocator>(
+        &mut self,
+        widths: &BTreeMap<u64, usize, A>,
+    ) -> Result<Progress<'a>, LineFault>
+        requires room { self.old.words.line + length self.old.words.rest.now < 2 ^ 64 }
+        ensures told { IsProgress widths.now.entries self.old result self.new }
+        ensures moves { Moves self.old result self.new }
+    {
+        let mut words = self.words;
+        let Some(word) = words.next_word() else {
+            self.words = words;
+            return Ok(Progress::Over);
+        };
+        match self.say(widths, word.text) {
+            Ok(Said::Nothing(next)) => {
+                self.words = words;
+                self.next = next;
+                self.line = word.line;
+                Ok(Progress::Quiet)
+            }
+            Ok(Said::Told(event)) => {
+                self.words = words;
+                self.tell(event, word.line);
+                Ok(Progress::Told(event))
+            }
+            Ok(Said::Bits(bits)) => self.read_code(widths, words, bits),
+            Err(fault) => Err(LineFault {
+                fault,
+                line: word.line,
+            }),
+        }
+    }
+
+    /// The next of what a piece of a dump tells, with the widths of its header; None where no whole change is left in it. What is left then
+    /// ([`Body::rest`]) is to stand in front of the next piece. A piece ends in white space, or it is the last. After a fault nothing more is to be asked for.
+    #[inline(always)]
+    #[tactic(auto, using(crate::proofs::Going::progress_on, crate::proofs::Going::goes_on, crate::proofs::Going::shorter_on))]
+    pub fn next_in_piece<A: Allocator>(
         &mut self,
         widths: &BTreeMap<u64, usize, A>,
     ) -> Result<Option<Event<'a>>, LineFault>
         requires room { self.old.words.line + length self.old.words.rest.now < 2 ^ 64 }
-        ensures told { IsFirst result (told_left widths.now.entries self.old) (told_left widths.now.entries self.new) }
-        ensures room { self.new.words.line + length self.new.words.rest.now ≤ self.old.words.line + length self.old.words.rest.now }
+        ensures told { IsNext widths.now.entries self.old result self.new }
+        ensures goes_on { GoesOn self.old.words self.new.words }
         ensures shorter { IfOk result (λ o. IfSome o (λ _. length self.new.words.rest.now < length self.old.words.rest.now)) }
     {
-        'words: while let Some(word) = self.words.next_word() {
-            if let Some(event) = self.read_word(widths, word)? {
-                return Ok(Some(event));
-            }
+        let mut progress = Progress::Quiet;
+        'words: while matches!(progress, Progress::Quiet) {
+            progress = self.read_on(widths)?;
         }
-        match self.end() {
-            Some(fault) => Err(fault),
-            None => Ok(None),
+        match progress {
+            Progress::Told(event) => Ok(Some(event)),
+            Progress::Quiet | Progress::Over => Ok(None),
         }
     }
 }

@@ -1,6 +1,7 @@
 //! What is wrong with a dump.
 ghost use Rattle.std.specs.Prelude.{◌≡◌};
 ghost use Rattle.vcd_text.specs.Codes.{code};
+ghost use Rattle.vcd_text.specs.Header.{is_unended};
 
 use thiserror::Error;
 
@@ -64,6 +65,31 @@ pub enum DumpFault {
 }
 
 impl DumpFault {
+    /// The text ended within the header: more of it may be all that is wanting.
+    pub fn is_unended(self) -> bool
+        ensures { result ≡ is_unended self }
+    {
+        match self {
+            DumpFault::SectionNotEnded | DumpFault::HeaderNotEnded => true,
+            DumpFault::UnknownSection
+            | DumpFault::BadTimescale
+            | DumpFault::BadVariable
+            | DumpFault::TwoWidths
+            | DumpFault::BadTime
+            | DumpFault::TimeGoesBack
+            | DumpFault::BadVector
+            | DumpFault::NoCode
+            | DumpFault::NotDeclared
+            | DumpFault::VectorTooLong
+            | DumpFault::UnknownChange
+            | DumpFault::NoColumnNames
+            | DumpFault::OtherFieldCount
+            | DumpFault::BadRowTime
+            | DumpFault::RowGoesBack
+            | DumpFault::BadSignal => false,
+        }
+    }
+
     /// Its code: G1 where the header isn't whole, G2 of a variable, G4 of the changes, G9 in a CSV.
     pub fn code(self) -> &'static str
         ensures { result.now ≡ code self }

@@ -9,10 +9,10 @@ mod section;
 mod tokens;
 mod words;
 
-pub use body::{Body, Event};
+pub use body::{Body, Event, Standing};
 pub use fault::{DumpFault, HeaderRefusal, LineFault};
 pub use header::Header;
 pub use reading::{Dump, read_header};
 pub use section::Variable;
 pub use tokens::{Level, code_of, decimal, level_of};
-pub use words::{Word, Words};
+pub use words::{Word, Words, whole_len};

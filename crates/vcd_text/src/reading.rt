@@ -1,5 +1,6 @@
 //! Reading the header of a dump.
 ghost use Rattle.std.specs.Prelude.{◌≡◌, ◌+◌, ◌<◌, ◌≤◌, ◌^◌, length, Ok, Err, IfErr, IfOk, OnOk};
+ghost use Rattle.vcd_text.specs.Words.{lines_from, IsCut};
 ghost use Rattle.vcd_text.specs.Header.{ends, opened, unended, header};
 ghost use Rattle.vcd_text.specs.Sections.{shown_section, shown_begun, IsSection};
 ghost use Rattle.vcd_text.specs.Shown.{place_of};
@@ -123,6 +124,8 @@ pub fn read_header<'a, A: Allocator + Clone>(
     ensures ok { IfOk result (λ d. header text.entry.now ≡ Ok (read_of d)) }
     ensures body { IfOk result (λ d. place_of d.body ≡ beginning) }
     ensures room { IfOk result (λ d. d.body.words.line + length d.body.words.rest.now < 2 ^ 64) }
+    ensures lines { IfOk result (λ d. lines_from d.body.words.line d.body.words.rest.now ≡ lines_from 1 text.entry.now) }
+    ensures cut { IfOk result (λ d. IsCut text.entry.now → IsCut d.body.words.rest.now) }
     ensures err { IfErr result (λ e. IsRefusalOf e (header text.entry.now)) }
 {
     let Ok(copy) = alloc.clone() else {

@@ -1,6 +1,6 @@
 //! The words of a dump.
 ghost use Rattle.std.specs.Prelude.{◌≡◌, ℕ, ◌+◌, ◌<◌, ◌≤◌, ◌^◌, [], ◌∷◌, length, take, drop, IfSome, IfNone};
-ghost use Rattle.vcd_text.specs.Words.{is_blank, ended, words, words_from, words_left, with_word, StartsWord};
+ghost use Rattle.vcd_text.specs.Words.{is_blank, ended, words, words_from, words_left, with_word, lines_from, IsCut, GoesOn, StartsWord};
 
 /// What stands between white space, and the number of its line, from 1.
 #[derive(Clone, Copy, Debug)]
@@ -32,6 +32,8 @@ fn word_len(text: &[u8]) -> usize
     ensures some { 0 < result }
     ensures within { result ≤ length text.now }
     ensures word { (line : ℕ) → words_from line [] text.now ≡ ended line (take result text.now) (words_from line [] (drop result text.now)) }
+    ensures lines { (line : ℕ) → lines_from line (drop result text.now) ≡ lines_from line text.now }
+    ensures cut { IsCut text.now → IsCut (drop result text.now) }
 {
     let mut count = 1;
     'bytes: while count < text.len() && !is_blank(text[count]) {
@@ -40,10 +42,24 @@ fn word_len(text: &[u8]) -> usize
     count
 }
 
+/// How many bytes of a piece stand in front of what may be the beginning of a word: they end in white space.
+pub fn whole_len(piece: &[u8]) -> usize
+    ensures within { result ≤ length piece.now }
+    ensures cut { IsCut (take result piece.now) }
+{
+    let mut count = piece.len();
+    'bytes: while count > 0 && !is_blank(piece[count - 1]) {
+        count -= 1;
+    }
+    count
+}
+
 impl<'a> Words<'a> {
     /// The words of a text.
     pub fn of(text: &'a [u8]) -> Words<'a>
         ensures words { words_left result ≡ words text.entry.now }
+        ensures line { result.line ≡ 1 }
+        ensures rest { result.rest.now ≡ text.entry.now }
         ensures room { result.line + length result.rest.now < 2 ^ 64 }
     {
         Words {
@@ -54,11 +70,11 @@ impl<'a> Words<'a> {
 
     // Goes on to the next word.
     #[inline(always)]
+    #[tactic(auto, using(crate::proofs::Pieces::rest_cut))]
     fn skip_blanks(&mut self)
         requires room { self.old.line + length self.old.rest.now < 2 ^ 64 }
         ensures words { words_left self.new ≡ words_left self.old }
-        ensures room { self.new.line + length self.new.rest.now ≤ self.old.line + length self.old.rest.now }
-        ensures shorter { length self.new.rest.now ≤ length self.old.rest.now }
+        ensures goes_on { GoesOn self.old self.new }
         ensures starts { StartsWord self.new.rest.now }
     {
         'blanks: while let [first, rest @ ..] = self.rest {
@@ -78,7 +94,7 @@ impl<'a> Words<'a> {
         requires room { self.old.line + length self.old.rest.now < 2 ^ 64 }
         ensures words { words_left self.old ≡ with_word result (words_left self.new) }
         ensures none { IfNone result (words_left self.old ≡ []) }
-        ensures room { self.new.line + length self.new.rest.now ≤ self.old.line + length self.old.rest.now }
+        ensures goes_on { GoesOn self.old self.new }
         ensures shorter { IfSome result (λ _. length self.new.rest.now < length self.old.rest.now) }
     {
         self.skip_blanks();

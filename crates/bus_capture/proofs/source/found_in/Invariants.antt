@@ -1,6 +1,0 @@
-use Rattle.std.proofs.Common.{◌≡◌, drop, None}
-use Rattle.bus_capture.specs.Roles.{found_from}
-use Rattle.bus_capture.proofs.source.found_in.Given as goal
-
-abbrev pub invariant-loop-carrier : goal.invariant-loop-carrier
-invariant-loop-carrier l = found_from l.role l.given l.found (drop l.carrier-index l.carriers) ≡ found_from l.role l.given None l.carriers

@@ -1,0 +1,181 @@
+use crate::reading::{STATUS, STATUS_TRACE, items_of, with_changes, words_of};
+use bus_capture::{CaptureForm, CaptureReader, CaptureRefusal, Setup, Stamped};
+use linked_list_allocator::LocalHeap;
+use nand_geometry::{Geometry, SMALL_CHIP};
+use std::alloc::{Allocator, Global};
+use std::process::Abort;
+use std::test::Fail;
+use trace_text::{is_printable, print};
+
+// What a text shows that comes in pieces of this length.
+fn read_in_pieces(
+    alloc: Global,
+    setup: &Setup<'_>,
+    text: &[u8],
+    length: usize,
+) -> Result<Vec<Stamped>, CaptureRefusal> {
+    if setup.targets > 4 {
+        return Err(CaptureRefusal::OutOfMemory);
+    }
+    let mut reader = CaptureReader::new(alloc, setup)?;
+    let mut stamped = Vec::new(alloc);
+    for piece in text.chunks(length.max(1)) {
+        reader.take(piece, &mut stamped)?;
+    }
+    let _ = reader.finish(&mut stamped)?;
+    Ok(stamped)
+}
+
+// Its trace, with strobes that change sooner than this as glitches, or what is wrong with it.
+fn shown(
+    alloc: Global,
+    form: CaptureForm,
+    glitch: u64,
+    text: &str,
+    length: usize,
+) -> Result<String, Fail> {
+    let setup = Setup {
+        form,
+        geometry: Geometry::of(SMALL_CHIP)?,
+        targets: 1,
+        mappings: &[],
+        glitch,
+    };
+    match read_in_pieces(alloc, &setup, text.as_bytes(), length) {
+        Ok(stamped) => {
+            let items = items_of(alloc, stamped.as_slice())?;
+            if !is_printable(items.as_slice()) {
+                return Err(Fail::from("an item that can't be printed"));
+            }
+            Ok(print(alloc, items.as_slice())?)
+        }
+        Err(CaptureRefusal::Fault(fault)) => words_of(alloc, fault),
+        Err(CaptureRefusal::OutOfMemory) => Err(Fail::from("out of memory")),
+    }
+}
+
+fn try_pieces(rt: &impl Abort, alloc: Global, text: &str, want: &str) -> Result<(), Fail> {
+    for length in 1..=70 {
+        let found = shown(alloc, CaptureForm::Dump, 0, text, length)?;
+        assert_eq!(rt; found.as_str(), want, "pieces of {length}");
+    }
+    let found = shown(alloc, CaptureForm::Dump, 0, text, text.len())?;
+    assert_eq!(rt; found.as_str(), want);
+    Ok(())
+}
+
+// Words, vectors and their codes, and the header are cut anywhere.
+#[test]
+fn pieces_of_a_dump(rt: HostRuntime) -> Result<(), Fail> {
+    try_pieces(&rt, rt.alloc(), STATUS, STATUS_TRACE)
+}
+
+// So are faults: of a header that goes on with a time, of a vector whose code is missing at the end, of a time that goes back.
+#[test]
+fn faults_in_pieces(rt: HostRuntime) -> Result<(), Fail> {
+    for (changes, want) in [
+        (
+            [("$enddefinitions $end\n", ""), ("#60\n1c\n", "#60\n")].as_slice(),
+            "G1 in line 11",
+        ),
+        ([("#60\n1c\n", "#60\nb1010")].as_slice(), "G4 in line 33"),
+        ([("#60\n1c\n", "#50\n1c\n")].as_slice(), "G4 in line 32"),
+    ] {
+        let text = with_changes(rt.alloc(), STATUS, changes)?;
+        try_pieces(&rt, rt.alloc(), text.as_str(), want)?;
+    }
+    Ok(())
+}
+
+// The strobes are low for 8 and for 10 ns.
+#[test]
+fn glitches(rt: HostRuntime) -> Result<(), Fail> {
+    for (glitch, want) in [(8, STATUS_TRACE), (9, "G10 at 20"), (u64::MAX, "G10 at 20")] {
+        let found = shown(rt.alloc(), CaptureForm::Dump, glitch, STATUS, 16)?;
+        assert_eq!(rt; found.as_str(), want);
+    }
+    let quick = with_changes(rt.alloc(), STATUS, &[("#12\n0w", "#10\n0w")])?;
+    let found = shown(rt.alloc(), CaptureForm::Dump, 10, quick.as_str(), 16)?;
+    assert_eq!(rt; found.as_str(), STATUS_TRACE);
+    let found = shown(rt.alloc(), CaptureForm::Dump, 11, quick.as_str(), 16)?;
+    assert_eq!(rt; found.as_str(), "G10 at 20");
+    // No chip of ours is enabled, so nobody minds.
+    let other = with_changes(rt.alloc(), STATUS, &[("0c 1l b1110000 d", "1l b1110000 d")])?;
+    let found = shown(rt.alloc(), CaptureForm::Dump, 100, other.as_str(), 16)?;
+    assert_eq!(rt; found.as_str(), "");
+    Ok(())
+}
+
+// The header of the dump.
+fn header_of(dump: &str) -> Result<&str, Fail> {
+    match dump.split_once("#0") {
+        Some((header, _)) => Ok(header),
+        None => Err(Fail::from("a dump without a time")),
+    }
+}
+
+// How many items a dump of so many commands shows, which is read by this memory: each item is forgotten once it is told.
+fn count_commands<A: Allocator + Clone>(
+    alloc: A,
+    texts: Global,
+    setup: &Setup<'_>,
+    commands: u32,
+) -> Result<usize, Fail> {
+    if setup.targets > 4 {
+        return Err(Fail::from("more than 4 targets"));
+    }
+    let mut reader = CaptureReader::new(alloc.clone()?, setup).map_err(refused)?;
+    let mut stamped = Vec::new(alloc);
+    let header = header_of(STATUS)?;
+    reader
+        .take(header.as_bytes(), &mut stamped)
+        .map_err(refused)?;
+    let mut count = 0usize;
+    for number in 0..commands {
+        let piece = format!(in texts;
+            "#{number}00\n1w 1r 0c 1l 0a b1110000 d\n#{number}02\n0w\n#{number}10\n1w\n"
+        )?;
+        reader
+            .take(piece.as_bytes(), &mut stamped)
+            .map_err(refused)?;
+        count = count.saturating_add(stamped.len());
+        stamped.clear();
+    }
+    let _ = reader.finish(&mut stamped).map_err(refused)?;
+    Ok(count.saturating_add(stamped.len()))
+}
+
+fn refused(_refusal: CaptureRefusal) -> Fail {
+    Fail::from("the capture is refused")
+}
+
+// A dump of a quarter of a megabyte is read by 64 KB.
+#[test]
+fn memory_of_a_long_dump(rt: HostRuntime) -> Result<(), Fail> {
+    let heap = LocalHeap::new(rt.alloc(), 65_536)?;
+    let setup = Setup {
+        form: CaptureForm::Dump,
+        geometry: Geometry::of(SMALL_CHIP)?,
+        targets: 1,
+        mappings: &[],
+        glitch: 0,
+    };
+    let count = count_commands(&heap, rt.alloc(), &setup, 5_000)?;
+    assert_eq!(rt; count, 5_000);
+    Ok(())
+}
+
+const TABLE: &str = "Time [s],CE#,CLE,ALE,WE#,RE#,DQ0,DQ1,DQ2,DQ3,DQ4,DQ5,DQ6,DQ7\n\
+0.000000000,1,0,0,1,1,0,0,0,0,0,0,0,0\n\
+0.000000010,0,1,0,0,1,0,0,0,0,1,1,1,0\n\
+0.000000020,0,1,0,1,1,0,0,0,0,1,1,1,0\n";
+
+// A CSV may come in pieces too.
+#[test]
+fn pieces_of_a_table(rt: HostRuntime) -> Result<(), Fail> {
+    for length in 1..=40 {
+        let found = shown(rt.alloc(), CaptureForm::Table, 0, TABLE, length)?;
+        assert_eq!(rt; found.as_str(), "0 C 70\n", "pieces of {length}");
+    }
+    Ok(())
+}
