@@ -1,5 +1,5 @@
 -- What is kept while a dump is written.
-use Rattle.std.specs.Prelude.{◌≡◌, ℕ, Bool, true, false, not, List, [], ◌∷◌, Option, Some, None}
+use Rattle.std.specs.Prelude.{◌≡◌, ℕ, Bool, true, false, not, List, [], ◌∷◌, Option, Some, None, take}
 use Rattle.nand_geometry.specs.declared.parts.Parts.{Parts}
 use Rattle.onfi_cycle.specs.declared.item.Kind.{Kind}
 use Rattle.onfi_cycle.specs.declared.item.Kind.TheVariants.{Cmd, Adr, Din, Dout}
@@ -10,6 +10,8 @@ use Rattle.onfi_cycle.specs.Command.{reads_identity}
 use Rattle.onfi_cycle.specs.Sequence.{opened, facts_of, tail}
 use Rattle.onfi_cycle.specs.Readies.{starts_work}
 use Rattle.onfi_cycle.specs.State.{Follows}
+use Rattle.bus_lines.specs.declared.lines.Lines.{Lines}
+use Rattle.trace_wave.specs.Levels.{told_levels, told_lines}
 use Rattle.trace_wave.specs.declared.channel.Channel.{Channel}
 use Rattle.trace_wave.specs.declared.dump.Dump.{Dump}
 use Rattle.trace_wave.specs.Wave.{Drawing}
@@ -39,9 +41,19 @@ keeps_work past (Cyc c) = kind_keeps_work past c.ce c.kind (Cyc c)
 keeps_work past (Rdy _ _ _) = false
 keeps_work past (Ard _ _) = false
 
+-- what is kept begins with the levels of R/B# and the LUNs
+abbrev pub Keeps : Parts → ℕ → List Item → List ℕ → Type 0
+Keeps g targets past kept = take (told_lines targets g.luns) kept ≡ told_levels g targets past
+
+-- no strobe is low
+abbrev pub AreHigh : Lines → Type 0
+AreHigh l = (l.we ≡ true) × (l.re ≡ true)
+
 -- the dump is as far as this drawing
 pub record IsAt (g : Parts) (targets : ℕ) (d : Drawing) (dump : Dump) : Type 0 where
   pub stands : Stands g targets d.past dump.channel
   pub items : dump.items ≡ d.items
   pub rule : dump.rule ≡ d.rule
   pub lines : dump.lines ≡ d.lines
+  pub high : AreHigh dump.lines
+  pub kept : Keeps g targets d.past dump.kept

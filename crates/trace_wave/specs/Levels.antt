@@ -1,5 +1,5 @@
 -- The level of each line as its character, in the order in which the header declares the lines: 0 (48), 1 (49), x (120) or z (122).
-use Rattle.std.specs.Prelude.{ℕ, zero, suc, ◌+◌, ◌/◌, ◌%◌, ◌==◌, Bool, false, ◌||◌, ◌&&◌, not, if◌then◌else◌, List, [], ◌∷◌, ◌++◌, Option, Some, None}
+use Rattle.std.specs.Prelude.{true, ℕ, zero, suc, ◌+◌, ◌*◌, ◌/◌, ◌%◌, ◌==◌, Bool, false, ◌||◌, ◌&&◌, not, if◌then◌else◌, List, [], ◌∷◌, ◌++◌, Option, Some, None}
 use Rattle.nand_geometry.specs.declared.parts.Parts.{Parts}
 use Rattle.onfi_cycle.specs.declared.item.Item.{Item}
 use Rattle.onfi_cycle.specs.declared.item.Item.TheVariants.{Cyc, Rdy, Ard}
@@ -78,6 +78,14 @@ targets_levels known g past (suc count) n = target_levels known g past n g.luns 
 -- the lines of the bus of so many targets
 abbrev pub bus_levels : ℕ → Lines → List ℕ
 bus_levels targets l = enables l.enabled targets 0 ++ (bit l.cle ∷ bit l.ale ∷ bit l.we ∷ bit l.re ∷ dq_bits l.dq)
+
+-- R/B# and the lines of the LUNs, known
+abbrev pub told_levels : Parts → ℕ → List Item → List ℕ
+told_levels g targets past = readies true g past targets 0 ++ targets_levels true g past targets 0
+
+-- how many these are
+abbrev pub told_lines : (targets luns : ℕ) → ℕ
+told_lines targets luns = targets + 3 * (targets * luns)
 
 -- what is told of the model: of R/B# and the LUNs, after a legal past, and the rule; that is 0, or the number of the rule that the item after the past
 -- broke, and then the LUNs are unknown

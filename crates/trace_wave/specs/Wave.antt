@@ -1,13 +1,14 @@
 -- The value change dump of a trace.
-use Rattle.std.specs.Prelude.{ℕ, ◌+◌, ◌*◌, ◌==◌, if◌then◌else◌, List, [], ◌∷◌, ◌++◌, Option, Some, None}
+use Rattle.std.specs.Prelude.{ℕ, ◌+◌, ◌*◌, ◌==◌, Bool, true, false, if◌then◌else◌, List, [], ◌∷◌, ◌++◌, Option, Some, None}
 use Rattle.nand_geometry.specs.declared.parts.Parts.{Parts}
+use Rattle.onfi_cycle.specs.declared.item.Cycle.{Cycle}
 use Rattle.onfi_cycle.specs.declared.item.Item.{Item}
 use Rattle.onfi_cycle.specs.declared.item.Item.TheVariants.{Cyc, Rdy, Ard}
 use Rattle.onfi_cycle.specs.declared.forbidden.Forbidden.{Forbidden}
 use Rattle.onfi_cycle.specs.declared.forbidden.Forbidden.TheVariants as F
 use Rattle.onfi_cycle.specs.Permitted.{broken}
 use Rattle.bus_lines.specs.declared.lines.Lines.{Lines}
-use Rattle.bus_lines.specs.Lines.{idle, set_up, struck, at_rest, lines_after}
+use Rattle.bus_lines.specs.Lines.{is_output, idle, set_up, struck, at_rest, lines_after}
 use Rattle.trace_wave.specs.Levels.{levels}
 use Rattle.trace_wave.specs.Changes.{changes, time_line, frame}
 use Rattle.trace_wave.specs.Header.{header}
@@ -66,6 +67,16 @@ after_all g targets d (i ∷ items) = after_all g targets (after g targets d i) 
 -- all levels, with these lines
 abbrev pub levels_at : Parts → ℕ → Drawing → Lines → List ℕ
 levels_at g targets d l = levels g targets d.past d.rule l
+
+-- the code of the strobe of a cycle, on a bus of so many targets
+abbrev pub strobe_code : ℕ → Cycle → ℕ
+strobe_code targets c = if is_output c then 36 + targets else 35 + targets
+
+-- an item that isn't seen on the bus
+abbrev pub is_ready : Item → Bool
+is_ready (Cyc c) = false
+is_ready (Rdy _ _ _) = true
+is_ready (Ard _ _) = true
 
 -- the first two frames of an item: a cycle is set up, and its strobe falls
 abbrev pub strobe_frames : Parts → ℕ → Drawing → Item → List ℕ

@@ -1,19 +1,23 @@
 //! The dump of a trace, whole or in pieces.
-ghost use Rattle.std.specs.Prelude.{◌≡◌, ℕ, ◌+◌, ◌*◌, ◌<◌, ◌≤◌, ◌^◌, ◌++◌, List, [], IfOk, OnOk, OnErr};
+ghost use Rattle.std.specs.Prelude.{◌≡◌, ℕ, ◌+◌, ◌<◌, ◌≤◌, ◌^◌, ◌++◌, List, [], true, IfOk, OnOk, OnErr, take};
 ghost use Rattle.std.specs.Vec.{vec_len, vec_capacity};
 ghost use Rattle.nand_geometry.specs.declared.parts.Parts.{Parts};
 ghost use Rattle.trace_wave.specs.Keeping.{IsAt};
 ghost use Rattle.trace_wave.specs.Header.{header};
-ghost use Rattle.trace_wave.specs.Wave.{Drawing, begun, after, after_all, lines_struck, strobe_frames, item_frames, frames, last_frame, dump};
+ghost use Rattle.onfi_cycle.specs.declared.item.Item.TheVariants.{Cyc};
+ghost use Rattle.trace_wave.specs.Wave.{Drawing, begun, after, after_all, is_ready, item_frames, frames, last_frame, dump};
 
-use crate::bus::{push_bus, push_bus_frame};
+use crate::bus::{write_enables_if_changed, write_rise, write_set_up, write_struck};
 use crate::channel::Channel;
 use crate::header::{LONGEST_HEADER, push_header};
-use crate::model::push_model;
-use crate::text::{push_time, take_back_time};
+use crate::item_count::ItemCount;
+use crate::model::write_model;
+use crate::room::{ROOM, Room};
+use crate::text::push_bytes;
+use crate::told::{Told, first_told};
 use bus_lines::Lines;
 use nand_geometry::Geometry;
-use onfi_cycle::Item;
+use onfi_cycle::{Cycle, Item};
 use std::alloc::{AllocError, Allocator};
 
 // How many bytes an item adds at most: two frames of the bus, and one of all lines.
@@ -21,6 +25,24 @@ const LONGEST_ITEM: usize = 384;
 
 // How many items a dump has at most, so that their times can be written.
 const MOST_ITEMS: u64 = 1 << 60;
+
+// Empties a room that is all but full; the place in it where the next item is written.
+#[inline(always)]
+fn make_room<A: Allocator>(
+    out: &mut Vec<u8, A>,
+    room: &Room,
+    place: usize,
+) -> Result<usize, AllocError>
+    requires { place ≤ 1024 }
+    ensures kept { IfOk result (λ next. out.new.items ++ take next room.now ≡ out.old.items ++ take place room.now) }
+    ensures places { IfOk result (λ next. next + 384 ≤ 1024) }
+{
+    if place + LONGEST_ITEM <= ROOM {
+        return Ok(place);
+    }
+    out.extend_from_slice(&room[..place])?;
+    Ok(0)
+}
 
 /// A dump that is being written, in pieces: it is begun ([`begin`](Dump::begin)), takes items ([`draw`](Dump::draw), [`draw_all`](Dump::draw_all)) and is
 /// ended ([`end`](Dump::end)). Each call adds what it writes to a `Vec`, which the caller may empty after any of them: all that was added, one after the
@@ -30,7 +52,8 @@ pub struct Dump {
     pub channel: Channel,
     pub rule: u8,
     pub lines: Lines,
-    pub items: u64,
+    pub items: ItemCount,
+    pub kept: Told,
 }
 
 impl Dump {
@@ -49,52 +72,81 @@ impl Dump {
         out.reserve(LONGEST_HEADER)?;
         let channel = Channel::new(geometry, targets);
         push_header(out, &channel);
+        let kept = first_told(&channel);
         Ok(Dump {
             channel,
             rule: 0,
             lines: Lines::idle(),
-            items: 0,
+            items: ItemCount::none(),
+            kept,
         })
     }
 
-    // Adds the first two frames of an item; the lines then.
-    fn strike<A: Allocator>(&self, out: &mut Vec<u8, A>, targets: u8, item: Item) -> Lines
-        requires few { (targets ≤ 4) × (self.now.items ≤ 2 ^ 60) }
-        requires places { vec_len out.old + 140 ≤ vec_capacity out.old }
-        ensures value { (g : Parts) (d : Drawing) → IsAt g targets d self.now → out.new.items ≡ out.old.items ++ strobe_frames g targets d item }
-        ensures lines { result ≡ lines_struck self.now.lines item }
-        ensures len { vec_len out.new ≤ vec_len out.old + 140 }
-        ensures capacity { vec_capacity out.old ≤ vec_capacity out.new }
+    // Writes the frames of a cycle; the place behind them.
+    #[inline(always)]
+    fn write_cycle(&mut self, room: &mut Room, place: usize, cycle: Cycle) -> usize
+        requires few { self.old.items < 2 ^ 60 }
+        requires places { place + 384 ≤ 1024 }
+        ensures drawn { (g : Parts) (targets : ℕ) (d : Drawing) → IsAt g targets d self.old
+            → take result room.new ≡ take place room.old ++ item_frames g targets d (Cyc cycle) }
+        ensures goes_on { (g : Parts) (targets : ℕ) (d : Drawing) → IsAt g targets d self.old → IsAt g targets (after g targets d (Cyc cycle)) self.new }
+        ensures len { result ≤ place + 384 }
     {
-        let Item::Cyc(cycle) = item else {
-            return self.lines;
-        };
-        let time = 10 * self.items;
+        let item = Item::Cyc(cycle);
+        let targets = self.channel.targets();
         let set_up = self.lines.set_up(cycle);
-        let struck = set_up.struck(cycle);
-        push_bus_frame(out, time, targets, self.lines, set_up);
-        push_bus_frame(out, time + 2, targets, set_up, struck);
-        struck
+        let place = write_set_up(room, place, &self.items, targets, self.lines, cycle);
+        let place = write_struck(room, place, &self.items, targets, set_up, cycle);
+        let place = write_rise(room, place, &self.items, targets, cycle);
+        let place = write_model(
+            room,
+            place,
+            &mut self.channel,
+            &mut self.kept,
+            &mut self.rule,
+            item,
+        );
+        self.lines = self.lines.after(item);
+        self.items.count_up();
+        place
     }
 
-    // Adds the frames of an item.
-    fn push_item<A: Allocator>(&mut self, out: &mut Vec<u8, A>, item: Item)
+    // Writes the frame of a ready, if anything changes in it; the place behind it.
+    fn write_ready(&mut self, room: &mut Room, place: usize, item: Item) -> usize
         requires few { self.old.items < 2 ^ 60 }
-        requires places { vec_len out.old + 384 ≤ vec_capacity out.old }
-        ensures drawn { (g : Parts) (targets : ℕ) (d : Drawing) → IsAt g targets d self.old → out.new.items ≡ out.old.items ++ item_frames g targets d item }
-        ensures goes_on { (g : Parts) (targets : ℕ) (d : Drawing) → IsAt g targets d self.old → IsAt g targets (after g targets d item) self.new }
+        requires places { place + 384 ≤ 1024 }
+        ensures drawn { (g : Parts) (targets : ℕ) (d : Drawing) → IsAt g targets d self.old → is_ready item ≡ true
+            → take result room.new ≡ take place room.old ++ item_frames g targets d item }
+        ensures goes_on { (g : Parts) (targets : ℕ) (d : Drawing) → IsAt g targets d self.old → is_ready item ≡ true → IsAt g targets (after g targets d item) self.new }
+        ensures len { result ≤ place + 384 }
     {
-        let targets = self.channel.targets();
-        let struck = self.strike(out, targets, item);
-        let after = self.lines.after(item);
-        let start = out.len();
-        push_time(out, 10 * self.items + 6);
-        let end = out.len();
-        push_bus(out, targets, struck, after);
-        self.rule = push_model(out, &mut self.channel, self.rule, item);
-        take_back_time(out, start, end);
-        self.lines = after;
-        self.items += 1;
+        let start = self.items.write_time(room, place, 6);
+        let end = write_model(
+            room,
+            start,
+            &mut self.channel,
+            &mut self.kept,
+            &mut self.rule,
+            item,
+        );
+        self.items.count_up();
+        if end == start { place } else { end }
+    }
+
+    // Writes the frames of an item; the place behind them.
+    #[inline(always)]
+    fn write_item(&mut self, room: &mut Room, place: usize, item: Item) -> usize
+        requires few { self.old.items < 2 ^ 60 }
+        requires places { place + 384 ≤ 1024 }
+        ensures drawn { (g : Parts) (targets : ℕ) (d : Drawing) → IsAt g targets d self.old
+            → take result room.new ≡ take place room.old ++ item_frames g targets d item }
+        ensures goes_on { (g : Parts) (targets : ℕ) (d : Drawing) → IsAt g targets d self.old → IsAt g targets (after g targets d item) self.new }
+        ensures len { result ≤ place + 384 }
+    {
+        match item {
+            Item::Cyc(cycle) => self.write_cycle(room, place, cycle),
+            Item::Rdy { .. } | Item::Ard { .. } => self.write_ready(room, place, item),
+        }
     }
 
     /// Adds the frames of an item. One that breaks a rule is drawn too (`specs/Wave`). `AllocError` is answered where memory was refused, or after 2^60
@@ -105,15 +157,17 @@ impl Dump {
         ensures goes_on { (g : Parts) (targets : ℕ) (d : Drawing) → IsAt g targets d self.old → OnOk result (IsAt g targets (after g targets d item) self.new) }
         ensures refused { OnErr result ((out.new.items ≡ out.old.items) × (self.new ≡ self.old)) }
     {
-        if self.items >= MOST_ITEMS {
+        if self.items.number() >= MOST_ITEMS {
             return Err(AllocError);
         }
         out.reserve(LONGEST_ITEM)?;
-        self.push_item(out, item);
+        let mut room = [0; ROOM];
+        let end = self.write_item(&mut room, 0, item);
+        push_bytes(out, &room[..end]);
         Ok(())
     }
 
-    /// Adds the frames of items, one after the other. After an error those of some first items may have been added.
+    /// Adds the frames of items, one after the other. After an error those of some first items may have been added, and the dump can't be gone on with.
     pub fn draw_all<A: Allocator>(
         &mut self,
         out: &mut Vec<u8, A>,
@@ -124,27 +178,32 @@ impl Dump {
         ensures goes_on { (g : Parts) (targets : ℕ) (d : Drawing) → IsAt g targets d self.old
             → OnOk result (IsAt g targets (after_all g targets d items.now) self.new) }
     {
+        let mut room = [0; ROOM];
+        let mut place = 0;
         let mut rest = items;
         'items: while let Some((item, behind)) = rest.split_first() {
-            self.draw(out, *item)?;
+            if self.items.number() >= MOST_ITEMS {
+                return Err(AllocError);
+            }
+            place = make_room(out, &room, place)?;
+            place = self.write_item(&mut room, place, *item);
             rest = behind;
         }
-        Ok(())
+        out.extend_from_slice(&room[..place])
     }
 
-    /// Ends the dump: its last time, at which no chip is enabled any more. `AllocError` is answered as by [`draw`](Dump::draw).
+    /// Ends the dump: its last time, at which no chip is enabled any more. `AllocError` is answered only where memory was refused, and then nothing is added.
     pub fn end<A: Allocator>(self, out: &mut Vec<u8, A>) -> Result<(), AllocError>
         ensures drawn { (g : Parts) (targets : ℕ) (d : Drawing) → IsAt g targets d self
             → OnOk result (out.new.items ≡ out.old.items ++ last_frame g targets d) }
         ensures refused { OnErr result (out.new.items ≡ out.old.items) }
     {
-        if self.items > MOST_ITEMS {
-            return Err(AllocError);
-        }
         out.reserve(LONGEST_ITEM)?;
+        let mut room = [0; ROOM];
         let targets = self.channel.targets();
-        push_time(out, 10 * self.items);
-        push_bus(out, targets, self.lines, self.lines.at_rest());
+        let start = self.items.write_time(&mut room, 0, 0);
+        let end = write_enables_if_changed(&mut room, start, self.lines.enabled, None, targets);
+        push_bytes(out, &room[..end]);
         Ok(())
     }
 }

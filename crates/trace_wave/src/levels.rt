@@ -1,6 +1,6 @@
 //! The level of a line as its character.
 ghost use Rattle.std.specs.Prelude.{◌≡◌, ◌≤◌};
-ghost use Rattle.trace_wave.specs.Levels.{bit, shown, is_at, is_odd, bit_of, dq_bit, dq_bits, rule_bits};
+ghost use Rattle.trace_wave.specs.Levels.{bit, shown, is_at, bit_of, dq_bit, dq_bits, rule_bits};
 
 /// 1 for a line that is high, 0 for one that is low.
 #[inline(always)]
@@ -29,25 +29,18 @@ pub(crate) fn is_at(enabled: Option<u8>, n: u8) -> bool
     }
 }
 
-#[inline(always)]
-fn is_odd(n: u8) -> bool
-    ensures { result ≡ is_odd n }
-{
-    n % 2 == 1
-}
-
 // The bit of this weight of a number.
 #[inline(always)]
 fn bit_of(number: u8, weight: u8) -> u8
     requires { 1 ≤ weight }
     ensures { result ≡ bit_of number weight }
 {
-    bit(is_odd(number / weight))
+    b'0' + number / weight % 2
 }
 
-/// The level of the line of DQ that has this weight.
+// The level of the line of DQ that has this weight.
 #[inline(always)]
-pub(crate) fn dq_bit(dq: Option<u8>, weight: u8) -> u8
+fn dq_bit(dq: Option<u8>, weight: u8) -> u8
     requires { 1 ≤ weight }
     ensures { result ≡ dq_bit dq weight }
 {

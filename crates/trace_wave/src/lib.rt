@@ -17,9 +17,14 @@ mod bus;
 mod channel;
 mod dump;
 mod header;
+mod item_count;
 mod levels;
 mod model;
+mod room;
 mod text;
+mod told;
 
 pub use channel::Channel;
 pub use dump::{Dump, write_dump};
+pub use item_count::ItemCount;
+pub use told::Told;

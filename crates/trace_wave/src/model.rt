@@ -1,20 +1,19 @@
 //! What is told of the model: R/B#, busy, array and fail of the LUNs, and the rule.
-ghost use Rattle.std.specs.Prelude.{◌≡◌, ℕ, ◌+◌, ◌*◌, ◌<◌, ◌≤◌, List, ◌∷◌, [], ◌++◌, None, length};
-ghost use Rattle.std.specs.Vec.{vec_len, vec_capacity};
+ghost use Rattle.std.specs.Prelude.{◌≡◌, ℕ, ◌+◌, ◌*◌, ◌<◌, ◌≤◌, List, ◌∷◌, [], ◌++◌, None, length, take};
 ghost use Rattle.nand_geometry.specs.declared.parts.Parts.{Parts};
 ghost use Rattle.onfi_cycle.specs.declared.item.Item.{Item as ItemValue};
 ghost use Rattle.onfi_cycle.specs.State.{judged};
-ghost use Rattle.trace_wave.specs.Keeping.{Stands};
+ghost use Rattle.trace_wave.specs.Keeping.{Stands, Keeps};
 ghost use Rattle.trace_wave.specs.Levels.{is_busy, has_busy_array, tells_failure, some_busy, readies, target_levels, targets_levels, model_levels, shown};
 ghost use Rattle.trace_wave.specs.Changes.{changes};
 ghost use Rattle.trace_wave.specs.Wave.{rule_number, rule_next, past_next};
 
 use crate::channel::Channel;
 use crate::levels::{rule_bits, shown};
-use crate::text::push_changes;
+use crate::room::{Room, write_changes};
+use crate::told::{Told, renew_all};
 use arrayvec::ArrayVec;
 use onfi_cycle::{Forbidden, Item};
-use std::alloc::Allocator;
 
 /// How many lines tell of the model at most: R/B# of four targets, three lines of sixteen LUNs, and four bits of a rule.
 pub(crate) const MOST_LINES: usize = 56;
@@ -43,8 +42,8 @@ fn rule_number(rule: Forbidden) -> u8
     }
 }
 
-// Some LUN of a target is busy, of so many from number n on.
-fn some_busy(channel: &Channel, ce: u8, count: u8, n: u8) -> bool
+/// Some LUN of a target is busy, of so many from number n on.
+pub(crate) fn some_busy(channel: &Channel, ce: u8, count: u8, n: u8) -> bool
     requires { (ce < 4) × (count + n ≤ 4) }
     ensures { (g : Parts) (targets : ℕ) (past : List ItemValue) → Stands g targets past channel.now → ce < targets → count + n ≤ g.luns
         → result ≡ some_busy g past ce count n }
@@ -144,56 +143,92 @@ pub(crate) fn model_levels(channel: &Channel, rule: u8) -> ArrayVec<u8, MOST_LIN
     levels
 }
 
-// Adds what an item that breaks no rule changes, and goes on by it.
-fn push_effect<A: Allocator>(out: &mut Vec<u8, A>, channel: &mut Channel, item: Item)
+// Writes what an item that breaks no rule changes, line by line, and goes on by it.
+#[inline(never)]
+fn write_new_levels(
+    room: &mut Room,
+    place: usize,
+    channel: &mut Channel,
+    kept: &mut Told,
+    item: Item,
+) -> usize
     requires permitted { judged channel.old.state item ≡ None }
-    requires places { vec_len out.old + 168 ≤ vec_capacity out.old }
-    ensures value { (g : Parts) (targets : ℕ) (past : List ItemValue) → Stands g targets past channel.old
-        → out.new.items ≡ out.old.items ++ changes (45 + targets) (model_levels g targets past 0) (model_levels g targets (item ∷ past) 0) }
+    requires places { place + 168 ≤ 1024 }
+    ensures value { (g : Parts) (targets : ℕ) (past : List ItemValue) → Stands g targets past channel.old → Keeps g targets past kept.old
+        → take result room.new ≡ take place room.old ++ changes (45 + targets) (model_levels g targets past 0) (model_levels g targets (item ∷ past) 0) }
     ensures stands { (g : Parts) (targets : ℕ) (past : List ItemValue) → Stands g targets past channel.old → Stands g targets (item ∷ past) channel.new }
-    ensures len { vec_len out.new ≤ vec_len out.old + 168 }
-    ensures capacity { vec_capacity out.old ≤ vec_capacity out.new }
+    ensures kept { (g : Parts) (targets : ℕ) (past : List ItemValue) → Stands g targets past channel.old → Keeps g targets (item ∷ past) kept.new }
+    ensures len { (place ≤ result) × (result ≤ place + 168) }
 {
-    if channel.keeps_levels(item) {
-        channel.go_on(item);
-        return;
-    }
-    let before = model_levels(channel, 0);
     channel.go_on(item);
-    let after = model_levels(channel, 0);
-    push_changes(out, 45 + channel.targets(), &before, &after);
+    renew_all(room, place, kept, channel)
 }
 
-/// Adds what an item changes after a legal past and this rule, and goes on by it; the rule then. After a first broken rule nothing is judged any more.
-pub(crate) fn push_model<A: Allocator>(
-    out: &mut Vec<u8, A>,
+// Writes what an item that breaks no rule changes, and goes on by it.
+#[inline(always)]
+fn write_effect(
+    room: &mut Room,
+    place: usize,
     channel: &mut Channel,
-    rule: u8,
+    kept: &mut Told,
     item: Item,
-) -> u8
-    requires places { vec_len out.old + 168 ≤ vec_capacity out.old }
-    ensures value { (g : Parts) (targets : ℕ) (past : List ItemValue) → Stands g targets past channel.old
-        → out.new.items ≡ out.old.items ++ changes (45 + targets) (model_levels g targets past rule) (model_levels g targets (past_next past result item) result) }
-    ensures rule { (g : Parts) (targets : ℕ) (past : List ItemValue) → Stands g targets past channel.old → result ≡ rule_next g targets past rule item }
-    ensures stands { (g : Parts) (targets : ℕ) (past : List ItemValue) → Stands g targets past channel.old
-        → Stands g targets (past_next past result item) channel.new }
-    ensures len { vec_len out.new ≤ vec_len out.old + 168 }
-    ensures capacity { vec_capacity out.old ≤ vec_capacity out.new }
+) -> usize
+    requires permitted { judged channel.old.state item ≡ None }
+    requires places { place + 168 ≤ 1024 }
+    ensures value { (g : Parts) (targets : ℕ) (past : List ItemValue) → Stands g targets past channel.old → Keeps g targets past kept.old
+        → take result room.new ≡ take place room.old ++ changes (45 + targets) (model_levels g targets past 0) (model_levels g targets (item ∷ past) 0) }
+    ensures stands { (g : Parts) (targets : ℕ) (past : List ItemValue) → Stands g targets past channel.old → Stands g targets (item ∷ past) channel.new }
+    ensures kept { (g : Parts) (targets : ℕ) (past : List ItemValue) → Stands g targets past channel.old → Keeps g targets past kept.old → Keeps g targets (item ∷ past) kept.new }
+    ensures len { (place ≤ result) × (result ≤ place + 168) }
 {
-    if rule != 0 {
-        return rule;
+    if !channel.keeps_levels(item) {
+        return write_new_levels(room, place, channel, kept, item);
+    }
+    channel.go_on(item);
+    place
+}
+
+// Writes that a rule of this number is broken.
+#[inline(never)]
+fn write_broken(room: &mut Room, place: usize, channel: &Channel, number: u8) -> usize
+    requires places { place + 168 ≤ 1024 }
+    ensures value { (g : Parts) (targets : ℕ) (past : List ItemValue) → Stands g targets past channel.now
+        → take result room.new ≡ take place room.old ++ changes (45 + targets) (model_levels g targets past 0) (model_levels g targets past number) }
+    ensures len { (place ≤ result) × (result ≤ place + 168) }
+{
+    let before = model_levels(channel, 0);
+    let after = model_levels(channel, number);
+    write_changes(room, place, 45 + channel.targets(), &before, &after)
+}
+
+/// Writes what an item changes after a legal past and this rule, and goes on by it. After a first broken rule nothing is judged any more.
+#[inline(always)]
+pub(crate) fn write_model(
+    room: &mut Room,
+    place: usize,
+    channel: &mut Channel,
+    kept: &mut Told,
+    rule: &mut u8,
+    item: Item,
+) -> usize
+    requires places { place + 168 ≤ 1024 }
+    ensures value { (g : Parts) (targets : ℕ) (past : List ItemValue) → Stands g targets past channel.old → Keeps g targets past kept.old
+        → take result room.new ≡ take place room.old ++ changes (45 + targets) (model_levels g targets past rule.old) (model_levels g targets (past_next past rule.new item) rule.new) }
+    ensures rule { (g : Parts) (targets : ℕ) (past : List ItemValue) → Stands g targets past channel.old → rule.new ≡ rule_next g targets past rule.old item }
+    ensures stands { (g : Parts) (targets : ℕ) (past : List ItemValue) → Stands g targets past channel.old
+        → Stands g targets (past_next past rule.new item) channel.new }
+    ensures kept { (g : Parts) (targets : ℕ) (past : List ItemValue) → Stands g targets past channel.old → Keeps g targets past kept.old
+        → Keeps g targets (past_next past rule.new item) kept.new }
+    ensures len { (place ≤ result) × (result ≤ place + 168) }
+{
+    if *rule != 0 {
+        return place;
     }
     match channel.judge(item) {
-        None => {
-            push_effect(out, channel, item);
-            0
-        }
+        None => write_effect(room, place, channel, kept, item),
         Some(broken) => {
-            let next = rule_number(broken);
-            let before = model_levels(channel, 0);
-            let after = model_levels(channel, next);
-            push_changes(out, 45 + channel.targets(), &before, &after);
-            next
+            *rule = rule_number(broken);
+            write_broken(room, place, channel, *rule)
         }
     }
 }
