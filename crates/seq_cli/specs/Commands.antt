@@ -1,7 +1,7 @@
 -- What any command comes to: what its input and its files were, what the files are then, and what is printed.
-use Rattle.std.specs.Prelude.{◌≡◌, ◌⊎◌, ℕ, List, Option, None, IfSome, codes}
-use Rattle.std.specs.Option.{option_map}
+use Rattle.std.specs.Prelude.{◌≡◌, ◌⊎◌, ℕ, List, Option, IfSome, codes}
 use Rattle.seq_files.specs.Store.{Store}
+use Rattle.trace_files.specs.Files.{no_outputs}
 use Rattle.seq_inputs.specs.declared.refusal.Refusal.{Refusal}
 use Rattle.seq_inputs.specs.Inputs.{FileIsRefused}
 use Rattle.seq_inputs.specs.Stops.{Tells}
@@ -35,9 +35,9 @@ MayRefuse (Assemble text target) input files later refusal printed = Tells (Sour
 MayRefuse (AssembleFor page text target) input files later refusal printed =
     Tells (AssembleForRefuses files page.now text.now) refusal × (later ≡ files) × (printed ≡ line_of refusal)
 MayRefuse (Verify page text counter quiet style) input files later refusal printed =
-    Tells (VerifyRefuses files later page.now text.now (option_map (λ path. path.now) counter)) refusal × (printed ≡ line_of refusal)
+    Tells (VerifyRefuses files later page.now text.now counter) refusal × (printed ≡ line_of refusal)
 MayRefuse (Lint page text output) input files later refusal printed =
-    Tells (VerifyRefuses files files page.now text.now None) refusal × (later ≡ files) × (printed ≡ line_of refusal)
+    Tells (VerifyRefuses files files page.now text.now no_outputs) refusal × (later ≡ files) × (printed ≡ line_of refusal)
 MayRefuse (Once base) input files later refusal printed = IfSome input (λ bytes. Tells (ProgramMayBeRefused base bytes) refusal) × (later ≡ files) × (printed ≡ line_of refusal)
 MayRefuse (Run request) input files later refusal printed = RunIsRefused files request refusal × (later ≡ files) × (printed ≡ line_of refusal)
 MayRefuse (Capture request) input files later refusal printed = Tells (CaptureRefuses files request) refusal × (later ≡ files) × (printed ≡ line_of refusal)
@@ -51,7 +51,7 @@ MayRefuse (Upgrade file target) input files later refusal printed = Tells (FileI
 abbrev pub MayLeave : Command → (files later : Option Store) → Type 0
 MayLeave (Assemble text target) files later = (later ≡ files) ⊎ IsAssembled files later text.now target.now
 MayLeave (AssembleFor page text target) files later = (later ≡ files) ⊎ IsAssembledFor files later page.now text.now target.now
-MayLeave (Verify page text counter quiet style) files later = VerifyLeaves files later page.now text.now (option_map (λ path. path.now) counter)
+MayLeave (Verify page text counter quiet style) files later = VerifyLeaves files later page.now text.now counter
 MayLeave (Lint page text output) files later = later ≡ files
 MayLeave (Once base) files later = later ≡ files
 MayLeave (Run request) files later = RunMayLeave files later request

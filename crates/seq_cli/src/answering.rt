@@ -49,6 +49,7 @@ fn say_mistake<W: Write, E: Write, P>(
         Mistake::NoCommand
         | Mistake::Base(_)
         | Mistake::Steps(_)
+        | Mistake::Glitch(_)
         | Mistake::Mapping(_)
         | Mistake::Paths(_) => {
             let _ = write!(&mut console.errors, "{}", Escaped(&mistake));

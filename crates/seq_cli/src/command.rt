@@ -17,6 +17,7 @@ use std::io::{Read, Write};
 use std::sync::Wait;
 use std::thread::Threads;
 use std::time::Clock;
+use trace_files::TraceOutputs;
 use trace_text::CheckProgress;
 
 /// A command with its paths. `-` as a path that is read is standard input.
@@ -33,12 +34,12 @@ pub enum Command<'a> {
         input: &'a str,
         target: &'a str,
     },
-    /// To verify a microprogram, as a word file or an assembly text, for the geometry of a parameter page. Where a refusal has its run, the trace of
-    /// the run may be written to a file. The notes to one that is accepted are said on standard error, unless it is to be quiet. What is said there is in a style.
+    /// To verify a microprogram, as a word file or an assembly text, for the geometry of a parameter page. Where a refusal has its run, the files
+    /// that are asked for of it are written. The notes to one that is accepted are said on standard error, unless it is to be quiet. What is said there is in a style.
     Verify {
         page: &'a str,
         input: &'a str,
-        counter: Option<&'a str>,
+        counter: TraceOutputs<'a>,
         is_quiet: bool,
         style: Style,
     },
@@ -71,51 +72,69 @@ pub enum Command<'a> {
     },
 }
 
-/// The files that a command names: those that it reads, and one that it writes.
+/// The files that a command names: those that it reads, and those that it writes.
 #[derive(Clone, Copy)]
 pub(crate) struct Paths<'a> {
     pub inputs: [Option<&'a str>; 2],
-    pub output: Option<&'a str>,
+    pub outputs: [Option<&'a str>; 3],
+}
+
+// One file that is written, if there is one.
+fn one<'a>(path: Option<&'a str>) -> [Option<&'a str>; 3] {
+    [path, None, None]
+}
+
+// The files that are written of a trace.
+fn paths_of<'a>(outputs: TraceOutputs<'a>) -> [Option<&'a str>; 3] {
+    let TraceOutputs {
+        text,
+        wave,
+        drawing,
+    } = outputs;
+    [text, wave, drawing.map(|drawing| drawing.path)]
 }
 
 impl<'a> Command<'a> {
     /// Its paths.
     pub(crate) fn paths(self) -> Paths<'a> {
-        let (inputs, output) = match self {
+        let (inputs, outputs) = match self {
             Command::Assemble { input, target } | Command::Upgrade { input, target } => {
-                ([Some(input), None], Some(target))
+                ([Some(input), None], one(Some(target)))
             }
             Command::AssembleFor {
                 page,
                 input,
                 target,
-            } => ([Some(page), Some(input)], Some(target)),
+            } => ([Some(page), Some(input)], one(Some(target))),
             Command::Verify {
                 page,
                 input,
                 counter,
                 is_quiet: _,
                 style: _,
-            } => ([Some(page), Some(input)], counter),
+            } => ([Some(page), Some(input)], paths_of(counter)),
             Command::Lint {
                 page,
                 input,
                 output: _,
-            } => ([Some(page), Some(input)], None),
-            Command::Once { .. } => ([None, None], None),
-            Command::Run(request) => ([Some(request.path), None], request.trace),
+            } => ([Some(page), Some(input)], one(None)),
+            Command::Once { .. } => ([None, None], one(None)),
+            Command::Run(request) => ([Some(request.path), None], paths_of(request.trace)),
             Command::Capture(request) => (
                 [Some(request.page), Some(request.input)],
-                Some(request.target),
+                one(Some(request.target)),
             ),
-            Command::Check(request) => ([Some(request.page), Some(request.input)], request.copy),
+            Command::Check(request) => (
+                [Some(request.page), Some(request.input)],
+                one(request.copy),
+            ),
             Command::Draw(request) => (
                 [Some(request.page), Some(request.input)],
-                Some(request.target),
+                one(Some(request.target)),
             ),
-            Command::Disassemble { input } => ([Some(input), None], None),
+            Command::Disassemble { input } => ([Some(input), None], one(None)),
         };
-        Paths { inputs, output }
+        Paths { inputs, outputs }
     }
 }
 

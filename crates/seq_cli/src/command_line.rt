@@ -2,13 +2,15 @@
 
 use crate::command::Command;
 use crate::mistake::{Mistake, PathMistake};
-use bus_capture::{CaptureForm, Family, named, plain_of};
+use bus_capture::CaptureForm;
+use bus_signals::{Family, named, plain_of};
 use clap::{Arg, ArgAction, ArgMatches, Error};
-use seq_commands::{CaptureRequest, CheckRequest, DrawForm, DrawRequest, LintOutput, Targets};
+use seq_commands::{CaptureRequest, CheckRequest, DrawRequest, LintOutput, Targets};
 use seq_inputs::Style;
 use seq_run::{MOST_STEPS, RunRequest};
 use std::alloc::Global;
 use trace_faults::{Beginning, Readies};
+use trace_files::{DrawForm, Drawing, TraceOutputs};
 use trace_text::TraceForm;
 
 /// The commands by their words, in the order in which an author uses them. One that is declared here is declared to the parser, and read, or
@@ -97,7 +99,7 @@ impl Verb {
             Verb::Verify => Command::Verify {
                 page,
                 input,
-                counter: matches.get_str("counter"),
+                counter: read_outputs(matches, "counter"),
                 is_quiet: matches.get_flag("quiet"),
                 style: read_style(matches),
             },
@@ -145,6 +147,22 @@ fn assemble<'a>(alloc: Global) -> Result<clap::Command<'a>, Error> {
     Ok(command)
 }
 
+// A waveform beside what else is written.
+fn wave_to<'a>(alloc: Global, help: &'a str) -> Arg<'a> {
+    Arg::new(alloc, "wave")
+        .long("wave")
+        .value_name("OUT")
+        .help(help)
+}
+
+// A picture beside what else is written.
+fn draw_to<'a>(alloc: Global, help: &'a str) -> Arg<'a> {
+    Arg::new(alloc, "draw")
+        .long("draw")
+        .value_name("OUT")
+        .help(help)
+}
+
 fn verify<'a>(alloc: Global) -> Result<clap::Command<'a>, Error> {
     let counter = Arg::new(alloc, "counter")
         .long("counter")
@@ -156,9 +174,19 @@ fn verify<'a>(alloc: Global) -> Result<clap::Command<'a>, Error> {
         .long("quiet")
         .action(ArgAction::SetTrue)
         .help("Says no notes on standard error, as `lint` prints them");
+    let wave = wave_to(
+        alloc,
+        "Where a refusal has its run: the waveform of that to write, for GTKWave or PulseView",
+    );
+    let draw = draw_to(
+        alloc,
+        "Where a refusal has its run: the picture of that to write, an SVG; with a name that ends in .html a page",
+    );
     let command = clap::Command::new(alloc, Verb::Verify.word())
         .about("Verifies a microprogram for a die, and prints `accepted`")
-        .after_help("Example: onfiseq verify die.page erase.asm --counter wrong.trace")
+        .after_help(
+            "Example: onfiseq verify die.page erase.asm --counter wrong.trace --draw wrong.svg",
+        )
         .arg(require(alloc, "PAGE", "The parameter page of the die"))?
         .arg(require(
             alloc,
@@ -166,6 +194,8 @@ fn verify<'a>(alloc: Global) -> Result<clap::Command<'a>, Error> {
             "The assembly text, or a word file of either format",
         ))?
         .arg(counter)?
+        .arg(wave)?
+        .arg(draw)?
         .arg(quiet)?
         .arg(json(alloc, JSON_ERRORS))?;
     Ok(command)
@@ -227,6 +257,16 @@ fn max_steps<'a>(alloc: Global) -> Arg<'a> {
         )
 }
 
+// Whether standard error tells what there was.
+fn stats<'a>(alloc: Global) -> Arg<'a> {
+    Arg::new(alloc, "stats")
+        .long("stats")
+        .action(ArgAction::SetTrue)
+        .help(
+            "Says on standard error how many jobs, cycles, polls and bytes there were, the seconds that the jobs took, and the cycles a second",
+        )
+}
+
 fn run<'a>(alloc: Global) -> Result<clap::Command<'a>, Error> {
     let quiet = Arg::new(alloc, "quiet")
         .long("quiet")
@@ -236,12 +276,14 @@ fn run<'a>(alloc: Global) -> Result<clap::Command<'a>, Error> {
         .long("trace")
         .value_name("OUT")
         .help("Writes the trace to this file too");
-    let stats = Arg::new(alloc, "stats")
-        .long("stats")
-        .action(ArgAction::SetTrue)
-        .help(
-            "Says on standard error how many jobs, cycles, polls and bytes there were, the seconds that the jobs took, and the cycles a second",
-        );
+    let wave = wave_to(
+        alloc,
+        "Writes the waveform of the trace to this file, for GTKWave or PulseView",
+    );
+    let draw = draw_to(
+        alloc,
+        "Writes the picture of the trace to this file, an SVG; with a name that ends in .html a page, with the trace beside the picture",
+    );
     let command = clap::Command::new(alloc, Verb::Run.word())
         .about("Runs a channel as a run file says, and prints the trace and each job's code")
         .after_help("Example: onfiseq run examples/two_luns.run --workers 2")
@@ -254,7 +296,9 @@ fn run<'a>(alloc: Global) -> Result<clap::Command<'a>, Error> {
         .arg(max_steps(alloc))?
         .arg(quiet)?
         .arg(trace)?
-        .arg(stats)?;
+        .arg(wave)?
+        .arg(draw)?
+        .arg(stats(alloc))?;
     Ok(command)
 }
 
@@ -298,6 +342,16 @@ fn trace<'a>(alloc: Global) -> Arg<'a> {
     )
 }
 
+// How long a strobe stays as it is at least.
+fn glitch<'a>(alloc: Global) -> Arg<'a> {
+    Arg::new(alloc, "glitch")
+        .long("glitch")
+        .value_name("n")
+        .help(
+            "Refuses a capture in which WE# or RE# changes again after less than n units of its time, while a chip is enabled; 0 if not given, which refuses none",
+        )
+}
+
 fn capture<'a>(alloc: Global) -> Result<clap::Command<'a>, Error> {
     let map = Arg::new(alloc, "map").long("map").value_name("map").help(
         "Which signal is what, where its name doesn't tell: CE0 to CE3, CLE, ALE, WE, RE, DQ, DQ0 to DQ7, RB0 to RB3; as WE=P17,RE=P18",
@@ -327,7 +381,8 @@ fn capture<'a>(alloc: Global) -> Result<clap::Command<'a>, Error> {
         .arg(require(alloc, "OUT", "The text of the trace to write"))?
         .arg(map)?
         .arg(csv)?
-        .arg(times)?;
+        .arg(times)?
+        .arg(glitch(alloc))?;
     Ok(command)
 }
 
@@ -525,6 +580,14 @@ fn form_of_capture(matches: &ArgMatches<'_>, input: &str) -> CaptureForm {
     }
 }
 
+// The time after which a strobe may change again.
+fn read_glitch<'a>(given: Option<&'a str>) -> Result<u64, Mistake<'a>> {
+    let Some(word) = given else {
+        return Ok(0);
+    };
+    u64::from_str_radix(word, 10).map_err(|_| Mistake::Glitch(word))
+}
+
 // What a capture is read for.
 fn read_capture<'a>(matches: &ArgMatches<'a>) -> Result<CaptureRequest<'a>, Mistake<'a>> {
     let input = find_word(matches, "IN");
@@ -536,6 +599,7 @@ fn read_capture<'a>(matches: &ArgMatches<'a>) -> Result<CaptureRequest<'a>, Mist
         target: find_word(matches, "OUT"),
         mappings: read_mappings(matches)?,
         has_times: matches.get_flag("times"),
+        glitch: read_glitch(matches.get_str("glitch"))?,
     })
 }
 
@@ -587,6 +651,18 @@ fn form_of(target: &str) -> DrawForm {
     }
 }
 
+// The files of a trace; that of its text has this word.
+fn read_outputs<'a>(matches: &ArgMatches<'a>, text: &str) -> TraceOutputs<'a> {
+    TraceOutputs {
+        text: matches.get_str(text),
+        wave: matches.get_str("wave"),
+        drawing: matches.get_str("draw").map(|path| Drawing {
+            form: form_of(path),
+            path,
+        }),
+    }
+}
+
 // What a drawing is asked for.
 fn read_draw<'a>(matches: &ArgMatches<'a>, form: DrawForm) -> DrawRequest<'a> {
     DrawRequest {
@@ -622,7 +698,7 @@ fn read_run<'a>(matches: &ArgMatches<'a>) -> Result<RunRequest<'a>, Mistake<'a>>
         max_steps: read_max_steps(matches.get_str("max-steps"))?,
         workers: count_workers(find_word(matches, "workers")),
         is_quiet: matches.get_flag("quiet"),
-        trace: matches.get_str("trace"),
+        trace: read_outputs(matches, "trace"),
         has_stats: matches.get_flag("stats"),
     })
 }

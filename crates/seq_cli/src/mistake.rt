@@ -14,6 +14,8 @@ pub enum PathMistake<'a> {
     InputTwice,
     /// What is read would be written over.
     WrittenOver(&'a str),
+    /// Two files would be written to one path.
+    WrittenTwice(&'a str),
     /// The traces of several checks would be written to one file.
     SeveralWritten,
 }
@@ -32,6 +34,11 @@ impl fmt::Display for PathMistake<'_> {
                 "{} would be written over: it is read by this command",
                 Shown::path(path)
             ),
+            PathMistake::WrittenTwice(path) => write!(
+                f,
+                "{} would be written twice: each file to write has a path of its own",
+                Shown::path(path)
+            ),
             PathMistake::SeveralWritten => f.write_str("--write takes one trace"),
         }
     }
@@ -40,11 +47,11 @@ impl fmt::Display for PathMistake<'_> {
 impl<'a> PathMistake<'a> {
     /// What is wrong with further traces that a check is to read, if something is.
     pub(crate) fn among(first: Command<'a>, more: &[&'a str]) -> Option<PathMistake<'a>> {
-        let Paths { inputs, output } = first.paths();
+        let Paths { inputs, outputs } = first.paths();
         if more.is_empty() {
             return None;
         }
-        if output.is_some() {
+        if outputs != [None, None, None] {
             return Some(PathMistake::SeveralWritten);
         }
         let streams = more.iter().filter(|path| **path == "-").count();
@@ -54,18 +61,34 @@ impl<'a> PathMistake<'a> {
         None
     }
 
-    /// What is wrong with the paths of this command, if something is. `upgrade` may write over what it has read.
-    pub(crate) fn find(command: Command<'a>) -> Option<PathMistake<'a>> {
-        let Paths { inputs, output } = command.paths();
-        if inputs == [Some("-"), Some("-")] {
-            return Some(PathMistake::InputTwice);
-        }
-        let output = output?;
+    // What is wrong with a path that is written beside these, if something is.
+    fn of_output(output: &'a str, command: Command<'a>) -> Option<PathMistake<'a>> {
+        let Paths { inputs, outputs } = command.paths();
         if output == "-" {
             return Some(PathMistake::OutputToStream);
         }
         if inputs.contains(&Some(output)) && !matches!(command, Command::Upgrade { .. }) {
             return Some(PathMistake::WrittenOver(output));
+        }
+        let same = outputs.iter().filter(|other| **other == Some(output));
+        if 1 < same.count() {
+            return Some(PathMistake::WrittenTwice(output));
+        }
+        None
+    }
+
+    /// What is wrong with the paths of this command, if something is. `upgrade` may write over what it has read.
+    pub(crate) fn find(command: Command<'a>) -> Option<PathMistake<'a>> {
+        let Paths { inputs, outputs } = command.paths();
+        if inputs == [Some("-"), Some("-")] {
+            return Some(PathMistake::InputTwice);
+        }
+        for output in outputs {
+            if let Some(path) = output
+                && let Some(mistake) = PathMistake::of_output(path, command)
+            {
+                return Some(mistake);
+            }
         }
         None
     }
@@ -82,6 +105,8 @@ pub enum Mistake<'a> {
     Base(&'a str),
     /// The number of `--max-steps` isn't one of 64 bits.
     Steps(&'a str),
+    /// The number of `--glitch` isn't one of 64 bits.
+    Glitch(&'a str),
     /// A part of `--map` isn't a role and the name of a signal.
     Mapping(&'a str),
     /// The paths don't go together.
@@ -110,6 +135,11 @@ impl fmt::Display for Mistake<'_> {
             Mistake::Steps(word) => writeln!(
                 f,
                 "error: --max-steps takes a decimal number, 0 to 18446744073709551615, and not `{}`",
+                Shown::line(word)
+            ),
+            Mistake::Glitch(word) => writeln!(
+                f,
+                "error: --glitch takes a decimal number, 0 to 18446744073709551615, and not `{}`",
                 Shown::line(word)
             ),
             Mistake::Mapping(part) => writeln!(

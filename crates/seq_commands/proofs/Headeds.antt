@@ -8,18 +8,11 @@ use Rattle.micro_program.specs.Safe.{IsSafe}
 use Rattle.micro_walk.specs.Faults.{fault_of}
 use Rattle.seq_inputs.specs.declared.fault.Fault.{Fault}
 use Rattle.seq_inputs.specs.declared.stop.Stop.{Stop}
-use Rattle.seq_inputs.specs.declared.stop.Stop.TheVariants.{Refused, FileFault, ReaderGone, BuffersTooLarge, OutOfMemory}
 use Rattle.seq_inputs.specs.Stops.{Says}
+use Rattle.seq_inputs.proofs.Verifieds.{said_more}
 use Rattle.seq_inputs.specs.Inputs.{HasPage, RefusesReason}
 use Rattle.seq_inputs.specs.Headed.{with_header, RefusesHeaded}
 use Rattle.seq_commands.specs.Commands.{HasSafeWordsOf, IsAssembledFor, RefusesFor}
-
-said_more : {A : Type 0} (P Q : Fault → Type 0) (e : Stop A) → ((f : Fault) → P f → Q f) → Says P e → Says Q e
-said_more P Q (Refused r words) more says = (more r.fault says.0, says.1)
-said_more P Q (FileFault path fault line) more says = tt
-said_more P Q ReaderGone more says = tt
-said_more P Q (BuffersTooLarge bytes line) more says = says
-said_more P Q OutOfMemory more says = tt
 
 pub headed_said : {A : Type 0} (g : Parts) (text : List ℕ) (e : Stop A) → Says (RefusesHeaded text) e → Says (RefusesFor g text) e
 headed_said g text e says = said_more (RefusesHeaded text) (RefusesFor g text) e (λ f h. inl h) says

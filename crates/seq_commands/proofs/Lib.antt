@@ -4,3 +4,4 @@ pub mod Checked
 pub mod Captured
 pub mod Sayings
 pub mod Headeds
+pub mod Leaving

@@ -1,6 +1,6 @@
 -- What is refused is what a stop says.
 use Rattle.std.proofs.Common.{◌≡◌, inl, inr, ℕ, List, Option, Some, None, subst}
-use Rattle.seq_files.specs.Store.{Store}
+use Rattle.seq_files.specs.Store.{Store, with_all}
 use Rattle.seq_inputs.specs.declared.fault.Fault.{Fault}
 use Rattle.seq_inputs.specs.declared.refusal.Refusal.{Refusal}
 use Rattle.seq_inputs.specs.declared.stop.Stop.{Stop}
@@ -9,7 +9,11 @@ use Rattle.seq_inputs.specs.Stops.{refusal_in, Says, SaysElse, Tells}
 use Rattle.micro_word.specs.Text.{Microprogram}
 use Rattle.nand_geometry.specs.declared.parts.Parts.{Parts}
 use Rattle.seq_inputs.specs.declared.fault.Fault.TheVariants.{Text}
-use Rattle.seq_commands.specs.Commands.{VerifyRefuses, VerifyLeaves, RefusesText}
+use Rattle.micro_verify.specs.Lazy.{Counter}
+use Rattle.micro_verify.specs.Calm.{counter_of}
+use Rattle.trace_files.specs.declared.outputs.TraceOutputs.{TraceOutputs}
+use Rattle.trace_files.specs.Files.{no_outputs}
+use Rattle.seq_commands.specs.Commands.{VerifyRefuses, VerifyLeaves, RefusesText, LeavesRun}
 
 some_same : (r s : Refusal) → Some r ≡ Some s → r ≡ s
 some_same r s h = cc
@@ -31,30 +35,53 @@ said_else May Other ReaderGone r h is = absurd (no_refusal r is)
 said_else May Other (BuffersTooLarge bytes line) r h is = absurd (no_refusal r is)
 said_else May Other OutOfMemory r h is = absurd (no_refusal r is)
 
+-- what may be refused for one reason may be refused for a wider one
+tells_more : (May Must : Fault → Type 0) (r : Refusal) → ((f : Fault) → May f → Must f) → Tells May r → Tells Must r
+tells_more May Must r wider h = (wider r.fault h.0, h.1)
+
+pub says_more : {A : Type 0} (May Must : Fault → Type 0) (stop : Stop A) → ((f : Fault) → May f → Must f) → Says May stop → Says Must stop
+says_more May Must (Refused s words) wider h = tells_more May Must s wider h
+says_more May Must (FileFault path fault line) wider h = tt
+says_more May Must ReaderGone wider h = tt
+says_more May Must (BuffersTooLarge bytes line) wider h = h
+says_more May Must OutOfMemory wider h = tt
+
 -- what `verify` leaves, however it fails
-left_by : (files later : Option Store) (page input : List ℕ) (counter : Option (List ℕ)) (f : Fault) → VerifyRefuses files later page input counter f → VerifyLeaves files later page input counter
+left_by : (files later : Option Store) (page input : List ℕ) (counter : TraceOutputs) (f : Fault) → VerifyRefuses files later page input counter f → VerifyLeaves files later page input counter
 left_by files later page input counter f (inl h) = record { left = inl h.1 }
 left_by files later page input counter f (inr (inl h)) = record { left = inl h.1 }
 left_by files later page input counter f (inr (inr h)) = record { left = inr (f, h) }
 
-pub left : {A : Type 0} (files later : Option Store) (page input : List ℕ) (counter : Option (List ℕ)) (stop : Stop A) → SaysElse (VerifyRefuses files later page input counter) (later ≡ files) stop → VerifyLeaves files later page input counter
+pub left : {A : Type 0} (files later : Option Store) (page input : List ℕ) (counter : TraceOutputs) (stop : Stop A) → SaysElse (VerifyRefuses files later page input counter) (later ≡ files) stop → VerifyLeaves files later page input counter
 left files later page input counter (Refused r words) h = left_by files later page input counter r.fault h.0
 left files later page input counter (FileFault path fault line) h = record { left = inl h }
 left files later page input counter ReaderGone h = record { left = inl h }
 left files later page input counter (BuffersTooLarge bytes line) h = record { left = inl h }
 left files later page input counter OutOfMemory h = record { left = inl h }
 
--- where no path is given for a run, nothing is left
-kept_by : (g : Parts) (x : Microprogram) (files later : Option Store) (f : Fault) → RefusesText g x None files later f → later ≡ files
-kept_by g x files later (Text reason word) h = h.1
+-- where no file is asked for of a run, nothing is left
+none_left : (g : Parts) (c : Option Counter) (files later : Option Store) → LeavesRun no_outputs g c files later → later ≡ files
+unfolding with_all
+none_left g None files later h = h
+none_left g (Some c) files later h = h.1
+
+kept_by : (g : Parts) (x : Microprogram) (files later : Option Store) (f : Fault) → RefusesText g x no_outputs files later f → later ≡ files
+kept_by g x files later (Text reason word) h = none_left g (counter_of g x (record { word = word; reason = reason })) files later h.1
 kept_by g x files later _ h = absurd h
 
-kept : (files later : Option Store) (page input : List ℕ) (f : Fault) → VerifyRefuses files later page input None f → later ≡ files
+kept : (files later : Option Store) (page input : List ℕ) (f : Fault) → VerifyRefuses files later page input no_outputs f → later ≡ files
 kept files later page input f (inl h) = h.1
 kept files later page input f (inr (inl h)) = h.1
 kept files later page input f (inr (inr h)) = kept_by h.g h.x files later f h.refuses
 
-pub said_kept : {A : Type 0} (files later : Option Store) (page input : List ℕ) (stop : Stop A) (r : Refusal) → SaysElse (VerifyRefuses files later page input None) (later ≡ files) stop → refusal_in stop ≡ Some r → Tells (VerifyRefuses files files page input None) r
+pub said_kept : {A : Type 0} (files later : Option Store) (page input : List ℕ) (stop : Stop A) (r : Refusal) → SaysElse (VerifyRefuses files later page input no_outputs) (later ≡ files) stop → refusal_in stop ≡ Some r → Tells (VerifyRefuses files files page input no_outputs) r
 said_kept files later page input stop r says is =
-    let k = said_else (VerifyRefuses files later page input None) (later ≡ files) stop r says is in
-    (subst (λ z. VerifyRefuses files z page input None r.fault) (kept files later page input r.fault k.0) k.0, k.1)
+    let k = said_else (VerifyRefuses files later page input no_outputs) (later ≡ files) stop r says is in
+    (subst (λ z. VerifyRefuses files z page input no_outputs r.fault) (kept files later page input r.fault k.0) k.0, k.1)
+
+pub stays : {A : Type 0} (files later : Option Store) (page input : List ℕ) (stop : Stop A) → SaysElse (VerifyRefuses files later page input no_outputs) (later ≡ files) stop → later ≡ files
+stays files later page input (Refused r words) h = kept files later page input r.fault h.0
+stays files later page input (FileFault path fault line) h = h
+stays files later page input ReaderGone h = h
+stays files later page input (BuffersTooLarge bytes line) h = h
+stays files later page input OutOfMemory h = h

@@ -6,9 +6,9 @@ use Rattle.seq_files.specs.Store.{Store, Holds, with_file}
 use Rattle.nand_geometry.specs.declared.parts.Parts.{Parts}
 use Rattle.onfi_cycle.specs.declared.item.Item.{Item}
 use Rattle.bus_capture.specs.declared.inferring.Stamped.{Stamped}
-use Rattle.bus_capture.specs.declared.mapping.Mapping.{Mapping}
-use Rattle.bus_capture.specs.declared.reading.CaptureForm.{CaptureForm}
-use Rattle.bus_capture.specs.Inferring.{captured_as}
+use Rattle.bus_signals.specs.declared.mapping.Mapping.{Mapping}
+use Rattle.bus_capture.specs.declared.reading.Setup.{Setup}
+use Rattle.bus_capture.specs.Inferring.{captured}
 use Rattle.trace_text.specs.Line.{text}
 use Rattle.trace_text.specs.declared.recorded_item.TimedItem.{TimedItem}
 use Rattle.trace_text.specs.Recorded.{timed_text}
@@ -44,6 +44,14 @@ said m = record { role = m.role.now; name = m.name.now }
 abbrev pub AreSaid : Option (List ℕ) → List Mapping → Type 0
 AreSaid line mappings = map said mappings ≡ sayings_of line
 
+-- a capture is read so for a request: of this geometry, and with the signals that are said
+pub record IsSetup (request : CaptureRequest) (g : Parts) (setup : Setup) : Type 0 where
+  pub form : setup.form ≡ request.form
+  pub geometry : setup.geometry ≡ g
+  pub targets : setup.targets ≡ count_of request.targets
+  pub mappings : AreSaid (option_map (λ line. line.now) request.mappings) setup.mappings.now
+  pub glitch : setup.glitch ≡ request.glitch
+
 -- ---- what is written
 
 abbrev pub items_in : List Stamped → List Item
@@ -66,27 +74,27 @@ pub record IsCaptured (files later : Option Store) (request : CaptureRequest) : 
   pub has_page : HasPage files request.page.now g
   pub capture : List ℕ
   pub is_there : Holds files request.input.now capture
-  pub mappings : List Mapping
-  pub are_said : AreSaid (option_map (λ line. line.now) request.mappings) mappings
+  pub setup : Setup
+  pub is_setup : IsSetup request g setup
   pub stamped : List Stamped
-  pub is_captured : captured_as request.form g (count_of request.targets) mappings capture ≡ Ok stamped
+  pub is_captured : captured setup capture ≡ Ok stamped
   pub written : later ≡ with_file files request.target.now (seen_text request.has_times stamped)
 
 -- ---- what is refused
 
 -- the first fault of a capture
-abbrev pub RefusesCapture : CaptureForm → Parts → ℕ → List Mapping → List ℕ → Fault → Type 0
-RefusesCapture form g targets mappings capture (Capture fault) = captured_as form g targets mappings capture ≡ Err fault
-RefusesCapture form g targets mappings capture _ = ⊥
+abbrev pub RefusesCapture : Setup → List ℕ → Fault → Type 0
+RefusesCapture setup capture (Capture fault) = captured setup capture ≡ Err fault
+RefusesCapture setup capture _ = ⊥
 
 pub record CaptureIsRefused (files : Option Store) (request : CaptureRequest) (fault : Fault) : Type 0 where
   pub g : Parts
   pub has_page : HasPage files request.page.now g
   pub capture : List ℕ
   pub is_there : Holds files request.input.now capture
-  pub mappings : List Mapping
-  pub are_said : AreSaid (option_map (λ line. line.now) request.mappings) mappings
-  pub refuses : RefusesCapture request.form g (count_of request.targets) mappings capture fault
+  pub setup : Setup
+  pub is_setup : IsSetup request g setup
+  pub refuses : RefusesCapture setup capture fault
 
 -- the page is refused, or the capture
 abbrev pub CaptureRefuses : Option Store → CaptureRequest → Fault → Type 0

@@ -1,7 +1,7 @@
 -- What the commands come to: what was read, what is printed or written of it, and what it may be refused for.
 use Rattle.std.specs.Prelude.{◌≡◌, ◌⊎◌, ◌++◌, ◌∷◌, [], ℕ, ⊤, List, Option, Some, None}
 use Rattle.std.specs.List.{All}
-use Rattle.seq_files.specs.Store.{Store, Holds, with_file}
+use Rattle.seq_files.specs.Store.{Store, Holds, with_file, with_all}
 use Rattle.nand_geometry.specs.declared.parts.Parts.{Parts}
 use Rattle.onfi_cycle.specs.declared.item.Item.TheVariants.{Cyc}
 use Rattle.micro_word.specs.Text.{Microprogram, file2}
@@ -13,7 +13,9 @@ use Rattle.micro_walk.specs.Verdicts.{MayBe}
 use Rattle.micro_verify.specs.declared.showing.Counter.{Counter as Counted}
 use Rattle.micro_verify.specs.Lazy.{Counter}
 use Rattle.micro_verify.specs.Calm.{counter_of}
-use Rattle.trace_text.specs.Line.{text, IsPrintable}
+use Rattle.trace_text.specs.Line.{IsPrintable}
+use Rattle.trace_files.specs.declared.outputs.TraceOutputs.{TraceOutputs}
+use Rattle.trace_files.specs.Files.{files_of}
 use Rattle.seq_inputs.specs.Inputs.{HasPage, PageIsRefused, HasFile, HasProgram, ProgramIsRefused, RefusesSource, RefusesReason}
 use Rattle.seq_inputs.specs.Headed.{with_header, RefusesHeaded}
 use Rattle.seq_commands.specs.declared.targets.Targets.{Targets}
@@ -128,19 +130,19 @@ abbrev pub CanBePrinted : {A : Type 0} → Option (Counted A) → Type 0
 CanBePrinted None = ⊤
 CanBePrinted (Some c) = All IsPrintable (c.items.items ++ (Cyc c.cycle ∷ []))
 
--- what is left of the run of a refusal and the cycle after it that isn't permitted, where a path is given and the refusal has its run: their text
-abbrev pub with_run : Option (List ℕ) → Option Counter → Option Store → Option Store
-with_run None c files = files
-with_run (Some path) None files = files
-with_run (Some path) (Some c) files = with_file files path (text (c.items ++ (c.cycle ∷ [])))
+-- what is left of the run of a refusal and the cycle after it that isn't permitted, where the refusal has its run: the files that are asked for of it,
+-- on a channel of one target
+abbrev pub LeavesRun : TraceOutputs → Parts → Option Counter → (files later : Option Store) → Type 0
+LeavesRun outputs g None files later = later ≡ files
+LeavesRun outputs g (Some c) files later = (drawn : List ℕ) × (later ≡ with_all (files_of outputs g 1 (c.items ++ (c.cycle ∷ [])) drawn) files)
 
--- a reason against the microprogram, for this geometry, with the run that is left of it
-abbrev pub RefusesText : Parts → Microprogram → Option (List ℕ) → (files later : Option Store) → Fault → Type 0
+-- a reason against the microprogram, for this geometry, with what is left of its run
+abbrev pub RefusesText : Parts → Microprogram → TraceOutputs → (files later : Option Store) → Fault → Type 0
 RefusesText g x counter files later (Text reason word) =
-    MayBe g x (record { word = word; reason = reason }) × (later ≡ with_run counter (counter_of g x (record { word = word; reason = reason })) files)
+    MayBe g x (record { word = word; reason = reason }) × LeavesRun counter g (counter_of g x (record { word = word; reason = reason })) files later
 RefusesText g x counter files later _ = ⊥
 
-pub record TextIsRefused (files later : Option Store) (page input : List ℕ) (counter : Option (List ℕ)) (fault : Fault) : Type 0 where
+pub record TextIsRefused (files later : Option Store) (page input : List ℕ) (counter : TraceOutputs) (fault : Fault) : Type 0 where
   pub g : Parts
   pub has_page : HasPage files page g
   pub x : Microprogram
@@ -154,11 +156,11 @@ pub record FileIsRefusedNext (files : Option Store) (page input : List ℕ) (fau
   pub file_refused : ProgramIsRefused files input fault
 
 -- the page is refused, or the word file, or its text; the run of a text alone is left
-abbrev pub VerifyRefuses : (files later : Option Store) → (page input : List ℕ) → (counter : Option (List ℕ)) → Fault → Type 0
+abbrev pub VerifyRefuses : (files later : Option Store) → (page input : List ℕ) → (counter : TraceOutputs) → Fault → Type 0
 VerifyRefuses files later page input counter fault =
     (PageIsRefused files page fault × (later ≡ files))
     ⊎ ((FileIsRefusedNext files page input fault × (later ≡ files)) ⊎ TextIsRefused files later page input counter fault)
 
--- files are as they were, or the run of a refusal is left
-pub record VerifyLeaves (files later : Option Store) (page input : List ℕ) (counter : Option (List ℕ)) : Type 0 where
+-- files are as they were, or those of the run of a refusal are left
+pub record VerifyLeaves (files later : Option Store) (page input : List ℕ) (counter : TraceOutputs) : Type 0 where
   pub left : (later ≡ files) ⊎ ((fault : Fault) × TextIsRefused files later page input counter fault)

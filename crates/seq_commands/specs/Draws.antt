@@ -1,23 +1,15 @@
 -- What a drawing of a trace comes to: what is written.
-use Rattle.std.specs.Prelude.{◌≡◌, ℕ, ⊤, List, Option}
+use Rattle.std.specs.Prelude.{◌≡◌, ℕ, List, Option}
 use Rattle.seq_files.specs.Store.{Store, Holds, with_file}
 use Rattle.nand_geometry.specs.declared.parts.Parts.{Parts}
 use Rattle.onfi_cycle.specs.declared.item.Item.{Item}
 use Rattle.trace_text.specs.Forms.{IsTraceText}
-use Rattle.trace_wave.specs.Wave.{dump}
+use Rattle.trace_files.specs.Files.{drawing_of}
 use Rattle.seq_inputs.specs.Inputs.{HasPage}
-use Rattle.seq_commands.specs.declared.draw_request.DrawForm.{DrawForm}
-use Rattle.seq_commands.specs.declared.draw_request.DrawForm.TheVariants.{Waveform, Picture, Page}
 use Rattle.seq_commands.specs.declared.draw_request.DrawRequest.{DrawRequest}
 use Rattle.seq_commands.specs.Commands.{count_of}
 
--- what is written of a trace: exactly its dump; of a picture and of a page nothing is said
-abbrev pub IsFormOf : DrawForm → Parts → ℕ → List Item → List ℕ → Type 0
-IsFormOf Waveform g targets items bytes = bytes ≡ dump g targets items
-IsFormOf Picture g targets items bytes = ⊤
-IsFormOf Page g targets items bytes = ⊤
-
--- the trace at the path is drawn, and no other file changes
+-- the trace at the path is drawn in its form, and no other file changes
 pub record IsDrawn (files later : Option Store) (request : DrawRequest) : Type 0 where
   pub g : Parts
   pub has_page : HasPage files request.page.now g
@@ -26,5 +18,5 @@ pub record IsDrawn (files later : Option Store) (request : DrawRequest) : Type 0
   pub items : List Item
   pub is_text : IsTraceText request.lines text items
   pub bytes : List ℕ
-  pub is_form : IsFormOf request.form g (count_of request.targets) items bytes
+  pub is_drawing : bytes ≡ drawing_of request.form g (count_of request.targets) items bytes
   pub written : later ≡ with_file files request.target.now bytes

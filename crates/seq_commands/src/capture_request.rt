@@ -18,4 +18,6 @@ pub struct CaptureRequest<'a> {
     pub mappings: Option<&'a str>,
     /// Whether the time of each item stands in front of it.
     pub has_times: bool,
+    /// A strobe that changes again before so much time, in the capture's unit, is a fault; 0 where none is.
+    pub glitch: u64,
 }

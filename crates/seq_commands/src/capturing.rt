@@ -3,7 +3,7 @@ ghost use Rattle.std.specs.Prelude.{true, false, ◌≡◌, ◌⊎◌, ◌≤◌
 ghost use Rattle.std.specs.Option.{option_map};
 ghost use Rattle.std.specs.Io.KnownBytes.{Appends};
 ghost use Rattle.seq_files.specs.Store.{with_file};
-ghost use Rattle.bus_capture.specs.Inferring.{captured_as};
+ghost use Rattle.bus_capture.specs.Inferring.{captured};
 ghost use Rattle.bus_capture.specs.Inside.{AreInside};
 ghost use Rattle.seq_inputs.specs.declared.refusal.Refusal.{Refusal};
 ghost use Rattle.seq_inputs.specs.Stops.{RefusesNothing, Says, Tells};
@@ -14,8 +14,7 @@ ghost use Rattle.seq_commands.specs.Captures.{items_in, timed_in, seen_text, Ref
 use crate::capture_request::CaptureRequest;
 use crate::mappings::mappings_of;
 use crate::traces::put_items;
-use bus_capture::{Capture, CaptureForm, CaptureRefusal, Mapping, Stamped, read_capture_as};
-use nand_geometry::Geometry;
+use bus_capture::{Capture, CaptureRefusal, Setup, Stamped, read_capture};
 use onfi_cycle::Item;
 use seq_files::Files;
 use seq_inputs::{
@@ -115,18 +114,15 @@ fn put_seen<'p, A: Allocator + Clone, F: Files>(
 fn read_items<'p, A: Allocator + Clone>(
     alloc: A,
     path: &'p str,
-    geometry: &Geometry,
-    targets: u8,
-    mappings: &[Mapping<'_>],
+    setup: &Setup<'_>,
     bytes: &[u8],
-    form: CaptureForm,
 ) -> Result<Capture<A>, Stop<'p, A>>
-    requires { targets ≤ 4 }
-    ensures ok { IfOk result (λ c. captured_as form geometry.now targets mappings.now bytes.now ≡ Ok c.stamped.items) }
+    requires { setup.now.targets ≤ 4 }
+    ensures ok { IfOk result (λ c. captured setup.now bytes.now ≡ Ok c.stamped.items) }
     ensures inside { IfOk result (λ c. AreInside c.stamped.items) }
-    ensures err { IfErr result (Says (RefusesCapture form geometry.now targets mappings.now bytes.now)) }
+    ensures err { IfErr result (Says (RefusesCapture setup.now bytes.now)) }
 {
-    match read_capture_as(alloc.clone()?, geometry, targets, mappings, bytes, form) {
+    match read_capture(alloc.clone()?, setup, bytes) {
         Ok(capture) => Ok(capture),
         Err(CaptureRefusal::Fault(fault)) => {
             let words = words_of_capture(alloc, path, bytes, fault);
@@ -149,26 +145,29 @@ fn capture_at<'p, A: Allocator + Clone, F: Files>(
     let geometry = geometry_at(alloc.clone()?, files, request.page)?;
     let bytes = read_file(alloc.clone()?, files, request.input)?;
     let mappings = mappings_of(alloc.clone()?, request.mappings)?;
-    let capture = read_items(
-        alloc.clone()?,
-        request.input,
-        &geometry,
-        request.targets.count(),
-        mappings.as_slice(),
-        bytes.as_slice(),
-        request.form,
-    )?;
-    put_seen(
-        alloc,
-        files,
-        request.target,
-        request.has_times,
-        capture.stamped.as_slice(),
-    )?;
-    Ok(Tally {
-        items: capture.stamped.len(),
-        unselected: capture.unselected,
-    })
+    let setup = Setup {
+        form: request.form,
+        geometry,
+        targets: request.targets.count(),
+        mappings: mappings.as_slice(),
+        glitch: request.glitch,
+    };
+    match read_items(alloc.clone()?, request.input, &setup, bytes.as_slice()) {
+        Ok(capture) => {
+            put_seen(
+                alloc,
+                files,
+                request.target,
+                request.has_times,
+                capture.stamped.as_slice(),
+            )?;
+            Ok(Tally {
+                items: capture.stamped.len(),
+                unselected: capture.unselected,
+            })
+        }
+        Err(stop) => Err(stop),
+    }
 }
 
 // Says how much a capture shows.

@@ -1,18 +1,8 @@
 //! What a drawing is asked for.
 
 use crate::targets::Targets;
+use trace_files::DrawForm;
 use trace_text::TraceForm;
-
-/// As what a trace is drawn.
-#[derive(Clone, Copy, Debug, PartialEq, Eq)]
-pub enum DrawForm {
-    /// A value change dump, which waveform viewers open.
-    Waveform,
-    /// An SVG.
-    Picture,
-    /// A page for a browser: the same picture, and the text of the trace beside it.
-    Page,
-}
 
 /// What a drawing is asked for. `-` as a path that is read is standard input.
 #[derive(Clone, Copy, Debug, PartialEq, Eq)]

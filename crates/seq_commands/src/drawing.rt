@@ -1,49 +1,22 @@
 //! The commands that draw a trace.
-ghost use Rattle.std.specs.Prelude.{◌≡◌, ◌⊎◌, IfOk, IfErr, OnOk, OnErr, codes};
+ghost use Rattle.std.specs.Prelude.{◌≡◌, ◌⊎◌, IfErr, OnOk, OnErr, codes};
 ghost use Rattle.std.specs.Io.KnownBytes.{Appends};
 ghost use Rattle.seq_inputs.specs.declared.refusal.Refusal.{Refusal};
 ghost use Rattle.seq_inputs.specs.Stops.{Says, Tells};
 ghost use Rattle.seq_inputs.specs.Refusals.{line_of};
 ghost use Rattle.seq_commands.specs.Checks.{ReadingRefuses};
-ghost use Rattle.seq_commands.specs.Commands.{count_of};
-ghost use Rattle.seq_commands.specs.Draws.{IsFormOf, IsDrawn};
+ghost use Rattle.seq_commands.specs.Draws.{IsDrawn};
 
-use crate::draw_request::{DrawForm, DrawRequest};
-use crate::targets::Targets;
+use crate::draw_request::DrawRequest;
 use crate::traces::items_of;
-use nand_geometry::Geometry;
-use onfi_cycle::Item;
 use seq_files::Files;
 use seq_inputs::{
     Console, Exit, Stop, end_without_memory, fail, finish, geometry_at, read_file, text_of,
     write_file,
 };
-use std::alloc::{AllocError, Allocator};
+use std::alloc::Allocator;
 use std::io::Write;
-use trace_page::write_page;
-use trace_picture::draw;
-use trace_text::print;
-use trace_wave::write_dump;
-
-// The bytes of a drawing of items, which have this text.
-fn make_drawing<A: Allocator + Clone>(
-    alloc: A,
-    form: DrawForm,
-    geometry: &Geometry,
-    targets: Targets,
-    items: &[Item],
-    text: &str,
-) -> Result<Vec<u8, A>, AllocError>
-    ensures { IfOk result (λ bytes. IsFormOf form geometry.now (count_of targets) items.now bytes.items) }
-{
-    match form {
-        DrawForm::Waveform => Ok(write_dump(alloc, geometry, targets.count(), items)?),
-        DrawForm::Picture => Ok(draw(alloc, geometry, targets.count(), items)?.into_bytes()),
-        DrawForm::Page => {
-            Ok(write_page(alloc, geometry, targets.count(), items, text)?.into_bytes())
-        }
-    }
-}
+use trace_files::make_drawing;
 
 // Reads a page and the text of a trace, and writes the drawing of that.
 fn draw_at<'p, A: Allocator + Clone, F: Files>(
@@ -59,14 +32,12 @@ fn draw_at<'p, A: Allocator + Clone, F: Files>(
     let bytes = read_file(alloc.clone()?, files, request.input)?;
     let text = text_of(request.input, bytes.as_slice())?;
     let items = items_of(alloc.clone()?, request.input, text, request.lines)?;
-    let lines = print(alloc.clone()?, items.as_slice())?;
     let drawing = make_drawing(
         alloc,
         request.form,
         &geometry,
-        request.targets,
+        request.targets.count(),
         items.as_slice(),
-        lines.as_str(),
     )?;
     write_file(files, request.target, drawing.as_slice())
 }

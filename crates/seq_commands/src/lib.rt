@@ -31,7 +31,7 @@ pub use capturing::capture_trace;
 pub use check_request::CheckRequest;
 pub use checking::check_trace;
 pub use disassembling::disassemble_file;
-pub use draw_request::{DrawForm, DrawRequest};
+pub use draw_request::DrawRequest;
 pub use drawing::draw_trace;
 pub use linting::{LintOutput, lint_file};
 pub use targets::Targets;

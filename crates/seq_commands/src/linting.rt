@@ -1,9 +1,10 @@
 //! The command that tells what an author surely didn't mean.
-ghost use Rattle.std.specs.Prelude.{◌≡◌, ℕ, List, None};
+ghost use Rattle.std.specs.Prelude.{◌≡◌, ℕ, List};
 ghost use Rattle.std.specs.Io.KnownBytes.{Appends};
 ghost use Rattle.seq_inputs.specs.declared.refusal.Refusal.{Refusal};
 ghost use Rattle.seq_inputs.specs.Stops.{Tells};
 ghost use Rattle.seq_inputs.specs.Refusals.{line_of};
+ghost use Rattle.trace_files.specs.Files.{no_outputs};
 ghost use Rattle.seq_commands.specs.Commands.{IsAccepted, VerifyRefuses};
 
 use crate::noting::{lines_of_header, lines_of_notes, notes_of};
@@ -13,6 +14,7 @@ use seq_files::Files;
 use seq_inputs::{Console, Exit, Style, end_without_memory, fail_as, finish};
 use std::alloc::{AllocError, Allocator};
 use std::io::Write;
+use trace_files::TraceOutputs;
 
 /// What is wanted of a microprogram that is accepted.
 #[derive(Clone, Copy, Debug, PartialEq, Eq)]
@@ -65,7 +67,7 @@ pub fn lint_file<'p, A: Allocator + Clone, F: Files, W: Write, E: Write, P>(
     ensures done { result ≡ Exit.Done → (printed : List ℕ) × IsAccepted (F.store files.old) page.now input.now
         × Appends (W.contents console.old.output) (W.contents console.new.output) printed }
     ensures refused { (refusal : Refusal) → result ≡ Exit.Refused refusal
-        → Tells (VerifyRefuses (F.store files.old) (F.store files.old) page.now input.now None) refusal
+        → Tells (VerifyRefuses (F.store files.old) (F.store files.old) page.now input.now no_outputs) refusal
         × Appends (W.contents console.old.output) (W.contents console.new.output) (line_of refusal) }
     ensures stays { F.store files.new ≡ F.store files.old }
 {
@@ -73,7 +75,7 @@ pub fn lint_file<'p, A: Allocator + Clone, F: Files, W: Write, E: Write, P>(
         Ok(copy) => copy,
         Err(_) => return end_without_memory(console),
     };
-    match verify_at(copy, files, page, input, None) {
+    match verify_at(copy, files, page, input, TraceOutputs::NONE) {
         Ok((bytes, verified)) => match output.lines(alloc, input, bytes.as_slice(), &verified) {
             Ok(lines) => finish(console, lines.as_str()),
             Err(_) => end_without_memory(console),

@@ -3,7 +3,7 @@ ghost use Rattle.std.specs.Prelude.{◌≡◌, ◌++◌, ◌∷◌, [], List, ma
 ghost use Rattle.std.specs.Option.{option_map};
 ghost use Rattle.seq_commands.specs.Captures.{said, saying_of, sayings_in, parts, AreSaid};
 
-use bus_capture::Mapping;
+use bus_signals::Mapping;
 use std::alloc::{AllocError, Allocator};
 
 // What stands before the first comma, and after it.

@@ -1,44 +1,61 @@
 //! The command that verifies a microprogram.
-ghost use Rattle.std.specs.Prelude.{◌≡◌, ◌++◌, ◌∷◌, [], Some, codes, IfOk, IfErr, OnOk, OnErr, Option};
+ghost use Rattle.std.specs.Prelude.{◌≡◌, ◌++◌, ◌∷◌, [], Some, List, ℕ, codes, IfOk, IfErr, OnOk, OnErr, Option, map};
 ghost use Rattle.std.specs.List.{All};
-ghost use Rattle.std.specs.Option.{option_map};
 ghost use Rattle.std.specs.Io.KnownBytes.{Appends};
 ghost use Rattle.onfi_cycle.specs.declared.item.Item.TheVariants.{Cyc};
 ghost use Rattle.micro_program.specs.Safe.{IsSafe};
-ghost use Rattle.seq_files.specs.Store.{with_file};
-ghost use Rattle.trace_text.specs.Line.{text, IsPrintable};
+ghost use Rattle.seq_files.specs.Store.{with_all, made_of};
+ghost use Rattle.trace_files.specs.Files.{files_of};
+ghost use Rattle.trace_text.specs.Line.{IsPrintable};
 ghost use Rattle.micro_walk.specs.Faults.{fault_of};
 ghost use Rattle.seq_inputs.specs.declared.refusal.Refusal.{Refusal};
 ghost use Rattle.micro_verify.specs.Lazy.{Counter as RunValue};
 ghost use Rattle.micro_verify.specs.Playing.{Shown};
-ghost use Rattle.seq_commands.specs.Commands.{IsAccepted, VerifyRefuses, VerifyLeaves, RefusesText, CanBePrinted, with_run};
+ghost use Rattle.seq_commands.specs.Commands.{IsAccepted, VerifyRefuses, VerifyLeaves, RefusesText, CanBePrinted, LeavesRun};
 ghost use Rattle.seq_inputs.specs.Stops.{SaysElse, RefusesNothing, Tells};
 ghost use Rattle.seq_inputs.specs.Refusals.{line_of};
 
 use crate::noting::say_notes;
-use crate::traces::put_items;
 use micro_program::Verified;
 use micro_verify::{Counter, TextRefused, VerifyRefusal, verify};
 use micro_word::Text;
 use nand_geometry::Geometry;
 use onfi_cycle::Item;
-use seq_files::Files;
+use seq_files::{Files, MadeFile, list_made};
 use seq_inputs::{
     Console, Exit, Fault, Stop, Style, end_without_memory, fail_as, finish, geometry_at, read_file,
-    read_program, words_of_reason,
+    read_program, words_of_reason, write_files,
 };
 use std::alloc::Allocator;
 use std::io::Write;
+use trace_files::{TraceOutputs, make_files};
 
-// Writes a run, with the cycle that isn't permitted after it.
-fn write_run<'p, A: Allocator, F: Files>(
+// Writes files that were made, all or none.
+fn write_made<'p, A: Allocator + Clone, F: Files>(
     alloc: A,
     files: &mut F,
-    path: &'p str,
+    made: &[MadeFile<'p, A>],
+) -> Result<(), Stop<'p, A>>
+    ensures ok { OnOk result (F.store files.new ≡ with_all (map made_of made.now) (F.store files.old)) }
+    ensures nothing { IfErr result (λ e. RefusesNothing e) }
+    ensures stays { OnErr result (F.store files.new ≡ F.store files.old) }
+{
+    let mut listed = Vec::new(alloc);
+    list_made(&mut listed, made)?;
+    write_files(files, listed.as_slice())
+}
+
+// Writes the files of a run, with the cycle that isn't permitted after it: the run is on target 0, the only one.
+fn write_run<'p, A: Allocator + Clone, F: Files>(
+    alloc: A,
+    files: &mut F,
+    geometry: &Geometry,
+    outputs: TraceOutputs<'p>,
     run: Counter<A>,
 ) -> Result<(), Stop<'p, A>>
     requires { All IsPrintable (run.items.items ++ (Cyc run.cycle ∷ [])) }
-    ensures ok { OnOk result (F.store files.new ≡ with_file (F.store files.old) path.now (text (run.items.items ++ (Cyc run.cycle ∷ [])))) }
+    ensures ok { OnOk result ((drawn : List ℕ) × (F.store files.new
+        ≡ with_all (files_of outputs.entry geometry.now 1 (run.items.items ++ (Cyc run.cycle ∷ [])) drawn) (F.store files.old))) }
     ensures nothing { IfErr result (λ e. RefusesNothing e) }
     ensures stays { OnErr result (F.store files.new ≡ F.store files.old) }
 {
@@ -47,32 +64,32 @@ fn write_run<'p, A: Allocator, F: Files>(
         mut items,
         cycle,
     } = run;
-    match items.push(Item::Cyc(cycle)) {
-        Ok(()) => put_items(alloc, files, path, items.as_slice()),
-        Err(_) => Err(Stop::OutOfMemory),
-    }
+    items.push(Item::Cyc(cycle))?;
+    let made = make_files(alloc.clone()?, geometry, 1, items.as_slice(), outputs)?;
+    write_made(alloc, files, made.as_slice())
 }
 
-// Writes the run of a refusal, if there is one and a path for it.
-fn leave_run<'p, A: Allocator, F: Files>(
+// Writes the files of the run of a refusal, if there is one.
+#[tactic(auto, using(crate::proofs::Leaving::run_left, crate::proofs::Leaving::none_left))]
+fn leave_run<'p, A: Allocator + Clone, F: Files>(
     alloc: A,
     files: &mut F,
-    path: Option<&'p str>,
+    geometry: &Geometry,
+    outputs: TraceOutputs<'p>,
     run: Option<Counter<A>>,
 ) -> Result<(), Stop<'p, A>>
     requires { CanBePrinted run }
-    ensures ok { OnOk result ((c : Option RunValue) → Shown run c
-        → F.store files.new ≡ with_run (option_map (λ path. path.now) path.entry) c (F.store files.old)) }
+    ensures ok { OnOk result ((c : Option RunValue) → Shown run c → LeavesRun outputs.entry geometry.now c (F.store files.old) (F.store files.new)) }
     ensures nothing { IfErr result (λ e. RefusesNothing e) }
     ensures stays { OnErr result (F.store files.new ≡ F.store files.old) }
 {
-    match (path, run) {
-        (Some(path), Some(run)) => write_run(alloc, files, path, run),
-        _ => Ok(()),
+    match run {
+        Some(run) => write_run(alloc, files, geometry, outputs, run),
+        None => Ok(()),
     }
 }
 
-// Whether a text is safe for a geometry; the run of its refusal is left at a path.
+// Whether a text is safe for a geometry; the files of the run of its refusal are left.
 fn accept<'p, A: Allocator + Clone, F: Files>(
     alloc: A,
     files: &mut F,
@@ -80,13 +97,13 @@ fn accept<'p, A: Allocator + Clone, F: Files>(
     bytes: &[u8],
     text: Text<A>,
     geometry: Geometry,
-    counter: Option<&'p str>,
+    counter: TraceOutputs<'p>,
 ) -> Result<Verified<A>, Stop<'p, A>>
     ensures safe { IfOk result (λ v. IsSafe text geometry) }
     ensures faultless { IfOk result (λ v. fault_of geometry text ≡ None) }
     ensures stays { IfOk result (λ v. F.store files.new ≡ F.store files.old) }
-    ensures err { IfErr result (SaysElse (RefusesText geometry text (option_map
-        (λ path. path.now) counter.entry) (F.store files.old) (F.store files.new)) (F.store files.new ≡ F.store files.old)) }
+    ensures err { IfErr result (SaysElse (RefusesText geometry text counter.entry (F.store files.old) (F.store files.new))
+        (F.store files.new ≡ F.store files.old)) }
 {
     let TextRefused { refusal, text } = match verify(text, geometry) {
         Ok(verified) => {
@@ -102,7 +119,7 @@ fn accept<'p, A: Allocator + Clone, F: Files>(
             reason,
             counter: run,
         } => {
-            leave_run(alloc.clone()?, files, counter, run)?;
+            leave_run(alloc.clone()?, files, &geometry, counter, run)?;
             let words = words_of_reason(alloc, path, bytes, &text, &geometry, word, reason);
             Err(Stop::refused(Fault::Text { reason, word }, words))
         }
@@ -110,18 +127,18 @@ fn accept<'p, A: Allocator + Clone, F: Files>(
     }
 }
 
-/// Reads a page and a microprogram, and verifies: what was read, and what is verified. The run of a refusal is left at a path.
+/// Reads a page and a microprogram, and verifies: what was read, and what is verified. The files of the run of a refusal are left.
 pub(crate) fn verify_at<'p, A: Allocator + Clone, F: Files>(
     alloc: A,
     files: &mut F,
     page: &'p str,
     input: &'p str,
-    counter: Option<&'p str>,
+    counter: TraceOutputs<'p>,
 ) -> Result<(Vec<u8, A>, Verified<A>), Stop<'p, A>>
     ensures ok { IfOk result (λ found. IsAccepted (F.store files.old) page.now input.now) }
     ensures stays { IfOk result (λ found. F.store files.new ≡ F.store files.old) }
-    ensures err { IfErr result (SaysElse (VerifyRefuses (F.store files.old) (F.store files.new) page.now input.now (option_map
-        (λ path. path.now) counter.entry)) (F.store files.new ≡ F.store files.old)) }
+    ensures err { IfErr result (SaysElse (VerifyRefuses (F.store files.old) (F.store files.new) page.now input.now counter.entry)
+        (F.store files.new ≡ F.store files.old)) }
 {
     let geometry = geometry_at(alloc.clone()?, files, page)?;
     let bytes = read_file(alloc.clone()?, files, input)?;
@@ -142,10 +159,10 @@ pub(crate) fn verify_at<'p, A: Allocator + Clone, F: Files>(
 ///
 /// `Done`: the page declares a geometry, the file is that of a microprogram which is safe for it, and `accepted` is printed. `Refused`: the
 /// line `refused CODE at N` is printed: a P fault of the page; or an M fault of a word file with its word, or an A fault of a text with its line; or a V reason against
-/// the text with its word. The file is read after the page, if that has no fault. Where the refusal has its run (docs/model/PROOF.md) and a path
-/// is given for it, the text of the run stands there before the line is printed: what happens up to the refused word, and the cycle that
-/// isn't permitted then, so that `check` of it names the rule. `FileFault`: a file couldn't be read or written, or the output couldn't be
-/// written. No other file is written. After `accepted` the notes to it, if there are some, are said on the console's errors, unless it is to be quiet.
+/// the text with its word. The file is read after the page, if that has no fault. Where the refusal has its run (docs/model/PROOF.md), the files that are
+/// asked for of it stand there before the line is printed, all of them or none: what happens up to the refused word, and the cycle that isn't permitted
+/// then, so that `check` of its text names the rule. It is on one target, number 0. `FileFault`: a file couldn't be read or written, or the output
+/// couldn't be written. No other file is written. After `accepted` the notes to it, if there are some, are said on the console's errors, unless it is to be quiet.
 /// What is said there is in this style.
 pub fn verify_file<A: Allocator + Clone, F: Files, W: Write, E: Write, P>(
     alloc: A,
@@ -153,16 +170,16 @@ pub fn verify_file<A: Allocator + Clone, F: Files, W: Write, E: Write, P>(
     console: &mut Console<W, E, P>,
     page: &str,
     input: &str,
-    counter: Option<&str>,
+    counter: TraceOutputs<'_>,
     is_quiet: bool,
     style: Style,
 ) -> Exit
     ensures done { result ≡ Exit.Done → IsAccepted (F.store files.old) page.now input.now × (F.store files.new ≡ F.store files.old)
         × Appends (W.contents console.old.output) (W.contents console.new.output) (codes "accepted\n") }
     ensures refused { (refusal : Refusal) → result ≡ Exit.Refused refusal
-        → Tells (VerifyRefuses (F.store files.old) (F.store files.new) page.now input.now (option_map (λ path. path.now) counter.entry)) refusal
+        → Tells (VerifyRefuses (F.store files.old) (F.store files.new) page.now input.now counter.entry) refusal
         × Appends (W.contents console.old.output) (W.contents console.new.output) (line_of refusal) }
-    ensures files { VerifyLeaves (F.store files.old) (F.store files.new) page.now input.now (option_map (λ path. path.now) counter.entry) }
+    ensures files { VerifyLeaves (F.store files.old) (F.store files.new) page.now input.now counter.entry }
 {
     let copy = match alloc.clone() {
         Ok(copy) => copy,

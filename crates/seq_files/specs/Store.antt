@@ -3,6 +3,7 @@ use Rattle.std.specs.Prelude.{◌≡◌, ℕ, ⊤, List, [], ◌∷◌, Option, 
 use Rattle.std.specs.Map.{update}
 use Rattle.std.specs.Str.{bytes_eq}
 use Rattle.seq_files.specs.declared.new_file.NewFile.{NewFile}
+use Rattle.seq_files.specs.declared.made_file.MadeFile.{MadeFile}
 
 abbrev pub Store : Type 0
 Store = List ℕ → Option (List ℕ)
@@ -23,6 +24,10 @@ Written = List ℕ × List ℕ
 
 abbrev pub written_of : NewFile → Written
 written_of file = (file.path.now, file.bytes.now)
+
+-- the same of a file that was made
+abbrev pub made_of : {A : Type 0} → MadeFile A → Written
+made_of file = (file.path.now, file.bytes.items)
 
 -- the files after these were written, one after the other
 unfoldable pub with_all : List Written → Option Store → Option Store

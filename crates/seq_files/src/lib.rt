@@ -7,6 +7,7 @@
 mod error;
 mod files;
 mod input;
+mod made_file;
 mod map_files;
 mod new_file;
 mod output;
@@ -15,6 +16,7 @@ mod slow_streams;
 pub use error::{FileError, FileFault, NotWritten};
 pub use files::Files;
 pub use input::{read_all, read_sized};
+pub use made_file::{MadeFile, list_made};
 pub use map_files::MapFiles;
 pub use new_file::NewFile;
 pub use output::write_text;

@@ -22,7 +22,8 @@ has_text files g path x v has_program same safe faultless = (
   same.1,
 )
 
-said_more : {A : Type 0} (P Q : Fault → Type 0) (e : Stop A) → ((f : Fault) → P f → Q f) → Says P e → Says Q e
+-- what is said for one of these faults is said for one of those that they may be
+pub said_more : {A : Type 0} (P Q : Fault → Type 0) (e : Stop A) → ((f : Fault) → P f → Q f) → Says P e → Says Q e
 said_more P Q (Refused r words) more says = (more r.fault says.0, says.1)
 said_more P Q (FileFault path fault line) more says = tt
 said_more P Q ReaderGone more says = tt

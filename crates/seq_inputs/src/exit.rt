@@ -17,7 +17,7 @@ pub enum Exit {
     ReaderGone,
     /// The command line couldn't be read, which standard error says.
     Usage,
-    /// Memory was refused, or a thread couldn't be started, which standard error says.
+    /// Memory was refused, a thread couldn't be started, or a run would take too many steps, which standard error says.
     OutOfMemory,
 }
 

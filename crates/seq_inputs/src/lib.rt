@@ -31,7 +31,7 @@ pub use headed::{Headed, read_headed};
 pub use lines::push_end_line;
 pub use reading::{
     geometry_at, is_source, read_file, read_program, read_source, read_words, text_of, verified_at,
-    words_at, write_file,
+    words_at, write_file, write_files,
 };
 pub use refusal::Refusal;
 pub use stop::{MOST_BUFFER_BYTES, Stop};

@@ -1,11 +1,11 @@
 //! What a command reads: files, and what they are.
-ghost use Rattle.std.specs.Prelude.{◌≡◌, IfOk, IfErr, OnOk, OnErr, Ok, None};
+ghost use Rattle.std.specs.Prelude.{◌≡◌, IfOk, IfErr, OnOk, OnErr, Ok, None, map};
 ghost use Rattle.nand_geometry.specs.Reading.{read_of};
 ghost use Rattle.micro_word.specs.Text.{IsFileOf};
 ghost use Rattle.micro_asm.specs.Reading.{Spells};
 ghost use Rattle.micro_program.specs.Safe.{IsSafe};
 ghost use Rattle.micro_walk.specs.Faults.{fault_of};
-ghost use Rattle.seq_files.specs.Store.{Holds, with_file};
+ghost use Rattle.seq_files.specs.Store.{Holds, with_file, with_all, written_of};
 ghost use Rattle.seq_inputs.specs.Inputs.{HasPage, PageIsRefused, RefusesPage, HasFile, FileIsRefused, RefusesFile, is_blank, is_source, RefusesSource, IsProgram, RefusesProgram, HasText, RefusesReason, FileOrTextIsRefused};
 ghost use Rattle.seq_inputs.specs.Stops.{Says, RefusesNothing};
 
@@ -18,7 +18,7 @@ use micro_program::Verified;
 use micro_walk::examine;
 use micro_word::{Text, WordRefusal, read};
 use nand_geometry::Geometry;
-use seq_files::{FileFault, Files};
+use seq_files::{FileFault, Files, NewFile, NotWritten};
 use std::alloc::Allocator;
 
 /// The bytes of a file.
@@ -50,6 +50,32 @@ pub fn write_file<'p, A: Allocator, F: Files>(
     match files.write(path, bytes) {
         Ok(()) => Ok(()),
         Err(error) => Err(Stop::of_file(path, error)),
+    }
+}
+
+// Why a command isn't done of whose files this one couldn't be written.
+fn not_written<'p, A: Allocator>(made: &[NewFile<'p, '_>], refused: NotWritten) -> Stop<'p, A>
+    ensures { RefusesNothing result }
+{
+    let path = match made.get(refused.file) {
+        Some(file) => file.path,
+        None => "-",
+    };
+    Stop::of_file(path, refused.error)
+}
+
+/// Makes these files, in their order, all or none.
+pub fn write_files<'p, A: Allocator, F: Files>(
+    files: &mut F,
+    made: &[NewFile<'p, '_>],
+) -> Result<(), Stop<'p, A>>
+    ensures written { OnOk result (F.store files.new ≡ with_all (map written_of made.now) (F.store files.old)) }
+    ensures nothing { IfErr result (λ e. RefusesNothing e) }
+    ensures stays { OnErr result (F.store files.new ≡ F.store files.old) }
+{
+    match files.write_all(made) {
+        Ok(()) => Ok(()),
+        Err(refused) => Err(not_written(made, refused)),
     }
 }
 

@@ -4,23 +4,15 @@ use Rattle.std.specs.List.{cons_option}
 use Rattle.std.proofs.lemmas.Option.{slice_get-get_or}
 use Rattle.std.proofs.lemmas.List.{append-nil, drop_more}
 use Rattle.seq_run.proofs.Lists.{front_more}
-use Rattle.seq_files.specs.declared.new_file.NewFile.{NewFile}
-use Rattle.seq_files.specs.Store.{Written, written_of}
+use Rattle.seq_files.specs.declared.made_file.MadeFile.{MadeFile}
+use Rattle.seq_files.specs.Store.{Written, made_of}
+use Rattle.seq_files.proofs.Made.{made_pushed}
 use Rattle.die_model.specs.Die.{Die}
 use Rattle.die_model.specs.Image.{image_of}
 use Rattle.std.specs.Option.{option_map}
 use Rattle.seq_run.specs.declared.job_ends.EndedJob.{EndedJob}
 use Rattle.seq_run.specs.declared.plan.PlannedImage.{PlannedImage}
-use Rattle.seq_run.specs.declared.writing.Outgoing.{Outgoing}
-use Rattle.seq_run.specs.Written.{buffer_of, buffers_of, image_at, images_of, made_of}
-
-listed : (files : List NewFile) (file : NewFile) → map written_of (files ++ file ∷ []) ≡ map written_of files ++ written_of file ∷ []
-listed [] file = refl
-listed (x ∷ files) file = ap (λ (l : List Written). written_of x ∷ l) (listed files file)
-
--- one file more
-pub listed_more : (files new : List NewFile) (file : NewFile) → new ≡ files ++ file ∷ [] → map written_of new ≡ map written_of files ++ written_of file ∷ []
-listed_more files new file is = ap (map written_of) is ∙ listed files file
+use Rattle.seq_run.specs.Written.{buffer_of, buffers_of, image_at, images_of}
 
 -- the buffer of one job of a list
 pub buffer_more : (jobs : List EndedJob) (k : ℕ) (x : EndedJob) (old new whole : List Written) → k < length jobs → x ≡ get_or jobs k x → new ≡ old ++ cons_option (buffer_of x) [] → old ++ buffers_of (drop k jobs) ≡ whole → new ++ buffers_of (drop (k + 1) jobs) ≡ whole
@@ -28,15 +20,6 @@ buffer_more jobs k x old new whole inside is next before =
     let here = ap buffers_of (drop_more jobs k x inside) ∙ ap (λ (y : EndedJob). cons_option (buffer_of y) (buffers_of (drop (k + 1) jobs))) (sym is) in
     ap (λ (l : List Written). l ++ buffers_of (drop (k + 1) jobs)) next
     ∙ front_more (buffer_of x) old (buffers_of (drop (k + 1) jobs))
-    ∙ ap (λ (l : List Written). old ++ l) (sym here)
-    ∙ before
-
--- one file of a list of those that were made
-pub made_more : (outgoing : List Outgoing) (k : ℕ) (x : Outgoing) (old new whole : List Written) → k < length outgoing → x ≡ get_or outgoing k x → new ≡ old ++ made_of x ∷ [] → old ++ map made_of (drop k outgoing) ≡ whole → new ++ map made_of (drop (k + 1) outgoing) ≡ whole
-made_more outgoing k x old new whole inside is next before =
-    let here = ap (map made_of) (drop_more outgoing k x inside) ∙ ap (λ (y : Outgoing). made_of y ∷ map made_of (drop (k + 1) outgoing)) (sym is) in
-    ap (λ (l : List Written). l ++ map made_of (drop (k + 1) outgoing)) next
-    ∙ front_more (Some (made_of x)) old (map made_of (drop (k + 1) outgoing))
     ∙ ap (λ (l : List Written). old ++ l) (sym here)
     ∙ before
 
@@ -49,17 +32,12 @@ image_more dies images k x old new whole inside is next before =
     ∙ ap (λ (l : List Written). old ++ l) (sym here)
     ∙ before
 
-map_push : (made : List Outgoing) (file : Outgoing) → map made_of (made ++ file ∷ []) ≡ map made_of made ++ made_of file ∷ []
-map_push [] file = refl
-map_push (x ∷ made) file = ap (λ (l : List Written). made_of x ∷ l) (map_push made file)
-
 image_there : (dies : List Die) (image : PlannedImage) (die : Die) (o : Option Die) → o ≡ Some die → cons_option {X = Written} (option_map (λ (d : Die). (image.path.now, image_of d)) o) [] ≡ (image.path.now, image_of die) ∷ []
 image_there dies image die o there = ap (λ (p : Option Die). cons_option {X = Written} (option_map (λ (d : Die). (image.path.now, image_of d)) p) []) there
 
-pub pushed : (dies : List Die) (image : PlannedImage) (die : Die) (made new : List Outgoing) (file : Outgoing) → slice_get dies image.number ≡ Some die → new ≡ made ++ file ∷ [] → made_of file ≡ (image.path.now, image_of die) → map made_of new ≡ map made_of made ++ cons_option (image_at dies image) []
+pub pushed : {A : Type 0} (dies : List Die) (image : PlannedImage) (die : Die) (made new : List (MadeFile A)) (file : MadeFile A) → slice_get dies image.number ≡ Some die → new ≡ made ++ file ∷ [] → made_of file ≡ (image.path.now, image_of die) → map made_of new ≡ map made_of made ++ cons_option (image_at dies image) []
 pushed dies image die made new file there is shown =
-    ap (map made_of) is
-    ∙ map_push made file
+    made_pushed made new file is
     ∙ ap (λ (w : Written). map made_of made ++ w ∷ []) shown
     ∙ ap (λ (l : List Written). map made_of made ++ l) (sym (image_there dies image die (slice_get dies image.number) there))
 
@@ -71,7 +49,7 @@ past_end (d ∷ dies) (suc k) over = past_end dies k (omega (arith, over))
 pub die_is_there : (dies : List Die) (k : ℕ) (die : Die) → k < length dies → die ≡ get_or dies k die → slice_get dies k ≡ Some die
 die_is_there dies k die inside is = slice_get-get_or dies k die inside ∙ ap Some (sym is)
 
-pub not_pushed : (dies : List Die) (image : PlannedImage) (made : List Outgoing) → length dies ≤ image.number → map made_of made ≡ map made_of made ++ cons_option (image_at dies image) []
+pub not_pushed : {A : Type 0} (dies : List Die) (image : PlannedImage) (made : List (MadeFile A)) → length dies ≤ image.number → map made_of made ≡ map made_of made ++ cons_option (image_at dies image) []
 not_pushed dies image made over =
     sym (append-nil (map made_of made))
     ∙ ap (λ (o : Option Die). map made_of made ++ cons_option {X = Written} (option_map (λ (d : Die). (image.path.now, image_of d)) o) []) (sym (past_end dies image.number over))

@@ -1,11 +1,12 @@
 -- What has come of a plan has come of the run file that was planned.
 use Rattle.std.proofs.Common.{◌≡◌, ◌⊎◌, List, [], ◌++◌, ℕ, ◌*◌, ◌≤◌, true, length, drop, reverse, Option, Some, None, Result, Ok, Err, OnOk, OnErr, refl, sym, ap, ◌∙◌, subst, inl, inr}
 use Rattle.std.proofs.lemmas.List.{append-nil}
-use Rattle.std.specs.Option.{option_copied}
 use Rattle.seq_files.specs.Store.{Store, Holds, Written, with_all}
 use Rattle.nand_geometry.specs.declared.parts.Parts.{Parts}
+use Rattle.trace_files.specs.Files.{files_of}
 use Rattle.run_file.specs.Told.{told}
 use Rattle.seq_run.specs.declared.request.RunRequest.{RunRequest}
+use Rattle.seq_run.specs.declared.plan.PlannedImage.{PlannedImage}
 use Rattle.seq_run.specs.declared.plan.RunPlan.{RunPlan}
 use Rattle.seq_run.specs.Judged.{PlanPasses}
 use Rattle.seq_run.specs.Planned.{outputs_of, images_in, planned_outputs, planned_images, ended_outputs}
@@ -16,7 +17,7 @@ use Rattle.seq_run.specs.declared.running.Ran.{Ran}
 use Rattle.seq_run.specs.Lines.{job_lines}
 use Rattle.seq_run.specs.declared.job_ends.EndedJob.{EndedJob}
 use Rattle.seq_run.specs.Setup.{SetsUp, erased}
-use Rattle.seq_run.specs.Written.{buffers_of, images_of, trace_at, printed_trace, codes_of}
+use Rattle.seq_run.specs.Written.{buffers_of, images_of, printed_trace, codes_of}
 use Rattle.seq_run.specs.Runs.{Outcome, ShowsAll, IsOutcomeOf, IsPlanned, IsRunDone, RunMayLeave, HappenedAsPlanned, IsSetUpFrom, writes_of, lines_of}
 use Rattle.seq_inputs.specs.declared.fault.Fault.{Fault}
 use Rattle.seq_inputs.specs.declared.refusal.Refusal.{Refusal}
@@ -44,9 +45,9 @@ pub record AreLeft (bus : Traced) (dies : List Die) : Type 0 where
   pub count : length dies ≡ bus.targets * bus.geometry.luns
   pub stand : StandFor (channel_of bus) bus.past dies
 
--- what has come of a channel: its bus, the dies as that left them, and the jobs
-abbrev pub outcome_of : (ran : Ran) (dies : List Die) → AreLeft ran.bus dies → Outcome
-outcome_of ran dies left = record {
+-- what has come of a channel: its bus, the dies as that left them, the jobs, and what is drawn
+abbrev pub outcome_of : (ran : Ran) (dies : List Die) (drawn : List ℕ) → AreLeft ran.bus dies → Outcome
+outcome_of ran dies drawn left = record {
   bus = ran.bus;
   legal = left.legal;
   dies = dies;
@@ -54,22 +55,44 @@ outcome_of ran dies left = record {
   stand = left.stand;
   jobs = ran.jobs.items;
   images = ran.images.items;
+  drawn = drawn;
 }
 
-pub is_done : (request : RunRequest) (ran : Ran) (dies : List Die) (outgoing : List Written) (files later : Option Store) (Prints : List ℕ → Type 0) (lines : List ℕ) → AreLeft ran.bus dies → outgoing ≡ images_of dies ran.images.items ++ trace_at (option_copied request.trace) (reverse ran.bus.past) → later ≡ with_all (buffers_of ran.jobs.items ++ outgoing) files → lines ≡ printed_trace request.is_quiet (reverse ran.bus.past) ++ job_lines 1 (codes_of ran.jobs.items) → Prints lines → (o : Outcome) × ShowsAll ran o × (later ≡ with_all (writes_of request o) files) × Prints (lines_of request o)
-is_done request ran dies outgoing files later Prints lines dies_left is_outgoing left is_lines prints = (
-  outcome_of ran dies dies_left,
+-- the images that were made, and the files of the trace
+pub record AreMade (request : RunRequest) (ran : Ran) (dies : List Die) (outgoing : List Written) : Type 0 where
+  pub drawn : List ℕ
+  pub are : outgoing ≡ images_of dies ran.images.items ++ files_of request.trace ran.bus.geometry ran.bus.targets (reverse ran.bus.past) drawn
+
+-- what the images and the files of the trace were made of is what there is
+pub are_made : (request : RunRequest) (ran : Ran) (dies shown : List Die) (listed : List PlannedImage) (images trace : List Written) → images ≡ images_of shown listed → shown ≡ dies → listed ≡ ran.images.items → (drawn : List ℕ) × (trace ≡ files_of request.trace ran.bus.geometry ran.bus.targets (reverse ran.bus.past) drawn) → AreMade request ran dies (images ++ trace)
+are_made request ran dies shown listed images trace made same these (drawn, is) = record {
+  drawn = drawn;
+  are = ap (λ (l : List Written). l ++ trace) (made ∙ ap (λ (l : List Die). images_of l listed) same ∙ ap (λ (l : List PlannedImage). images_of dies l) these)
+      ∙ ap (λ (l : List Written). images_of dies ran.images.items ++ l) is;
+}
+
+-- what is listed is the buffers of the jobs, and all that was made
+pub all_listed : (ran : Ran) (jobs : List EndedJob) (all images trace images' trace' : List Written) → all ≡ buffers_of jobs ++ (images' ++ trace') → jobs ≡ ran.jobs.items → images' ≡ images → trace' ≡ trace → all ≡ buffers_of ran.jobs.items ++ (images ++ trace)
+all_listed ran jobs all images trace images' trace' is these same after =
+    is
+    ∙ ap (λ (l : List EndedJob). buffers_of l ++ (images' ++ trace')) these
+    ∙ ap (λ (l : List Written). buffers_of ran.jobs.items ++ (l ++ trace')) same
+    ∙ ap (λ (l : List Written). buffers_of ran.jobs.items ++ (images ++ l)) after
+
+pub is_done : (request : RunRequest) (ran : Ran) (dies : List Die) (outgoing : List Written) (files later : Option Store) (Prints : List ℕ → Type 0) (lines : List ℕ) → AreLeft ran.bus dies → AreMade request ran dies outgoing → later ≡ with_all (buffers_of ran.jobs.items ++ outgoing) files → lines ≡ printed_trace request.is_quiet (reverse ran.bus.past) ++ job_lines 1 (codes_of ran.jobs.items) → Prints lines → (o : Outcome) × ShowsAll ran o × (later ≡ with_all (writes_of request o) files) × Prints (lines_of request o)
+is_done request ran dies outgoing files later Prints lines dies_left made left is_lines prints = (
+  outcome_of ran dies made.drawn dies_left,
   record { bus = refl; jobs = refl; images = refl },
-  left ∙ ap (λ (l : List Written). with_all (buffers_of ran.jobs.items ++ l) files) is_outgoing,
+  left ∙ ap (λ (l : List Written). with_all (buffers_of ran.jobs.items ++ l) files) made.are,
   subst Prints is_lines prints,
 )
 
-pub is_written : (request : RunRequest) (ran : Ran) (dies : List Die) (outgoing : List Written) (files later : Option Store) → AreLeft ran.bus dies → outgoing ≡ images_of dies ran.images.items ++ trace_at (option_copied request.trace) (reverse ran.bus.past) → (later ≡ files) ⊎ (later ≡ with_all (buffers_of ran.jobs.items ++ outgoing) files) → (later ≡ files) ⊎ ((o : Outcome) × ShowsAll ran o × (later ≡ with_all (writes_of request o) files))
-is_written request ran dies outgoing files later dies_left is_outgoing (inl same) = inl same
-is_written request ran dies outgoing files later dies_left is_outgoing (inr left) = inr (
-  outcome_of ran dies dies_left,
+pub is_written : (request : RunRequest) (ran : Ran) (dies : List Die) (outgoing : List Written) (files later : Option Store) → AreLeft ran.bus dies → AreMade request ran dies outgoing → (later ≡ files) ⊎ (later ≡ with_all (buffers_of ran.jobs.items ++ outgoing) files) → (later ≡ files) ⊎ ((o : Outcome) × ShowsAll ran o × (later ≡ with_all (writes_of request o) files))
+is_written request ran dies outgoing files later dies_left made (inl same) = inl same
+is_written request ran dies outgoing files later dies_left made (inr left) = inr (
+  outcome_of ran dies made.drawn dies_left,
   record { bus = refl; jobs = refl; images = refl },
-  left ∙ ap (λ (l : List Written). with_all (buffers_of ran.jobs.items ++ l) files) is_outgoing,
+  left ∙ ap (λ (l : List Written). with_all (buffers_of ran.jobs.items ++ l) files) made.are,
 )
 
 pub on_ok : {A E P Q : Type 0} (r : Result A E) → OnOk r P → (P → Q) → OnOk r Q

@@ -16,6 +16,7 @@ use Rattle.seq_inputs.specs.declared.stop.Stop.{Stop}
 use Rattle.seq_inputs.specs.declared.stop.Stop.TheVariants.{Refused, FileFault, ReaderGone, BuffersTooLarge, OutOfMemory}
 use Rattle.seq_inputs.specs.Refusals.{refusal_of}
 use Rattle.seq_inputs.specs.Stops.{IsRefusal, Says, Tells}
+use Rattle.seq_inputs.proofs.Verifieds.{said_more}
 use Rattle.seq_run.specs.Judged.{has_lun, lun_at, ImageIsRefused, JobLineIsRefused, IsRefused}
 
 some_same : (r s : Refusal) → Some r ≡ Some s → s ≡ r
@@ -46,14 +47,6 @@ image_said files g path bytes slice d fault e r is there same new judged was =
       subst (λ (h : Parts). image_fault h bytes ≡ Some fault) (ap (λ (x : Die). x.geometry) new)
           (subst (λ (b : List ℕ). image_fault d.geometry b ≡ Some fault) same (judged_fault (image_fault d.geometry slice) r fault judged was)),
     )
-
--- what is said of a stop, said of more faults
-pub said_more : {A : Type 0} (P Q : Fault → Type 0) (e : Stop A) → ((fault : Fault) → P fault → Q fault) → Says P e → Says Q e
-said_more P Q (Refused r words) more says = (more r.fault says.0, says.1)
-said_more P Q (FileFault path fault line) more says = says
-said_more P Q ReaderGone more says = says
-said_more P Q (BuffersTooLarge bytes line) more says = says
-said_more P Q OutOfMemory more says = says
 
 -- a job is refused, and its LUN is there
 pub job_line_said : {X A : Type 0} (files : Option Store) (g : Parts) (targets target lun base : ℕ) (l : Lun) (text : List ℕ) (input output : Option (List ℕ)) (r : Result X (Stop A)) → has_lun g targets target lun ≡ true → l ≡ lun_at target lun → IfErr r (Says (JobLineIsRefused files g targets l base text input)) → IfErr r (Says (IsRefused files g targets (JobLine target lun base text input output)))

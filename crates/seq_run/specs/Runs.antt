@@ -1,6 +1,5 @@
 -- A run: what its files say, what happens on its channel, and what is written and printed of it.
 use Rattle.std.specs.Prelude.{◌≡◌, ◌⊎◌, ℕ, ◌*◌, ◌≤◌, ⊤, true, List, [], ◌∷◌, ◌++◌, length, reverse, drop, Option}
-use Rattle.std.specs.Option.{option_copied}
 use Rattle.seq_files.specs.Store.{Store, Holds, Written, with_all}
 use Rattle.onfi_cycle.specs.declared.lun.Lun.{Lun}
 use Rattle.onfi_cycle.specs.Permitted.{is_legal}
@@ -8,6 +7,7 @@ use Rattle.micro_program.specs.Program.{Job}
 use Rattle.die_model.specs.Die.{Die}
 use Rattle.target_bus.specs.Bus.{Traced, channel_of, StandFor}
 use Rattle.nand_geometry.specs.declared.parts.Parts.{Parts}
+use Rattle.trace_files.specs.Files.{files_of}
 use Rattle.run_file.specs.Line.{Statement}
 use Rattle.run_file.specs.Told.{told}
 use Rattle.seq_run.specs.declared.request.RunRequest.{RunRequest}
@@ -23,10 +23,10 @@ use Rattle.seq_run.specs.Planned.{outputs_of, images_in, planned_outputs, planne
 use Rattle.seq_run.specs.Lines.{job_lines}
 use Rattle.seq_run.specs.Steps.{steps_of_all}
 use Rattle.seq_run.specs.Happened.{HasHappened}
-use Rattle.seq_run.specs.Written.{buffers_of, images_of, trace_at, printed_trace, codes_of}
+use Rattle.seq_run.specs.Written.{buffers_of, images_of, printed_trace, codes_of}
 
--- what has come of a channel: what happened on its bus, which is legal, a die for each LUN as that left it, the jobs after their end, and the images to
--- be written
+-- what has come of a channel: what happened on its bus, which is legal, a die for each LUN as that left it, the jobs after their end, the images to be
+-- written, and the bytes of a picture of its trace
 pub record Outcome : Type 0 where
   pub bus : Traced
   pub legal : is_legal bus.geometry bus.targets bus.past ≡ true
@@ -35,10 +35,15 @@ pub record Outcome : Type 0 where
   pub stand : StandFor (channel_of bus) bus.past dies
   pub jobs : List EndedJob
   pub images : List PlannedImage
+  pub drawn : List ℕ
 
--- the files that are written: the buffers, the images, and the trace where a path is given for it
+-- the files that are written of the trace, those that are asked for
+abbrev pub files_of_trace : RunRequest → Outcome → List Written
+files_of_trace request o = files_of request.trace o.bus.geometry o.bus.targets (reverse o.bus.past) o.drawn
+
+-- the files that are written: the buffers, the images, and those of the trace
 abbrev pub writes_of : RunRequest → Outcome → List Written
-writes_of request o = buffers_of o.jobs ++ (images_of o.dies o.images ++ trace_at (option_copied request.trace) (reverse o.bus.past))
+writes_of request o = buffers_of o.jobs ++ (images_of o.dies o.images ++ files_of_trace request o)
 
 -- what is printed: the trace, unless it is kept quiet, and a line for each job
 abbrev pub lines_of : RunRequest → Outcome → List ℕ

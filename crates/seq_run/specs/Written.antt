@@ -1,5 +1,5 @@
 -- What a run writes: files in their order, and lines.
-use Rattle.std.specs.Prelude.{◌≡◌, ℕ, Bool, if◌then◌else◌, List, [], ◌∷◌, ◌++◌, map, Option, Some, None, slice_get}
+use Rattle.std.specs.Prelude.{ℕ, Bool, if◌then◌else◌, List, [], map, Option, slice_get}
 use Rattle.std.specs.List.{filter_map}
 use Rattle.std.specs.Option.{option_map}
 use Rattle.seq_files.specs.Store.{Written}
@@ -9,7 +9,6 @@ use Rattle.die_model.specs.Image.{image_of}
 use Rattle.trace_text.specs.Line.{text}
 use Rattle.seq_run.specs.declared.plan.PlannedImage.{PlannedImage}
 use Rattle.seq_run.specs.declared.job_ends.EndedJob.{EndedJob}
-use Rattle.seq_run.specs.declared.writing.Outgoing.{Outgoing}
 
 -- the buffer of a job, if it has an output
 abbrev pub buffer_of : EndedJob → Option Written
@@ -26,19 +25,6 @@ image_at dies image = option_map (λ die. (image.path.now, image_of die)) (slice
 -- the images of dies, in the order of their lines
 abbrev pub images_of : List Die → List PlannedImage → List Written
 images_of dies images = filter_map (image_at dies) images
-
--- the text of the trace, where a path is given for it
-abbrev pub trace_at : Option (List ℕ) → List Item → List Written
-trace_at None items = []
-trace_at (Some path) items = (path, text items) ∷ []
-
--- what is written of a file that was made
-abbrev pub made_of : Outgoing → Written
-made_of file = (file.path.now, file.bytes.items)
-
-abbrev pub optional_of : Option Outgoing → List Written
-optional_of None = []
-optional_of (Some file) = made_of file ∷ []
 
 -- the text of a trace, unless it is kept quiet
 abbrev pub printed_trace : Bool → List Item → List ℕ

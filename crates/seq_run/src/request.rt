@@ -1,5 +1,7 @@
 //! What a run is asked for.
 
+use trace_files::TraceOutputs;
+
 /// How many words the programs of a run may step at most, all together, where the command line doesn't say: they take about a quarter of an hour.
 pub const MOST_STEPS: u64 = 10_000_000_000;
 
@@ -14,8 +16,8 @@ pub struct RunRequest<'a> {
     pub workers: u8,
     /// Whether the trace isn't printed.
     pub is_quiet: bool,
-    /// A file for the text of the trace.
-    pub trace: Option<&'a str>,
+    /// The files of the trace.
+    pub trace: TraceOutputs<'a>,
     /// Whether standard error tells what there was.
     pub has_stats: bool,
 }

@@ -1,15 +1,14 @@
 //! Writing what came of a run: the buffers of jobs, the images of dies, and the trace with the jobs' codes.
-ghost use Rattle.std.specs.Prelude.{◌≡◌, ◌++◌, [], ◌⊎◌, IfOk, IfErr, OnOk, OnErr, reverse, map};
+ghost use Rattle.std.specs.Prelude.{◌≡◌, ◌++◌, [], ◌⊎◌, List, ℕ, IfOk, IfErr, OnOk, OnErr, reverse, map};
 ghost use Rattle.std.specs.Io.KnownBytes.{Appends};
 ghost use Rattle.std.specs.List.{cons_option};
-ghost use Rattle.std.specs.Option.{option_copied};
 ghost use Rattle.std.specs.String.{string_bytes};
-ghost use Rattle.seq_files.specs.Store.{with_all, written_of};
+ghost use Rattle.seq_files.specs.Store.{with_all, written_of, made_of};
 ghost use Rattle.die_model.specs.Image.{image_of};
-ghost use Rattle.trace_text.specs.Line.{text};
+ghost use Rattle.trace_files.specs.Files.{files_of};
 ghost use Rattle.seq_run.specs.Lines.{job_lines};
 ghost use Rattle.seq_inputs.specs.Stops.{RefusesNothing};
-ghost use Rattle.seq_run.specs.Written.{buffer_of, buffers_of, image_at, images_of, trace_at, made_of, optional_of, printed_trace, codes_of};
+ghost use Rattle.seq_run.specs.Written.{buffer_of, buffers_of, image_at, images_of, printed_trace, codes_of};
 ghost use Rattle.seq_run.specs.Runs.{Outcome, ShowsAll, writes_of, lines_of};
 
 use crate::job_ends::{EndedJob, push_job_lines};
@@ -18,25 +17,19 @@ use crate::request::RunRequest;
 use crate::running::Ran;
 use crate::summary::Summary;
 use die_model::LunDie;
-use seq_files::{Files, NewFile, NotWritten, write_text};
-use seq_inputs::Stop;
+use seq_files::{Files, MadeFile, NewFile, list_made, write_text};
+use seq_inputs::{Stop, write_files};
 use std::alloc::{AllocError, Global};
 use std::io::Write;
 use target_bus::Bus;
+use trace_files::{TraceOutputs, make_files};
 use trace_text::print;
 
-// A file that was made to be written.
-#[derive(Drop)]
-struct Outgoing<'a> {
-    path: &'a str,
-    bytes: Vec<u8>,
-}
-
 // The image of a die, for this path.
-fn make_image<'a>(path: &'a str, die: &LunDie) -> Result<Outgoing<'a>, AllocError>
+fn make_image<'a>(path: &'a str, die: &LunDie) -> Result<MadeFile<'a>, AllocError>
     ensures { IfOk result (λ file. made_of file ≡ (path.now, image_of die.now)) }
 {
-    Ok(Outgoing {
+    Ok(MadeFile {
         path,
         bytes: die.image()?,
     })
@@ -45,7 +38,7 @@ fn make_image<'a>(path: &'a str, die: &LunDie) -> Result<Outgoing<'a>, AllocErro
 // Adds the image of a die to the files that are to be written.
 #[tactic(auto, using(crate::proofs::FilesMade::pushed, crate::proofs::FilesMade::not_pushed))]
 fn push_image<'a>(
-    made: &mut Vec<Outgoing<'a>>,
+    made: &mut Vec<MadeFile<'a>>,
     dies: &[LunDie],
     image: &PlannedImage<'a>,
 ) -> Result<(), AllocError>
@@ -67,7 +60,7 @@ fn make_images<'a>(
     alloc: Global,
     dies: &[LunDie],
     images: &[PlannedImage<'a>],
-) -> Result<Vec<Outgoing<'a>>, AllocError>
+) -> Result<Vec<MadeFile<'a>>, AllocError>
     ensures { IfOk result (λ made. map made_of made.items ≡ images_of dies.now images.now) }
 {
     let mut made = Vec::new(alloc);
@@ -77,104 +70,48 @@ fn make_images<'a>(
     Ok(made)
 }
 
-// The text of the trace of a bus.
+// What is printed of the trace of a bus: its text, unless it is kept quiet.
 #[tactic(auto, using(crate::proofs::Printing::legal_is_printable))]
-fn print_trace(alloc: Global, bus: &Bus) -> Result<String, AllocError>
-    ensures { IfOk result (λ lines. string_bytes lines ≡ text (reverse bus.now.past)) }
-{
-    // Its contract says that they are few, so that the trace can be printed.
-    let _few = bus.targets();
-    print(alloc, bus.trace())
-}
-
-// What is printed of the trace: its text, unless it is kept quiet.
 fn print_unless_quiet(alloc: Global, is_quiet: bool, bus: &Bus) -> Result<String, AllocError>
     ensures { IfOk result (λ lines. string_bytes lines ≡ printed_trace is_quiet (reverse bus.now.past)) }
 {
     if is_quiet {
         return Ok(String::new(alloc));
     }
-    print_trace(alloc, bus)
+    // Its contract says that they are few, so that the trace can be printed.
+    let _few = bus.targets();
+    print(alloc, bus.trace())
 }
 
-// The text of the trace for a file: a copy of what is printed, unless it is kept quiet.
-fn copy_trace(
+// What is printed: the trace, unless it is kept quiet, and the codes of the jobs.
+fn make_lines(
     alloc: Global,
     is_quiet: bool,
     bus: &Bus,
-    printed: &str,
-) -> Result<Vec<u8>, AllocError>
-    requires { printed.now ≡ printed_trace is_quiet (reverse bus.now.past) }
-    ensures { IfOk result (λ bytes. bytes.items ≡ text (reverse bus.now.past)) }
+    jobs: &[EndedJob<'_>],
+) -> Result<String, AllocError>
+    ensures { IfOk result (λ lines. string_bytes lines ≡ printed_trace is_quiet (reverse bus.now.past) ++ job_lines 1 (codes_of jobs.now)) }
 {
-    if !is_quiet {
-        return printed.as_bytes().to_vec(alloc);
-    }
-    let text = print_trace(alloc, bus)?;
-    Ok(text.into_bytes())
+    let mut lines = print_unless_quiet(alloc, is_quiet, bus)?;
+    push_job_lines(&mut lines, jobs)?;
+    Ok(lines)
 }
 
-// The file of the trace, if one is asked for.
+// The files of the trace of a bus.
+#[tactic(auto, using(crate::proofs::Printing::legal_is_printable))]
 fn make_trace<'a>(
     alloc: Global,
-    request: RunRequest<'a>,
+    outputs: TraceOutputs<'a>,
     bus: &Bus,
-    printed: &str,
-) -> Result<Option<Outgoing<'a>>, AllocError>
-    requires { printed.now ≡ printed_trace request.is_quiet (reverse bus.now.past) }
-    ensures { IfOk result (λ made. optional_of made ≡ trace_at (option_copied request.entry.trace) (reverse bus.now.past)) }
+) -> Result<Vec<MadeFile<'a>>, AllocError>
+    ensures { IfOk result (λ made. (drawn : List ℕ)
+        × (map made_of made.items ≡ files_of outputs.entry bus.now.geometry bus.now.targets (reverse bus.now.past) drawn)) }
 {
-    match request.trace {
-        Some(path) => {
-            let bytes = copy_trace(alloc, request.is_quiet, bus, printed)?;
-            Ok(Some(Outgoing { path, bytes }))
-        }
-        None => Ok(None),
-    }
-}
-
-// What is printed, and the file of the trace.
-#[derive(Drop)]
-struct Texts<'a> {
-    lines: String,
-    trace: Option<Outgoing<'a>>,
-}
-
-// What is printed is the trace, unless it is kept quiet, and the codes of the jobs. The text of the trace is made once.
-fn make_texts<'a>(
-    alloc: Global,
-    request: RunRequest<'a>,
-    bus: &Bus,
-    jobs: &[EndedJob<'_>],
-) -> Result<Texts<'a>, AllocError>
-    ensures lines { IfOk result (λ texts. string_bytes texts.lines ≡ printed_trace request.entry.is_quiet (reverse bus.now.past)
-        ++ job_lines 1 (codes_of jobs.now)) }
-    ensures trace { IfOk result (λ texts. optional_of texts.trace ≡ trace_at (option_copied request.entry.trace) (reverse bus.now.past)) }
-{
-    let mut lines = print_unless_quiet(alloc, request.is_quiet, bus)?;
-    let trace = make_trace(alloc, request, bus, lines.as_str())?;
-    push_job_lines(&mut lines, jobs)?;
-    Ok(Texts { lines, trace })
-}
-
-// The images, and then the file of the trace.
-fn make_outgoing<'a>(
-    alloc: Global,
-    dies: &[LunDie],
-    images: &[PlannedImage<'a>],
-    trace: Option<Outgoing<'a>>,
-) -> Result<Vec<Outgoing<'a>>, AllocError>
-    ensures { IfOk result (λ made. map made_of made.items ≡ images_of dies.now images.now ++ optional_of trace.entry) }
-{
-    let mut outgoing = make_images(alloc, dies, images)?;
-    if let Some(trace) = trace {
-        outgoing.push(trace)?;
-    }
-    Ok(outgoing)
+    make_files(alloc, &bus.geometry(), bus.targets(), bus.trace(), outputs)
 }
 
 // Adds the buffer of a job, if it has an output, to the files that are to be written.
-#[tactic(auto, using(crate::proofs::FilesMade::listed_more))]
+#[tactic(auto, using(seq_files::proofs::Made::listed_more))]
 fn list_buffer<'p, 'b>(
     files: &mut Vec<NewFile<'p, 'b>>,
     job: &'b EndedJob<'p>,
@@ -202,58 +139,20 @@ fn list_buffers<'p, 'b>(
     Ok(())
 }
 
-// Adds the files that were made.
-#[tactic(auto, using(crate::proofs::FilesMade::made_more))]
-fn list_made<'p, 'b>(
-    files: &mut Vec<NewFile<'p, 'b>>,
-    outgoing: &'b [Outgoing<'p>],
-) -> Result<(), AllocError>
-    ensures { OnOk result (map written_of files.new.items ≡ map written_of files.old.items ++ map made_of outgoing.entry.now) }
-{
-    for file in outgoing {
-        files.push(NewFile {
-            path: file.path,
-            bytes: file.bytes.as_slice(),
-        })?;
-    }
-    Ok(())
-}
-
-// The files that are to be written: the buffers, and then those that were made.
+// The files that are to be written: the buffers, the images, and those of the trace.
 fn list_files<'p, 'b>(
     alloc: Global,
     jobs: &'b [EndedJob<'p>],
-    outgoing: &'b [Outgoing<'p>],
+    images: &'b [MadeFile<'p>],
+    trace: &'b [MadeFile<'p>],
 ) -> Result<Vec<NewFile<'p, 'b>>, AllocError>
-    ensures { IfOk result (λ files. map written_of files.items ≡ buffers_of jobs.entry.now ++ map made_of outgoing.entry.now) }
+    ensures { IfOk result (λ files. map written_of files.items ≡ buffers_of jobs.entry.now ++ (map made_of images.entry.now ++ map made_of trace.entry.now)) }
 {
     let mut files = Vec::new(alloc);
     list_buffers(&mut files, jobs)?;
-    list_made(&mut files, outgoing)?;
+    list_made(&mut files, images)?;
+    list_made(&mut files, trace)?;
     Ok(files)
-}
-
-// Why a run isn't done of whose files this one couldn't be written.
-fn not_written<'p>(made: &[NewFile<'p, '_>], refused: NotWritten) -> Stop<'p>
-    ensures { RefusesNothing result }
-{
-    let path = match made.get(refused.file) {
-        Some(file) => file.path,
-        None => "-",
-    };
-    Stop::of_file(path, refused.error)
-}
-
-// Writes the files, all or none.
-fn write_files<'p, F: Files>(files: &mut F, made: &[NewFile<'p, '_>]) -> Result<(), Stop<'p>>
-    ensures ok { OnOk result (F.store files.new ≡ with_all (map written_of made.now) (F.store files.old)) }
-    ensures err { OnErr result (F.store files.new ≡ F.store files.old) }
-    ensures nothing { IfErr result RefusesNothing }
-{
-    match files.write_all(made) {
-        Ok(()) => Ok(()),
-        Err(refused) => Err(not_written(made, refused)),
-    }
 }
 
 // Prints a text.
@@ -285,8 +184,7 @@ fn write_outcome<'p, F: Files, W: Write>(
     }
 }
 
-/// Writes the buffers in the order of the jobs, the images in the order of their lines, the file of the trace if there is one, all or none, and then
-/// prints. It tells what there was. What takes memory comes before the first file is written.
+/// Writes the buffers in the order of the jobs, the images in the order of their lines, those of the trace, all or none, and then prints. It tells what there was. What takes memory comes before the first file is written.
 pub(crate) fn write_run<'a, F: Files, W: Write>(
     alloc: Global,
     files: &mut F,
@@ -302,11 +200,12 @@ pub(crate) fn write_run<'a, F: Files, W: Write>(
     ensures nothing { IfErr result RefusesNothing }
 {
     let Ran { bus, images, jobs } = ran;
-    let Texts { lines, trace } = make_texts(alloc, request, &bus, jobs.as_slice())?;
+    let lines = make_lines(alloc, request.is_quiet, &bus, jobs.as_slice())?;
+    let trace = make_trace(alloc, request.trace, &bus)?;
     let summary = Summary::of(jobs.len(), bus.trace());
     let dies = bus.into_dies();
-    let outgoing = make_outgoing(alloc, dies.as_slice(), images.as_slice(), trace)?;
-    let made = list_files(alloc, jobs.as_slice(), outgoing.as_slice())?;
+    let images = make_images(alloc, dies.as_slice(), images.as_slice())?;
+    let made = list_files(alloc, jobs.as_slice(), images.as_slice(), trace.as_slice())?;
     match write_outcome(files, output, made.as_slice(), lines.as_str()) {
         Ok(()) => Ok(summary),
         Err(stop) => Err(stop),

@@ -1,5 +1,6 @@
 use Rattle.std.proofs.Common.{◌≡◌, drop, map, ◌++◌}
-use Rattle.seq_run.specs.Written.{images_of, made_of}
+use Rattle.seq_files.specs.Store.{made_of}
+use Rattle.seq_run.specs.Written.{images_of}
 use Rattle.seq_run.proofs.writing.make_images.Given as goal
 
 abbrev pub invariant-loop-image : goal.invariant-loop-image
