@@ -48,6 +48,7 @@ const REQUEST: CaptureRequest<'static> = CaptureRequest {
     target: "bus.trace",
     mappings: Some("CE=CS,WE=P17,RE=P18"),
     has_times: false,
+    glitch: 0,
 };
 
 // What comes of a capture: its status, what it prints and says, and the trace that is written.
@@ -174,6 +175,29 @@ fn times_in_front_of_items(rt: HostRuntime) -> Result<(), Fail> {
         str::from_utf8(seen.files.get("bus.trace").unwrap_or(b""))?,
         "@20 0 C 70\n@50 0 O e0\n"
     );
+    Ok(())
+}
+
+// WE# is high for 8 ns up to the time 12, the first at which a chip is enabled and a strobe changes; then it is low for 8, and RE# for 10.
+#[test]
+fn strobes_that_are_glitches(rt: HostRuntime) -> Result<(), Fail> {
+    for (glitch, output, words) in [
+        (
+            8,
+            "ok\n",
+            "items: 2\nstrobes left out, as no chip of this channel was enabled: 1\n",
+        ),
+        (
+            9,
+            "refused G10 at 12\n",
+            "bus.vcd: time 12: a strobe changes sooner after its last change than --glitch allows (G10)\n",
+        ),
+    ] {
+        let request = CaptureRequest { glitch, ..REQUEST };
+        let seen = see_as(rt.alloc(), CAPTURE, request)?;
+        assert_eq!(rt; str::from_utf8(seen.output.as_slice())?, output);
+        assert_eq!(rt; str::from_utf8(seen.errors.as_slice())?, words);
+    }
     Ok(())
 }
 

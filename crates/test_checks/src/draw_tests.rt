@@ -1,10 +1,11 @@
 use nand_geometry::{Geometry, SMALL_CHIP};
-use seq_commands::{DrawForm, DrawRequest, Targets, draw_trace};
+use seq_commands::{DrawRequest, Targets, draw_trace};
 use seq_files::MapFiles;
 use seq_inputs::Console;
 use std::alloc::Global;
 use std::process::Abort;
 use std::test::Fail;
+use trace_files::DrawForm;
 use trace_text::{NoProgress, TraceForm};
 
 // An erase up to its first address; a second opener breaks a rule.

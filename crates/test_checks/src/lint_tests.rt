@@ -5,6 +5,7 @@ use seq_inputs::{Console, Exit, Style};
 use std::alloc::Global;
 use std::process::Abort;
 use std::test::Fail;
+use trace_files::TraceOutputs;
 use trace_text::NoProgress;
 
 // A read without the second `cmd 00`, in a header that gives too much.
@@ -69,7 +70,7 @@ fn see_verify(alloc: Global, text: &str, is_quiet: bool) -> Result<Seen, Fail> {
         &mut console,
         "die.page",
         "read.asm",
-        None,
+        TraceOutputs::NONE,
         is_quiet,
         Style::Plain,
     );

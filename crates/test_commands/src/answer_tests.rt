@@ -17,6 +17,7 @@ use std::sync::Wait;
 use std::test::Fail;
 use std::thread::Threads;
 use trace_faults::{Beginning, Readies};
+use trace_files::TraceOutputs;
 use trace_text::{NoProgress, TraceForm};
 
 // What the program answers: its status, and what it writes on standard output and on standard error.
@@ -560,7 +561,7 @@ const COMMANDS: [(Command<'static>, u8, &str); 7] = [
         Command::Verify {
             page: "p",
             input: "a",
-            counter: None,
+            counter: TraceOutputs::NONE,
             is_quiet: false,
             style: Style::Plain,
         },
@@ -574,7 +575,7 @@ const COMMANDS: [(Command<'static>, u8, &str); 7] = [
             max_steps: MOST_STEPS,
             workers: 1,
             is_quiet: true,
-            trace: None,
+            trace: TraceOutputs::NONE,
             has_stats: false,
         }),
         0,

@@ -4,13 +4,14 @@ use crate::once_tests::new_console;
 use bus_capture::CaptureForm;
 use clap::error::ErrorKind as UsageKind;
 use seq_cli::{Command, Mistake, PathMistake, once_on, parse, parse_all};
-use seq_commands::{CaptureRequest, DrawForm, DrawRequest, Targets};
+use seq_commands::{CaptureRequest, DrawRequest, Targets};
 use seq_inputs::Exit;
 use seq_run::{MOST_STEPS, RunRequest};
 use std::alloc::{AllocError, Global};
 use std::io::{self, Read};
 use std::process::Abort;
 use std::test::Fail;
+use trace_files::{DrawForm, Drawing, TraceOutputs};
 
 // The words of a command line, behind the name of the program.
 fn words_of(alloc: Global, line: &str) -> Result<Vec<String>, AllocError> {
@@ -29,12 +30,12 @@ const RUN: RunRequest<'static> = RunRequest {
     max_steps: MOST_STEPS,
     workers: 1,
     is_quiet: false,
-    trace: None,
+    trace: TraceOutputs::NONE,
     has_stats: false,
 };
 
 // Words, and what they ask for.
-const REQUESTS: [(&str, RunRequest<'static>); 7] = [
+const REQUESTS: [(&str, RunRequest<'static>); 10] = [
     ("run f", RUN),
     (
         "run f --quiet",
@@ -46,7 +47,47 @@ const REQUESTS: [(&str, RunRequest<'static>); 7] = [
     (
         "run f --trace out",
         RunRequest {
-            trace: Some("out"),
+            trace: TraceOutputs {
+                text: Some("out"),
+                ..TraceOutputs::NONE
+            },
+            ..RUN
+        },
+    ),
+    (
+        "run f --wave out",
+        RunRequest {
+            trace: TraceOutputs {
+                wave: Some("out"),
+                ..TraceOutputs::NONE
+            },
+            ..RUN
+        },
+    ),
+    (
+        "run f --draw out.svg",
+        RunRequest {
+            trace: TraceOutputs {
+                drawing: Some(Drawing {
+                    form: DrawForm::Picture,
+                    path: "out.svg",
+                }),
+                ..TraceOutputs::NONE
+            },
+            ..RUN
+        },
+    ),
+    (
+        "run --draw out.html f --trace out",
+        RunRequest {
+            trace: TraceOutputs {
+                text: Some("out"),
+                drawing: Some(Drawing {
+                    form: DrawForm::Page,
+                    path: "out.html",
+                }),
+                ..TraceOutputs::NONE
+            },
             ..RUN
         },
     ),
@@ -72,7 +113,10 @@ const REQUESTS: [(&str, RunRequest<'static>); 7] = [
             max_steps: 7,
             workers: 6,
             is_quiet: true,
-            trace: Some("out"),
+            trace: TraceOutputs {
+                text: Some("out"),
+                ..TraceOutputs::NONE
+            },
             has_stats: true,
         },
     ),
@@ -134,6 +178,7 @@ const CAPTURE: CaptureRequest<'static> = CaptureRequest {
     target: "t",
     mappings: None,
     has_times: false,
+    glitch: 0,
 };
 
 #[test]
@@ -156,6 +201,33 @@ fn what_signals_are(rt: HostRuntime) -> Result<(), Fail> {
             asked.is_ok_and(|asked| asked == Command::Capture(request)),
             "{line}"
         );
+    }
+    Ok(())
+}
+
+// How long a glitch is.
+#[test]
+fn glitches(rt: HostRuntime) -> Result<(), Fail> {
+    let words = words_of(rt.alloc(), "capture p 2 x t --glitch 10")?;
+    let asked = parse(rt.alloc(), words.as_slice());
+    let request = CaptureRequest {
+        glitch: 10,
+        ..CAPTURE
+    };
+    assert!(rt; asked.is_ok_and(|asked| asked == Command::Capture(request)));
+    Ok(())
+}
+
+// What is no number of it is named.
+#[test]
+fn glitches_that_are_none(rt: HostRuntime) -> Result<(), Fail> {
+    for word in ["", "-1", "10ns", "18446744073709551616"] {
+        let line = format!(in rt.alloc(); "capture p 2 x t --glitch={word}")?;
+        let words = words_of(rt.alloc(), line.as_str())?;
+        match parse(rt.alloc(), words.as_slice()) {
+            Err(Mistake::Glitch(told)) => assert_eq!(rt; told, word),
+            Ok(_) | Err(_) => return Err("the word is taken".into()),
+        }
     }
     Ok(())
 }
@@ -346,6 +418,23 @@ fn paths_that_are_refused(rt: HostRuntime) -> Result<(), Fail> {
         ("capture - 1 - t", Some(PathMistake::InputTwice)),
         ("run x --trace x", Some(PathMistake::WrittenOver("x"))),
         ("run x --trace -", Some(PathMistake::OutputToStream)),
+        ("run x --wave x", Some(PathMistake::WrittenOver("x"))),
+        ("run x --draw x", Some(PathMistake::WrittenOver("x"))),
+        ("run x --wave w --draw -", Some(PathMistake::OutputToStream)),
+        (
+            "run x --wave t --trace t",
+            Some(PathMistake::WrittenTwice("t")),
+        ),
+        (
+            "run x --draw t --wave t",
+            Some(PathMistake::WrittenTwice("t")),
+        ),
+        ("verify p x --draw p", Some(PathMistake::WrittenOver("p"))),
+        (
+            "verify p x --draw t --counter t",
+            Some(PathMistake::WrittenTwice("t")),
+        ),
+        ("run x --trace t --wave w --draw d", None),
         ("upgrade x x", None),
         ("asm - x", None),
         ("verify p -", None),

@@ -4,21 +4,61 @@ use micro_claims::Reason;
 use nand_geometry::Parts;
 use onfi_cycle::Forbidden;
 use seq_cli::Command;
-use seq_commands::{CheckRequest, Targets};
+use seq_commands::{CheckRequest, DrawRequest, Targets};
 use seq_files::{FileError, FileFault, MapFiles};
 use seq_inputs::{Exit, Fault, Style};
 use std::process::Abort;
 use std::test::Fail;
 use trace_faults::{Beginning, Readies};
+use trace_files::{DrawForm, Drawing, TraceOutputs};
 use trace_text::TraceForm;
 
+// To verify, and to leave the text of the run.
 const VERIFY: Command<'static> = Command::Verify {
     page: "die.page",
     input: "out",
-    counter: Some("run"),
+    counter: TraceOutputs {
+        text: Some("run"),
+        wave: None,
+        drawing: None,
+    },
     is_quiet: false,
     style: Style::Plain,
 };
+
+// To verify, and to leave the text of the run, its waveform and its picture.
+const VERIFY_ALL: Command<'static> = Command::Verify {
+    page: "die.page",
+    input: "out",
+    counter: TraceOutputs {
+        text: Some("run"),
+        wave: Some("wave"),
+        drawing: Some(Drawing {
+            form: DrawForm::Picture,
+            path: "drawing",
+        }),
+    },
+    is_quiet: false,
+    style: Style::Plain,
+};
+
+// To verify, and to leave a picture of the run, or a page.
+fn verify_drawn(form: DrawForm) -> Command<'static> {
+    Command::Verify {
+        page: "die.page",
+        input: "out",
+        counter: TraceOutputs {
+            text: None,
+            wave: None,
+            drawing: Some(Drawing {
+                form,
+                path: "drawing",
+            }),
+        },
+        is_quiet: false,
+        style: Style::Plain,
+    }
+}
 
 const CHECK: Command<'static> = Command::Check(CheckRequest {
     page: "die.page",
@@ -95,6 +135,69 @@ fn column_lost_by_a_status(rt: HostRuntime) -> Result<(), Fail> {
     Ok(())
 }
 
+// The waveform of the run that was left, as `wave` draws it on a channel of one target.
+const WAVE: Command<'static> = Command::Draw(DrawRequest {
+    form: DrawForm::Waveform,
+    page: "die.page",
+    targets: Targets::One,
+    lines: TraceForm::Strict,
+    input: "run",
+    target: "again",
+});
+
+// The file of this path has all of these.
+fn expect_parts(rt: &impl Abort, files: &MapFiles, path: &str, parts: &[&str]) -> Result<(), Fail> {
+    let text = str::from_utf8(files.get(path).unwrap_or(b""))?;
+    for part in parts {
+        assert!(rt; text.contains(*part), "{part}");
+    }
+    Ok(())
+}
+
+// The waveform is that of the run with the command that comes too soon; the LUN is busy from 46 on, and the rule is broken at 56.
+#[test]
+fn a_run_with_its_drawings(rt: HostRuntime) -> Result<(), Fail> {
+    let mut files = assemble(&rt, ONE_LUN, ERASE_TWICE)?;
+    let seen = do_command(rt.alloc(), &mut files, VERIFY_ALL);
+    assert_eq!(rt;
+        str::from_utf8(seen.output.as_slice())?,
+        "refused V7 at 3\n"
+    );
+    assert_eq!(rt; files.get("run"), Some(BUSY.as_bytes()));
+    let drawn = do_command(rt.alloc(), &mut files, WAVE);
+    assert_eq!(rt; drawn.exit, Exit::Done);
+    assert_eq!(rt; files.get("wave"), files.get("again"));
+    expect_parts(&rt, &files, "wave", &["#46\n", "#56\n", "#60\n"])?;
+    expect_parts(
+        &rt,
+        &files,
+        "drawing",
+        &["<svg xmlns=", "6 items, F9 at", "</svg>\n"],
+    )
+}
+
+// A drawing alone: no text is left.
+#[test]
+fn a_picture_or_a_page_of_a_run(rt: HostRuntime) -> Result<(), Fail> {
+    for (form, parts) in [
+        (DrawForm::Picture, ["<svg xmlns=", "6 items, F9 at"]),
+        (
+            DrawForm::Page,
+            ["<!DOCTYPE html>\n", "<span><b>5</b>0 C 60</span>\n"],
+        ),
+    ] {
+        let mut files = assemble(&rt, ONE_LUN, ERASE_TWICE)?;
+        let seen = do_command(rt.alloc(), &mut files, verify_drawn(form));
+        assert_eq!(rt;
+            str::from_utf8(seen.output.as_slice())?,
+            "refused V7 at 3\n"
+        );
+        assert_eq!(rt; files.get("run"), None);
+        expect_parts(&rt, &files, "drawing", parts.as_slice())?;
+    }
+    Ok(())
+}
+
 // A text for several LUNs, one that is accepted, and one of another reason have no run, and no file is written.
 #[test]
 fn no_run_is_left(rt: HostRuntime) -> Result<(), Fail> {
@@ -106,9 +209,33 @@ fn no_run_is_left(rt: HostRuntime) -> Result<(), Fail> {
         (ONE_LUN, short, "refused V15 at 2\n"),
     ] {
         let mut files = assemble(&rt, parts, text)?;
-        let seen = do_command(rt.alloc(), &mut files, VERIFY);
+        let seen = do_command(rt.alloc(), &mut files, VERIFY_ALL);
         assert_eq!(rt; str::from_utf8(seen.output.as_slice())?, printed);
-        assert_eq!(rt; files.get("run"), None);
+        expect_none(&rt, &files);
+    }
+    Ok(())
+}
+
+// No file of a run is there.
+fn expect_none(rt: &impl Abort, files: &MapFiles) {
+    for path in ["run", "wave", "drawing"] {
+        assert_eq!(rt; files.get(path), None, "{path}");
+    }
+}
+
+// Where one file of the run can't be written none is, and nothing is printed.
+#[test]
+fn all_files_of_a_run_or_none(rt: HostRuntime) -> Result<(), Fail> {
+    for (call, path) in [(2, "run"), (3, "wave"), (4, "drawing")] {
+        let mut files = assemble(&rt, ONE_LUN, ERASE_TWICE)?;
+        files.fail_at(call, FileError::Fault(FileFault::StorageFull));
+        let seen = do_command(rt.alloc(), &mut files, VERIFY_ALL);
+        let said = format!(in rt.alloc();
+            "file fault {path}\n{path}: no space left on the device\n"
+        )?;
+        assert_eq!(rt; str::from_utf8(seen.errors.as_slice())?, said.as_str());
+        assert!(rt; seen.output.is_empty());
+        expect_none(&rt, &files);
     }
     Ok(())
 }

@@ -11,6 +11,7 @@ use std::io::{self, sink};
 use std::process::Abort;
 use std::test::Fail;
 use trace_faults::{Beginning, Readies};
+use trace_files::{DrawForm, Drawing, TraceOutputs};
 use trace_text::{NoProgress, TraceForm};
 
 // The erase of one block: cmd 60, addr 2 3, cmd d0, wait, end 0; rows 1, budget 5.
@@ -217,7 +218,8 @@ fn kind_of(mistake: &Mistake<'_>) -> UsageKind {
     match mistake {
         Mistake::Words(error) => error.kind(),
         Mistake::NoCommand => UsageKind::MissingSubcommand,
-        Mistake::Base(_) | Mistake::Steps(_) | Mistake::Mapping(_) => UsageKind::ValueValidation,
+        Mistake::Base(_) | Mistake::Steps(_) | Mistake::Glitch(_) | Mistake::Mapping(_) =>
+            UsageKind::ValueValidation,
         Mistake::Paths(_) => UsageKind::ArgumentConflict,
     }
 }
@@ -297,7 +299,7 @@ fn command_lines_of_files(rt: HostRuntime) -> Result<(), Fail> {
             Command::Verify {
                 page: "a",
                 input: "b",
-                counter: None,
+                counter: TraceOutputs::NONE,
                 is_quiet: false,
                 style: Style::Plain,
             },
@@ -312,7 +314,30 @@ fn command_lines_of_files(rt: HostRuntime) -> Result<(), Fail> {
         Ok(Command::Verify {
             page: "a",
             input: "b",
-            counter: Some("c"),
+            counter: TraceOutputs {
+                text: Some("c"),
+                ..TraceOutputs::NONE
+            },
+            is_quiet: false,
+            style: Style::Plain,
+        }),
+    )?;
+    expect_asked(
+        &rt,
+        &[
+            "onfiseq", "verify", "a", "b", "--draw", "d.html", "--wave", "w",
+        ],
+        Ok(Command::Verify {
+            page: "a",
+            input: "b",
+            counter: TraceOutputs {
+                text: None,
+                wave: Some("w"),
+                drawing: Some(Drawing {
+                    form: DrawForm::Page,
+                    path: "d.html",
+                }),
+            },
             is_quiet: false,
             style: Style::Plain,
         }),

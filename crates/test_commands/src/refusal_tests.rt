@@ -13,6 +13,7 @@ use seq_inputs::{Exit, Fault, Refusal, Style, words_of};
 use std::alloc::Global;
 use std::process::Abort;
 use std::test::Fail;
+use trace_files::TraceOutputs;
 
 // The smallest texts that are refused, with the code and the line.
 const SOURCES: [(&str, &str, usize); 11] = [
@@ -371,7 +372,7 @@ fn verified(
     let command = Command::Verify {
         page: "die.page",
         input: "out",
-        counter: None,
+        counter: TraceOutputs::NONE,
         is_quiet: false,
         style: Style::Plain,
     };

@@ -12,6 +12,7 @@ use std::io::Write;
 use std::process::Abort;
 use std::test::Fail;
 use trace_faults::{Beginning, Readies};
+use trace_files::TraceOutputs;
 use trace_text::{NoProgress, TraceForm};
 
 // One LUN of 8 blocks of 4 pages of 512 + 16 bytes, in one plane.
@@ -49,7 +50,7 @@ pub(crate) const TRACE: &str =
 pub(crate) const VERIFY: Command<'static> = Command::Verify {
     page: "die.page",
     input: "in",
-    counter: None,
+    counter: TraceOutputs::NONE,
     is_quiet: true,
     style: Style::Plain,
 };

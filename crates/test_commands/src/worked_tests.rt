@@ -4,6 +4,7 @@ use seq_cli::Command;
 use seq_inputs::{Exit, Style};
 use std::process::Abort;
 use std::test::Fail;
+use trace_files::TraceOutputs;
 
 const WITH_CACHE: Parts = Parts {
     cache: true,
@@ -32,7 +33,7 @@ fn expect(
     let command = Command::Verify {
         page: "die.page",
         input: "out",
-        counter: None,
+        counter: TraceOutputs::NONE,
         is_quiet: false,
         style: Style::Plain,
     };

@@ -2,7 +2,7 @@
 use crate::mistake::{Mistake, make_all};
 use std::test::Fail;
 
-const MISTAKES: [Mistake; 14] = [
+const MISTAKES: [Mistake; 15] = [
     Mistake {
         line: "verify nothing asm",
         file: b"",
@@ -50,6 +50,12 @@ const MISTAKES: [Mistake; 14] = [
         file: b"",
         begins: "error: ",
         names: &["can't be `-`"],
+    },
+    Mistake {
+        line: "verify page asm --counter run --draw run",
+        file: b"",
+        begins: "error: ",
+        names: &["run would be written twice"],
     },
     Mistake {
         line: "once --base 4h",

@@ -206,7 +206,7 @@ const LINES: [&str; 24] = [
     "asm twice.asm twice.nmp",
     "verify die.page twice.nmp",
     "check die.page 1 twice.trace",
-    "verify die.page twice.nmp --counter twice.trace",
+    "verify die.page twice.nmp --counter twice.trace --draw twice.svg",
     "check die.page 1 twice.trace",
     "verify erase.asm erase.nmp",
     "verify die.page erase.asm",
@@ -221,12 +221,13 @@ const LINES: [&str; 24] = [
 ];
 
 // The runs of the example, with each of their options, and the check of a trace that one of them leaves.
-const RUNS: [&str; 8] = [
+const RUNS: [&str; 9] = [
     "run examples/two_luns.run",
     "run examples/two_luns.run --quiet",
     "check examples/two_luns/chip.page 1 run.trace",
-    "run examples/two_luns.run --quiet --trace run.trace",
+    "run examples/two_luns.run --quiet --trace run.trace --wave run.vcd --draw run.svg",
     "check examples/two_luns/chip.page 1 run.trace",
+    "wave examples/two_luns/chip.page 1 run.trace again.vcd",
     "run examples/two_luns.run --quiet --stats",
     "run examples/two_luns.run --quiet --workers 8",
     "run examples/two_luns.run --quiet --workers 9",
@@ -255,6 +256,14 @@ fn commands<R: Print + AllocGlobal + Threads + Wait + Sync>(rt: &R) -> io::Resul
     println!(rt; "the assembled file and the upgraded one are the same: {same}")
 }
 
+// What the runs come to.
+fn runs<R: Print + AllocGlobal + Threads + Wait + Sync>(rt: &R) -> io::Result<()> {
+    let mut files = run_files(rt.alloc())?;
+    show_each(rt, &mut files, &RUNS)?;
+    let same = files.get("run.vcd") == files.get("again.vcd");
+    println!(rt; "the waveform of the run and that of its trace are the same: {same}")
+}
+
 fn main(rt: HostRuntime) -> io::Result<()> {
     once(&rt, "4", &ERASE)?;
     once(&rt, "31", &END)?;
@@ -268,5 +277,5 @@ fn main(rt: HostRuntime) -> io::Result<()> {
     let memory = Err(io::Error::from(io::ErrorKind::OutOfMemory));
     show(&rt, &mut files, memory, &[])?;
     commands(&rt)?;
-    show_each(&rt, &mut run_files(rt.alloc())?, &RUNS)
+    runs(&rt)
 }

@@ -9,6 +9,7 @@ use std::process::Abort;
 use std::sync::Wait;
 use std::test::Fail;
 use std::thread::Threads;
+use trace_files::{DrawForm, Drawing, TraceOutputs};
 use trace_text::NoProgress;
 
 // Two erases with a file for the buffer of each, and an image for each LUN.
@@ -16,7 +17,7 @@ const RUN: &str = "page two\ntargets 1\npolls 1\nimage 0 0 die0\nimage 0 1 die1\
     job 0 0 0 erase - out0\njob 0 1 0 erase - out1\n";
 
 // What is read and then written, call by call, and the place in the run file of what is read.
-const CALLS: [(&str, &str); 11] = [
+const CALLS: [(&str, &str); 13] = [
     ("run", ""),
     ("two", "run:1: "),
     ("die0", "run:4: "),
@@ -28,6 +29,8 @@ const CALLS: [(&str, &str); 11] = [
     ("die0", ""),
     ("die1", ""),
     ("trace", ""),
+    ("wave", ""),
+    ("picture", ""),
 ];
 
 // A file that is written, with its length before the run and after it.
@@ -77,15 +80,31 @@ fn make_old(alloc: Global) -> Result<MapFiles, Fail> {
     files.put("out0", b"old")?;
     files.put("out1", b"old")?;
     files.put("trace", b"old")?;
+    files.put("wave", b"old")?;
+    files.put("picture", b"old")?;
     Ok(files)
 }
 
-// A run by one worker which writes the trace too.
+// A run by one worker which writes the trace too, its waveform and its picture.
 fn ask_trace() -> RunRequest<'static> {
     RunRequest {
-        trace: Some("trace"),
+        trace: TraceOutputs {
+            text: Some("trace"),
+            wave: Some("wave"),
+            drawing: Some(Drawing {
+                form: DrawForm::Picture,
+                path: "picture",
+            }),
+        },
         ..ask(1)
     }
+}
+
+// A file is drawn, or is as it was.
+fn expect_drawn(rt: &impl Abort, files: &MapFiles, path: &str, first: &[u8], is_done: bool) {
+    let bytes = files.get(path).unwrap_or(b"");
+    let wanted = if is_done { first } else { b"old".as_slice() };
+    assert!(rt; bytes.starts_with(wanted), "{path}");
 }
 
 // All files are written, or all are as they were.
@@ -95,6 +114,8 @@ fn expect_written(rt: &impl Abort, files: &MapFiles, is_done: bool) {
         let found = files.get(file.path).map(|bytes| bytes.len());
         assert_eq!(rt; found, Some(length), "{}", file.path);
     }
+    expect_drawn(rt, files, "wave", b"$", is_done);
+    expect_drawn(rt, files, "picture", b"<svg", is_done);
 }
 
 // A run in which this call fails so: it is the last, and nothing is printed.

@@ -1,8 +1,10 @@
 // What a run is asked for beside its file: no trace on standard output, the trace in a file, and what there was.
-use crate::tests::{Played, ask, make_files, play};
+use crate::tests::{ONE_LUN, Played, TO_TRACE, ask, make_files, play};
+use nand_geometry::Geometry;
 use seq_files::MapFiles;
 use seq_inputs::Console;
 use seq_run::{Phase, RunProgress, RunRequest, run_watched};
+use std::alloc::Global;
 use std::io::{self, Sink, sink};
 use std::process::Abort;
 use std::sync::Wait;
@@ -10,7 +12,9 @@ use std::sync::atomic::{AtomicU64, Ordering};
 use std::test::Fail;
 use std::thread::Threads;
 use std::time::{Clock, Duration};
-use trace_text::NoProgress;
+use trace_files::{DrawForm, Drawing, TraceOutputs};
+use trace_text::{NoProgress, parse};
+use trace_wave::write_dump;
 
 // An erase at the first row.
 const RUN: &str = "page one\ntargets 1\njob 0 0 0 erase - -\n";
@@ -37,7 +41,7 @@ fn expect<R: Threads + Wait + Sync + Abort + AllocGlobal>(
 #[test]
 fn the_trace_in_a_file(rt: HostRuntime) -> Result<(), Fail> {
     let request = RunRequest {
-        trace: Some("trace"),
+        trace: TO_TRACE,
         ..ask(1)
     };
     let all = format!(in rt.alloc(); "{TRACE}job 1 end 0\n")?;
@@ -56,6 +60,109 @@ fn no_trace_on_standard_output(rt: HostRuntime) -> Result<(), Fail> {
     assert!(rt; played.errors.is_empty());
     Ok(())
 }
+
+// ---- the drawings of the trace
+
+// A file of the trace as a waveform, and one as a picture or as a page.
+fn to_drawings(form: DrawForm) -> TraceOutputs<'static> {
+    TraceOutputs {
+        text: None,
+        wave: Some("wave"),
+        drawing: Some(Drawing {
+            form,
+            path: "drawing",
+        }),
+    }
+}
+
+// The files after the run of the erase, which prints so much.
+fn run_erase<R: Threads + Wait + Sync + Abort + AllocGlobal>(
+    rt: &R,
+    is_quiet: bool,
+    trace: TraceOutputs<'_>,
+) -> Result<MapFiles, Fail> {
+    let mut files = make_files(rt.alloc())?;
+    files.put("run", RUN.as_bytes())?;
+    let request = RunRequest {
+        is_quiet,
+        trace,
+        ..ask(1)
+    };
+    let played = play(rt, &mut files, request);
+    let printed = if is_quiet { "" } else { TRACE };
+    let lines = format!(in rt.alloc(); "{printed}job 1 end 0\n")?;
+    assert_eq!(rt; str::from_utf8(played.output.as_slice())?, lines.as_str());
+    assert!(rt; played.errors.is_empty());
+    Ok(files)
+}
+
+// The dump of the trace that is given above.
+fn dump_of_trace(alloc: Global) -> Result<Vec<u8>, Fail> {
+    let items = parse(alloc, TRACE)?;
+    let geometry = Geometry::of(ONE_LUN)?;
+    Ok(write_dump(alloc, &geometry, 1, items.as_slice())?)
+}
+
+// The waveform alone, whether the trace is printed or not.
+#[test]
+fn the_waveform_of_the_trace(rt: HostRuntime) -> Result<(), Fail> {
+    let wanted = dump_of_trace(rt.alloc())?;
+    let outputs = TraceOutputs {
+        wave: Some("wave"),
+        ..TraceOutputs::NONE
+    };
+    for is_quiet in [false, true] {
+        let files = run_erase(&rt, is_quiet, outputs)?;
+        assert_eq!(rt; files.get("wave"), Some(wanted.as_slice()));
+        assert_eq!(rt; files.get("trace"), None);
+    }
+    Ok(())
+}
+
+// The file of this path has all of these.
+fn expect_parts(rt: &impl Abort, files: &MapFiles, path: &str, parts: &[&str]) -> Result<(), Fail> {
+    let text = str::from_utf8(files.get(path).unwrap_or(b""))?;
+    for part in parts {
+        assert!(rt; text.contains(*part), "{part}");
+    }
+    Ok(())
+}
+
+// One target: the strobe of the last address rises at 36 and that of d0 at 46, where the LUN becomes busy; the ready of the eighth item comes at 76.
+#[test]
+fn a_waveform_and_a_picture(rt: HostRuntime) -> Result<(), Fail> {
+    let files = run_erase(&rt, true, to_drawings(DrawForm::Picture))?;
+    expect_parts(
+        &rt,
+        &files,
+        "wave",
+        &["#36\n1$\n", "#46\n1$\n", "#76\n", "#100\n"],
+    )?;
+    expect_parts(
+        &rt,
+        &files,
+        "drawing",
+        &["<svg xmlns=", "10 items", "</svg>\n"],
+    )
+}
+
+// The page has the text of the trace, though no trace is printed.
+#[test]
+fn a_page(rt: HostRuntime) -> Result<(), Fail> {
+    let files = run_erase(&rt, true, to_drawings(DrawForm::Page))?;
+    expect_parts(
+        &rt,
+        &files,
+        "drawing",
+        &[
+            "<!DOCTYPE html>\n",
+            "<span><b>7</b>0 R 0 0</span>\n",
+            "</html>\n",
+        ],
+    )
+}
+
+// ---- what there was
 
 // A run of the erase that tells what there was.
 fn ask_stats() -> RunRequest<'static> {

@@ -1,5 +1,5 @@
 // How many words the programs of a run step at most, and runs that may step fewer.
-use crate::tests::{ask, make_files, play};
+use crate::tests::{TO_TRACE, ask, make_files, play};
 use run_file::parse_run;
 use seq_inputs::Exit;
 use seq_run::{RunRequest, plan_run};
@@ -84,7 +84,7 @@ fn one_step_more(rt: HostRuntime) -> Result<(), Fail> {
     files.put("run", TWICE.as_bytes())?;
     let request = RunRequest {
         max_steps: 9,
-        trace: Some("trace"),
+        trace: TO_TRACE,
         ..ask(1)
     };
     let played = play(&rt, &mut files, request);

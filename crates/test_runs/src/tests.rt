@@ -7,6 +7,7 @@ use std::process::Abort;
 use std::sync::Wait;
 use std::test::Fail;
 use std::thread::Threads;
+use trace_files::TraceOutputs;
 use trace_text::NoProgress;
 
 // One LUN of 8 blocks of 4 pages of 512 + 16 bytes, in one plane.
@@ -69,6 +70,13 @@ pub(crate) fn make_files(alloc: Global) -> Result<MapFiles, Fail> {
     Ok(files)
 }
 
+// The text of the trace in the file `trace`.
+pub(crate) const TO_TRACE: TraceOutputs<'static> = TraceOutputs {
+    text: Some("trace"),
+    wave: None,
+    drawing: None,
+};
+
 // A run of the file `run` with so many workers.
 pub(crate) fn ask(workers: u8) -> RunRequest<'static> {
     RunRequest {
@@ -76,7 +84,7 @@ pub(crate) fn ask(workers: u8) -> RunRequest<'static> {
         max_steps: MOST_STEPS,
         workers,
         is_quiet: false,
-        trace: None,
+        trace: TraceOutputs::NONE,
         has_stats: false,
     }
 }

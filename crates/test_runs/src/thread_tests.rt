@@ -1,5 +1,5 @@
 // Runs by several workers.
-use crate::tests::{TWO_LUNS, ask, make_files, play};
+use crate::tests::{TO_TRACE, TWO_LUNS, ask, make_files, play};
 use nand_geometry::Geometry;
 use seq_inputs::Exit;
 use seq_run::RunRequest;
@@ -41,7 +41,7 @@ fn are_done<R: Threads + Wait + Sync + AllocGlobal>(
     files.put("run", run.as_bytes())?;
     let request = RunRequest {
         is_quiet: true,
-        trace: Some("trace"),
+        trace: TO_TRACE,
         ..ask(workers)
     };
     let played = play(rt, &mut files, request);
