@@ -22,12 +22,13 @@ ENUMS = (
     ("ImageFault", "crates/die_model/src/refusal.rt", "the image of a die", "0"),
     ("RunFault", "crates/run_file/src/refusal.rt", "a line of a run file", "the line, from 1"),
     ("DumpFault", "crates/vcd_text/src/fault.rt", "the file of a capture", "the line, from 1"),
-    ("RoleFault", "crates/bus_capture/src/fault.rt", "the signals of a capture", "0"),
+    ("RoleFault", "crates/bus_signals/src/fault.rt", "the signals of a capture", "0"),
     ("BusFault", "crates/bus_capture/src/fault.rt", "the levels of a capture", "the time, in the unit of the dump"),
 )
 # The notes have no words at their enum but those of their lines, each of which names what it found: the page has the first line of their docstrings.
 NOTES = "crates/micro_lint/src/note.rt"
 PAGE = "docs/use/CODES.md"
+CAPTURES = "crates/bus_capture/src/fault.rt"
 HEAD = """# Codes
 
 A file that is refused gets a line `refused CODE at N` on standard output. The code says what is wrong, and N where. In a run N is the line of the run file that is
@@ -48,7 +49,7 @@ def read_enum(name, path):
     arms = re.findall(r'((?:\|?\s*%s::\w+\s*)+)=> "(\w+)"' % name, text)
     codes = {variant: code for variants, code in arms for variant in re.findall(r"::(\w+)", variants)}
     # A line of the bus without its signal has one code, told where a capture's faults are.
-    of_all = re.search(r'CaptureFault::Role\(_\) => "(\w+)"', text) if name == "RoleFault" else None
+    of_all = re.search(r'CaptureFault::Role\(_\) => "(\w+)"', open(CAPTURES).read()) if name == "RoleFault" else None
     return [(of_all.group(1) if of_all else codes[variant], said.replace('\\"', '"').replace("{0}", "ROLE")) for said, variant in words]
 
 

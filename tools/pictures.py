@@ -11,15 +11,21 @@ import tempfile
 from pathlib import Path
 
 ROOT = Path(__file__).resolve().parent.parent
-# Each picture: where it stands, the run file, and the page and the number of targets of its channel.
-PICTURES = (("docs/use/two_luns.svg", "examples/two_luns.run", "examples/two_luns/chip.page", "1"),)
+# A read, and two erases without a `wait` between.
+ERASE_AGAIN = "rows 1\nbuffer 0\nbudget 17\ncmd 00\naddr 0 5\ncmd 30\nwait\ncmd 60\naddr 2 3\ncmd d0\ncmd 60\naddr 2 3\ncmd d0\nwait\nend 0\n"
+# Each picture: where it stands, the command that draws it, what that reads on standard input, and its status. A run has one worker, so its trace is always the same.
+PICTURES = (
+    ("docs/use/two_luns.svg", ("run", "examples/two_luns.run", "--quiet"), "", 0),
+    ("docs/use/refused.svg", ("verify", "examples/small_chip/chip.page", "-"), ERASE_AGAIN, 1),
+)
 
 
-def draw(program, run, page, targets, folder):
-    """The picture of a run with one worker, whose trace is always the same."""
-    trace, picture = folder / "trace", folder / "picture.svg"
-    for words in (["run", run, "--quiet", "--trace", trace], ["draw", page, targets, trace, picture]):
-        subprocess.run([program, *words], cwd=ROOT, check=True, stdout=subprocess.DEVNULL)
+def draw(program, words, text, status, folder):
+    """The picture that a command draws."""
+    picture = folder / "picture.svg"
+    ran = subprocess.run([program, *words, "--draw", picture], cwd=ROOT, input=text, capture_output=True, text=True, check=False)
+    if ran.returncode != status:
+        sys.exit(f"{' '.join(words)}: status {ran.returncode}\n{ran.stderr}")
     return picture.read_bytes()
 
 
@@ -27,9 +33,9 @@ def main():
     words = [word for word in sys.argv[1:] if word != "--write"]
     program = Path(words[0] if words else ROOT / "crates/onfiseq/out/onfiseq").resolve()
     different = []
-    for path, run, page, targets in PICTURES:
+    for path, words, text, status in PICTURES:
         with tempfile.TemporaryDirectory() as folder:
-            picture = draw(program, run, page, targets, Path(folder))
+            picture = draw(program, words, text, status, Path(folder))
         if "--write" in sys.argv:
             (ROOT / path).write_bytes(picture)
         if (ROOT / path).read_bytes() != picture:
