@@ -7,3 +7,4 @@ pub mod Inside
 pub mod Still
 pub mod Tracing
 pub mod Spans
+pub mod Fronts

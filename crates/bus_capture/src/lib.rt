@@ -6,6 +6,7 @@ mod csv_capturing;
 mod dump_reader;
 mod fault;
 mod inferring;
+mod laws;
 mod levels;
 mod reading;
 mod sampler;
@@ -15,6 +16,7 @@ mod tracer;
 
 pub use fault::{BusFault, CaptureFault, CaptureRefusal};
 pub use inferring::Stamped;
+pub use laws::keeps_front;
 pub use levels::Levels;
 pub use reading::{Capture, CaptureForm, CaptureReader, Setup, read_capture};
 pub use sampler::{Observation, Observed};

@@ -1,11 +1,12 @@
 //! The program `onfiseq`: its words, its files, its clock and its streams are handed to [`seq_cli::answer_watched`], which does the rest.
 #![tactic(auto)]
 
-use seq_cli::{RealFiles, TerminalProgress, answer_watched};
+use seq_cli::{TerminalProgress, answer_watched};
 use seq_inputs::Console;
 use std::env;
 use std::io::{self, Input};
 use std::process::ExitCode;
+use system_files::RealFiles;
 
 // The words of the command line, if each is UTF-8.
 fn words_given(rt: &HostRuntime) -> io::Result<Vec<String>> {

@@ -3,4 +3,3 @@ pub mod Given
 pub mod Refusing
 pub mod Told
 pub mod Turns
-pub mod Unknown

@@ -11,7 +11,6 @@ mod command_line;
 mod mistake;
 mod once;
 mod progress;
-mod real_files;
 
 pub use answering::{answer, answer_watched};
 pub use command::{Command, command_on};
@@ -19,4 +18,3 @@ pub use command_line::{parse, parse_all};
 pub use mistake::{Mistake, PathMistake};
 pub use once::{once_on, run_program};
 pub use progress::TerminalProgress;
-pub use real_files::RealFiles;

@@ -1,7 +1,8 @@
-pub mod Said
-pub mod CountersPrinted
-pub mod Checked
 pub mod Captured
-pub mod Sayings
+pub mod Checked
+pub mod Conversions
+pub mod CountersPrinted
 pub mod Headeds
 pub mod Leaving
+pub mod Said
+pub mod Sayings

@@ -1,5 +1,5 @@
 -- What a capture comes to: which trace is written.
-use Rattle.std.specs.Prelude.{◌≡◌, ◌⊎◌, ◌==◌, ℕ, Bool, true, false, List, [], map, Option, Some, None, Ok, Err}
+use Rattle.std.specs.Prelude.{◌≡◌, ◌⊎◌, ◌==◌, ℕ, Bool, true, false, List, [], map, Option, Some, None, Result, Ok, Err}
 use Rattle.std.specs.List.{before_first, after_first, slice_split}
 use Rattle.std.specs.Option.{option_map}
 use Rattle.seq_files.specs.Store.{Store, Holds, with_file}
@@ -8,11 +8,20 @@ use Rattle.onfi_cycle.specs.declared.item.Item.{Item}
 use Rattle.bus_capture.specs.declared.inferring.Stamped.{Stamped}
 use Rattle.bus_signals.specs.declared.mapping.Mapping.{Mapping}
 use Rattle.bus_capture.specs.declared.reading.Setup.{Setup}
+use Rattle.bus_capture.specs.declared.fault.CaptureFault.{CaptureFault}
 use Rattle.bus_capture.specs.Inferring.{captured}
+use Rattle.bus_capture.specs.Tracing.{comes, IsCapturing}
+use Rattle.seq_commands.specs.declared.capture_converter.CaptureConverter.{CaptureConverter}
 use Rattle.trace_text.specs.Line.{text}
 use Rattle.trace_text.specs.declared.recorded_item.TimedItem.{TimedItem}
 use Rattle.trace_text.specs.Recorded.{timed_text}
 use Rattle.seq_inputs.specs.Inputs.{HasPage, PageIsRefused}
+use Rattle.seq_inputs.specs.declared.stop.Stop.{Stop}
+use Rattle.seq_inputs.specs.Stops.{Says, RefusesNothing}
+use Rattle.seq_files.specs.declared.converting.NotConverted.{NotConverted}
+use Rattle.seq_files.specs.declared.converting.NotConverted.TheVariants.{Input, Output, Refused}
+use Rattle.bus_capture.specs.declared.fault.CaptureRefusal.{CaptureRefusal}
+use Rattle.bus_capture.specs.declared.fault.CaptureRefusal.TheVariants as refusal
 use Rattle.seq_inputs.specs.declared.fault.Fault.{Fault}
 use Rattle.seq_inputs.specs.declared.fault.Fault.TheVariants.{Capture}
 use Rattle.seq_commands.specs.declared.capture_request.CaptureRequest.{CaptureRequest}
@@ -69,16 +78,32 @@ seen_text false stamped = text (items_in stamped)
 seen_text true stamped = timed_text (timed_in stamped)
 
 -- the capture at the path shows these items, and their text is written; no other file changes
-pub record IsCaptured (files later : Option Store) (request : CaptureRequest) : Type 0 where
-  pub g : Parts
-  pub has_page : HasPage files request.page.now g
+pub record IsConverted (files later : Option Store) (request : CaptureRequest) (setup : Setup) : Type 0 where
   pub capture : List ℕ
   pub is_there : Holds files request.input.now capture
-  pub setup : Setup
-  pub is_setup : IsSetup request g setup
   pub stamped : List Stamped
   pub is_captured : captured setup capture ≡ Ok stamped
   pub written : later ≡ with_file files request.target.now (seen_text request.has_times stamped)
+
+-- so is it, of targets of the geometry of the page
+pub record IsCaptured (files later : Option Store) (request : CaptureRequest) : Type 0 where
+  pub g : Parts
+  pub has_page : HasPage files request.page.now g
+  pub setup : Setup
+  pub is_setup : IsSetup request g setup
+  pub converted : IsConverted files later request setup
+
+-- ---- a capture that becomes a text piece by piece
+
+-- what it comes to, and the bytes of its text
+abbrev pub Shows : (has_times : Bool) → Result (List Stamped) CaptureFault → List ℕ → Type 0
+Shows has_times result made = (stamped : List Stamped) × (result ≡ Ok stamped) × (made ≡ seen_text has_times stamped)
+
+-- nothing is read yet
+pub record IsConverter {A : Type 0} (setup : Setup) (has_times : Bool) (c : CaptureConverter A) : Type 0 where
+  pub capturing : IsCapturing c.reader
+  pub comes_to : (text : List ℕ) → comes c.reader [] text ≡ captured setup text
+  pub times : c.has_times ≡ has_times
 
 -- ---- what is refused
 
@@ -87,15 +112,26 @@ abbrev pub RefusesCapture : Setup → List ℕ → Fault → Type 0
 RefusesCapture setup capture (Capture fault) = captured setup capture ≡ Err fault
 RefusesCapture setup capture _ = ⊥
 
+-- that of the capture at the path
+pub record ConversionRefuses (files : Option Store) (request : CaptureRequest) (setup : Setup) (fault : Fault) : Type 0 where
+  pub capture : List ℕ
+  pub is_there : Holds files request.input.now capture
+  pub refuses : RefusesCapture setup capture fault
+
 pub record CaptureIsRefused (files : Option Store) (request : CaptureRequest) (fault : Fault) : Type 0 where
   pub g : Parts
   pub has_page : HasPage files request.page.now g
-  pub capture : List ℕ
-  pub is_there : Holds files request.input.now capture
   pub setup : Setup
   pub is_setup : IsSetup request g setup
-  pub refuses : RefusesCapture setup capture fault
+  pub refused : ConversionRefuses files request setup fault
 
 -- the page is refused, or the capture
 abbrev pub CaptureRefuses : Option Store → CaptureRequest → Fault → Type 0
 CaptureRefuses files request fault = PageIsRefused files request.page.now fault ⊎ CaptureIsRefused files request fault
+
+-- what is said where nothing is converted: the fault, if there is one
+abbrev pub SaysCapture : {A : Type 0} → NotConverted CaptureRefusal → Stop A → Type 0
+SaysCapture (Refused (refusal.Fault f)) stop = Says (λ fault. fault ≡ Capture f) stop
+SaysCapture (Refused refusal.OutOfMemory) stop = RefusesNothing stop
+SaysCapture (Input e) stop = RefusesNothing stop
+SaysCapture (Output e) stop = RefusesNothing stop

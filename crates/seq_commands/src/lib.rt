@@ -7,6 +7,7 @@
 mod assembling;
 mod assembling_for;
 mod beside;
+mod capture_converter;
 mod capture_request;
 mod capturing;
 mod check_request;
@@ -14,6 +15,7 @@ mod checking;
 mod disassembling;
 mod draw_request;
 mod drawing;
+mod latest_lines;
 mod linting;
 mod mappings;
 mod noting;

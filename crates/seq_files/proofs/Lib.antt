@@ -1,2 +1,3 @@
+pub mod Converted
 pub mod Made
 pub mod Several

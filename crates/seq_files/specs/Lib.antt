@@ -1,3 +1,4 @@
 pub mod Errors
 pub mod Kept
 pub mod Store
+pub mod Converting

@@ -1,7 +1,9 @@
 //! What a command asks of a file system.
-ghost use Rattle.std.specs.Prelude.{◌≡◌, Option, None, IfOk, OnOk, OnErr, map};
+ghost use Rattle.std.specs.Prelude.{◌≡◌, ℕ, List, Option, None, IfOk, IfErr, OnOk, OnErr, map};
 ghost use Rattle.seq_files.specs.Store.{Store, Holds, with_file, with_all, written_of};
+ghost use Rattle.seq_files.specs.Converting.{IsMade, IsRefused};
 
+use crate::converting::{Convert, NotConverted};
 use crate::error::{FileError, NotWritten};
 use crate::new_file::NewFile;
 use std::alloc::Allocator;
@@ -24,5 +26,19 @@ pub trait Files {
     /// Makes these files, in their order, each in place of one that has its path: all of them or none.
     fn write_all(&mut self, files: &[NewFile<'_, '_>]) -> Result<(), NotWritten>
         ensures written { OnOk result (store self.new ≡ with_all (map written_of files.now) (store self.old)) }
+        ensures stays { OnErr result (store self.new ≡ store self.old) };
+
+    /// Makes a file of what a converter makes of another, read piece by piece, in place of one that has its path. What fails changes nothing.
+    fn convert<A: Allocator + Clone, C: Convert>(
+        &mut self,
+        alloc: A,
+        source: &str,
+        target: &str,
+        converter: &mut C,
+    ) -> Result<(), NotConverted<C::Refusal>>
+        requires ready { C.is_ready converter.old }
+        ensures made { OnOk result ((made : List ℕ) × IsMade (Holds (store self.old) source.now) (C.makes converter.old) made
+            × (store self.new ≡ with_file (store self.old) target.now made)) }
+        ensures refused { IfErr result (IsRefused (Holds (store self.old) source.now) (C.refuses converter.old)) }
         ensures stays { OnErr result (store self.new ≡ store self.old) };
 }

@@ -15,7 +15,7 @@ const MOST_READS: usize = 1_048_576;
 const PIECE: usize = 512;
 
 // What a failed read comes to: none has bytes, and one that a signal interrupts is tried again.
-fn after_failure(error: &Error) -> Result<bool, FileError>
+pub(crate) fn after_failure(error: &Error) -> Result<bool, FileError>
     ensures { result ≡ after_failure (error_kind error.now) }
 {
     match error.kind() {

@@ -4,6 +4,7 @@ ghost use Rattle.seq_files.specs.declared.map_files.KeptFile.{KeptFile};
 ghost use Rattle.seq_files.specs.Store.{Holds, with_file, with_all, written_of};
 ghost use Rattle.seq_files.specs.Kept.{files_in};
 
+use crate::converting::{Convert, NotConverted, convert_all};
 use crate::error::{FileError, FileFault, NotWritten};
 use crate::files::Files;
 use crate::new_file::NewFile;
@@ -142,5 +143,27 @@ impl Files for MapFiles {
             self.files.truncate(before);
         }
         made
+    }
+
+    fn convert<A: Allocator + Clone, C: Convert>(
+        &mut self,
+        alloc: A,
+        source: &str,
+        target: &str,
+        converter: &mut C,
+    ) -> Result<(), NotConverted<C::Refusal>> {
+        let bytes = match self.read(self.alloc, source) {
+            Ok(bytes) => bytes,
+            Err(error) => return Err(NotConverted::Input(error)),
+        };
+        let mut made = Vec::new(self.alloc);
+        match convert_all(alloc, &mut bytes.as_slice(), &mut made, converter) {
+            Ok(()) => {}
+            Err(error) => return Err(error),
+        }
+        match self.write(target, made.as_slice()) {
+            Ok(()) => Ok(()),
+            Err(error) => Err(NotConverted::Output(error)),
+        }
     }
 }

@@ -125,23 +125,23 @@ pub fn words_of_trace<'p, A: Allocator>(
     Words::at(path, Some(line), format!(in alloc; "{message}"))
 }
 
-/// What is wrong with a capture: of a line with that line, where the file is UTF-8.
+/// What is wrong with a capture: of a line with the text of that line, where that is given and is UTF-8.
 pub fn words_of_capture<'p, A: Allocator>(
     alloc: A,
     path: &'p str,
-    bytes: &[u8],
+    line: Option<&[u8]>,
     fault: CaptureFault,
 ) -> Option<Words<'p, A>> {
     let CaptureFault::File(at) = fault else {
         return words_of(alloc, path, Fault::Capture { fault });
     };
     let code = fault.code();
-    let text = match str::from_utf8(bytes) {
-        Ok(text) => {
-            let shown = Shown::line(line_at(text, at.line));
+    let text = match line.map(str::from_utf8) {
+        Some(Ok(text)) => {
+            let shown = Shown::line(text);
             format!(in alloc; "`{shown}`: {} ({code})", at.fault)
         }
-        Err(_) => format!(in alloc; "{} ({code})", at.fault),
+        Some(Err(_)) | None => format!(in alloc; "{} ({code})", at.fault),
     };
     Words::at(path, Some(at.line), text)
 }

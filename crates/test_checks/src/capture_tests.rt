@@ -227,3 +227,40 @@ fn a_capture_as_csv(rt: HostRuntime) -> Result<(), Fail> {
     );
     Ok(())
 }
+
+// A dump of so many commands, with this at its end.
+fn long_dump(alloc: Global, commands: u32, end: &str) -> Result<String, Fail> {
+    let mut dump = String::new(alloc);
+    let (header, _) = CAPTURE.split_once("#0").unwrap_or(("", ""));
+    dump.push_str(header)?;
+    for number in 0..commands {
+        write!(
+            &mut dump,
+            "#{number}00\n1w 1r 0c 1l 0a b1110000 d\n#{number}02\n0w\n#{number}10\n1w\n"
+        )?;
+    }
+    dump.push_str(end)?;
+    Ok(dump)
+}
+
+// A capture of several pieces is written piece by piece, and the line of a fault is shown wherever it stands.
+#[test]
+fn long_captures(rt: HostRuntime) -> Result<(), Fail> {
+    let dump = long_dump(rt.alloc(), 5_000, "")?;
+    let seen = see(rt.alloc(), dump.as_str(), REQUEST.mappings)?;
+    assert_eq!(rt; str::from_utf8(seen.errors.as_slice())?, "items: 5000\n");
+    let trace = seen.files.get("bus.trace").unwrap_or(b"");
+    assert_eq!(rt; trace.len(), 35_000);
+    assert!(rt; trace.chunks(7).all(|line| line == b"0 C 70\n".as_slice()));
+    let dump = long_dump(rt.alloc(), 5_000, "1!\n")?;
+    let seen = see(rt.alloc(), dump.as_str(), REQUEST.mappings)?;
+    expect(
+        &rt,
+        &seen,
+        1,
+        "refused G4 at 30009\n",
+        "bus.vcd:30009: `1!`: the code isn't declared (G4)\n",
+    )?;
+    assert_eq!(rt; seen.files.get("bus.trace"), None);
+    Ok(())
+}

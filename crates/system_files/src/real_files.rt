@@ -1,7 +1,12 @@
 //! The files of the system. A file comes whole or not at all, several of them all or none, as far as the system allows, and no file is touched that
 //! isn't asked for.
 
-use seq_files::{FileError, Files, NewFile, NotWritten, read_sized};
+ghost use Rattle.std.specs.Prelude.{List, ℕ, ⊤, IfErr, OnOk};
+ghost use Rattle.seq_files.specs.Converting.{IsMade, IsRefused};
+
+use seq_files::{
+    Convert, FileError, Files, NewFile, NotConverted, NotWritten, convert_all, read_sized,
+};
 use std::alloc::{Allocator, Global};
 use std::fs::{self, Metadata, OpenFile, OpenOptions, Permissions};
 use std::io::{self, ErrorKind, Write};
@@ -27,6 +32,14 @@ pub struct RealFiles<'a, R: rt::Files> {
 struct Part {
     name: String,
     path: String,
+}
+
+// A part that isn't whole yet, and the permissions that it is to have.
+#[derive(Drop)]
+struct Begun<F> {
+    part: Part,
+    file: F,
+    permissions: Option<Permissions>,
 }
 
 // A file whose bytes are in its part; one without a part is written into.
@@ -60,13 +73,8 @@ fn length_of<F: OpenFile>(file: &F) -> usize {
     }
 }
 
-// Fills a new file, and has the system keep it.
-fn fill_file<F: Write + OpenFile>(
-    file: &mut F,
-    permissions: Option<Permissions>,
-    bytes: &[u8],
-) -> io::Result<()> {
-    file.write_all(bytes)?;
+// Has the system keep a new file, with these permissions.
+fn keep_file<F: OpenFile>(file: &mut F, permissions: Option<Permissions>) -> io::Result<()> {
     if let Some(permissions) = permissions {
         file.set_permissions(permissions)?;
     }
@@ -105,28 +113,20 @@ impl<'a, R: rt::Files> RealFiles<'a, R> {
         Err(io::Error::from(ErrorKind::AlreadyExists))
     }
 
-    // An empty file in the making for this path, which is that of the file of this place among several.
-    fn begin_part(&self, path: &str, place: usize) -> io::Result<(Part, R::File)> {
+    // An empty file in the making for this path, which is that of the file of this place among several; it is to have these permissions.
+    fn begin_part(
+        &self,
+        path: &str,
+        place: usize,
+        permissions: Option<Permissions>,
+    ) -> io::Result<Begun<R::File>> {
         let path = String::from_str(self.alloc, path)?;
         let (name, file) = self.make_part(folder_of(path.as_str()), place)?;
-        Ok((Part { name, path }, file))
-    }
-
-    // Fills a file in the making; where that fails it is removed.
-    fn fill_part(
-        &self,
-        part: Part,
-        mut file: R::File,
-        permissions: Option<Permissions>,
-        bytes: &[u8],
-    ) -> io::Result<Part> {
-        match fill_file(&mut file, permissions, bytes) {
-            Ok(()) => Ok(part),
-            Err(error) => {
-                self.remove_part(&part);
-                Err(error)
-            }
-        }
+        Ok(Begun {
+            part: Part { name, path },
+            file,
+            permissions,
+        })
     }
 
     // Removes a file in the making.
@@ -149,44 +149,74 @@ impl<'a, R: rt::Files> RealFiles<'a, R> {
         self.system.canonicalize(self.alloc, path)
     }
 
-    // A new file in place of another, with its permissions; none in a folder where none can be made.
-    fn prepare_anew(
+    // A file in the making in place of another, with its permissions; none in a folder where none can be made.
+    fn begin_anew(
         &self,
         place: usize,
-        file: NewFile<'_, '_>,
+        path: &str,
         old: &Metadata,
-    ) -> io::Result<Option<Part>> {
+    ) -> io::Result<Option<Begun<R::File>>> {
         if self.is_output(old) {
             return Err(io::Error::from(ErrorKind::InvalidInput));
         }
-        let behind = self.resolve_links(file.path)?;
-        match self.begin_part(behind.as_str(), place) {
-            Ok((part, empty)) => {
-                let part = self.fill_part(part, empty, Some(old.permissions()), file.bytes)?;
-                Ok(Some(part))
-            }
+        let behind = self.resolve_links(path)?;
+        match self.begin_part(behind.as_str(), place, Some(old.permissions())) {
+            Ok(begun) => Ok(Some(begun)),
             Err(error) if is_closed_folder(error.kind()) => Ok(None),
             Err(error) => Err(error),
         }
     }
 
-    // A new file where none was; none where a link leads nowhere, since what it leads to is made.
-    fn prepare_first(&self, place: usize, file: NewFile<'_, '_>) -> io::Result<Option<Part>> {
-        if fs::symlink_metadata(self.system, file.path).is_ok() {
+    // A file in the making where none was; none where a link leads nowhere, since what it leads to is made.
+    fn begin_first(&self, place: usize, path: &str) -> io::Result<Option<Begun<R::File>>> {
+        if fs::symlink_metadata(self.system, path).is_ok() {
             return Ok(None);
         }
-        let (part, empty) = self.begin_part(file.path, place)?;
-        let part = self.fill_part(part, empty, None, file.bytes)?;
-        Ok(Some(part))
+        Ok(Some(self.begin_part(path, place, None)?))
+    }
+
+    // The file in the making for this path, or none where what has the path is written into.
+    fn begin(&self, place: usize, path: &str) -> io::Result<Option<Begun<R::File>>> {
+        match fs::metadata(self.system, path) {
+            Ok(old) if old.is_file() => self.begin_anew(place, path, &old),
+            Ok(_) => Ok(None),
+            Err(error) if error.kind() == ErrorKind::NotFound => self.begin_first(place, path),
+            Err(error) => Err(error),
+        }
+    }
+
+    // Has the system keep a file in the making that is whole; where that fails it is removed.
+    fn keep_part(&self, begun: Begun<R::File>) -> io::Result<Part> {
+        let Begun {
+            part,
+            mut file,
+            permissions,
+        } = begun;
+        match keep_file(&mut file, permissions) {
+            Ok(()) => Ok(part),
+            Err(error) => {
+                self.remove_part(&part);
+                Err(error)
+            }
+        }
+    }
+
+    // Fills a file in the making; where that fails it is removed.
+    fn fill_part(&self, mut begun: Begun<R::File>, bytes: &[u8]) -> io::Result<Part> {
+        match begun.file.write_all(bytes) {
+            Ok(()) => self.keep_part(begun),
+            Err(error) => {
+                self.remove_part(&begun.part);
+                Err(error)
+            }
+        }
     }
 
     // The filled file in the making for this path, or none where what has the path is written into.
     fn prepare(&self, place: usize, file: NewFile<'_, '_>) -> io::Result<Option<Part>> {
-        match fs::metadata(self.system, file.path) {
-            Ok(old) if old.is_file() => self.prepare_anew(place, file, &old),
-            Ok(_) => Ok(None),
-            Err(error) if error.kind() == ErrorKind::NotFound => self.prepare_first(place, file),
-            Err(error) => Err(error),
+        match self.begin(place, file.path)? {
+            Some(begun) => Ok(Some(self.fill_part(begun, file.bytes)?)),
+            None => Ok(None),
         }
     }
 
@@ -239,9 +269,14 @@ impl<'a, R: rt::Files> RealFiles<'a, R> {
     }
 
     // Gives a part its path.
+    fn rename_part(&self, part: &Part) -> io::Result<()> {
+        fs::rename(self.system, part.name.as_str(), part.path.as_str())
+    }
+
+    // Gives the part of a file its path, if it has one.
     fn put_in_place(&self, one: &Prepared<'_, '_>) -> io::Result<()> {
         match &one.part {
-            Some(part) => fs::rename(self.system, part.name.as_str(), part.path.as_str()),
+            Some(part) => self.rename_part(part),
             None => Ok(()),
         }
     }
@@ -282,10 +317,72 @@ impl<'a, R: rt::Files> RealFiles<'a, R> {
     }
 }
 
+impl<'a, R: rt::Files> RealFiles<'a, R> {
+    // Opens a file for reading.
+    fn open(&self, path: &str) -> io::Result<R::File> {
+        fs::open(self.system, if path == "-" { STDIN } else { path })
+    }
+
+    // Gives a file in the making that is whole its path; where that fails it is removed.
+    fn end_part(&self, begun: Begun<R::File>) -> io::Result<()> {
+        let part = self.keep_part(begun)?;
+        let renamed = self.rename_part(&part);
+        if renamed.is_err() {
+            self.remove_part(&part);
+        }
+        renamed
+    }
+
+    // Fills a file in the making by a converter. Where that fails it is removed.
+    fn convert_part<A: Allocator + Clone, C: Convert>(
+        &self,
+        alloc: A,
+        input: &mut R::File,
+        mut begun: Begun<R::File>,
+        converter: &mut C,
+    ) -> Result<(), NotConverted<C::Refusal>>
+        requires ready { C.is_ready converter.old }
+        ensures made { OnOk result ((made : List ℕ) × IsMade (λ input. ⊤) (C.makes converter.old) made) }
+        ensures refused { IfErr result (IsRefused (λ input. ⊤) (C.refuses converter.old)) }
+    {
+        match convert_all(alloc, input, &mut begun.file, converter) {
+            Ok(()) => match self.end_part(begun) {
+                Ok(()) => Ok(()),
+                Err(error) => Err(NotConverted::Output(FileError::of(&error))),
+            },
+            Err(error) => {
+                self.remove_part(&begun.part);
+                Err(error)
+            }
+        }
+    }
+
+    // Writes what a converter makes into what has the path, once it is whole.
+    fn convert_into<A: Allocator + Clone, C: Convert>(
+        &self,
+        alloc: A,
+        input: &mut R::File,
+        path: &str,
+        converter: &mut C,
+    ) -> Result<(), NotConverted<C::Refusal>>
+        requires ready { C.is_ready converter.old }
+        ensures made { OnOk result ((made : List ℕ) × IsMade (λ input. ⊤) (C.makes converter.old) made) }
+        ensures refused { IfErr result (IsRefused (λ input. ⊤) (C.refuses converter.old)) }
+    {
+        let mut made = Vec::new(self.alloc);
+        match convert_all(alloc, input, &mut made, converter) {
+            Ok(()) => match self.write_into(path, made.as_slice()) {
+                Ok(()) => Ok(()),
+                Err(error) => Err(NotConverted::Output(FileError::of(&error))),
+            },
+            Err(error) => Err(error),
+        }
+    }
+}
+
 impl<'a, R: rt::Files> Files for RealFiles<'a, R> {
     fn read<A: Allocator>(&mut self, alloc: A, path: &str) -> Result<Vec<u8, A>, FileError> {
-        let path = if path == "-" { STDIN } else { path };
-        let mut file = fs::open(self.system, path)?;
+        let mut file = self.open(path)?;
         let length = length_of(&file);
         read_sized(alloc, &mut file, length)
     }
@@ -299,5 +396,23 @@ impl<'a, R: rt::Files> Files for RealFiles<'a, R> {
 
     fn write_all(&mut self, files: &[NewFile<'_, '_>]) -> Result<(), NotWritten> {
         self.write_each(files)
+    }
+
+    fn convert<A: Allocator + Clone, C: Convert>(
+        &mut self,
+        alloc: A,
+        source: &str,
+        target: &str,
+        converter: &mut C,
+    ) -> Result<(), NotConverted<C::Refusal>> {
+        let mut input = match self.open(source) {
+            Ok(input) => input,
+            Err(error) => return Err(NotConverted::Input(FileError::of(&error))),
+        };
+        match self.begin(0, target) {
+            Ok(Some(begun)) => self.convert_part(alloc, &mut input, begun, converter),
+            Ok(None) => self.convert_into(alloc, &mut input, target, converter),
+            Err(error) => Err(NotConverted::Output(FileError::of(&error))),
+        }
     }
 }

@@ -1,6 +1,0 @@
-use Rattle.std.proofs.Common.{◌∙◌}
-use Rattle.seq_commands.proofs.Captured.{captured_printable}
-use Rattle.seq_commands.proofs.capturing.put_plain.Goals as goal
-
-pub put_items-requires : goal.put_items-requires
-put_items-requires g c = captured_printable c.args.stamped.now c.as_slice.result.now c.requires (c.as_slice.ensures.value ∙ c.in_ok-items.ensures)
