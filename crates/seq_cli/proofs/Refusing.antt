@@ -19,7 +19,7 @@ use Rattle.seq_inputs.specs.declared.stop.Stop.{Stop}
 use Rattle.seq_inputs.specs.Inputs.{RefusesFile}
 use Rattle.seq_inputs.specs.Stops.{IsRefusal, Says}
 use Rattle.seq_inputs.proofs.Verifieds.{said_more}
-use Rattle.seq_run.proofs.Refusing.{said}
+use Rattle.run_plan.proofs.Refusing.{said}
 use Rattle.seq_cli.specs.Once.{one_lun, the_lun, refused_load, refused_text, refused_file, MayBeRefused}
 
 file_may : (base : ℕ) (bytes : List ℕ) (f : Fault) → RefusesFile bytes f → MayBeRefused base bytes f

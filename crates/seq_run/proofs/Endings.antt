@@ -10,8 +10,8 @@ use Rattle.channel_work.specs.Channel.{Ended}
 use Rattle.channel_work.specs.Done.{ended_of}
 use Rattle.seq_run.specs.declared.job_ends.Ending.{Ending}
 use Rattle.seq_run.specs.declared.job_ends.EndedJob.{EndedJob}
-use Rattle.seq_run.specs.declared.plan.PlannedJob.{PlannedJob}
-use Rattle.seq_run.specs.Planned.{planned_outputs, planned_names}
+use Rattle.run_plan.specs.declared.plan.PlannedJob.{PlannedJob}
+use Rattle.run_plan.specs.Planned.{planned_outputs, planned_names}
 use Rattle.seq_run.specs.Happened.{said_of}
 use Rattle.seq_run.specs.Endings.{given_of, told_of, ending_outputs, ending_names, opened, IsGiven, AllGiven, PutsGiven, PutsAllGiven}
 

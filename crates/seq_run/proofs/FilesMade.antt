@@ -3,7 +3,7 @@ use Rattle.std.proofs.Common.{◌≡◌, ℕ, zero, suc, ◌+◌, ◌<◌, ◌�
 use Rattle.std.specs.List.{cons_option}
 use Rattle.std.proofs.lemmas.Option.{slice_get-get_or}
 use Rattle.std.proofs.lemmas.List.{append-nil, drop_more}
-use Rattle.seq_run.proofs.Lists.{front_more}
+use Rattle.run_plan.proofs.Lists.{front_more}
 use Rattle.seq_files.specs.declared.made_file.MadeFile.{MadeFile}
 use Rattle.seq_files.specs.Store.{Written, made_of}
 use Rattle.seq_files.proofs.Made.{made_pushed}
@@ -11,7 +11,7 @@ use Rattle.die_model.specs.Die.{Die}
 use Rattle.die_model.specs.Image.{image_of}
 use Rattle.std.specs.Option.{option_map}
 use Rattle.seq_run.specs.declared.job_ends.EndedJob.{EndedJob}
-use Rattle.seq_run.specs.declared.plan.PlannedImage.{PlannedImage}
+use Rattle.run_plan.specs.declared.plan.PlannedImage.{PlannedImage}
 use Rattle.seq_run.specs.Written.{buffer_of, buffers_of, image_at, images_of}
 
 -- the buffer of one job of a list

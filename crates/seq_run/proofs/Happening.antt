@@ -17,11 +17,12 @@ use Rattle.channel_work.specs.Done.{ended_of}
 use Rattle.channel_work.specs.Lawful.{IsLawful, WentWell}
 use Rattle.channel_work.specs.Origin.{Origin, IsFrom}
 use Rattle.seq_run.specs.declared.job_ends.EndedJob.{EndedJob}
-use Rattle.seq_run.specs.declared.plan.RunPlan.{RunPlan}
+use Rattle.run_plan.specs.declared.plan.RunPlan.{RunPlan}
 use Rattle.seq_run.specs.declared.running.Worked.{Worked}
 use Rattle.seq_run.specs.Hosted.{TookBelow, origin_of}
-use Rattle.seq_run.specs.Planned.{jobs_of, planned_names}
-use Rattle.seq_run.specs.Happened.{IsBusOf, pages_of, ended_names, WereGivenBack, TookAll, HasWorked, HasRun, HasHappened}
+use Rattle.run_plan.specs.Planned.{jobs_of, planned_names}
+use Rattle.seq_run.specs.Happened.{IsBusOf, ended_names, WereGivenBack, TookAll, HasWorked, HasRun, HasHappened}
+use Rattle.run_plan.specs.Setup.{pages_of}
 use Rattle.seq_run.specs.Runs.{HappenedAsPlanned}
 
 pub has_worked : (history : HistoryView) (left : Gathered) → IsLawful history → WentWell history → left.core ≡ history.core → left.taker ≡ history.taker → map ended_of left.done.items ≡ history.done → HasWorked left

@@ -13,8 +13,8 @@ use Rattle.job_queue.specs.Closed.{IsTally}
 use Rattle.job_queue.proofs.Jobs.{length-numbered}
 use Rattle.seq_core.specs.Shows.{CoreView}
 use Rattle.channel_work.specs.Origin.{Origin, IsFrom}
-use Rattle.seq_run.specs.declared.plan.TargetJobs.{TargetJobs}
-use Rattle.seq_run.specs.Planned.{jobs_of}
+use Rattle.run_plan.specs.declared.plan.TargetJobs.{TargetJobs}
+use Rattle.run_plan.specs.Planned.{jobs_of}
 use Rattle.seq_run.specs.Hosted.{HasStored, StoredTheirs, TookBelow, origin_of}
 
 pub none_stored : (p : Storing Job) → HasStored p [] p

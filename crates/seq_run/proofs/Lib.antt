@@ -1,14 +1,7 @@
-pub mod Lists
-pub mod DiesFit
 pub mod Hosting
 pub mod JobLines
 pub mod Endings
 pub mod Happening
 pub mod Printing
-pub mod Refusing
-pub mod Resting
 pub mod FilesMade
 pub mod Outcomes
-pub mod JobPlans
-pub mod Stepping
-pub mod Settings

@@ -6,19 +6,21 @@ use Rattle.nand_geometry.specs.declared.parts.Parts.{Parts}
 use Rattle.trace_files.specs.Files.{files_of}
 use Rattle.run_file.specs.Told.{told}
 use Rattle.seq_run.specs.declared.request.RunRequest.{RunRequest}
-use Rattle.seq_run.specs.declared.plan.PlannedImage.{PlannedImage}
-use Rattle.seq_run.specs.declared.plan.RunPlan.{RunPlan}
-use Rattle.seq_run.specs.Judged.{PlanPasses}
-use Rattle.seq_run.specs.Planned.{outputs_of, images_in, planned_outputs, planned_images, ended_outputs}
+use Rattle.run_plan.specs.declared.plan.PlannedImage.{PlannedImage}
+use Rattle.run_plan.specs.declared.plan.RunPlan.{RunPlan}
+use Rattle.run_plan.specs.Judged.{PlanPasses}
+use Rattle.run_plan.specs.Planned.{outputs_of, images_in, planned_outputs, planned_images}
+use Rattle.seq_run.specs.Written.{ended_outputs}
 use Rattle.onfi_cycle.specs.Permitted.{is_legal}
 use Rattle.die_model.specs.Die.{Die}
 use Rattle.target_bus.specs.Bus.{Traced, channel_of, StandFor}
 use Rattle.seq_run.specs.declared.running.Ran.{Ran}
 use Rattle.seq_run.specs.Lines.{job_lines}
 use Rattle.seq_run.specs.declared.job_ends.EndedJob.{EndedJob}
-use Rattle.seq_run.specs.Setup.{SetsUp, erased}
+use Rattle.run_plan.specs.Setup.{SetsUp, erased}
 use Rattle.seq_run.specs.Written.{buffers_of, images_of, printed_trace, codes_of}
-use Rattle.seq_run.specs.Runs.{Outcome, ShowsAll, IsOutcomeOf, IsPlanned, IsRunDone, RunMayLeave, HappenedAsPlanned, IsSetUpFrom, writes_of, lines_of}
+use Rattle.seq_run.specs.Runs.{Outcome, ShowsAll, IsOutcomeOf, IsPlanned, IsRunDone, RunMayLeave, HappenedAsPlanned, writes_of, lines_of}
+use Rattle.run_plan.specs.Plans.{IsSetUpFrom}
 use Rattle.seq_inputs.specs.declared.fault.Fault.{Fault}
 use Rattle.seq_inputs.specs.declared.refusal.Refusal.{Refusal}
 use Rattle.seq_inputs.specs.declared.stop.Stop.{Stop}

@@ -7,7 +7,7 @@ use Rattle.channel_work.specs.Channel.{Ended}
 use Rattle.channel_work.specs.Done.{ended_of}
 use Rattle.seq_run.specs.declared.job_ends.Ending.{Ending}
 use Rattle.seq_run.specs.declared.job_ends.EndedJob.{EndedJob}
-use Rattle.seq_run.specs.declared.plan.PlannedJob.{PlannedJob}
+use Rattle.run_plan.specs.declared.plan.PlannedJob.{PlannedJob}
 use Rattle.seq_run.specs.Happened.{said_of}
 
 -- what was given back of a job, if it has ended

@@ -16,15 +16,11 @@ use Rattle.channel_work.specs.Done.{ended_of}
 use Rattle.channel_work.specs.Lawful.{IsLawful, WentWell}
 use Rattle.seq_run.specs.declared.job_ends.EndedJob.{EndedJob}
 use Rattle.seq_run.specs.declared.running.Worked.{Worked}
-use Rattle.seq_run.specs.Setup.{Setup, of_target, names_of}
+use Rattle.run_plan.specs.Setup.{Setup, pages_of, of_target, names_of}
 
 -- the bus is the one of the sequencer
 abbrev pub IsBusOf : CoreView → Traced → Type 0
 IsBusOf core bus = (bus.geometry ≡ core.geometry) × (bus.targets ≡ core.targets) × (bus.opened ≡ core.opened) × (bus.past ≡ core.past)
-
--- what dies keep of their pages
-abbrev pub pages_of : List Die → List Entries
-pages_of dies = map (λ (die : Die). die.pages) dies
 
 -- what is said of a job of a run: its name, the job with its buffer, and the code of its end
 abbrev pub said_of : EndedJob → Ended

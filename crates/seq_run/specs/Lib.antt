@@ -1,10 +1,6 @@
 pub mod Lines
-pub mod Judged
-pub mod Setup
-pub mod Steps
 pub mod Happened
 pub mod Endings
 pub mod Written
 pub mod Runs
-pub mod Planned
 pub mod Hosted

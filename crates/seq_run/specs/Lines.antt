@@ -1,14 +1,6 @@
--- The lines that a run writes, and the refusal of one that it reads.
-use Rattle.std.specs.Prelude.{ℕ, ◌+◌, List, [], ◌∷◌, ◌++◌, Some, None, codes}
+-- The lines that a run writes.
+use Rattle.std.specs.Prelude.{ℕ, ◌+◌, List, [], ◌∷◌, ◌++◌, codes}
 use Rattle.std.specs.Fmt.{decimal}
-use Rattle.run_file.specs.declared.refusal.RunFault.{RunFault}
-use Rattle.seq_inputs.specs.declared.fault.Fault.TheVariants.{Statement}
-use Rattle.seq_inputs.specs.declared.stop.Stop.{Stop}
-use Rattle.seq_inputs.specs.declared.stop.Stop.TheVariants.{Refused}
-
--- the run file itself is refused, at this line
-abbrev pub line_refused : {A : Type 0} → RunFault → ℕ → Stop A
-line_refused fault line = Refused (record { fault = Statement fault; line = Some line }) None
 
 -- `job K end CODE`, and a line feed
 abbrev pub job_line : ℕ → ℕ → List ℕ

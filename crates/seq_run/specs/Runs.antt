@@ -11,17 +11,19 @@ use Rattle.trace_files.specs.Files.{files_of}
 use Rattle.run_file.specs.Line.{Statement}
 use Rattle.run_file.specs.Told.{told}
 use Rattle.seq_run.specs.declared.request.RunRequest.{RunRequest}
-use Rattle.seq_run.specs.declared.plan.PlannedImage.{PlannedImage}
-use Rattle.seq_run.specs.declared.plan.RunPlan.{RunPlan}
+use Rattle.run_plan.specs.declared.plan.PlannedImage.{PlannedImage}
+use Rattle.run_plan.specs.declared.plan.RunPlan.{RunPlan}
 use Rattle.seq_run.specs.declared.running.Ran.{Ran}
 use Rattle.seq_run.specs.declared.job_ends.EndedJob.{EndedJob}
 use Rattle.seq_inputs.specs.declared.refusal.Refusal.{Refusal}
 use Rattle.seq_inputs.specs.Stops.{TellsAt}
-use Rattle.seq_run.specs.Judged.{Numbered, PlanPasses, PlanIsRefused}
-use Rattle.seq_run.specs.Setup.{Setup, IsJobOf, SetsOne, SetsUp, erased, ArePlanned}
-use Rattle.seq_run.specs.Planned.{outputs_of, images_in, planned_outputs, planned_images, planned_names, jobs_of, ended_outputs}
+use Rattle.run_plan.specs.Judged.{Numbered, PlanPasses, PlanIsRefused}
+use Rattle.run_plan.specs.Setup.{Setup, IsJobOf, SetsOne, SetsUp, erased, ArePlanned}
+use Rattle.run_plan.specs.Planned.{outputs_of, images_in, planned_outputs, planned_images, planned_names, jobs_of}
+use Rattle.seq_run.specs.Written.{ended_outputs}
+use Rattle.run_plan.specs.Plans.{HasSetUp}
 use Rattle.seq_run.specs.Lines.{job_lines}
-use Rattle.seq_run.specs.Steps.{steps_of_all}
+use Rattle.run_plan.specs.Steps.{steps_of_all}
 use Rattle.seq_run.specs.Happened.{HasHappened}
 use Rattle.seq_run.specs.Written.{buffers_of, images_of, printed_trace, codes_of}
 
@@ -55,34 +57,9 @@ pub record ShowsAll (ran : Ran) (o : Outcome) : Type 0 where
   pub jobs : o.jobs ≡ ran.jobs.items
   pub images : o.images ≡ ran.images.items
 
--- what was planned is this: its dies, the jobs of each host, the name of each line's job, and how many words they step at most
-pub record HasSetUp (plan : RunPlan) (setup : Setup) : Type 0 where
-  pub dies : plan.dies.dies.items ≡ setup.dies
-  pub jobs : ArePlanned setup.jobs (jobs_of plan.jobs.by_target.items) (planned_names plan.jobs.all.items)
-  pub steps : plan.jobs.steps ≡ steps_of_all setup.jobs
-
 -- what happened on a bus is of what was planned
 abbrev pub HappenedAsPlanned : RunPlan → Traced → List EndedJob → Type 0
 HappenedAsPlanned plan bus jobs = (setup : Setup) → HasSetUp plan setup → HasHappened setup bus jobs
-
--- a statement was planned: what it adds came to what was planned before
-abbrev pub PlansOne : Option Store → Parts → Statement → (old new : RunPlan) → Type 0
-PlansOne files g statement old new = (setup : Setup) → HasSetUp old setup → (next : Setup) × SetsOne files g statement setup next × HasSetUp new next
-
--- the job of such a line was planned behind those that were
-abbrev pub PlansJob : Option Store → Parts → Lun → ℕ → List ℕ → Option (List ℕ) → (old new : RunPlan) → Type 0
-PlansJob files g l base text input old new =
-    (setup : Setup) → HasSetUp old setup → (job : Job) × IsJobOf files g l base text input job × HasSetUp new (record { dies = setup.dies; jobs = setup.jobs ++ job ∷ [] })
-
--- the same of statements, in their order
-abbrev pub PlansAll : Option Store → Parts → List Numbered → (old new : RunPlan) → Type 0
-PlansAll files g statements old new = (setup : Setup) → HasSetUp old setup → (next : Setup) × SetsUp files g statements setup next × HasSetUp new next
-
--- what these statements set up on a channel is what was planned
-pub record IsSetUpFrom (files : Option Store) (g : Parts) (targets : ℕ) (statements : List Numbered) (plan : RunPlan) : Type 0 where
-  pub setup : Setup
-  pub sets_up : SetsUp files g statements (erased g targets) setup
-  pub is : HasSetUp plan setup
 
 -- this has come of what was planned: each job has ended, and stands in its place
 pub record IsOutcomeOf (plan : RunPlan) (o : Outcome) : Type 0 where

@@ -1,13 +1,13 @@
 -- What a run writes: files in their order, and lines.
 use Rattle.std.specs.Prelude.{ℕ, Bool, if◌then◌else◌, List, [], map, Option, slice_get}
 use Rattle.std.specs.List.{filter_map}
-use Rattle.std.specs.Option.{option_map}
+use Rattle.std.specs.Option.{option_map, option_copied}
 use Rattle.seq_files.specs.Store.{Written}
 use Rattle.onfi_cycle.specs.declared.item.Item.{Item}
 use Rattle.die_model.specs.Die.{Die}
 use Rattle.die_model.specs.Image.{image_of}
 use Rattle.trace_text.specs.Line.{text}
-use Rattle.seq_run.specs.declared.plan.PlannedImage.{PlannedImage}
+use Rattle.run_plan.specs.declared.plan.PlannedImage.{PlannedImage}
 use Rattle.seq_run.specs.declared.job_ends.EndedJob.{EndedJob}
 
 -- the buffer of a job, if it has an output
@@ -33,3 +33,7 @@ printed_trace is_quiet items = if is_quiet then [] else text items
 -- the codes with which jobs have ended
 abbrev pub codes_of : List EndedJob → List ℕ
 codes_of jobs = map (λ (job : EndedJob). job.done.code) jobs
+
+-- where the buffers of ended jobs go
+abbrev pub ended_outputs : List EndedJob → List (Option (List ℕ))
+ended_outputs jobs = map (λ (job : EndedJob). option_copied job.output) jobs

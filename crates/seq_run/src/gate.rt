@@ -2,15 +2,8 @@
 
 use channel_work::Gate;
 use onfi_cycle::Lun;
+use run_plan::Failing;
 use std::sync::atomic::{AtomicU64, Ordering};
-
-/// A ready that is with failure: which of its LUN, counted from 1.
-#[derive(Clone, Copy, Debug, PartialEq, Eq, PartialOrd, Ord)]
-pub struct Failing {
-    pub target: u8,
-    pub lun: u8,
-    pub ready: u64,
-}
 
 /// The gate of a run: it gives every turn, and lets a LUN become ready after so many polls that say busy.
 #[derive(Drop)]

@@ -4,12 +4,13 @@ ghost use Rattle.std.specs.String.{string_bytes};
 ghost use Rattle.channel_work.specs.Done.{ended_of};
 ghost use Rattle.seq_run.specs.Lines.{job_line, job_lines};
 ghost use Rattle.seq_run.specs.Written.{codes_of};
-ghost use Rattle.seq_run.specs.Planned.{planned_outputs, planned_names, ended_outputs};
+ghost use Rattle.run_plan.specs.Planned.{planned_outputs, planned_names};
+ghost use Rattle.seq_run.specs.Written.{ended_outputs};
 ghost use Rattle.seq_run.specs.Happened.{WereGivenBack, ended_names};
 ghost use Rattle.seq_run.specs.Endings.{opened, given_of, told_of, ending_outputs, ending_names, PutsGiven, PutsAllGiven};
 
-use crate::plan::PlannedJob;
 use channel_work::{Name, NamedJob};
+use run_plan::PlannedJob;
 use seq_core::UnloadedJob;
 use std::alloc::{AllocError, Global};
 

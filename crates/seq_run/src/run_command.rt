@@ -6,18 +6,18 @@ ghost use Rattle.seq_files.specs.Store.{Holds, with_all};
 ghost use Rattle.seq_inputs.specs.declared.refusal.Refusal.{Refusal};
 ghost use Rattle.seq_inputs.specs.Stops.{SaysAt, RefusesNothing, refusal_in};
 ghost use Rattle.seq_inputs.specs.Refusals.{line_of};
-ghost use Rattle.seq_run.specs.Judged.{PlanPasses, PlanIsRefused};
-ghost use Rattle.seq_run.specs.Planned.{outputs_of, images_in, planned_outputs, planned_images};
-ghost use Rattle.seq_run.specs.Runs.{Outcome, IsOutcomeOf, writes_of, lines_of, IsRunDone, RunIsRefused, RunMayLeave, IsSetUpFrom};
+ghost use Rattle.run_plan.specs.Judged.{PlanPasses, PlanIsRefused};
+ghost use Rattle.run_plan.specs.Planned.{outputs_of, images_in, planned_outputs, planned_images};
+ghost use Rattle.seq_run.specs.Runs.{Outcome, IsOutcomeOf, writes_of, lines_of, IsRunDone, RunIsRefused, RunMayLeave};
+ghost use Rattle.run_plan.specs.Plans.{IsSetUpFrom};
 
 use crate::phases::{NoClock, Phase, RunProgress, Times};
-use crate::plan::{PlannedJob, PlannedJobs, RunPlan};
-use crate::planning::plan_run;
 use crate::request::RunRequest;
-use crate::running::run_plan;
+use crate::running::run_as_planned;
 use crate::summary::{Stats, Summary};
 use crate::writing::write_run;
 use run_file::{RunMessage, RunRefusal, parse_run};
+use run_plan::{PlannedJob, PlannedJobs, RunPlan, plan_run};
 use seq_files::Files;
 use seq_inputs::{Console, Exit, Fault, Refusal, Stop, Words, fail, read_file, text_of};
 use shown_text::Shown;
@@ -66,7 +66,7 @@ fn carry_out<'a, R: Threads + Wait + Sync, C: Clock, F: Files, W: Write, E: Writ
     let jobs = plan.jobs.all.len();
     console.progress.begin(Phase::Running { jobs });
     times.begin();
-    let ran = run_plan(rt, alloc, plan, request.workers)?;
+    let ran = run_as_planned(rt, alloc, plan, request.workers)?;
     times.end();
     console.progress.begin(Phase::Writing);
     write_run(alloc, files, &mut console.output, request, ran)

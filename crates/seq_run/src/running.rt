@@ -5,7 +5,8 @@ ghost use Rattle.seq_core.specs.World.{fresh};
 ghost use Rattle.seq_core.specs.Shows.{IsAt, channel_in};
 ghost use Rattle.job_queue.specs.Passes.{owns, owns_taker, AreNew};
 ghost use Rattle.channel_work.specs.Origin.{IsFrom};
-ghost use Rattle.seq_run.specs.Planned.{planned_outputs, ended_outputs, jobs_of};
+ghost use Rattle.run_plan.specs.Planned.{planned_outputs, jobs_of};
+ghost use Rattle.seq_run.specs.Written.{ended_outputs};
 ghost use Rattle.seq_run.specs.Hosted.{IsOpen, origin_of, StoredTheirs, TookBelow};
 ghost use Rattle.seq_run.specs.Happened.{IsBusOf, HasWorked, HasRun};
 ghost use Rattle.seq_run.specs.Runs.{HappenedAsPlanned};
@@ -13,13 +14,13 @@ ghost use Rattle.seq_run.specs.Runs.{HappenedAsPlanned};
 use crate::gate::RunGate;
 use crate::hosts::{Host, StoredAll, run_hosts};
 use crate::job_ends::{EndedJob, end_jobs};
-use crate::plan::{PlannedImage, PlannedJobs, RunPlan, TargetJobs};
 use crate::run_name::RunName;
 use crate::workers::{Back, run_beside};
 use channel_work::{Channel, ChannelState, Gathered, NamedJob, Seats, Turns, WorkerPass};
 use job_queue::{HostPass, JobQueue, Taker, Tally};
 use lun_lease::LeaseTable;
 use nand_geometry::Geometry;
+use run_plan::{PlannedImage, PlannedJobs, RunPlan, TargetJobs};
 use seq_core::{Core, Job};
 use std::alloc::{AllocError, Global};
 use std::marker::Brand;
@@ -316,7 +317,7 @@ fn take_bus(core: Core, geometry: Geometry, targets: u8) -> Result<Bus, AllocErr
 }
 
 /// Runs what was planned. Where memory is refused or a thread can't be started, nothing comes of it.
-pub(crate) fn run_plan<'a, R: Threads + Wait + Sync>(
+pub(crate) fn run_as_planned<'a, R: Threads + Wait + Sync>(
     rt: &R,
     alloc: Global,
     plan: RunPlan<'a>,
@@ -340,7 +341,7 @@ pub(crate) fn run_plan<'a, R: Threads + Wait + Sync>(
         all,
         ..
     } = jobs;
-    let (geometry, targets) = (dies.geometry, dies.targets);
+    let (geometry, targets) = (dies.geometry(), dies.targets());
     let gate = RunGate::new(polls, fails);
     let core = dies.into_core(alloc)?;
     let queue_places = count_places(by_target.as_slice(), workers <= 1);

@@ -12,11 +12,11 @@ ghost use Rattle.seq_run.specs.Written.{buffer_of, buffers_of, image_at, images_
 ghost use Rattle.seq_run.specs.Runs.{Outcome, ShowsAll, writes_of, lines_of};
 
 use crate::job_ends::{EndedJob, push_job_lines};
-use crate::plan::PlannedImage;
 use crate::request::RunRequest;
 use crate::running::Ran;
 use crate::summary::Summary;
 use die_model::LunDie;
+use run_plan::PlannedImage;
 use seq_files::{Files, MadeFile, NewFile, list_made, write_text};
 use seq_inputs::{Stop, write_files};
 use std::alloc::{AllocError, Global};

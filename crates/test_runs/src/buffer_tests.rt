@@ -1,9 +1,9 @@
 // Jobs with the longest buffer, a byte short of 16 MiB.
 use crate::tests::{ask, make_files, play};
 use run_file::parse_run;
+use run_plan::plan_run;
 use seq_files::MapFiles;
 use seq_inputs::Exit;
-use seq_run::plan_run;
 use std::alloc::Global;
 use std::process::Abort;
 use std::test::Fail;

@@ -1,8 +1,9 @@
 // How many words the programs of a run step at most, and runs that may step fewer.
 use crate::tests::{TO_TRACE, ask, make_files, play};
 use run_file::parse_run;
+use run_plan::plan_run;
 use seq_inputs::Exit;
-use seq_run::{RunRequest, plan_run};
+use seq_run::RunRequest;
 use std::alloc::Global;
 use std::process::Abort;
 use std::test::Fail;

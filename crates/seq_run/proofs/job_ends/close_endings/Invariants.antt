@@ -1,5 +1,5 @@
 use Rattle.std.proofs.Common.{◌≡◌, map}
-use Rattle.seq_run.specs.Planned.{ended_outputs}
+use Rattle.seq_run.specs.Written.{ended_outputs}
 use Rattle.seq_run.specs.Happened.{ended_names}
 use Rattle.seq_run.specs.Endings.{ending_outputs, ending_names, given_of, told_of}
 use Rattle.seq_run.proofs.job_ends.close_endings.Given as goal

@@ -1,7 +1,7 @@
 use Rattle.std.proofs.Common.{List, ℕ}
 use Rattle.std.specs.Io.KnownBytes.{Appends}
 use Rattle.run_file.specs.Told.{told}
-use Rattle.seq_run.specs.Judged.{PlanIsRefused}
+use Rattle.run_plan.specs.Judged.{PlanIsRefused}
 use Rattle.seq_run.proofs.Outcomes.{run_is_done, done_leaves, written_leaves, told_refused, nothing_told}
 use Rattle.seq_run.proofs.run_command.run_text.Goals as goal
 

@@ -1,0 +1,5 @@
+pub mod Judged
+pub mod Setup
+pub mod Steps
+pub mod Planned
+pub mod Plans
