@@ -11,7 +11,7 @@ use Rattle.seq_commands.specs.Checks.{ReadingRefuses, IsLegalTrace, CheckRefuses
 use Rattle.seq_commands.specs.Draws.{IsDrawn}
 use Rattle.seq_commands.specs.Captures.{IsCaptured, CaptureRefuses}
 use Rattle.seq_run.specs.Runs.{IsRunDone, RunIsRefused, RunMayLeave}
-use Rattle.seq_cli.specs.Once.{IsProgramRun, ProgramMayBeRefused}
+use Rattle.run_once.specs.Once.{IsProgramRun, ProgramMayBeRefused}
 use Rattle.seq_cli.specs.declared.command.Command.{Command}
 use Rattle.seq_cli.specs.declared.command.Command.TheVariants.{Assemble, AssembleFor, Verify, Lint, Once, Run, Capture, Check, Draw, Disassemble, Upgrade}
 

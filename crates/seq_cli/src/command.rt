@@ -4,7 +4,7 @@ ghost use Rattle.std.specs.Io.KnownBytes.{Appends};
 ghost use Rattle.seq_inputs.specs.declared.refusal.Refusal.{Refusal};
 ghost use Rattle.seq_cli.specs.Commands.{IsDone, MayRefuse, MayLeave};
 
-use crate::once::run_program;
+use run_once::run_program;
 use seq_commands::{
     CaptureRequest, CheckRequest, DrawRequest, LintOutput, assemble_file, assemble_file_for,
     capture_trace, check_trace, disassemble_file, draw_trace, lint_file, upgrade_file, verify_file,

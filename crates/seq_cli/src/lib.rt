@@ -9,12 +9,10 @@ mod answering;
 mod command;
 mod command_line;
 mod mistake;
-mod once;
 mod progress;
 
 pub use answering::{answer, answer_watched};
 pub use command::{Command, command_on};
 pub use command_line::{parse, parse_all};
 pub use mistake::{Mistake, PathMistake};
-pub use once::{once_on, run_program};
 pub use progress::TerminalProgress;

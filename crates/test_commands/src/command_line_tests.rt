@@ -3,7 +3,8 @@
 use crate::once_tests::new_console;
 use bus_capture::CaptureForm;
 use clap::error::ErrorKind as UsageKind;
-use seq_cli::{Command, Mistake, PathMistake, once_on, parse, parse_all};
+use run_once::once_on;
+use seq_cli::{Command, Mistake, PathMistake, parse, parse_all};
 use seq_commands::{CaptureRequest, DrawRequest, Targets};
 use seq_inputs::Exit;
 use seq_run::{MOST_STEPS, RunRequest};

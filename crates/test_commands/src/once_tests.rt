@@ -1,7 +1,8 @@
 use clap::error::ErrorKind as UsageKind;
 use linked_list_allocator::LocalHeap;
 use micro_claims::Reason;
-use seq_cli::{Command, Mistake, once_on, parse};
+use run_once::once_on;
+use seq_cli::{Command, Mistake, parse};
 use seq_commands::{CheckRequest, Targets};
 use seq_core::JobFault;
 use seq_files::{SlowReader, SlowWriter};

@@ -1,5 +1,0 @@
-use Rattle.seq_cli.proofs.Turns.{StillRuns}
-use Rattle.seq_cli.proofs.once.run_to_end.Given as goal
-
-abbrev pub invariant-loop : goal.invariant-loop
-invariant-loop g l = StillRuns l.fn.core l.turns l.counter l.core
