@@ -1,5 +1,5 @@
 -- A capture that becomes a text piece by piece: what is shown of a piece stands in front of what is shown of the rest.
-use Rattle.std.proofs.Common.{◌≡◌, ℕ, Bool, true, false, List, [], ◌++◌, Result, Ok, Err, flat_map, refl, sym, ap, ◌∙◌, subst}
+use Rattle.std.proofs.Common.{◌≡◌, ℕ, Bool, true, false, List, [], ◌++◌, Result, Ok, Err, OnOk, flat_map, sym, ap, ◌∙◌, subst}
 use Rattle.std.proofs.lemmas.List.{append-nil, map-append}
 use Rattle.std.proofs.lemmas.Grind.{flat_map-append}
 use Rattle.trace_text.specs.Line.{line}
@@ -14,6 +14,7 @@ use Rattle.bus_capture.specs.Capturing.{IsRefusalOf}
 use Rattle.bus_capture.specs.Tracing.{comes}
 use Rattle.bus_capture.specs.Fronts.{in_front}
 use Rattle.bus_capture.proofs.Fronts.{keeps_front}
+use Rattle.seq_commands.specs.declared.capture_converter.CaptureConverter.{CaptureConverter}
 use Rattle.seq_commands.specs.Captures.{items_in, timed, timed_in, seen_text, Shows}
 
 text_front : (has_times : Bool) (xs ys : List Stamped) → seen_text has_times (xs ++ ys) ≡ seen_text has_times xs ++ seen_text has_times ys
@@ -41,3 +42,21 @@ goes_on old new has_times xs piece made taken is =
           (subst (λ (t : List ℕ). Shows has_times (in_front xs (comes new [] rest)) (t ++ more)) (sym is) (shows_front has_times xs (comes new [] rest) more shows)),
       λ rest why refused. subst (IsRefusalOf why) (sym (front rest)) (refusal_front why xs (comes new [] rest) refused),
     )
+
+-- the same of a converter
+pub taken : {A : Type 0} (old new : CaptureConverter A) (read : CaptureReader A) (xs : List Stamped) (piece made : List ℕ)
+    → new.reader ≡ read → new.has_times ≡ old.has_times
+    → ((rest : List ℕ) → comes old.reader [] (piece ++ rest) ≡ comes read xs rest) → made ≡ seen_text old.has_times xs
+    → GoesOn (λ rest made. Shows old.has_times (comes old.reader [] rest) made) (λ rest made. Shows new.has_times (comes new.reader [] rest) made)
+        (λ rest why. IsRefusalOf why (comes old.reader [] rest)) (λ rest why. IsRefusalOf why (comes new.reader [] rest)) piece made
+taken old new read xs piece made same times takes is =
+    let gone = goes_on old.reader read old.has_times xs piece made takes is in
+    (
+      λ rest more shows. gone.0 rest more
+          (subst (λ (t : Bool). Shows t (comes read [] rest) more) times (subst (λ r. Shows new.has_times (comes r [] rest) more) same shows)),
+      λ rest why refused. gone.1 rest why (subst (λ r. IsRefusalOf why (comes r [] rest)) same refused),
+    )
+
+pub ok_more : {A E : Type 0} {P Q : Type 0} (r : Result A E) → OnOk r P → (P → Q) → OnOk r Q
+ok_more (Ok x) p more = more p
+ok_more (Err e) p more = tt

@@ -6,7 +6,6 @@ use Rattle.micro_word.specs.Text.{Microprogram, file2}
 use Rattle.micro_asm.specs.Reading.{Spells}
 use Rattle.micro_program.specs.Safe.{IsSafe}
 use Rattle.micro_walk.specs.Faults.{fault_of}
-use Rattle.seq_inputs.specs.declared.fault.Fault.{Fault}
 use Rattle.seq_inputs.specs.declared.stop.Stop.{Stop}
 use Rattle.seq_inputs.specs.Stops.{Says}
 use Rattle.seq_inputs.proofs.Verifieds.{said_more}
