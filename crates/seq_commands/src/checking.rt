@@ -26,8 +26,8 @@ use seq_inputs::{
 use std::alloc::{AllocError, Allocator};
 use std::io::Write;
 use trace_faults::{
-    Beginning, BrokenRule, DoubtedByte, MiddleFaults, Readies, complete, find_faults,
-    find_faults_from_middle, find_status_doubts,
+    Beginning, BrokenRule, DoubtedByte, MiddleFaults, NotShown, Readies, complete, find_faults,
+    find_faults_from_middle, find_not_shown, find_status_doubts,
 };
 use trace_text::{CheckProgress, CheckRefusal, check_watched};
 
@@ -92,11 +92,31 @@ fn find_from_middle<A: Allocator + Clone>(
     Ok(found)
 }
 
-// What is found in a trace: the faults that are told, and what was taken for granted where its recording begins in the middle.
+// What is found in a trace: the faults that are told, the readies that nothing showed, and what was taken for granted where its recording begins in
+// the middle.
 #[derive(Drop)]
 struct Told<A: Allocator> {
     faults: Vec<BrokenRule, A>,
+    not_shown: Vec<NotShown, A>,
     unknown: Unknown<A>,
+}
+
+// The items of a trace from its start that are permitted with a ready that nothing showed.
+fn find_not_shown_from_start<A: Allocator>(
+    alloc: A,
+    request: CheckRequest<'_>,
+    geometry: &Geometry,
+    items: &[Item],
+) -> Result<Vec<NotShown, A>, AllocError>
+    ensures { IfOk result (λ told. told.items ≡ not_shown_of request.entry.readies geometry.now (count_of request.entry.targets) items.now) }
+{
+    match request.readies {
+        Readies::Written => Ok(Vec::new(alloc)),
+        Readies::Shown => {
+            let targets = request.targets.count();
+            find_not_shown(alloc, geometry, targets, items, Readies::Shown)
+        }
+    }
 }
 
 // The faults of a trace that are told.
@@ -112,16 +132,19 @@ fn find_told<A: Allocator + Clone, P: CheckProgress>(
     match request.beginning {
         Beginning::Start => Ok(Told {
             faults: find_from_start(alloc.clone()?, progress, request, geometry, items)?,
+            not_shown: find_not_shown_from_start(alloc.clone()?, request, geometry, items)?,
             unknown: Unknown::nothing(alloc),
         }),
         Beginning::Middle => {
             let MiddleFaults {
                 faults,
                 granted,
+                not_shown,
                 passed_over,
             } = find_from_middle(alloc, request, geometry, items)?;
             Ok(Told {
                 faults,
+                not_shown,
                 unknown: Unknown {
                     granted,
                     passed_over,
@@ -194,13 +217,18 @@ fn judge_text<'p, A: Allocator + Clone, F: Files, P: CheckProgress>(
 {
     let items = items_of(alloc.clone()?, request.input, text, request.form)?;
     let items = items.as_slice();
-    let Told { faults, unknown } = find_told(alloc.clone()?, progress, request, geometry, items)?;
+    let Told {
+        faults,
+        not_shown,
+        unknown,
+    } = find_told(alloc.clone()?, progress, request, geometry, items)?;
     let doubts = find_doubts(alloc.clone()?, request, geometry, items)?;
     copy_trace(alloc, files, request, geometry, items)?;
     Ok(Judged {
         told: faults,
         beside: Beside {
             tally: Tally::of(items),
+            not_shown,
             unknown,
             doubts,
         },
