@@ -8,11 +8,11 @@ use Rattle.trace_faults.specs.declared.verdict.Verdict.{Verdict}
 use Rattle.trace_faults.specs.declared.verdict.Verdict.TheVariants.{Permitted, PassedOver, Granted, Broken, NotShown}
 use Rattle.trace_faults.specs.declared.readies.Readies.{Readies}
 use Rattle.trace_faults.specs.Faults.{before_taken, before_item, taken_on}
-use Rattle.trace_faults.specs.Middle.{Seen, verdict_here, is_granted, is_granted_here, shown_here, here, with_ready_taken, said_of, verdict, seen_after, verdicts_from}
+use Rattle.trace_faults.specs.Middle.{Seen, verdict_here, is_granted, is_granted_here, shown_here, with_ready_taken, said_of, verdict, seen_after, verdicts_from}
 
 -- ---- 1. an item that is taken for granted as it stands
 
-still_granted : (o : Option UnshownReady) (v : Verdict) → is_granted v ≡ true → with_ready_taken o v ≡ v
+pub still_granted : (o : Option UnshownReady) (v : Verdict) → is_granted v ≡ true → with_ready_taken o v ≡ v
 still_granted None v h = refl
 still_granted (Some ready) Permitted h = cc
 still_granted (Some ready) PassedOver h = refl
