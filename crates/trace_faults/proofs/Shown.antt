@@ -1,5 +1,5 @@
 -- A trace that is completed is judged as it is with the readies that it shows.
-use Rattle.std.proofs.Common.{◌≡◌, ◌↔◌, ℕ, ◌+◌, Bool, true, false, not, cond, List, [], ◌∷◌, ◌++◌, Option, Some, None, refl, sym, ap, ◌∙◌, arith, append_assoc, length, subst, ◌&&◌}
+use Rattle.std.proofs.Common.{◌≡◌, ◌≤◌, ◌↔◌, ℕ, ◌+◌, Bool, true, false, not, cond, List, [], ◌∷◌, ◌++◌, Option, Some, None, refl, sym, ap, ◌∙◌, arith, append_assoc, length, subst, ◌&&◌}
 use Rattle.std.specs.List.{slice_get}
 use Rattle.std.proofs.lemmas.Option.{slice_get_within}
 use Rattle.std.proofs.lemmas.Bool.{and_parts}
@@ -20,12 +20,14 @@ use Rattle.trace_faults.specs.declared.readies.Readies.{Readies}
 use Rattle.trace_faults.specs.declared.readies.Readies.TheVariants.{Written, Shown}
 use Rattle.trace_faults.specs.Recovery.{is_opening, gone_on, gone_on_by}
 use Rattle.trace_faults.specs.RowAhead.{given_row}
-use Rattle.trace_faults.specs.ShownReadies.{ready_before, array_ready_before, ready_at, array_ready_at, ready_of, array_ready_of, with_ready, with_readies, gone_on_some, listed, driving_lun, is_status, has_ready, has_array_ready, has_fail, is_output}
+use Rattle.trace_faults.specs.ShownReadies.{ready_before, array_ready_before, ready_at, array_ready_at, ready_of, array_ready_of, with_ready, with_readies, gone_on_some, listed, driving_lun, lun_drives, is_status, has_ready, has_array_ready, has_fail, is_output}
 use Rattle.trace_faults.specs.declared.unshown.UnshownReady.{UnshownReady}
 use Rattle.trace_faults.specs.declared.unshown.NotShown.{NotShown}
 use Rattle.trace_faults.specs.Unshown.{is_working, works, first_of, first_working, is_named, named_working, if_working, driving_working, or_else, to_begin, wanted_by, unshown_of, unshown, ready_for, ready_taken, rule_without}
 use Rattle.trace_faults.specs.Faults.{fresh, before_item, fault_at, faults_from, not_shown_by, completed_from, completed}
 use Rattle.trace_faults.specs.Laws.{CompletedAreJudged, WorksThere, TakenAtWork, IsNotShown, NotShownArePermitted}
+use Rattle.trace_faults.specs.Inside.{IsInside}
+use Rattle.trace_faults.proofs.Inside.{only_four}
 use Rattle.trace_faults.proofs.Judged.{faultless_are_legal}
 
 -- ---- 1. a ready that is shown is permitted
@@ -150,40 +152,56 @@ working_is_permitted s ce number h = at (looked s (record { ce = ce; lun = numbe
     at None e g = cc
     at (Some lun) e g = busy_there s ce number false lun (seen_there s ce number lun e) g
 
--- a number that is found is that of a LUN that works
+-- a LUN that works, and that a target may have
+record WorksHere (s : BusView) (ce number : ℕ) : Type 0 where
+  works : works s ce number ≡ true
+  few : number ≤ 3
+
+-- a number that is found is that of such a LUN
 abbrev Works : BusView → ℕ → Option ℕ → Type 0
-Works s ce found = (number : ℕ) → found ≡ Some number → works s ce number ≡ true
+Works s ce found = (number : ℕ) → found ≡ Some number → WorksHere s ce number
 
 same_number : (m n : ℕ) → Some m ≡ Some n → m ≡ n
 same_number m n h = cc
 
-first_is : (p : ℕ → Bool) (number : ℕ) → first_of (p 0) (p 1) (p 2) (p 3) ≡ Some number → p number ≡ true
+record IsFirst (p : ℕ → Bool) (number : ℕ) : Type 0 where
+  is : p number ≡ true
+  few : number ≤ 3
+
+first_is : (p : ℕ → Bool) (number : ℕ) → first_of (p 0) (p 1) (p 2) (p 3) ≡ Some number → IsFirst p number
 first_is p number h = four (p 0) (p 1) (p 2) (p 3) refl refl refl refl h
   where
-    found : (m : ℕ) → p m ≡ true → Some m ≡ Some number → p number ≡ true
-    found m is same = sym (ap p (same_number m number same)) ∙ is
+    found : (m : ℕ) → m ≤ 3 → p m ≡ true → Some m ≡ Some number → IsFirst p number
+    found m few is same = subst (IsFirst p) (same_number m number same) (record { is = is; few = few })
 
-    four : (a b c d : Bool) → p 0 ≡ a → p 1 ≡ b → p 2 ≡ c → p 3 ≡ d → first_of a b c d ≡ Some number → p number ≡ true
-    four true b c d e0 e1 e2 e3 g = found 0 e0 g
-    four false true c d e0 e1 e2 e3 g = found 1 e1 g
-    four false false true d e0 e1 e2 e3 g = found 2 e2 g
-    four false false false true e0 e1 e2 e3 g = found 3 e3 g
+    four : (a b c d : Bool) → p 0 ≡ a → p 1 ≡ b → p 2 ≡ c → p 3 ≡ d → first_of a b c d ≡ Some number → IsFirst p number
+    four true b c d e0 e1 e2 e3 g = found 0 (omega arith) e0 g
+    four false true c d e0 e1 e2 e3 g = found 1 (omega arith) e1 g
+    four false false true d e0 e1 e2 e3 g = found 2 (omega arith) e2 g
+    four false false false true e0 e1 e2 e3 g = found 3 (omega arith) e3 g
     four false false false false e0 e1 e2 e3 g = cc
 
 first_works : (s : BusView) (ce : ℕ) → Works s ce (first_working s ce)
-first_works s ce number h = first_is (λ n. works s ce n) number h
+first_works s ce number h =
+    let first = first_is (λ n. works s ce n) number h in
+    record { works = first.is; few = first.few }
 
 named_works : (s : BusView) (ce : ℕ) (row : Option ℕ) → Works s ce (named_working s ce row)
 named_works s ce None number h = cc
-named_works s ce (Some row) number h = (and_parts (names_lun s.geometry row number) (works s ce number) (first_is (λ n. is_named s ce row n) number h)).1
+named_works s ce (Some row) number h =
+    let first = first_is (λ n. is_named s ce row n) number h in
+    record { works = (and_parts (names_lun s.geometry row number) (works s ce number) first.is).1; few = first.few }
 
-if_works : (s : BusView) (ce : ℕ) (o : Option ℕ) → Works s ce (if_working s ce o)
-if_works s ce None number h = cc
-if_works s ce (Some m) number h = at (works s ce m) refl h
+driving_works : (s : BusView) (ce : ℕ) → Works s ce (driving_working s ce)
+driving_works s ce number h = at (driving_lun s ce) refl h
   where
-    at : (b : Bool) → works s ce m ≡ b → cond b (Some m) None ≡ Some number → works s ce number ≡ true
-    at true e g = sym (ap (λ n. works s ce n) (same_number m number g)) ∙ e
-    at false e g = cc
+    one : (m : ℕ) → m ≤ 3 → (b : Bool) → works s ce m ≡ b → cond b (Some m) None ≡ Some number → WorksHere s ce number
+    one m few true e g = subst (WorksHere s ce) (same_number m number g) (record { works = e; few = few })
+    one m few false e g = cc
+
+    at : (o : Option ℕ) → driving_lun s ce ≡ o → if_working s ce o ≡ Some number → WorksHere s ce number
+    at None e g = cc
+    at (Some m) e g = one m (only_four (lun_drives s ce 0) (lun_drives s ce 1) (lun_drives s ce 2) (lun_drives s ce 3) m e) (works s ce m) refl g
 
 or_works : (s : BusView) (ce : ℕ) (o other : Option ℕ) → Works s ce o → Works s ce other → Works s ce (or_else o other)
 or_works s ce None other here there = there
@@ -205,7 +223,7 @@ wanted_works (Some NotThere) s c later = none_works s c.ce
 wanted_works (Some CommandUnknown) s c later = none_works s c.ce
 wanted_works (Some SequenceOpen) s c later = none_works s c.ce
 wanted_works (Some SeveralLuns) s c later = none_works s c.ce
-wanted_works (Some NoColumnToChange) s c later = if_works s c.ce (driving_lun s c.ce)
+wanted_works (Some NoColumnToChange) s c later = driving_works s c.ce
 wanted_works (Some CommandMisplaced) s c later = none_works s c.ce
 wanted_works (Some AddressMisplaced) s c later = none_works s c.ce
 wanted_works (Some RowOutside) s c later = none_works s c.ce
@@ -213,9 +231,9 @@ wanted_works (Some LunBusy) s c later = where_works s c.ce (is_opening (Cyc c)) 
 wanted_works (Some QueueClash) s c later = none_works s c.ce
 wanted_works (Some InputMisplaced) s c later = none_works s c.ce
 wanted_works (Some NoSoleDriver) s c later = none_works s c.ce
-wanted_works (Some DataNotReady) s c later = if_works s c.ce (driving_lun s c.ce)
+wanted_works (Some DataNotReady) s c later = driving_works s c.ce
 wanted_works (Some ColumnOutside) s c later = none_works s c.ce
-wanted_works (Some CacheReadMisplaced) s c later = where_works s c.ce (is_opening (Cyc c)) (driving_working s c.ce) (if_works s c.ce (driving_lun s c.ce))
+wanted_works (Some CacheReadMisplaced) s c later = where_works s c.ce (is_opening (Cyc c)) (driving_working s c.ce) (driving_works s c.ce)
 
 pub taken_at_work : TakenAtWork
 taken_at_work s (Cyc c) later ready h = at (wanted_by (judged s (Cyc c)) s c later) refl h
@@ -227,9 +245,22 @@ taken_at_work s (Cyc c) later ready h = at (wanted_by (judged s (Cyc c)) s c lat
     at None e g = cc
     at (Some number) e g =
         let same = same_ready (record { lun = record { ce = c.ce; lun = number }; rule = rule_without (judged s (Cyc c)) }) ready g in
-        subst (WorksThere s (Cyc c)) same (record { target = refl; works = working_is_permitted s c.ce number (wanted_works (judged s (Cyc c)) s c later number e) })
+        subst (WorksThere s (Cyc c)) same (record { target = refl; works = working_is_permitted s c.ce number (wanted_works (judged s (Cyc c)) s c later number e).works })
 taken_at_work s (Rdy ce lun fail) later ready h = cc
 taken_at_work s (Ard ce lun) later ready h = cc
+
+-- its ready is of the item's target, and of one of four LUNs
+pub taken_inside : (s : BusView) (i : Item) (later : List Item) (r : Item) → IsInside i → ready_taken (unshown s i later) ≡ Some r → IsInside r
+taken_inside s (Cyc c) later r p h = at (wanted_by (judged s (Cyc c)) s c later) refl h
+  where
+    same_item : (y : Item) → Some y ≡ Some r → y ≡ r
+    same_item y g = cc
+
+    at : (o : Option ℕ) → wanted_by (judged s (Cyc c)) s c later ≡ o → ready_taken (unshown_of c.ce (rule_without (judged s (Cyc c))) o) ≡ Some r → IsInside r
+    at None e g = cc
+    at (Some number) e g = subst IsInside (same_item (Rdy c.ce number false) g) (p, (wanted_works (judged s (Cyc c)) s c later number e).few)
+taken_inside s (Rdy ce lun fail) later r p h = cc
+taken_inside s (Ard ce lun) later r p h = cc
 
 taken_is_permitted : (s : BusView) (i : Item) (later : List Item) (x : Item) → ready_taken (unshown s i later) ≡ Some x → judged s x ≡ None
 taken_is_permitted s i later x h = at (unshown s i later) refl h
