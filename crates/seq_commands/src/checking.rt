@@ -4,12 +4,12 @@ ghost use Rattle.std.specs.List.{All};
 ghost use Rattle.std.specs.Option.{option_map};
 ghost use Rattle.std.specs.Io.KnownBytes.{Appends};
 ghost use Rattle.trace_text.specs.Line.{IsPrintable};
-ghost use Rattle.trace_faults.specs.Faults.{faults_of};
+ghost use Rattle.trace_faults.specs.Faults.{faults_of, not_shown_of};
 ghost use Rattle.seq_inputs.specs.declared.refusal.Refusal.{Refusal};
 ghost use Rattle.seq_inputs.specs.Stops.{Says, RefusesNothing};
 ghost use Rattle.seq_commands.specs.Commands.{count_of};
 ghost use Rattle.trace_faults.specs.declared.beginning.Beginning.TheVariants.{Middle};
-ghost use Rattle.seq_commands.specs.Checks.{told_of, faults_as, told_faults, judged_trace, with_copy, IsJudgedText, IsJudged, RefusesTrace, ReadingRefuses, IsLegalTrace, ArePrinted, fault_lines, CheckRefuses, CheckLeaves};
+ghost use Rattle.seq_commands.specs.Checks.{told_of, faults_as, not_shown_as, told_faults, judged_trace, with_copy, IsJudgedText, IsJudged, RefusesTrace, ReadingRefuses, IsLegalTrace, ArePrinted, fault_lines, CheckRefuses, CheckLeaves};
 
 use crate::beside::{Beside, Unknown, say_beside};
 use crate::check_request::CheckRequest;
@@ -81,8 +81,9 @@ fn find_from_middle<A: Allocator + Clone>(
     geometry: &Geometry,
     items: &[Item],
 ) -> Result<MiddleFaults<A>, AllocError>
-    ensures { IfOk result (λ found. found.faults.items ≡ told_of request.entry.tells_all
+    ensures faults { IfOk result (λ found. found.faults.items ≡ told_of request.entry.tells_all
         (faults_as Middle request.entry.readies geometry.now (count_of request.entry.targets) items.now)) }
+    ensures not_shown { IfOk result (λ found. found.not_shown.items ≡ not_shown_as Middle request.entry.readies geometry.now (count_of request.entry.targets) items.now) }
 {
     let targets = request.targets.count();
     let mut found = find_faults_from_middle(alloc, geometry, targets, items, request.readies)?;
@@ -127,7 +128,9 @@ fn find_told<A: Allocator + Clone, P: CheckProgress>(
     geometry: &Geometry,
     items: &[Item],
 ) -> Result<Told<A>, AllocError>
-    ensures { IfOk result (λ told. told.faults.items ≡ told_faults request.entry geometry.now items.now) }
+    ensures faults { IfOk result (λ told. told.faults.items ≡ told_faults request.entry geometry.now items.now) }
+    ensures not_shown { IfOk result (λ told. told.not_shown.items
+        ≡ not_shown_as request.entry.beginning request.entry.readies geometry.now (count_of request.entry.targets) items.now) }
 {
     match request.beginning {
         Beginning::Start => Ok(Told {
@@ -302,8 +305,8 @@ fn tell_found<A: Allocator + Clone, W: Write, E: Write, P>(
 /// asked for the line of each other one after it. The text is read after the page, if that has no fault. `FileFault`: a file couldn't be read or
 /// written, the text isn't UTF-8, or the output couldn't be written. Where a path is given for it, the trace that is judged is written there before
 /// anything is printed, and no other file is. The console's progress is told at each million of items that are permitted, where the first fault
-/// ends the check of a trace that has its readies. On its errors stands what was taken for granted of a trace whose recording begins in the middle, and
-/// where they are asked for the status bytes that contradict the trace.
+/// ends the check of a trace that has its readies. On its errors stands what was taken for granted of a trace whose recording begins in the middle,
+/// where readies aren't written the LUNs that were taken for ready, and where they are asked for the status bytes that contradict the trace.
 pub fn check_trace<A: Allocator + Clone, F: Files, W: Write, E: Write, P: CheckProgress>(
     alloc: A,
     files: &mut F,
