@@ -300,7 +300,7 @@ not_shown_are_permitted state n i later told more h =
         let one : NotShown = record { item = n; ready = ready } in (
           no_more one told g,
           subst (IsNotShown state n i) (same_told one told g)
-          (record { number = refl; target = w.target; works = w.works; permitted = sym (ap (λ (b : BusView). judged b i) (with ready e w)) ∙ is }),
+              (record { number = refl; target = w.target; works = w.works; permitted = sym (ap (λ (b : BusView). judged b i) (with ready e w)) ∙ is }),
         )
 
 -- ---- 5. the law

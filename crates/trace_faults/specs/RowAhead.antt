@@ -1,5 +1,5 @@
 -- The row that the addresses give which come next on a target.
-use Rattle.std.specs.Prelude.{ℕ, ◌+◌, ◌-◌, ◌*◌, ◌/◌, ◌==◌, nat_le, List, [], ◌∷◌, Option, Some, None, if◌then◌else◌}
+use Rattle.std.specs.Prelude.{ℕ, ◌-◌, ◌==◌, nat_le, List, [], ◌∷◌, Option, Some, None, if◌then◌else◌}
 use Rattle.onfi_cycle.specs.declared.item.Kind.{Kind}
 use Rattle.onfi_cycle.specs.declared.item.Kind.TheVariants.{Cmd, Adr, Din, Dout}
 use Rattle.onfi_cycle.specs.declared.item.Cycle.{Cycle}
@@ -8,15 +8,16 @@ use Rattle.onfi_cycle.specs.declared.item.Item.TheVariants.{Cyc, Rdy, Ard}
 use Rattle.onfi_cycle.specs.declared.target_cycle.TargetCycle.{TargetCycle}
 use Rattle.onfi_cycle.specs.declared.target_cycle.TargetCycle.TheVariants.{CommandCycle, AddressCycle, InputCycle, OutputCycle}
 use Rattle.onfi_cycle.specs.Command.{addresses_the_array, address_cycles}
-use Rattle.onfi_cycle.specs.Sequence.{target_cycle}
+use Rattle.nand_geometry.specs.Row.{row_of}
+use Rattle.onfi_cycle.specs.Sequence.{target_cycle, shifted}
 use Rattle.trace_faults.specs.declared.row_ahead.RowComing.{RowComing}
 use Rattle.trace_faults.specs.declared.row_ahead.RowStep.{RowStep}
 use Rattle.trace_faults.specs.declared.row_ahead.RowStep.TheVariants.{Given, BrokenOff, GoesOn}
 
--- an address more: the row is the last three of them, the newest on top
+-- an address more: the row is the last three of them
 abbrev pub with_address : RowComing → ℕ → RowStep
 with_address coming byte =
-    if nat_le coming.left 1 then Given (coming.row / 256 + byte * 65536) else GoesOn (record { left = coming.left - 1; row = coming.row / 256 + byte * 65536 })
+    if nat_le coming.left 1 then Given (row_of coming.row.r2 coming.row.r3 byte) else GoesOn (record { left = coming.left - 1; row = shifted coming.row byte })
 
 abbrev pub step_by : Kind → RowComing → ℕ → RowStep
 step_by Cmd coming byte = BrokenOff
@@ -48,7 +49,7 @@ array_addresses (InputCycle byte) = 0
 array_addresses OutputCycle = 0
 
 abbrev pub row_after : ℕ → (addresses : ℕ) → List Item → Option ℕ
-row_after ce addresses later = if addresses == 0 then None else row_ahead ce (record { left = addresses; row = 0 }) later
+row_after ce addresses later = if addresses == 0 then None else row_ahead ce (record { left = addresses; row = record { r1 = 0; r2 = 0; r3 = 0 } }) later
 
 -- the row that is given to this opener by what comes later
 abbrev pub given_row : Cycle → List Item → Option ℕ

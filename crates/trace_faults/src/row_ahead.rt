@@ -1,14 +1,16 @@
 //! The row that the addresses give which come next on a target.
 ghost use Rattle.std.specs.Prelude.{◌≡◌};
+ghost use Rattle.nand_geometry.specs.Row.{row_of};
+ghost use Rattle.onfi_cycle.specs.Sequence.{shifted};
 ghost use Rattle.trace_faults.specs.RowAhead.{with_address, step_by, step_of, row_ahead, array_addresses, row_after, given_row};
 
-use onfi_cycle::{Cycle, Item, Kind, TargetCycle};
+use onfi_cycle::{Cycle, Item, Kind, RowBytes, TargetCycle};
 
-/// A row of which not all addresses have come: how many are to come, and the last three bytes of those that have, the newest on top.
+/// A row of which not all addresses have come: how many are to come, and the last three of those that have.
 #[derive(Clone, Copy)]
 pub(crate) struct RowComing {
     pub(crate) left: usize,
-    pub(crate) row: u32,
+    pub(crate) row: RowBytes,
 }
 
 // What an item says of a row that is coming.
@@ -22,17 +24,34 @@ pub(crate) enum RowStep {
     GoesOn(RowComing),
 }
 
-// An address more.
+// The bytes with one more: the oldest goes.
+fn shifted(row: RowBytes, byte: u8) -> RowBytes
+    ensures { result ≡ shifted row byte }
+{
+    RowBytes {
+        r1: row.r2,
+        r2: row.r3,
+        r3: byte,
+    }
+}
+
+// The number of a row of these bytes, the lowest first.
+fn row_of(r1: u8, r2: u8, r3: u8) -> u32
+    ensures { result ≡ row_of r1 r2 r3 }
+{
+    u32::from(r1) + 256 * u32::from(r2) + 65_536 * u32::from(r3)
+}
+
+// An address more: the row is the last three of them.
 fn with_address(coming: RowComing, byte: u8) -> RowStep
     ensures { result ≡ with_address coming byte }
 {
-    let row = coming.row / 256 + u32::from(byte) * 65536;
     if coming.left <= 1 {
-        RowStep::Given(row)
+        RowStep::Given(row_of(coming.row.r2, coming.row.r3, byte))
     } else {
         RowStep::GoesOn(RowComing {
             left: coming.left - 1,
-            row,
+            row: shifted(coming.row, byte),
         })
     }
 }
@@ -111,7 +130,11 @@ fn row_after(ce: u8, addresses: usize, later: &[Item]) -> Option<u32>
     }
     let coming = RowComing {
         left: addresses,
-        row: 0,
+        row: RowBytes {
+            r1: 0,
+            r2: 0,
+            r3: 0,
+        },
     };
     row_ahead(ce, coming, later)
 }
