@@ -1,5 +1,5 @@
 -- What a check tells of a trace: its first fault, whether its text can be written, and whether it is legal.
-use Rattle.std.proofs.Common.{◌≡◌, ℕ, true, false, Bool, List, [], ◌∷◌, ◌++◌, Option, Some, None, refl, sym, ap, subst, ◌∙◌, arith, take, reverse, append_assoc, suc, zero}
+use Rattle.std.proofs.Common.{◌≡◌, ℕ, ◌+◌, true, false, Bool, List, [], ◌∷◌, ◌++◌, Option, Some, None, refl, sym, ap, subst, ◌∙◌, arith, take, reverse, append_assoc, suc, zero}
 use Rattle.std.specs.List.{All}
 use Rattle.nand_geometry.specs.declared.parts.Parts.{Parts}
 use Rattle.onfi_cycle.specs.declared.item.Item.{Item}
@@ -12,7 +12,7 @@ use Rattle.trace_faults.specs.Recovery.{gone_on}
 use Rattle.trace_faults.specs.Inside.{IsInside}
 use Rattle.trace_faults.specs.ShownReadies.{ready_before, array_ready_before, with_ready, with_readies, listed}
 use Rattle.trace_faults.specs.Unshown.{unshown, ready_taken}
-use Rattle.trace_faults.specs.Faults.{fresh, before_item, faults_of, completed_from, completed}
+use Rattle.trace_faults.specs.Faults.{fresh, before_item, faults_of, not_shown_from, not_shown_of, completed_from, completed}
 use Rattle.trace_faults.proofs.Inside.{ready_inside, array_ready_inside}
 use Rattle.trace_faults.proofs.Judged.{faultless_are_legal, first_broken_is_first}
 use Rattle.trace_faults.proofs.Shown.{taken_inside, completed_are_judged}
@@ -42,6 +42,14 @@ first_told g n items place rule first =
 
 pub told_at : (g : Parts) (m n : ℕ) (items : List Item) (refusal : CheckRefusal) (place : ℕ) (rule : Forbidden) → m ≡ n → refusal ≡ At place rule → TellsFirst g m items refusal → IsFirstBroken g n items place rule
 told_at g m n items refusal place rule same is tells = subst (λ k. IsFirstBroken g k items place rule) same (subst (TellsFirst g m items) is tells)
+
+-- where readies are written none is taken for granted
+none_taken : (items : List Item) (s : BusView) (k : ℕ) → not_shown_from Written s k items ≡ []
+none_taken [] s k = refl
+none_taken (i ∷ items) s k = none_taken items (gone_on i s) (k + 1)
+
+pub none_not_shown : (g : Parts) (n : ℕ) (items : List Item) → not_shown_of Written g n items ≡ []
+none_not_shown g n items = none_taken items (fresh g n) 0
 
 -- ---- the text of a trace with its readies can be written, where that of the trace can
 

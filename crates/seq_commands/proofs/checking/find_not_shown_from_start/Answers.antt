@@ -1,0 +1,7 @@
+use Rattle.std.proofs.Common.{◌∙◌, sym}
+use Rattle.seq_commands.specs.Commands.{count_of}
+use Rattle.seq_commands.proofs.Checked.{none_not_shown}
+use Rattle.seq_commands.proofs.checking.find_not_shown_from_start.Goals as goal
+
+pub returns-in-Written : goal.returns-in-Written
+returns-in-Written g c = c.new.ensures.items ∙ sym (none_not_shown c.args.geometry.now (count_of c.args.request.targets) c.args.items.now)
