@@ -1,5 +1,5 @@
 -- What a check tells of a trace: its first fault, whether its text can be written, and whether it is legal.
-use Rattle.std.proofs.Common.{◌≡◌, ℕ, true, false, Bool, List, [], ◌∷◌, ◌++◌, Option, Some, None, refl, sym, ap, subst, ◌∙◌, arith, take, reverse, append_assoc, suc, zero}
+use Rattle.std.proofs.Common.{◌≡◌, ℕ, ◌+◌, true, false, Bool, List, [], ◌∷◌, ◌++◌, Option, Some, None, refl, sym, ap, subst, ◌∙◌, arith, take, reverse, append_assoc, suc, zero}
 use Rattle.std.specs.List.{All}
 use Rattle.nand_geometry.specs.declared.parts.Parts.{Parts}
 use Rattle.onfi_cycle.specs.declared.item.Item.{Item}
@@ -11,10 +11,11 @@ use Rattle.trace_faults.specs.declared.readies.Readies.TheVariants.{Written, Sho
 use Rattle.trace_faults.specs.Recovery.{gone_on}
 use Rattle.trace_faults.specs.Inside.{IsInside}
 use Rattle.trace_faults.specs.ShownReadies.{ready_before, array_ready_before, with_ready, with_readies, listed}
-use Rattle.trace_faults.specs.Faults.{fresh, faults_of, completed_from, completed}
+use Rattle.trace_faults.specs.Unshown.{unshown, ready_taken}
+use Rattle.trace_faults.specs.Faults.{fresh, before_item, faults_of, not_shown_from, not_shown_of, completed_from, completed}
 use Rattle.trace_faults.proofs.Inside.{ready_inside, array_ready_inside}
 use Rattle.trace_faults.proofs.Judged.{faultless_are_legal, first_broken_is_first}
-use Rattle.trace_faults.proofs.Shown.{completed_are_judged}
+use Rattle.trace_faults.proofs.Shown.{taken_inside, completed_are_judged}
 use Rattle.trace_text.specs.Line.{IsPrintable}
 use Rattle.trace_text.specs.Checking.{TellsFirst}
 use Rattle.trace_text.specs.declared.checking.CheckRefusal.{CheckRefusal}
@@ -42,7 +43,15 @@ first_told g n items place rule first =
 pub told_at : (g : Parts) (m n : ℕ) (items : List Item) (refusal : CheckRefusal) (place : ℕ) (rule : Forbidden) → m ≡ n → refusal ≡ At place rule → TellsFirst g m items refusal → IsFirstBroken g n items place rule
 told_at g m n items refusal place rule same is tells = subst (λ k. IsFirstBroken g k items place rule) same (subst (TellsFirst g m items) is tells)
 
--- ---- the text of a trace with the readies that it shows can be written, where that of the trace can
+-- where readies are written none is taken for granted
+none_taken : (items : List Item) (s : BusView) (k : ℕ) → not_shown_from Written s k items ≡ []
+none_taken [] s k = refl
+none_taken (i ∷ items) s k = none_taken items (gone_on i s) (k + 1)
+
+pub none_not_shown : (g : Parts) (n : ℕ) (items : List Item) → not_shown_of Written g n items ≡ []
+none_not_shown g n items = none_taken items (fresh g n) 0
+
+-- ---- the text of a trace with its readies can be written, where that of the trace can
 
 pub none_printable : All IsPrintable []
 none_printable k d h = absurd (omega (arith, h))
@@ -71,6 +80,9 @@ ready_printable s i r p is = inside_printable r (ready_inside s i r (printable_i
 array_ready_printable : (s : BusView) (i r : Item) → IsPrintable i → array_ready_before s i ≡ Some r → IsPrintable r
 array_ready_printable s i r p is = inside_printable r (array_ready_inside s i r (printable_inside i p) is)
 
+taken_printable : (s : BusView) (i : Item) (later : List Item) (r : Item) → IsPrintable i → ready_taken (unshown s i later) ≡ Some r → IsPrintable r
+taken_printable s i later r p is = inside_printable r (taken_inside s i later r (printable_inside i p) is)
+
 completed_from_printable : (items : List Item) (s : BusView) → All IsPrintable items → All IsPrintable (completed_from s items)
 completed_from_printable [] s all = none_printable
 completed_from_printable (i ∷ items) s all =
@@ -78,11 +90,15 @@ completed_from_printable (i ∷ items) s all =
     let rest : All IsPrintable items = λ k d h. all (suc k) d (omega (arith, h)) in
     let r = ready_before s i in
     let a = array_ready_before (with_ready s i) i in
-    let later = completed_from (gone_on i (with_readies s i)) items in
-    subst (All IsPrintable) (sym (append_assoc (listed r) (listed a) (i ∷ later)))
-    (some_printable r (listed a ++ (i ∷ later)) (λ x is. ready_printable s i x here is)
-    (some_printable a (i ∷ later) (λ x is. array_ready_printable (with_ready s i) i x here is)
-    (more_printable i later here (completed_from_printable items (gone_on i (with_readies s i)) rest))))
+    let shown = with_readies s i in
+    let t = ready_taken (unshown shown i items) in
+    let next = gone_on i (before_item Shown s i items) in
+    let later = completed_from next items in
+    subst (All IsPrintable) (sym (append_assoc (listed r ++ listed a) (listed t) (i ∷ later) ∙ append_assoc (listed r) (listed a) (listed t ++ (i ∷ later))))
+    (some_printable r (listed a ++ (listed t ++ (i ∷ later))) (λ x is. ready_printable s i x here is)
+    (some_printable a (listed t ++ (i ∷ later)) (λ x is. array_ready_printable (with_ready s i) i x here is)
+    (some_printable t (i ∷ later) (λ x is. taken_printable shown i items x here is)
+    (more_printable i later here (completed_from_printable items next rest)))))
 
 pub completed_printable : (g : Parts) (n : ℕ) (items written : List Item) → All IsPrintable items → written ≡ completed g n items → All IsPrintable written
 completed_printable g n items written all is = subst (All IsPrintable) (sym is) (completed_from_printable items (fresh g n) all)

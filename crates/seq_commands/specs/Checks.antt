@@ -14,8 +14,9 @@ use Rattle.trace_faults.specs.declared.readies.Readies.{Readies}
 use Rattle.trace_faults.specs.declared.readies.Readies.TheVariants.{Written, Shown}
 use Rattle.trace_faults.specs.declared.beginning.Beginning.{Beginning}
 use Rattle.trace_faults.specs.declared.beginning.Beginning.TheVariants.{Start, Middle}
-use Rattle.trace_faults.specs.Faults.{faults_of, completed}
-use Rattle.trace_faults.specs.Middle.{verdicts_of, all_broken}
+use Rattle.trace_faults.specs.declared.unshown.NotShown.{NotShown}
+use Rattle.trace_faults.specs.Faults.{faults_of, not_shown_of, completed}
+use Rattle.trace_faults.specs.Middle.{verdicts_of, all_broken, all_not_shown}
 use Rattle.seq_inputs.specs.Inputs.{HasPage, PageIsRefused}
 use Rattle.seq_inputs.specs.Refusals.{line_of, refusal_of}
 use Rattle.seq_inputs.specs.Stops.{Tells}
@@ -25,7 +26,7 @@ use Rattle.seq_inputs.specs.declared.refusal.Refusal.{Refusal}
 use Rattle.seq_commands.specs.declared.check_request.CheckRequest.{CheckRequest}
 use Rattle.seq_commands.specs.Commands.{count_of}
 
--- the trace that is judged: as it is written, or with the readies that its status outputs show
+-- the trace that is judged: as it is written, or with the readies that its status outputs show and those that are taken for granted
 abbrev pub judged_trace : Readies → Parts → ℕ → List Item → List Item
 judged_trace Written g targets items = items
 judged_trace Shown g targets items = completed g targets items
@@ -34,6 +35,11 @@ judged_trace Shown g targets items = completed g targets items
 abbrev pub faults_as : Beginning → Readies → Parts → ℕ → List Item → List BrokenRule
 faults_as Start readies g targets items = faults_of readies g targets items
 faults_as Middle readies g targets items = all_broken 0 (verdicts_of readies g targets items)
+
+-- what is permitted in a trace whose recording begins there, with a ready that nothing showed
+abbrev pub not_shown_as : Beginning → Readies → Parts → ℕ → List Item → List NotShown
+not_shown_as Start readies g targets items = not_shown_of readies g targets items
+not_shown_as Middle readies g targets items = all_not_shown 0 (verdicts_of readies g targets items)
 
 -- all faults, or the first
 abbrev pub told_of : Bool → List BrokenRule → List BrokenRule

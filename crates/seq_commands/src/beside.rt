@@ -1,4 +1,5 @@
-//! What a check says beside the faults: what was judged, what was taken for granted, and which status bytes contradict the trace.
+//! What a check says beside the faults: what was judged, which readies nothing showed, what was taken for granted, and which status bytes contradict the
+//! trace.
 
 use crate::check_request::CheckRequest;
 use crate::tally::Tally;
@@ -8,7 +9,7 @@ use seq_inputs::{Place, Style, Told, Words, say_words, words_at_item};
 use std::alloc::{AllocError, Allocator};
 use std::fmt;
 use std::io::Write;
-use trace_faults::{Beginning, BrokenRule, DoubtedByte};
+use trace_faults::{Beginning, BrokenRule, DoubtedByte, NotShown, UnshownReady};
 
 // How many of a kind are said at most.
 const MOST_SAID: usize = 20;
@@ -36,6 +37,8 @@ impl<A: Allocator> Unknown<A> {
 #[derive(Drop)]
 pub(crate) struct Beside<A: Allocator> {
     pub(crate) tally: Tally,
+    /// What is permitted with a ready that nothing showed.
+    pub(crate) not_shown: Vec<NotShown, A>,
     pub(crate) unknown: Unknown<A>,
     pub(crate) doubts: Vec<DoubtedByte, A>,
 }
@@ -50,6 +53,23 @@ impl fmt::Display for Granted {
         write!(
             f,
             "taken for granted, since what was before isn't known: {rule} ({})",
+            rule.code()
+        )
+    }
+}
+
+// A LUN that is taken for ready, since nothing showed it.
+#[derive(Clone, Copy)]
+struct Taken(UnshownReady);
+
+impl fmt::Display for Taken {
+    fn fmt<W: fmt::Write>(&self, f: &mut fmt::Formatter<W>) -> fmt::Result {
+        let UnshownReady { lun, rule } = self.0;
+        write!(
+            f,
+            "not shown ready: LUN {} of target {} is taken for ready here (else {}: {rule})",
+            lun.lun,
+            lun.ce,
             rule.code()
         )
     }
@@ -138,6 +158,44 @@ fn push_granted<A: Allocator + Clone>(
     push_more(lines, alloc, style, granted.len())
 }
 
+// Adds the items before which a LUN is taken for ready that nothing showed.
+fn push_taken<A: Allocator + Clone>(
+    lines: &mut String<A>,
+    alloc: A,
+    request: CheckRequest<'_>,
+    text: &str,
+    not_shown: &[NotShown],
+) -> Result<(), AllocError> {
+    let CheckRequest {
+        input,
+        form,
+        style,
+        ..
+    } = request;
+    for told in not_shown.iter().take(MOST_SAID) {
+        let NotShown { item, ready } = *told;
+        let words = words_at_item(alloc.clone()?, input, text, form, item, Taken(ready));
+        push_said(lines, style, item, words)?;
+    }
+    push_more(lines, alloc, style, not_shown.len())
+}
+
+// Adds the readies that nothing showed, and how many they are, if there are some.
+fn push_not_shown<A: Allocator + Clone>(
+    lines: &mut String<A>,
+    alloc: A,
+    request: CheckRequest<'_>,
+    text: &str,
+    not_shown: &[NotShown],
+) -> Result<(), AllocError> {
+    if not_shown.is_empty() {
+        return Ok(());
+    }
+    push_taken(lines, alloc.clone()?, request, text, not_shown)?;
+    let words = format!(in alloc; "not shown ready: {} in all", not_shown.len())?;
+    push_message(lines, request.style, words.as_str())
+}
+
 // Adds how much of a trace whose recording begins in the middle wasn't judged.
 fn push_unknown<A: Allocator + Clone>(
     lines: &mut String<A>,
@@ -183,6 +241,8 @@ fn words_beside<A: Allocator + Clone>(
     let mut lines = String::new(alloc.clone()?);
     let doubts = beside.doubts.as_slice();
     push_doubts(&mut lines, alloc.clone()?, request, text, doubts)?;
+    let not_shown = beside.not_shown.as_slice();
+    push_not_shown(&mut lines, alloc.clone()?, request, text, not_shown)?;
     push_unknown(&mut lines, alloc, request, text, &beside.unknown)?;
     push_summary(&mut lines, request, beside.tally, faults)?;
     Ok(lines)

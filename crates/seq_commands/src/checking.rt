@@ -4,12 +4,12 @@ ghost use Rattle.std.specs.List.{All};
 ghost use Rattle.std.specs.Option.{option_map};
 ghost use Rattle.std.specs.Io.KnownBytes.{Appends};
 ghost use Rattle.trace_text.specs.Line.{IsPrintable};
-ghost use Rattle.trace_faults.specs.Faults.{faults_of};
+ghost use Rattle.trace_faults.specs.Faults.{faults_of, not_shown_of};
 ghost use Rattle.seq_inputs.specs.declared.refusal.Refusal.{Refusal};
 ghost use Rattle.seq_inputs.specs.Stops.{Says, RefusesNothing};
 ghost use Rattle.seq_commands.specs.Commands.{count_of};
 ghost use Rattle.trace_faults.specs.declared.beginning.Beginning.TheVariants.{Middle};
-ghost use Rattle.seq_commands.specs.Checks.{told_of, faults_as, told_faults, judged_trace, with_copy, IsJudgedText, IsJudged, RefusesTrace, ReadingRefuses, IsLegalTrace, ArePrinted, fault_lines, CheckRefuses, CheckLeaves};
+ghost use Rattle.seq_commands.specs.Checks.{told_of, faults_as, not_shown_as, told_faults, judged_trace, with_copy, IsJudgedText, IsJudged, RefusesTrace, ReadingRefuses, IsLegalTrace, ArePrinted, fault_lines, CheckRefuses, CheckLeaves};
 
 use crate::beside::{Beside, Unknown, say_beside};
 use crate::check_request::CheckRequest;
@@ -26,8 +26,8 @@ use seq_inputs::{
 use std::alloc::{AllocError, Allocator};
 use std::io::Write;
 use trace_faults::{
-    Beginning, BrokenRule, DoubtedByte, MiddleFaults, Readies, complete, find_faults,
-    find_faults_from_middle, find_status_doubts,
+    Beginning, BrokenRule, DoubtedByte, MiddleFaults, NotShown, Readies, complete, find_faults,
+    find_faults_from_middle, find_not_shown, find_status_doubts,
 };
 use trace_text::{CheckProgress, CheckRefusal, check_watched};
 
@@ -81,8 +81,9 @@ fn find_from_middle<A: Allocator + Clone>(
     geometry: &Geometry,
     items: &[Item],
 ) -> Result<MiddleFaults<A>, AllocError>
-    ensures { IfOk result (λ found. found.faults.items ≡ told_of request.entry.tells_all
+    ensures faults { IfOk result (λ found. found.faults.items ≡ told_of request.entry.tells_all
         (faults_as Middle request.entry.readies geometry.now (count_of request.entry.targets) items.now)) }
+    ensures not_shown { IfOk result (λ found. found.not_shown.items ≡ not_shown_as Middle request.entry.readies geometry.now (count_of request.entry.targets) items.now) }
 {
     let targets = request.targets.count();
     let mut found = find_faults_from_middle(alloc, geometry, targets, items, request.readies)?;
@@ -92,11 +93,31 @@ fn find_from_middle<A: Allocator + Clone>(
     Ok(found)
 }
 
-// What is found in a trace: the faults that are told, and what was taken for granted where its recording begins in the middle.
+// What is found in a trace: the faults that are told, the readies that nothing showed, and what was taken for granted where its recording begins in
+// the middle.
 #[derive(Drop)]
 struct Told<A: Allocator> {
     faults: Vec<BrokenRule, A>,
+    not_shown: Vec<NotShown, A>,
     unknown: Unknown<A>,
+}
+
+// The items of a trace from its start that are permitted with a ready that nothing showed.
+fn find_not_shown_from_start<A: Allocator>(
+    alloc: A,
+    request: CheckRequest<'_>,
+    geometry: &Geometry,
+    items: &[Item],
+) -> Result<Vec<NotShown, A>, AllocError>
+    ensures { IfOk result (λ told. told.items ≡ not_shown_of request.entry.readies geometry.now (count_of request.entry.targets) items.now) }
+{
+    match request.readies {
+        Readies::Written => Ok(Vec::new(alloc)),
+        Readies::Shown => {
+            let targets = request.targets.count();
+            find_not_shown(alloc, geometry, targets, items, Readies::Shown)
+        }
+    }
 }
 
 // The faults of a trace that are told.
@@ -107,21 +128,26 @@ fn find_told<A: Allocator + Clone, P: CheckProgress>(
     geometry: &Geometry,
     items: &[Item],
 ) -> Result<Told<A>, AllocError>
-    ensures { IfOk result (λ told. told.faults.items ≡ told_faults request.entry geometry.now items.now) }
+    ensures faults { IfOk result (λ told. told.faults.items ≡ told_faults request.entry geometry.now items.now) }
+    ensures not_shown { IfOk result (λ told. told.not_shown.items
+        ≡ not_shown_as request.entry.beginning request.entry.readies geometry.now (count_of request.entry.targets) items.now) }
 {
     match request.beginning {
         Beginning::Start => Ok(Told {
             faults: find_from_start(alloc.clone()?, progress, request, geometry, items)?,
+            not_shown: find_not_shown_from_start(alloc.clone()?, request, geometry, items)?,
             unknown: Unknown::nothing(alloc),
         }),
         Beginning::Middle => {
             let MiddleFaults {
                 faults,
                 granted,
+                not_shown,
                 passed_over,
             } = find_from_middle(alloc, request, geometry, items)?;
             Ok(Told {
                 faults,
+                not_shown,
                 unknown: Unknown {
                     granted,
                     passed_over,
@@ -194,13 +220,18 @@ fn judge_text<'p, A: Allocator + Clone, F: Files, P: CheckProgress>(
 {
     let items = items_of(alloc.clone()?, request.input, text, request.form)?;
     let items = items.as_slice();
-    let Told { faults, unknown } = find_told(alloc.clone()?, progress, request, geometry, items)?;
+    let Told {
+        faults,
+        not_shown,
+        unknown,
+    } = find_told(alloc.clone()?, progress, request, geometry, items)?;
     let doubts = find_doubts(alloc.clone()?, request, geometry, items)?;
     copy_trace(alloc, files, request, geometry, items)?;
     Ok(Judged {
         told: faults,
         beside: Beside {
             tally: Tally::of(items),
+            not_shown,
             unknown,
             doubts,
         },
@@ -274,8 +305,8 @@ fn tell_found<A: Allocator + Clone, W: Write, E: Write, P>(
 /// asked for the line of each other one after it. The text is read after the page, if that has no fault. `FileFault`: a file couldn't be read or
 /// written, the text isn't UTF-8, or the output couldn't be written. Where a path is given for it, the trace that is judged is written there before
 /// anything is printed, and no other file is. The console's progress is told at each million of items that are permitted, where the first fault
-/// ends the check of a trace that has its readies. On its errors stands what was taken for granted of a trace whose recording begins in the middle, and
-/// where they are asked for the status bytes that contradict the trace.
+/// ends the check of a trace that has its readies. On its errors stands what was taken for granted of a trace whose recording begins in the middle,
+/// where readies aren't written the LUNs that were taken for ready, and where they are asked for the status bytes that contradict the trace.
 pub fn check_trace<A: Allocator + Clone, F: Files, W: Write, E: Write, P: CheckProgress>(
     alloc: A,
     files: &mut F,

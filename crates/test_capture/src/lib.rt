@@ -19,3 +19,5 @@ mod reading;
 mod ready_tests;
 #[cfg(test)]
 mod round_trip_tests;
+#[cfg(test)]
+mod unshown_tests;

@@ -72,8 +72,8 @@ fn permitted_item(seed: &mut u32, state: &BusState, targets: u8, luns: u8) -> Op
     None
 }
 
-// A legal trace of so many items, or of fewer where none more was found.
-fn made_trace(
+/// A legal trace of so many items, or of fewer where none more was found.
+pub(crate) fn made_trace(
     alloc: Global,
     seed: &mut u32,
     geometry: Geometry,
@@ -97,8 +97,8 @@ fn made_trace(
     Ok(items)
 }
 
-// Chips of so many LUNs, of 1 to 4 planes and with the optional commands or without, by the number of the trace.
-fn parts_of(luns: u8, number: u32) -> Parts {
+/// Chips of so many LUNs, of 1 to 4 planes and with the optional commands or without, by the number of the trace.
+pub(crate) fn parts_of(luns: u8, number: u32) -> Parts {
     Parts {
         luns,
         plane_bits: (number % 3) as u8,

@@ -316,3 +316,112 @@ fn a_status_that_contradicts_its_trace(rt: HostRuntime) -> Result<(), Fail> {
         "bus.trace:7: item 6, `0 O e0`: the status shows RDY, and no ready of the LUN came before\n",
     )
 }
+
+// ---- readies that nothing showed
+
+// Two erases of a host that waits by the clock; it asks for the status of the first too early.
+const BY_CLOCK: &str =
+    "0 C 60\n0 A 04\n0 A 00\n0 A 00\n0 C d0\n0 C 70\n0 O 80\n0 C 60\n0 A 08\n0 A 00\n0 A 00\n0 C d0\n";
+
+const SHOWN: CheckRequest<'static> = CheckRequest {
+    readies: Readies::Shown,
+    ..REQUEST
+};
+
+// It is legal, and what was taken for ready is said; the bytes contradict nothing.
+#[test]
+fn a_ready_that_nothing_showed(rt: HostRuntime) -> Result<(), Fail> {
+    let request = CheckRequest {
+        judges_bytes: true,
+        ..SHOWN
+    };
+    expect(
+        &rt,
+        &see(rt.alloc(), BY_CLOCK, request)?,
+        0,
+        "legal\n",
+        "bus.trace:8: item 7, `0 C 60`: not shown ready: LUN 0 of target 0 is taken for ready here (else F9: the LUN is busy)\nnot shown ready: 1 in all\n",
+    )
+}
+
+// It is written.
+#[test]
+fn a_ready_that_nothing_showed_is_written(rt: HostRuntime) -> Result<(), Fail> {
+    let request = CheckRequest {
+        copy: Some("whole.trace"),
+        ..SHOWN
+    };
+    expect_written(
+        &rt,
+        &see(rt.alloc(), BY_CLOCK, request)?,
+        "0 C 60\n0 A 04\n0 A 00\n0 A 00\n0 C d0\n0 C 70\n0 O 80\n0 R 0 0\n0 C 60\n0 A 08\n0 A 00\n0 A 00\n0 C d0\n",
+    )
+}
+
+// Where readies are written the same trace is refused.
+#[test]
+fn a_ready_that_is_not_written(rt: HostRuntime) -> Result<(), Fail> {
+    expect(
+        &rt,
+        &see(rt.alloc(), BY_CLOCK, REQUEST)?,
+        1,
+        "refused F9 at 7\n",
+        "bus.trace:8: item 7, `0 C 60`: the LUN is busy (F9)\n",
+    )
+}
+
+#[test]
+fn a_ready_that_nothing_showed_as_json(rt: HostRuntime) -> Result<(), Fail> {
+    let request = CheckRequest {
+        style: Style::Json,
+        ..SHOWN
+    };
+    expect(
+        &rt,
+        &see(rt.alloc(), BY_CLOCK, request)?,
+        0,
+        "legal\n",
+        "{\"file\":\"bus.trace\",\"line\":8,\"item\":7,\"message\":\"item 7, `0 C 60`: not shown ready: LUN 0 of target 0 is taken for ready here (else F9: the LUN is busy)\"}\n{\"message\":\"not shown ready: 1 in all\"}\n",
+    )
+}
+
+// From the middle, beside what is passed over; and beside a fault.
+#[test]
+fn a_ready_that_nothing_showed_in_the_middle(rt: HostRuntime) -> Result<(), Fail> {
+    let request = CheckRequest {
+        beginning: Beginning::Middle,
+        ..SHOWN
+    };
+    let seen = see(rt.alloc(), "0 O 12\n0 C ff\n0 C 60\n0 C ef\n", request)?;
+    expect(
+        &rt,
+        &seen,
+        1,
+        "refused F2 at 3\n",
+        "bus.trace:4: item 3, `0 C ef`: the command is unknown, or the parameter page doesn't declare it (F2)\nbus.trace:3: item 2, `0 C 60`: not shown ready: LUN 0 of target 0 is taken for ready here (else F9: the LUN is busy)\nnot shown ready: 1 in all\nfrom the middle: cycles passed over 1, taken for granted 0\n",
+    )
+}
+
+// A reset, as often as this, and after each of them an address of the device.
+fn resets(alloc: Global, count: usize) -> Result<String, Fail> {
+    let mut text = String::new(alloc);
+    for _ in 0..count {
+        text.push_str("0 C ff\n0 C 90\n0 A 20\n")?;
+    }
+    Ok(text)
+}
+
+// Twenty are said, and how many more there are.
+#[test]
+fn many_readies_that_nothing_showed(rt: HostRuntime) -> Result<(), Fail> {
+    let text = resets(rt.alloc(), 22)?;
+    let seen = see(rt.alloc(), text.as_str(), SHOWN)?;
+    assert_eq!(rt; seen.exit.status(), 0);
+    let said = str::from_utf8(seen.errors.as_slice())?;
+    assert_eq!(rt; said.lines().count(), 22);
+    assert!(rt;
+        said.ends_with("(else F9: the LUN is busy)\nand 2 more\nnot shown ready: 22 in all\n"),
+        "{said}"
+    );
+    Ok(())
+}

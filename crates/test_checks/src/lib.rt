@@ -15,3 +15,5 @@ mod fault_tests;
 mod lint_tests;
 #[cfg(test)]
 mod middle_tests;
+#[cfg(test)]
+mod unshown_tests;

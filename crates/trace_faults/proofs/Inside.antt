@@ -8,7 +8,7 @@ use Rattle.onfi_cycle.specs.Look.{looked}
 use Rattle.trace_faults.specs.Inside.{IsInside}
 use Rattle.trace_faults.specs.ShownReadies.{only_one, lun_drives, driving_lun, ready_before, array_ready_before, ready_at, array_ready_at, ready_of, array_ready_of, is_status, has_ready, has_array_ready, has_fail, is_output}
 
-only_four : (a b c d : Bool) (n : ℕ) → only_one a b c d ≡ Some n → n ≤ 3
+pub only_four : (a b c d : Bool) (n : ℕ) → only_one a b c d ≡ Some n → n ≤ 3
 only_four true false false false n h = let same : n ≡ 0 = cc in omega (arith, same)
 only_four false true false false n h = let same : n ≡ 1 = cc in omega (arith, same)
 only_four false false true false n h = let same : n ≡ 2 = cc in omega (arith, same)

@@ -1,24 +1,33 @@
 -- A trace that is completed is judged as it is with the readies that it shows.
-use Rattle.std.proofs.Common.{◌≡◌, ◌↔◌, ℕ, ◌+◌, Bool, true, false, not, cond, List, [], ◌∷◌, ◌++◌, Option, Some, None, refl, sym, ap, ◌∙◌, arith, append_assoc, length, subst, ◌&&◌}
+use Rattle.std.proofs.Common.{◌≡◌, ◌≤◌, ◌↔◌, ℕ, ◌+◌, Bool, true, false, not, cond, List, [], ◌∷◌, ◌++◌, Option, Some, None, refl, sym, ap, ◌∙◌, arith, append_assoc, length, subst, ◌&&◌}
 use Rattle.std.specs.List.{slice_get}
 use Rattle.std.proofs.lemmas.Option.{slice_get_within}
 use Rattle.std.proofs.lemmas.Bool.{and_parts}
 use Rattle.std.proofs.lemmas.Bool.Decides.{nat_tests}
 use Rattle.onfi_cycle.specs.declared.item.Item.{Item}
 use Rattle.onfi_cycle.specs.declared.item.Item.TheVariants.{Cyc, Rdy, Ard}
+use Rattle.onfi_cycle.specs.declared.item.Cycle.{Cycle}
 use Rattle.onfi_cycle.specs.declared.forbidden.Forbidden.{Forbidden}
+use Rattle.onfi_cycle.specs.declared.forbidden.Forbidden.TheVariants.{NotThere, CommandUnknown, SequenceOpen, SeveralLuns, NoColumnToChange, CommandMisplaced, AddressMisplaced, RowOutside, LunBusy, QueueClash, InputMisplaced, NoSoleDriver, DataNotReady, ColumnOutside, CacheReadMisplaced}
 use Rattle.onfi_cycle.specs.declared.lun_state.LunState.{LunState}
 use Rattle.onfi_cycle.specs.LunView.{LunView}
 use Rattle.onfi_cycle.specs.Rules.{breaks_not_there, lun_is, is_some_and}
-use Rattle.onfi_cycle.specs.State.{BusView, TargetView, judged, judged_on}
+use Rattle.onfi_cycle.specs.Effect.{names_lun}
+use Rattle.onfi_cycle.specs.State.{BusView, TargetView, judged, judged_on, bus_after}
 use Rattle.onfi_cycle.specs.Look.{looked, look_on, look_at_some, look_at}
 use Rattle.trace_faults.specs.declared.broken_rule.BrokenRule.{BrokenRule}
 use Rattle.trace_faults.specs.declared.readies.Readies.{Readies}
 use Rattle.trace_faults.specs.declared.readies.Readies.TheVariants.{Written, Shown}
-use Rattle.trace_faults.specs.Recovery.{gone_on}
-use Rattle.trace_faults.specs.ShownReadies.{ready_before, array_ready_before, ready_at, array_ready_at, ready_of, array_ready_of, with_ready, with_readies, gone_on_some, listed, driving_lun, is_status, has_ready, has_array_ready, has_fail, is_output}
-use Rattle.trace_faults.specs.Faults.{fresh, before_item, fault_at, faults_from, completed_from, completed}
-use Rattle.trace_faults.specs.Laws.{CompletedAreJudged}
+use Rattle.trace_faults.specs.Recovery.{is_opening, gone_on, gone_on_by}
+use Rattle.trace_faults.specs.RowAhead.{given_row}
+use Rattle.trace_faults.specs.ShownReadies.{ready_before, array_ready_before, ready_at, array_ready_at, ready_of, array_ready_of, with_ready, with_readies, gone_on_some, listed, driving_lun, lun_drives, is_status, has_ready, has_array_ready, has_fail, is_output}
+use Rattle.trace_faults.specs.declared.unshown.UnshownReady.{UnshownReady}
+use Rattle.trace_faults.specs.declared.unshown.NotShown.{NotShown}
+use Rattle.trace_faults.specs.Unshown.{is_working, works, first_of, first_working, is_named, named_working, if_working, driving_working, or_else, to_begin, wanted_by, unshown_of, unshown, ready_for, ready_taken, rule_without}
+use Rattle.trace_faults.specs.Faults.{fresh, before_item, fault_at, faults_from, not_shown_by, completed_from, completed}
+use Rattle.trace_faults.specs.Laws.{CompletedAreJudged, WorksThere, TakenAtWork, IsNotShown, NotShownArePermitted}
+use Rattle.trace_faults.specs.Inside.{IsInside}
+use Rattle.trace_faults.proofs.Inside.{only_four}
 use Rattle.trace_faults.proofs.Judged.{faultless_are_legal}
 
 -- ---- 1. a ready that is shown is permitted
@@ -120,7 +129,7 @@ parted k m (Some rule) xs ys h more = cc
 counted_from : (readies : Readies) (items : List Item) (s : BusView) (k m : ℕ) → faults_from readies s k items ≡ [] → faults_from readies s m items ≡ []
 counted_from readies [] s k m h = refl
 counted_from readies (i ∷ items) s k m h =
-    let b = before_item readies s i in
+    let b = before_item readies s i items in
     parted k m (judged b i) (faults_from readies (gone_on i b) (k + 1) items) (faults_from readies (gone_on i b) (m + 1) items) h
     (λ none. counted_from readies items (gone_on i b) (k + 1) (m + 1) none)
 
@@ -134,21 +143,184 @@ passed s (Some x) rest k m permitted =
       λ h. one ∙ counted_from Written rest (gone_on x s) m (k + 1) h,
     )
 
--- ---- 3. the law
+-- ---- 3. a ready that is taken for granted is permitted
+
+working_is_permitted : (s : BusView) (ce number : ℕ) → works s ce number ≡ true → judged s (Rdy ce number false) ≡ None
+working_is_permitted s ce number h = at (looked s (record { ce = ce; lun = number })) refl h
+  where
+    at : (o : Option LunState) → looked s (record { ce = ce; lun = number }) ≡ o → is_working o ≡ true → judged s (Rdy ce number false) ≡ None
+    at None e g = cc
+    at (Some lun) e g = busy_there s ce number false lun (seen_there s ce number lun e) g
+
+-- a LUN that works, and that a target may have
+record WorksHere (s : BusView) (ce number : ℕ) : Type 0 where
+  works : works s ce number ≡ true
+  few : number ≤ 3
+
+-- a number that is found is that of such a LUN
+abbrev Works : BusView → ℕ → Option ℕ → Type 0
+Works s ce found = (number : ℕ) → found ≡ Some number → WorksHere s ce number
+
+same_number : (m n : ℕ) → Some m ≡ Some n → m ≡ n
+same_number m n h = cc
+
+record IsFirst (p : ℕ → Bool) (number : ℕ) : Type 0 where
+  is : p number ≡ true
+  few : number ≤ 3
+
+first_is : (p : ℕ → Bool) (number : ℕ) → first_of (p 0) (p 1) (p 2) (p 3) ≡ Some number → IsFirst p number
+first_is p number h = four (p 0) (p 1) (p 2) (p 3) refl refl refl refl h
+  where
+    found : (m : ℕ) → m ≤ 3 → p m ≡ true → Some m ≡ Some number → IsFirst p number
+    found m few is same = subst (IsFirst p) (same_number m number same) (record { is = is; few = few })
+
+    four : (a b c d : Bool) → p 0 ≡ a → p 1 ≡ b → p 2 ≡ c → p 3 ≡ d → first_of a b c d ≡ Some number → IsFirst p number
+    four true b c d e0 e1 e2 e3 g = found 0 (omega arith) e0 g
+    four false true c d e0 e1 e2 e3 g = found 1 (omega arith) e1 g
+    four false false true d e0 e1 e2 e3 g = found 2 (omega arith) e2 g
+    four false false false true e0 e1 e2 e3 g = found 3 (omega arith) e3 g
+    four false false false false e0 e1 e2 e3 g = cc
+
+first_works : (s : BusView) (ce : ℕ) → Works s ce (first_working s ce)
+first_works s ce number h =
+    let first = first_is (λ n. works s ce n) number h in
+    record { works = first.is; few = first.few }
+
+named_works : (s : BusView) (ce : ℕ) (row : Option ℕ) → Works s ce (named_working s ce row)
+named_works s ce None number h = cc
+named_works s ce (Some row) number h =
+    let first = first_is (λ n. is_named s ce row n) number h in
+    record { works = (and_parts (names_lun s.geometry row number) (works s ce number) first.is).1; few = first.few }
+
+driving_works : (s : BusView) (ce : ℕ) → Works s ce (driving_working s ce)
+driving_works s ce number h = at (driving_lun s ce) refl h
+  where
+    one : (m : ℕ) → m ≤ 3 → (b : Bool) → works s ce m ≡ b → cond b (Some m) None ≡ Some number → WorksHere s ce number
+    one m few true e g = subst (WorksHere s ce) (same_number m number g) (record { works = e; few = few })
+    one m few false e g = cc
+
+    at : (o : Option ℕ) → driving_lun s ce ≡ o → if_working s ce o ≡ Some number → WorksHere s ce number
+    at None e g = cc
+    at (Some m) e g = one m (only_four (lun_drives s ce 0) (lun_drives s ce 1) (lun_drives s ce 2) (lun_drives s ce 3) m e) (works s ce m) refl g
+
+or_works : (s : BusView) (ce : ℕ) (o other : Option ℕ) → Works s ce o → Works s ce other → Works s ce (or_else o other)
+or_works s ce None other here there = there
+or_works s ce (Some m) other here there = here
+
+begin_works : (s : BusView) (c : Cycle) (later : List Item) → Works s c.ce (to_begin s c later)
+begin_works s c later = or_works s c.ce (named_working s c.ce (given_row c later)) (first_working s c.ce) (named_works s c.ce (given_row c later)) (first_works s c.ce)
+
+none_works : (s : BusView) (ce : ℕ) → Works s ce None
+none_works s ce number h = cc
+
+where_works : (s : BusView) (ce : ℕ) (b : Bool) (o : Option ℕ) → Works s ce o → Works s ce (cond b o None)
+where_works s ce true o here = here
+where_works s ce false o here = none_works s ce
+
+wanted_works : (rule : Option Forbidden) (s : BusView) (c : Cycle) (later : List Item) → Works s c.ce (wanted_by rule s c later)
+wanted_works None s c later = named_works s c.ce (given_row c later)
+wanted_works (Some NotThere) s c later = none_works s c.ce
+wanted_works (Some CommandUnknown) s c later = none_works s c.ce
+wanted_works (Some SequenceOpen) s c later = none_works s c.ce
+wanted_works (Some SeveralLuns) s c later = none_works s c.ce
+wanted_works (Some NoColumnToChange) s c later = driving_works s c.ce
+wanted_works (Some CommandMisplaced) s c later = none_works s c.ce
+wanted_works (Some AddressMisplaced) s c later = none_works s c.ce
+wanted_works (Some RowOutside) s c later = none_works s c.ce
+wanted_works (Some LunBusy) s c later = where_works s c.ce (is_opening (Cyc c)) (to_begin s c later) (begin_works s c later)
+wanted_works (Some QueueClash) s c later = none_works s c.ce
+wanted_works (Some InputMisplaced) s c later = none_works s c.ce
+wanted_works (Some NoSoleDriver) s c later = none_works s c.ce
+wanted_works (Some DataNotReady) s c later = driving_works s c.ce
+wanted_works (Some ColumnOutside) s c later = none_works s c.ce
+wanted_works (Some CacheReadMisplaced) s c later = where_works s c.ce (is_opening (Cyc c)) (driving_working s c.ce) (driving_works s c.ce)
+
+pub taken_at_work : TakenAtWork
+taken_at_work s (Cyc c) later ready h = at (wanted_by (judged s (Cyc c)) s c later) refl h
+  where
+    same_ready : (x y : UnshownReady) → Some x ≡ Some y → x ≡ y
+    same_ready x y g = cc
+
+    at : (o : Option ℕ) → wanted_by (judged s (Cyc c)) s c later ≡ o → unshown_of c.ce (rule_without (judged s (Cyc c))) o ≡ Some ready → WorksThere s (Cyc c) ready
+    at None e g = cc
+    at (Some number) e g =
+        let same = same_ready (record { lun = record { ce = c.ce; lun = number }; rule = rule_without (judged s (Cyc c)) }) ready g in
+        subst (WorksThere s (Cyc c)) same (record { target = refl; works = working_is_permitted s c.ce number (wanted_works (judged s (Cyc c)) s c later number e).works })
+taken_at_work s (Rdy ce lun fail) later ready h = cc
+taken_at_work s (Ard ce lun) later ready h = cc
+
+-- its ready is of the item's target, and of one of four LUNs
+pub taken_inside : (s : BusView) (i : Item) (later : List Item) (r : Item) → IsInside i → ready_taken (unshown s i later) ≡ Some r → IsInside r
+taken_inside s (Cyc c) later r p h = at (wanted_by (judged s (Cyc c)) s c later) refl h
+  where
+    same_item : (y : Item) → Some y ≡ Some r → y ≡ r
+    same_item y g = cc
+
+    at : (o : Option ℕ) → wanted_by (judged s (Cyc c)) s c later ≡ o → ready_taken (unshown_of c.ce (rule_without (judged s (Cyc c))) o) ≡ Some r → IsInside r
+    at None e g = cc
+    at (Some number) e g = subst IsInside (same_item (Rdy c.ce number false) g) (p, (wanted_works (judged s (Cyc c)) s c later number e).few)
+taken_inside s (Rdy ce lun fail) later r p h = cc
+taken_inside s (Ard ce lun) later r p h = cc
+
+taken_is_permitted : (s : BusView) (i : Item) (later : List Item) (x : Item) → ready_taken (unshown s i later) ≡ Some x → judged s x ≡ None
+taken_is_permitted s i later x h = at (unshown s i later) refl h
+  where
+    same_item : (y : Item) → Some y ≡ Some x → y ≡ x
+    same_item y g = cc
+
+    at : (o : Option UnshownReady) → unshown s i later ≡ o → ready_taken o ≡ Some x → judged s x ≡ None
+    at None e g = cc
+    at (Some ready) e g = subst (λ (y : Item). judged s y ≡ None) (same_item (ready_for ready) g) (taken_at_work s i later ready e).works
+
+-- ---- 4. what is told as not shown is permitted
+
+pub not_shown_are_permitted : NotShownArePermitted
+not_shown_are_permitted state n i later told more h =
+    at (unshown (with_readies state i) i later) (judged (before_item Shown state i later) i) refl refl h
+  where
+    s : BusView
+    s = with_readies state i
+
+    same_told : (x y : NotShown) → x ∷ [] ≡ y ∷ more → x ≡ y
+    same_told x y g = cc
+
+    no_more : (x y : NotShown) → x ∷ [] ≡ y ∷ more → more ≡ []
+    no_more x y g = cc
+
+    with : (ready : UnshownReady) → unshown s i later ≡ Some ready → WorksThere s i ready → before_item Shown state i later ≡ bus_after (ready_for ready) s
+    with ready e w =
+        ap (λ (o : Option UnshownReady). gone_on_some (ready_taken o) s) e
+        ∙ ap (λ (o : Option Forbidden). gone_on_by o (ready_for ready) s) w.works
+
+    at : (o : Option UnshownReady) (rule : Option Forbidden) → unshown s i later ≡ o → judged (before_item Shown state i later) i ≡ rule → not_shown_by n o rule ≡ told ∷ more → (more ≡ []) × IsNotShown state n i told
+    at None rule e is g = cc
+    at (Some ready) (Some rule) e is g = cc
+    at (Some ready) None e is g =
+        let w = taken_at_work s i later ready e in
+        let one : NotShown = record { item = n; ready = ready } in (
+          no_more one told g,
+          subst (IsNotShown state n i) (same_told one told g)
+              (record { number = refl; target = w.target; works = w.works; permitted = sym (ap (λ (b : BusView). judged b i) (with ready e w)) ∙ is }),
+        )
+
+-- ---- 5. the law
 
 same_from : (items : List Item) (s : BusView) (k m : ℕ) → (faults_from Shown s k items ≡ []) ↔ (faults_from Written s m (completed_from s items) ≡ [])
 same_from [] s k m = (λ h. refl, λ h. refl)
 same_from (i ∷ items) s k m =
     let r = ready_before s i in
     let a = array_ready_before (with_ready s i) i in
-    let whole = with_readies s i in
+    let shown = with_readies s i in
+    let t = ready_taken (unshown shown i items) in
+    let whole = before_item Shown s i items in
     let rest = completed_from (gone_on i whole) items in
-    let first = passed s r (listed a ++ (i ∷ rest)) m 0 (ready_is_permitted s i) in
-    let second = passed (with_ready s i) a (i ∷ rest) 0 0 (array_ready_is_permitted (with_ready s i) i) in
+    let first = passed s r (listed a ++ (listed t ++ (i ∷ rest))) m 0 (ready_is_permitted s i) in
+    let second = passed (with_ready s i) a (listed t ++ (i ∷ rest)) 0 0 (array_ready_is_permitted (with_ready s i) i) in
+    let third = passed shown t (i ∷ rest) 0 0 (taken_is_permitted shown i items) in
     let later = same_from items (gone_on i whole) (k + 1) (0 + 1) in
-    let grouped = ap (λ (is : List Item). faults_from Written s m is) (append_assoc (listed r) (listed a) (i ∷ rest)) in (
-      λ h. grouped ∙ first.1 (second.1 (parted k 0 (judged whole i) (faults_from Shown (gone_on i whole) (k + 1) items) (faults_from Written (gone_on i whole) (0 + 1) rest) h later.0)),
-      λ h. parted 0 k (judged whole i) (faults_from Written (gone_on i whole) (0 + 1) rest) (faults_from Shown (gone_on i whole) (k + 1) items) (second.0 (first.0 (sym grouped ∙ h))) later.1,
+    let grouped = ap (λ (is : List Item). faults_from Written s m is) (append_assoc (listed r ++ listed a) (listed t) (i ∷ rest) ∙ append_assoc (listed r) (listed a) (listed t ++ (i ∷ rest))) in (
+      λ h. grouped ∙ first.1 (second.1 (third.1 (parted k 0 (judged whole i) (faults_from Shown (gone_on i whole) (k + 1) items) (faults_from Written (gone_on i whole) (0 + 1) rest) h later.0))),
+      λ h. parted 0 k (judged whole i) (faults_from Written (gone_on i whole) (0 + 1) rest) (faults_from Shown (gone_on i whole) (k + 1) items) (third.0 (second.0 (first.0 (sym grouped ∙ h)))) later.1,
     )
 
 pub completed_are_judged : CompletedAreJudged

@@ -1,5 +1,7 @@
 pub mod Recovery
 pub mod ShownReadies
+pub mod RowAhead
+pub mod Unshown
 pub mod Faults
 pub mod Middle
 pub mod StatusBytes

@@ -11,11 +11,14 @@ use Rattle.onfi_cycle.specs.State.{BusView, judged, bus_without}
 use Rattle.onfi_cycle.specs.Look.{looked}
 use Rattle.trace_faults.specs.declared.known.Known.{Known}
 use Rattle.trace_faults.specs.declared.verdict.Verdict.{Verdict}
-use Rattle.trace_faults.specs.declared.verdict.Verdict.TheVariants.{Permitted, PassedOver, Granted, Broken}
+use Rattle.trace_faults.specs.declared.verdict.Verdict.TheVariants.{Permitted, PassedOver, Granted, Broken, NotShown as WithoutReady}
 use Rattle.trace_faults.specs.declared.broken_rule.BrokenRule.{BrokenRule}
 use Rattle.trace_faults.specs.declared.readies.Readies.{Readies}
 use Rattle.trace_faults.specs.Recovery.{is_opening, gone_on}
-use Rattle.trace_faults.specs.Faults.{fresh, before_item}
+use Rattle.trace_faults.specs.declared.unshown.UnshownReady.{UnshownReady}
+use Rattle.trace_faults.specs.declared.unshown.NotShown.{NotShown}
+use Rattle.trace_faults.specs.Unshown.{works}
+use Rattle.trace_faults.specs.Faults.{fresh, before_taken, before_item, taken_on}
 
 -- ---- what is known
 
@@ -53,14 +56,6 @@ doubts_lun state k ce number = is_doubtful (looked state (record { ce = ce; lun 
 -- some LUN of the target isn't known
 abbrev pub doubts : BusView → Known → ℕ → Bool
 doubts state k ce = doubts_lun state k ce 0 || (doubts_lun state k ce 1 || (doubts_lun state k ce 2 || doubts_lun state k ce 3))
-
--- a LUN that is there, and works
-abbrev pub is_working : Option LunState → Bool
-is_working None = false
-is_working (Some lun) = lun.busy
-
-abbrev pub works : BusView → (ce number : ℕ) → Bool
-works state ce number = is_working (looked state (record { ce = ce; lun = number }))
 
 -- what is known of the target of an item after it: an opener may have come, and a LUN that works now has begun that since
 abbrev pub learned : BusView → Item → Known → Known
@@ -134,23 +129,55 @@ seen_by Permitted i seen = judged_on (gone_on i seen.state) seen.known i
 seen_by PassedOver i seen = seen
 seen_by (Granted rule) i seen = granted_to i seen
 seen_by (Broken rule) i seen = judged_on (gone_on i seen.state) seen.known i
-
--- where an item is judged that isn't passed over: with the readies that it shows, if they aren't written
-abbrev pub here : Readies → Seen → Item → Seen
-here readies seen i = record { state = before_item readies seen.state i; known = seen.known }
+seen_by (WithoutReady ready) i seen = judged_on (gone_on i seen.state) seen.known i
 
 abbrev pub verdict_here : Seen → Item → Verdict
 verdict_here seen i = verdict_on seen.state (known_of seen.known (target_of i)) i
 
+abbrev pub is_granted : Verdict → Bool
+is_granted Permitted = false
+is_granted PassedOver = false
+is_granted (Granted rule) = true
+is_granted (Broken rule) = false
+is_granted (WithoutReady ready) = false
+
+-- the channel with the readies that an item shows
+abbrev pub shown_here : Readies → Seen → Item → Seen
+shown_here readies seen i = record { state = before_taken readies seen.state i; known = seen.known }
+
+-- the item is taken for granted as it stands
+abbrev pub is_granted_here : Readies → Seen → Item → Bool
+is_granted_here readies seen i = is_granted (verdict_here (shown_here readies seen i) i)
+
+-- where an item is judged that isn't passed over: with the ready that it needs besides, where it isn't taken for granted
+abbrev pub state_here : Readies → Seen → Item → (later : List Item) → BusView
+state_here readies seen i later = if is_granted_here readies seen i then before_taken readies seen.state i else before_item readies seen.state i later
+
+abbrev pub here : Readies → Seen → Item → (later : List Item) → Seen
+here readies seen i later = record { state = state_here readies seen i later; known = seen.known }
+
+-- an item that is permitted with a ready that nothing showed
+abbrev pub with_ready_taken : Option UnshownReady → Verdict → Verdict
+with_ready_taken None v = v
+with_ready_taken (Some ready) Permitted = WithoutReady ready
+with_ready_taken (Some ready) PassedOver = PassedOver
+with_ready_taken (Some ready) (Granted rule) = Granted rule
+with_ready_taken (Some ready) (Broken rule) = Broken rule
+with_ready_taken (Some ready) (WithoutReady other) = WithoutReady other
+
+-- what is said of an item that isn't passed over
+abbrev pub said_of : Readies → Seen → Item → (later : List Item) → Verdict
+said_of readies seen i later = with_ready_taken (taken_on readies (before_taken readies seen.state i) i later) (verdict_here (here readies seen i later) i)
+
 -- what is said of an item
-abbrev pub verdict : Readies → Seen → Item → Verdict
-verdict readies seen i =
-    if is_passed_over (known_of seen.known (target_of i)) i then PassedOver else verdict_here (here readies seen i) i
+abbrev pub verdict : Readies → Seen → Item → (later : List Item) → Verdict
+verdict readies seen i later =
+    if is_passed_over (known_of seen.known (target_of i)) i then PassedOver else said_of readies seen i later
 
 -- and what it leaves
-abbrev pub seen_after : Readies → Seen → Item → Seen
-seen_after readies seen i =
-    if is_passed_over (known_of seen.known (target_of i)) i then seen else seen_by (verdict_here (here readies seen i) i) i (here readies seen i)
+abbrev pub seen_after : Readies → Seen → Item → (later : List Item) → Seen
+seen_after readies seen i later =
+    if is_passed_over (known_of seen.known (target_of i)) i then seen else seen_by (said_of readies seen i later) i (here readies seen i later)
 
 -- ---- a trace
 
@@ -159,7 +186,7 @@ first_seen g targets = record { state = fresh g targets; known = all_first_known
 
 abbrev pub verdicts_from : Readies → Seen → List Item → List Verdict
 verdicts_from readies seen [] = []
-verdicts_from readies seen (i ∷ items) = verdict readies seen i ∷ verdicts_from readies (seen_after readies seen i) items
+verdicts_from readies seen (i ∷ items) = verdict readies seen i items ∷ verdicts_from readies (seen_after readies seen i items) items
 
 -- what is said of each item of a trace
 abbrev pub verdicts_of : Readies → Parts → ℕ → List Item → List Verdict
@@ -170,12 +197,21 @@ broken_in n Permitted = []
 broken_in n PassedOver = []
 broken_in n (Granted rule) = []
 broken_in n (Broken rule) = record { item = n; rule = rule } ∷ []
+broken_in n (WithoutReady ready) = []
 
 abbrev pub granted_in : ℕ → Verdict → List BrokenRule
 granted_in n Permitted = []
 granted_in n PassedOver = []
 granted_in n (Granted rule) = record { item = n; rule = rule } ∷ []
 granted_in n (Broken rule) = []
+granted_in n (WithoutReady ready) = []
+
+abbrev pub not_shown_in : ℕ → Verdict → List NotShown
+not_shown_in n Permitted = []
+not_shown_in n PassedOver = []
+not_shown_in n (Granted rule) = []
+not_shown_in n (Broken rule) = []
+not_shown_in n (WithoutReady ready) = record { item = n; ready = ready } ∷ []
 
 -- the faults among items, counted from this number
 abbrev pub all_broken : ℕ → List Verdict → List BrokenRule
@@ -187,11 +223,17 @@ abbrev pub all_granted : ℕ → List Verdict → List BrokenRule
 all_granted n [] = []
 all_granted n (v ∷ verdicts) = granted_in n v ++ all_granted (n + 1) verdicts
 
+-- the items before which a LUN is taken for ready that nothing showed
+abbrev pub all_not_shown : ℕ → List Verdict → List NotShown
+all_not_shown n [] = []
+all_not_shown n (v ∷ verdicts) = not_shown_in n v ++ all_not_shown (n + 1) verdicts
+
 abbrev pub one_passed_over : Verdict → ℕ
 one_passed_over Permitted = 0
 one_passed_over PassedOver = 1
 one_passed_over (Granted rule) = 0
 one_passed_over (Broken rule) = 0
+one_passed_over (WithoutReady ready) = 0
 
 -- how many were passed over
 abbrev pub count_passed_over : List Verdict → ℕ

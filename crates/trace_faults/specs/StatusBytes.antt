@@ -51,7 +51,7 @@ doubted_at n (Some doubt) = record { item = n; doubt = doubt } ∷ []
 abbrev pub doubts_from : Readies → BusView → ℕ → List Item → List DoubtedByte
 doubts_from readies state n [] = []
 doubts_from readies state n (i ∷ items) =
-    doubted_at n (byte_doubt (before_item readies state i) i) ++ doubts_from readies (gone_on i (before_item readies state i)) (n + 1) items
+    doubted_at n (byte_doubt (before_item readies state i items) i) ++ doubts_from readies (gone_on i (before_item readies state i items)) (n + 1) items
 
 -- all of a trace
 abbrev pub doubts_of : Readies → Parts → ℕ → List Item → List DoubtedByte

@@ -3,8 +3,10 @@ ghost use Rattle.std.specs.Prelude.{◌≡◌, ◌≤◌, ◌++◌, IfOk, OnOk};
 ghost use Rattle.trace_faults.specs.ShownReadies.{listed};
 ghost use Rattle.trace_faults.specs.Faults.{completed};
 
+use crate::readies::Readies;
 use crate::recovery::go_on;
 use crate::shown_readies::go_on_by_readies;
+use crate::unshown::ready_taken;
 use nand_geometry::Geometry;
 use onfi_cycle::{BusState, Item};
 use std::alloc::{AllocError, Allocator};
@@ -19,8 +21,8 @@ fn push_some<A: Allocator>(items: &mut Vec<Item, A>, item: Option<Item>) -> Resu
     Ok(())
 }
 
-/// A trace with the readies that its status outputs show, each before the output that shows it; what it has already, it keeps. It takes the memory of
-/// the trace that comes of it.
+/// A trace with the readies that its status outputs show, each before the output that shows it, and with those that are taken for granted, each before
+/// the item that needs it; what it has already, it keeps. It takes the memory of the trace that comes of it.
 pub fn complete<A: Allocator>(
     alloc: A,
     geometry: &Geometry,
@@ -32,13 +34,17 @@ pub fn complete<A: Allocator>(
 {
     let mut state = BusState::new(*geometry, targets);
     let mut whole = Vec::new(alloc);
-    for place in 0..items.len() {
-        let item = items[place];
+    let mut rest = items;
+    'rest: while let Some((first, later)) = rest.split_first() {
+        let item = *first;
         let (ready, array_ready) = go_on_by_readies(&mut state, item);
+        let taken = Readies::Shown.go_on_by_taken(&mut state, item, later);
         push_some(&mut whole, ready)?;
         push_some(&mut whole, array_ready)?;
+        push_some(&mut whole, ready_taken(taken))?;
         whole.push(item)?;
         let _ = go_on(&mut state, item);
+        rest = later;
     }
     Ok(whole)
 }

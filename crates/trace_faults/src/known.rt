@@ -1,8 +1,9 @@
 //! What a recording that began in the middle has shown of a target.
 ghost use Rattle.std.specs.Prelude.{◌≡◌, get_or, slice_set, nat_lt};
-ghost use Rattle.trace_faults.specs.Middle.{nothing_known, all_known, first_known, all_first_known, known_of, knows, is_doubtful, doubts_lun, doubts, is_working, works, learned};
+ghost use Rattle.trace_faults.specs.Middle.{nothing_known, all_known, first_known, all_first_known, known_of, knows, is_doubtful, doubts_lun, doubts, learned};
 
 use crate::recovery::is_opening;
+use crate::unshown::works;
 use onfi_cycle::{BusState, Item, Lun, LunState};
 
 /// How many targets a channel has at most.
@@ -29,23 +30,6 @@ fn is_doubtful(lun: Option<LunState>, known: bool) -> bool
         None => false,
         Some(_) => !known,
     }
-}
-
-// Whether a LUN is there and works.
-fn is_working(lun: Option<LunState>) -> bool
-    ensures { result ≡ is_working lun }
-{
-    match lun {
-        None => false,
-        Some(lun) => lun.busy,
-    }
-}
-
-// Whether the LUN of this number of a target works.
-fn works(state: &BusState, ce: u8, lun: u8) -> bool
-    ensures { result ≡ works state.now ce lun }
-{
-    is_working(state.lun_state(Lun { ce, lun }))
 }
 
 impl Known {

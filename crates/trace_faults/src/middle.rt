@@ -1,6 +1,6 @@
 //! Going on with a trace whose recording began in the middle.
 ghost use Rattle.std.specs.Prelude.{◌≡◌};
-ghost use Rattle.trace_faults.specs.Middle.{Seen, verdict_on, verdict_here, is_passed_over, granted_to, judged_on, seen_by, here, verdict, seen_after, known_of};
+ghost use Rattle.trace_faults.specs.Middle.{Seen, verdict_on, verdict_here, is_passed_over, granted_to, judged_on, seen_by, said_of, here, verdict, seen_after, known_of};
 ghost use Rattle.trace_faults.specs.Recovery.{gone_on};
 ghost use Rattle.onfi_cycle.specs.Sequence.{target_of};
 
@@ -30,6 +30,13 @@ fn verdict_on(state: &BusState, known: Known, item: Item) -> Verdict
         Item::Rdy { ce, lun, .. } => Verdict::of_ready(known.doubts_lun(state, ce, lun), rule),
         Item::Ard { ce, lun } => Verdict::of_ready(known.doubts_lun(state, ce, lun), rule),
     }
+}
+
+// What is said of an item that is judged on this state.
+fn verdict_here(state: &BusState, known: &AllKnown, item: Item) -> Verdict
+    ensures { result ≡ verdict_here (record { state = state.now; known = known.now }) item }
+{
+    verdict_on(state, known_of(known, item.target()), item)
 }
 
 // Takes an item for granted.
@@ -63,10 +70,32 @@ fn go_on_by(state: &mut BusState, known: &mut AllKnown, item: Item, said: Verdic
     ensures known { known.new ≡ (seen_by said item (record { state = state.old; known = known.old })).known }
 {
     match said {
-        Verdict::Permitted | Verdict::Broken(_) => go_on_judged(state, known, item),
+        Verdict::Permitted | Verdict::Broken(_) | Verdict::NotShown(_) => {
+            go_on_judged(state, known, item);
+        }
         Verdict::PassedOver => {}
         Verdict::Granted(_) => grant(state, known, item),
     }
+}
+
+// Goes on to where an item is judged that isn't passed over, and tells what is said of it.
+fn go_on_to(
+    state: &mut BusState,
+    known: &AllKnown,
+    readies: Readies,
+    item: Item,
+    later: &[Item],
+) -> Verdict
+    ensures said { result ≡ said_of readies (record { state = state.old; known = known.now }) item later.now }
+    ensures state { state.new ≡ (here readies (record { state = state.old; known = known.now }) item later.now).state }
+{
+    readies.go_on_by_shown(state, item);
+    let as_it_stands = verdict_here(state, known, item);
+    if as_it_stands.is_granted() {
+        return as_it_stands;
+    }
+    let ready = readies.go_on_by_taken(state, item, later);
+    verdict_here(state, known, item).with_ready_taken(ready)
 }
 
 /// Goes on by an item, and tells what is said of it.
@@ -75,17 +104,16 @@ pub(crate) fn go_on_from_middle(
     known: &mut AllKnown,
     readies: Readies,
     item: Item,
+    later: &[Item],
 ) -> Verdict
-    ensures said { result ≡ verdict readies (record { state = state.old; known = known.old }) item }
-    ensures state { state.new ≡ (seen_after readies (record { state = state.old; known = known.old }) item).state }
-    ensures known { known.new ≡ (seen_after readies (record { state = state.old; known = known.old }) item).known }
+    ensures said { result ≡ verdict readies (record { state = state.old; known = known.old }) item later.now }
+    ensures state { state.new ≡ (seen_after readies (record { state = state.old; known = known.old }) item later.now).state }
+    ensures known { known.new ≡ (seen_after readies (record { state = state.old; known = known.old }) item later.now).known }
 {
-    let known_now = known_of(known, item.target());
-    if is_passed_over(known_now, item) {
+    if is_passed_over(known_of(known, item.target()), item) {
         return Verdict::PassedOver;
     }
-    readies.go_on_to(state, item);
-    let said = verdict_on(state, known_now, item);
+    let said = go_on_to(state, known, readies, item, later);
     go_on_by(state, known, item, said);
     said
 }

@@ -1,11 +1,12 @@
 //! What comes of a trace whose recording began in the middle.
 ghost use Rattle.std.specs.Prelude.{◌≡◌, ◌≤◌, ◌++◌, IfOk, OnOk};
-ghost use Rattle.trace_faults.specs.Middle.{verdicts_of, all_broken, all_granted, count_passed_over, broken_in, granted_in, one_passed_over};
+ghost use Rattle.trace_faults.specs.Middle.{verdicts_of, all_broken, all_granted, all_not_shown, count_passed_over, broken_in, granted_in, not_shown_in, one_passed_over};
 
 use crate::broken_rule::BrokenRule;
 use crate::known::all_at_first;
 use crate::middle::go_on_from_middle;
 use crate::readies::Readies;
+use crate::unshown::NotShown;
 use crate::verdict::Verdict;
 use nand_geometry::Geometry;
 use onfi_cycle::{BusState, Item};
@@ -18,6 +19,8 @@ pub struct MiddleFaults<A: Allocator = Global> {
     pub faults: Vec<BrokenRule, A>,
     /// What would break a rule after what was seen, and was taken for granted.
     pub granted: Vec<BrokenRule, A>,
+    /// What is permitted with a ready that nothing showed.
+    pub not_shown: Vec<NotShown, A>,
     /// How many cycles weren't judged, since their opener wasn't seen or was taken for granted.
     pub passed_over: usize,
 }
@@ -36,9 +39,11 @@ fn verdicts_of<A: Allocator>(
     let mut state = BusState::new(*geometry, targets);
     let mut known = all_at_first(targets);
     let mut verdicts = Vec::new(alloc);
-    for place in 0..items.len() {
-        let said = go_on_from_middle(&mut state, &mut known, readies, items[place]);
+    let mut rest = items;
+    'rest: while let Some((first, later)) = rest.split_first() {
+        let said = go_on_from_middle(&mut state, &mut known, readies, *first, later);
         verdicts.push(said)?;
+        rest = later;
     }
     Ok(verdicts)
 }
@@ -53,7 +58,7 @@ fn push_broken<A: Allocator>(
 {
     match said {
         Verdict::Broken(rule) => faults.push(BrokenRule { item, rule })?,
-        Verdict::Permitted | Verdict::PassedOver | Verdict::Granted(_) => {}
+        Verdict::Permitted | Verdict::PassedOver | Verdict::Granted(_) | Verdict::NotShown(_) => {}
     }
     Ok(())
 }
@@ -82,7 +87,7 @@ fn push_granted<A: Allocator>(
 {
     match said {
         Verdict::Granted(rule) => granted.push(BrokenRule { item, rule })?,
-        Verdict::Permitted | Verdict::PassedOver | Verdict::Broken(_) => {}
+        Verdict::Permitted | Verdict::PassedOver | Verdict::Broken(_) | Verdict::NotShown(_) => {}
     }
     Ok(())
 }
@@ -101,6 +106,35 @@ fn all_granted<A: Allocator>(
     Ok(granted)
 }
 
+// Adds the LUN that was taken for ready before an item, if one was.
+fn push_not_shown<A: Allocator>(
+    told: &mut Vec<NotShown, A>,
+    item: usize,
+    said: Verdict,
+) -> Result<(), AllocError>
+    ensures { OnOk result (told.new.items ≡ told.old.items ++ not_shown_in item said) }
+{
+    match said {
+        Verdict::NotShown(ready) => told.push(NotShown { item, ready })?,
+        Verdict::Permitted | Verdict::PassedOver | Verdict::Granted(_) | Verdict::Broken(_) => {}
+    }
+    Ok(())
+}
+
+// Each item before which a LUN was taken for ready.
+fn all_not_shown<A: Allocator>(
+    alloc: A,
+    verdicts: &[Verdict],
+) -> Result<Vec<NotShown, A>, AllocError>
+    ensures { IfOk result (λ told. told.items ≡ all_not_shown 0 verdicts.now) }
+{
+    let mut told = Vec::new(alloc);
+    for place in 0..verdicts.len() {
+        push_not_shown(&mut told, place, verdicts[place])?;
+    }
+    Ok(told)
+}
+
 // 1 for an item that isn't judged, else 0.
 fn one_passed_over(said: Verdict) -> usize
     ensures value { result ≡ one_passed_over said }
@@ -108,7 +142,7 @@ fn one_passed_over(said: Verdict) -> usize
 {
     match said {
         Verdict::PassedOver => 1,
-        Verdict::Permitted | Verdict::Granted(_) | Verdict::Broken(_) => 0,
+        Verdict::Permitted | Verdict::Granted(_) | Verdict::Broken(_) | Verdict::NotShown(_) => 0,
     }
 }
 
@@ -126,7 +160,7 @@ fn count_passed_over(verdicts: &[Verdict]) -> usize
 /// Judges a trace on a channel of so many targets of this geometry, 4 at most, whose recording began in the middle: nobody knows what its LUNs did
 /// before. Of each target the cycles before its first opener are passed over. While a LUN hasn't begun work since (a closer or a reset does that), what
 /// hangs on what it drives, holds or had begun is taken for granted, and what follows such a cycle up to the next opener of its target is passed over.
-/// All else is judged as [`find_faults`](crate::find_faults) judges. It takes 2 bytes an item while it works.
+/// All else is judged as [`find_faults`](crate::find_faults) judges. It takes 4 bytes an item while it works.
 pub fn find_faults_from_middle<A: Allocator + Clone>(
     alloc: A,
     geometry: &Geometry,
@@ -137,13 +171,15 @@ pub fn find_faults_from_middle<A: Allocator + Clone>(
     requires { targets ≤ 4 }
     ensures faults { IfOk result (λ m. m.faults.items ≡ all_broken 0 (verdicts_of readies geometry.now targets items.now)) }
     ensures granted { IfOk result (λ m. m.granted.items ≡ all_granted 0 (verdicts_of readies geometry.now targets items.now)) }
+    ensures not_shown { IfOk result (λ m. m.not_shown.items ≡ all_not_shown 0 (verdicts_of readies geometry.now targets items.now)) }
     ensures passed_over { IfOk result (λ m. m.passed_over ≡ count_passed_over (verdicts_of readies geometry.now targets items.now)) }
 {
     let verdicts = verdicts_of(alloc.clone()?, geometry, targets, items, readies)?;
     let verdicts = verdicts.as_slice();
     Ok(MiddleFaults {
         faults: all_broken(alloc.clone()?, verdicts)?,
-        granted: all_granted(alloc, verdicts)?,
+        granted: all_granted(alloc.clone()?, verdicts)?,
+        not_shown: all_not_shown(alloc, verdicts)?,
         passed_over: count_passed_over(verdicts),
     })
 }

@@ -123,8 +123,8 @@ fn array_ready_before(state: &BusState, item: Item) -> Option<Item>
     }
 }
 
-// Goes on by a ready, if there is one.
-fn go_on_by_some(state: &mut BusState, ready: Option<Item>)
+/// Goes on by a ready, if there is one.
+pub(crate) fn go_on_by_some(state: &mut BusState, ready: Option<Item>)
     ensures { state.new ≡ gone_on_some ready state.old }
 {
     if let Some(item) = ready {

@@ -136,11 +136,15 @@ pub fn find_status_doubts<A: Allocator>(
 {
     let mut state = BusState::new(*geometry, targets);
     let mut doubts = Vec::new(alloc);
-    for place in 0..items.len() {
-        let item = items[place];
-        readies.go_on_to(&mut state, item);
+    let mut place = 0;
+    let mut rest = items;
+    'rest: while let Some((first, later)) = rest.split_first() {
+        let item = *first;
+        let _ = readies.go_on_to(&mut state, item, later);
         push_doubt(&mut doubts, place, byte_doubt(&state, item))?;
         let _ = go_on(&mut state, item);
+        place += 1;
+        rest = later;
     }
     Ok(doubts)
 }

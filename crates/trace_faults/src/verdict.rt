@@ -1,7 +1,8 @@
 //! What is said of an item of a trace whose recording began in the middle.
 ghost use Rattle.std.specs.Prelude.{◌≡◌};
-ghost use Rattle.trace_faults.specs.Middle.{hangs_on_before, of_cycle, of_ready};
+ghost use Rattle.trace_faults.specs.Middle.{hangs_on_before, of_cycle, of_ready, is_granted, with_ready_taken};
 
+use crate::unshown::UnshownReady;
 use onfi_cycle::Forbidden;
 
 /// What is said of an item of a trace whose recording began in the middle.
@@ -15,6 +16,8 @@ pub enum Verdict {
     Granted(Forbidden),
     /// It breaks this rule, whatever was before.
     Broken(Forbidden),
+    /// It is permitted, with a ready before it that nothing showed.
+    NotShown(UnshownReady),
 }
 
 // Whether a rule may be kept for what was before: it hangs on what a LUN drives, holds or had begun.
@@ -60,6 +63,27 @@ impl Verdict {
             None => Verdict::Permitted,
             Some(rule) if doubted => Verdict::Granted(rule),
             Some(rule) => Verdict::Broken(rule),
+        }
+    }
+
+    /// It is permitted unless what wasn't seen is against it.
+    pub(crate) fn is_granted(self) -> bool
+        ensures { result ≡ is_granted self }
+    {
+        match self {
+            Verdict::Granted(_) => true,
+            Verdict::Permitted | Verdict::PassedOver | Verdict::Broken(_) | Verdict::NotShown(_) =>
+                false,
+        }
+    }
+
+    /// What is said of an item before which this LUN was taken for ready, if one was.
+    pub(crate) fn with_ready_taken(self, ready: Option<UnshownReady>) -> Verdict
+        ensures { result ≡ with_ready_taken ready self }
+    {
+        match (self, ready) {
+            (Verdict::Permitted, Some(ready)) => Verdict::NotShown(ready),
+            (said, None | Some(_)) => said,
         }
     }
 }

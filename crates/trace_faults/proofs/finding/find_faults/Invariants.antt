@@ -1,6 +1,9 @@
-use Rattle.std.proofs.Common.{◌≡◌, ◌++◌, drop}
+use Rattle.std.proofs.Common.{◌≡◌, ◌+◌, ◌++◌, length}
 use Rattle.trace_faults.specs.Faults.{faults_of, faults_from}
 use Rattle.trace_faults.proofs.finding.find_faults.Given as goal
 
-abbrev pub invariant-loop-place : goal.invariant-loop-place
-invariant-loop-place g l = l.faults.items ++ faults_from l.readies l.state l.place (drop l.place l.items) ≡ faults_of l.readies l.geometry l.targets l.items
+abbrev pub invariant-rest : goal.invariant-rest
+invariant-rest g l = (l.faults.items ++ faults_from l.readies l.state l.place l.rest ≡ faults_of l.readies l.geometry l.targets l.items) × (l.place + length l.rest ≡ length l.items)
+
+abbrev pub decreases-rest : goal.decreases-rest
+decreases-rest g l = length l.rest

@@ -1,0 +1,197 @@
+//! The readies that nothing shows: of a LUN that a cycle needs, whose host waited by R/B# or by the clock.
+ghost use Rattle.std.specs.Prelude.{◌≡◌};
+ghost use Rattle.onfi_cycle.specs.Look.{looked};
+ghost use Rattle.onfi_cycle.specs.State.{judged};
+ghost use Rattle.trace_faults.specs.Unshown.{is_working, works, first_of, first_working, is_named, named_working, driving_working, to_begin, wanted_by, rule_without, unshown_of, unshown, ready_for, ready_taken};
+
+use crate::recovery::is_opening;
+use crate::row_ahead::given_row;
+use crate::shown_readies::find_driver;
+use onfi_cycle::{BusState, Cycle, Forbidden, Item, Lun, LunState};
+
+/// A LUN that is taken for ready before an item, since that needs it and nothing showed it, and the rule that is broken without that.
+#[derive(Clone, Copy, Debug, PartialEq, Eq)]
+pub struct UnshownReady {
+    pub lun: Lun,
+    pub rule: Forbidden,
+}
+
+/// An item of a trace, counted from 0, before which a LUN is taken for ready that nothing showed, and which is permitted then.
+#[derive(Clone, Copy, Debug, PartialEq, Eq)]
+pub struct NotShown {
+    pub item: usize,
+    pub ready: UnshownReady,
+}
+
+// Whether a LUN is there and works.
+fn is_working(lun: Option<LunState>) -> bool
+    ensures { result ≡ is_working lun }
+{
+    match lun {
+        None => false,
+        Some(lun) => lun.busy,
+    }
+}
+
+/// Whether the LUN of this number of a target works.
+pub(crate) fn works(state: &BusState, ce: u8, lun: u8) -> bool
+    ensures { result ≡ works state.now ce lun }
+{
+    is_working(state.lun_state(Lun { ce, lun }))
+}
+
+// The first of four that is meant.
+fn first_of(zeroth: bool, first: bool, second: bool, third: bool) -> Option<u8>
+    ensures { result ≡ first_of zeroth first second third }
+{
+    match (zeroth, first, second, third) {
+        (true, _, _, _) => Some(0),
+        (false, true, _, _) => Some(1),
+        (false, false, true, _) => Some(2),
+        (false, false, false, true) => Some(3),
+        (false, false, false, false) => None,
+    }
+}
+
+// The first LUN of a target that works.
+fn first_working(state: &BusState, ce: u8) -> Option<u8>
+    ensures { result ≡ first_working state.now ce }
+{
+    first_of(
+        works(state, ce, 0),
+        works(state, ce, 1),
+        works(state, ce, 2),
+        works(state, ce, 3),
+    )
+}
+
+// Whether a row names the LUN of this number of a target, and that works.
+fn is_named(state: &BusState, ce: u8, row: u32, number: u8) -> bool
+    ensures { result ≡ is_named state.now ce row number }
+{
+    state.geometry().parts_of(row).lun == u32::from(number) && works(state, ce, number)
+}
+
+// The LUN of a target that a row names, where it works.
+fn named_working(state: &BusState, ce: u8, row: Option<u32>) -> Option<u8>
+    ensures { result ≡ named_working state.now ce row }
+{
+    let row = row?;
+    first_of(
+        is_named(state, ce, row, 0),
+        is_named(state, ce, row, 1),
+        is_named(state, ce, row, 2),
+        is_named(state, ce, row, 3),
+    )
+}
+
+// The LUN that drives the bus when the target is read, where it works.
+fn driving_working(state: &BusState, ce: u8) -> Option<u8>
+    ensures { result ≡ driving_working state.now ce }
+{
+    let number = find_driver(state, ce)?;
+    if works(state, ce, number) {
+        Some(number)
+    } else {
+        None
+    }
+}
+
+// The LUN that an opener's row names; where no row comes, and where that LUN isn't there or doesn't work, the first that works.
+fn to_begin(state: &BusState, cycle: Cycle, later: &[Item]) -> Option<u8>
+    ensures { result ≡ to_begin state.now cycle later.now }
+{
+    match named_working(state, cycle.ce, given_row(cycle, later)) {
+        Some(number) => Some(number),
+        None => first_working(state, cycle.ce),
+    }
+}
+
+// The LUN whose ready a cycle wants that breaks this rule first, or none.
+fn wanted_by(rule: Option<Forbidden>, state: &BusState, cycle: Cycle, later: &[Item]) -> Option<u8>
+    ensures { result ≡ wanted_by rule state.now cycle later.now }
+{
+    match rule {
+        None => named_working(state, cycle.ce, given_row(cycle, later)),
+        Some(Forbidden::LunBusy) => {
+            if is_opening(Item::Cyc(cycle)) {
+                to_begin(state, cycle, later)
+            } else {
+                None
+            }
+        }
+        Some(Forbidden::NoColumnToChange | Forbidden::DataNotReady) => {
+            driving_working(state, cycle.ce)
+        }
+        Some(Forbidden::CacheReadMisplaced) => {
+            if is_opening(Item::Cyc(cycle)) {
+                driving_working(state, cycle.ce)
+            } else {
+                None
+            }
+        }
+        Some(
+            Forbidden::NotThere
+            | Forbidden::CommandUnknown
+            | Forbidden::SequenceOpen
+            | Forbidden::SeveralLuns
+            | Forbidden::CommandMisplaced
+            | Forbidden::AddressMisplaced
+            | Forbidden::RowOutside
+            | Forbidden::QueueClash
+            | Forbidden::InputMisplaced
+            | Forbidden::NoSoleDriver
+            | Forbidden::ColumnOutside,
+        ) => None,
+    }
+}
+
+// The rule that is broken without that ready: of an opener that breaks none, F9 at its last address.
+fn rule_without(rule: Option<Forbidden>) -> Forbidden
+    ensures { result ≡ rule_without rule }
+{
+    match rule {
+        None => Forbidden::LunBusy,
+        Some(rule) => rule,
+    }
+}
+
+// The LUN of a target that is taken for ready, if there is one, for this rule.
+fn unshown_of(ce: u8, rule: Forbidden, number: Option<u8>) -> Option<UnshownReady>
+    ensures { result ≡ unshown_of ce rule number }
+{
+    let lun = Lun { ce, lun: number? };
+    Some(UnshownReady { lun, rule })
+}
+
+/// The LUN that is taken for ready before an item.
+pub(crate) fn unshown(state: &BusState, item: Item, later: &[Item]) -> Option<UnshownReady>
+    ensures { result ≡ unshown state.now item later.now }
+{
+    let Item::Cyc(cycle) = item else {
+        return None;
+    };
+    let rule = state.judge(item);
+    let number = wanted_by(rule, state, cycle, later);
+    unshown_of(cycle.ce, rule_without(rule), number)
+}
+
+impl UnshownReady {
+    /// The ready that is taken for granted: without failure.
+    pub fn item(self) -> Item
+        ensures { result ≡ ready_for self }
+    {
+        Item::Rdy {
+            ce: self.lun.ce,
+            lun: self.lun.lun,
+            fail: false,
+        }
+    }
+}
+
+/// The ready that is taken for granted, if there is one.
+pub(crate) fn ready_taken(ready: Option<UnshownReady>) -> Option<Item>
+    ensures { result ≡ ready_taken ready }
+{
+    Some(ready?.item())
+}
