@@ -59,7 +59,7 @@ read_after setup stamped read more =
 
 -- the items of a dump, of which this much is read, with this text more
 abbrev pub dump_after : {A : Type 0} → DumpReader A → List Stamped → List ℕ → Result (List Stamped) CaptureFault
-dump_after d stamped rest = traced d.tracer stamped (told_at d.widths.entries d.standing (d.left.items ++ rest))
+dump_after d stamped rest = traced d.tracer stamped (told_at d.widths d.standing (d.left.items ++ rest))
 
 -- the items of a dump, of which this much is read or whose header isn't whole yet, with this text more
 abbrev pub comes_dump : {A : Type 0} → Option (DumpReader A) → Setup → (head : List ℕ) → List Stamped → List ℕ → Result (List Stamped) CaptureFault

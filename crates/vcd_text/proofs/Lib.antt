@@ -3,3 +3,4 @@ pub mod Begins
 pub mod Pieces
 pub mod Going
 pub mod Headers
+pub mod Looking

@@ -3,6 +3,8 @@ pub mod Tokens
 pub mod Header
 pub mod Sections
 pub mod Body
+pub mod Widths
+pub mod Scalars
 pub mod Shown
 pub mod Dumps
 pub mod Codes

@@ -7,7 +7,7 @@ use Rattle.vcd_text.proofs.body.Body.next_in_piece.Given as goal
 
 abbrev pub invariant-words : goal.invariant-words
 invariant-words g l = record {
-  told : IsProgress l.widths.entries l.initial.self (Ok l.progress) l.self;
+  told : IsProgress l.widths l.initial.self (Ok l.progress) l.self;
   goes_on : GoesOn l.initial.self.words l.self.words;
   shorter : IsShorter l.progress (length l.initial.self.words.rest.now) (length l.self.words.rest.now);
 }
