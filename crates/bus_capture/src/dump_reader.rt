@@ -16,6 +16,7 @@ use crate::reading::Setup;
 use crate::tracer::Tracer;
 use bus_signals::{RoleRefusal, Source, carriers_of, sources_of};
 use std::alloc::Allocator;
+use std::collections::BTreeMap;
 use vcd_text::{Body, Dump, Event, Standing, Variable, Widths, whole_len};
 
 // The next of what a piece tells.
@@ -90,6 +91,20 @@ fn join<A: Allocator>(alloc: A, first: &[u8], second: &[u8]) -> Result<Vec<u8, A
     Ok(text)
 }
 
+// The widths of a header, made for looking them up.
+fn widths_of<A: Allocator>(
+    alloc: A,
+    all: BTreeMap<u64, usize, A>,
+) -> Result<Widths<A>, CaptureRefusal>
+    ensures ok { IfOk result (λ w. w ≡ all.entries) }
+    ensures err { IfErr result (λ e. e ≡ CaptureRefusal.OutOfMemory) }
+{
+    match Widths::of(alloc, all) {
+        Ok(widths) => Ok(widths),
+        Err(_) => Err(CaptureRefusal::OutOfMemory),
+    }
+}
+
 /// A dump whose header is read: what is told of the bus so far, where reading is in its body, and the text that isn't read yet.
 #[derive(Drop)]
 pub(crate) struct DumpReader<A: Allocator> {
@@ -120,9 +135,7 @@ impl<A: Allocator + Clone> DumpReader<A> {
         let sources = find_sources(copy_of(&alloc)?, setup, header.variables.as_slice())?;
         let tracer = Tracer::begun(copy_of(&alloc)?, setup, sources)?;
         let left = join(copy_of(&alloc)?, body.rest(), tail)?;
-        let Ok(widths) = Widths::of(copy_of(&alloc)?, header.widths) else {
-            return Err(CaptureRefusal::OutOfMemory);
-        };
+        let widths = widths_of(copy_of(&alloc)?, header.widths)?;
         Ok(DumpReader {
             alloc,
             widths,

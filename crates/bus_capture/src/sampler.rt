@@ -59,6 +59,19 @@ fn is_known(level: Level) -> bool
 }
 
 #[inline(always)]
+fn is_same(first: Level, second: Level) -> bool
+    ensures { result ≡ true → first ≡ second }
+{
+    match (first, second) {
+        (Level::Low, Level::Low) | (Level::High, Level::High) | (Level::Unknown, Level::Unknown) =>
+            true,
+        (Level::Low, Level::High | Level::Unknown)
+        | (Level::High, Level::Low | Level::Unknown)
+        | (Level::Unknown, Level::Low | Level::High) => false,
+    }
+}
+
+#[inline(always)]
 fn item_of(seen: Seen) -> Option<Item>
     ensures { result ≡ item_of seen }
 {
@@ -229,6 +242,12 @@ impl Sampler {
         requires few { self.now.targets ≤ 4 }
         ensures { result ≡ strobe_seen self.now strobe known }
     {
+        if is_same(
+            self.before.level(strobe.line()),
+            self.after.level(strobe.line()),
+        ) {
+            return Ok(Seen::Nothing);
+        }
         let short = is_short(self.glitch, self.time, known.since);
         let _ = steady(self.targets, strobe, short, &self.before, &self.after)?;
         seen_of(

@@ -4,3 +4,4 @@ pub mod Pieces
 pub mod Going
 pub mod Headers
 pub mod Looking
+pub mod Digits

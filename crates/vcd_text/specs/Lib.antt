@@ -5,6 +5,7 @@ pub mod Sections
 pub mod Body
 pub mod Widths
 pub mod Scalars
+pub mod Timed
 pub mod Shown
 pub mod Dumps
 pub mod Codes

@@ -1,5 +1,5 @@
 -- A change of one bit in a line of its own, whose code has one character.
-use Rattle.std.specs.Prelude.{◌≡◌, ℕ, Bool, true, false, List, [], ◌∷◌, ◌++◌}
+use Rattle.std.specs.Prelude.{◌≡◌, ℕ, true, false, List, [], ◌∷◌, ◌++◌}
 use Rattle.vcd_text.specs.declared.scalar.Scalar.{Scalar}
 use Rattle.vcd_text.specs.Tokens.{level_of, is_known}
 use Rattle.vcd_text.specs.Words.{is_blank}

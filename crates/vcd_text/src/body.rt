@@ -7,6 +7,7 @@ ghost use Rattle.vcd_text.specs.Shown.{IsTelling, IsSaid, IsCoded, IsProgress, I
 
 use crate::fault::{DumpFault, LineFault};
 use crate::scalar::Scalar;
+use crate::timed::Timed;
 use crate::tokens::{are_bits, code_of, decimal, is_bit, is_named};
 use crate::widths::Widths;
 use crate::words::Words;
@@ -343,13 +344,11 @@ impl<'a> Body<'a> {
     #[inline(always)]
     fn read_scalar<A: Allocator>(&mut self, widths: &Widths<A>) -> Option<Event<'a>>
         requires room { self.old.words.line + length self.old.words.rest.now < 2 ^ 64 }
+        requires anything { self.old.next ≡ Next.Anything }
         ensures told { IfSome result (λ e. IsProgress widths.now self.old (Ok (Progress.Told e)) self.new) }
         ensures moves { IfSome result (λ e. Moves self.old (Ok (Progress.Told e)) self.new) }
         ensures none { IfNone result (self.new ≡ self.old) }
     {
-        if !matches!(self.next, Next::Anything) {
-            return None;
-        }
         let scalar = Scalar::in_line(self.words.rest)?;
         let code = u64::from(scalar.code);
         let _ = widths.get(code)?;
@@ -362,6 +361,43 @@ impl<'a> Body<'a> {
         })
     }
 
+    // Reads the next line if it is a time.
+    #[inline(always)]
+    fn read_time(&mut self) -> Option<Event<'a>>
+        requires room { self.old.words.line + length self.old.words.rest.now < 2 ^ 64 }
+        requires anything { self.old.next ≡ Next.Anything }
+        ensures told { IfSome result (λ e. (widths : List (ℕ × ℕ)) → IsProgress widths self.old (Ok (Progress.Told e)) self.new) }
+        ensures moves { IfSome result (λ e. Moves self.old (Ok (Progress.Told e)) self.new) }
+        ensures none { IfNone result (self.new ≡ self.old) }
+    {
+        let timed = Timed::in_line(self.words.rest)?;
+        if timed.time < self.time {
+            return None;
+        }
+        self.words.line += 1;
+        self.words.rest = timed.rest;
+        self.line = self.words.line;
+        self.time = timed.time;
+        Some(Event::Time(timed.time))
+    }
+
+    // Reads the next line if it is a time or such a change.
+    #[inline(always)]
+    fn read_line<A: Allocator>(&mut self, widths: &Widths<A>) -> Option<Event<'a>>
+        requires room { self.old.words.line + length self.old.words.rest.now < 2 ^ 64 }
+        ensures told { IfSome result (λ e. IsProgress widths.now self.old (Ok (Progress.Told e)) self.new) }
+        ensures moves { IfSome result (λ e. Moves self.old (Ok (Progress.Told e)) self.new) }
+        ensures none { IfNone result (self.new ≡ self.old) }
+    {
+        if !matches!(self.next, Next::Anything) {
+            return None;
+        }
+        match self.read_scalar(widths) {
+            Some(event) => Some(event),
+            None => self.read_time(),
+        }
+    }
+
     // Reads a word, and where it has the bits of a vector its code too, if that is there.
     #[inline(always)]
     #[tactic(auto, using(crate::proofs::Going::coded_moves))]
@@ -370,9 +406,6 @@ impl<'a> Body<'a> {
         ensures told { IsProgress widths.now self.old result self.new }
         ensures moves { Moves self.old result self.new }
     {
-        if let Some(event) = self.read_scalar(widths) {
-            return Ok(Progress::Told(event));
-        }
         let mut words = self.words;
         let Some(word) = words.next_word() else {
             self.words = words;
@@ -398,11 +431,9 @@ impl<'a> Body<'a> {
         }
     }
 
-    /// The next of what a piece of a dump tells, with the widths of its header; None where no whole change is left in it. What is left then
-    /// ([`Body::rest`]) is to stand in front of the next piece. A piece ends in white space, or it is the last. After a fault nothing more is to be asked for.
-    #[inline(always)]
+    // The same as [`Body::next_in_piece`], word by word.
     #[tactic(auto, using(crate::proofs::Going::progress_on, crate::proofs::Going::goes_on, crate::proofs::Going::shorter_on))]
-    pub fn next_in_piece<A: Allocator>(
+    fn next_by_words<A: Allocator>(
         &mut self,
         widths: &Widths<A>,
     ) -> Result<Option<Event<'a>>, LineFault>
@@ -418,6 +449,24 @@ impl<'a> Body<'a> {
         match progress {
             Progress::Told(event) => Ok(Some(event)),
             Progress::Quiet | Progress::Over => Ok(None),
+        }
+    }
+
+    /// The next of what a piece of a dump tells, with the widths of its header; None where no whole change is left in it. What is left then
+    /// ([`Body::rest`]) is to stand in front of the next piece. A piece ends in white space, or it is the last. After a fault nothing more is to be asked for.
+    #[inline(always)]
+    pub fn next_in_piece<A: Allocator>(
+        &mut self,
+        widths: &Widths<A>,
+    ) -> Result<Option<Event<'a>>, LineFault>
+        requires room { self.old.words.line + length self.old.words.rest.now < 2 ^ 64 }
+        ensures told { IsNext widths.now self.old result self.new }
+        ensures goes_on { GoesOn self.old.words self.new.words }
+        ensures shorter { IfOk result (λ o. IfSome o (λ _. length self.new.words.rest.now < length self.old.words.rest.now)) }
+    {
+        match self.read_line(widths) {
+            Some(event) => Ok(Some(event)),
+            None => self.next_by_words(widths),
         }
     }
 }

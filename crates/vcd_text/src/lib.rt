@@ -7,6 +7,7 @@ mod header;
 mod reading;
 mod scalar;
 mod section;
+mod timed;
 mod tokens;
 mod widths;
 mod words;

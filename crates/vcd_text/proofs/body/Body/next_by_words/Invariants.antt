@@ -3,7 +3,7 @@ use Rattle.std.specs.Prelude.{Ok}
 use Rattle.vcd_text.specs.Words.{GoesOn}
 use Rattle.vcd_text.specs.Shown.{IsProgress}
 use Rattle.vcd_text.proofs.Going.{left_to_read, IsShorter}
-use Rattle.vcd_text.proofs.body.Body.next_in_piece.Given as goal
+use Rattle.vcd_text.proofs.body.Body.next_by_words.Given as goal
 
 abbrev pub invariant-words : goal.invariant-words
 invariant-words g l = record {
