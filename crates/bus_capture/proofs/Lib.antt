@@ -4,3 +4,4 @@ pub mod Unchanged
 pub mod Looking
 pub mod Tracing
 pub mod Spanning
+pub mod Strobes

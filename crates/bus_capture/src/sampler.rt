@@ -1,5 +1,5 @@
 //! What is seen of a bus, from one time to the next.
-ghost use Rattle.std.specs.Prelude.{◌≡◌, ◌+◌, ◌*◌, ◌/◌, ◌%◌, ◌<◌, ◌≤◌, [], ◌∷◌, ◌++◌, Ok, IfErr, OnOk};
+ghost use Rattle.std.specs.Prelude.{◌≡◌, ◌+◌, ◌*◌, ◌/◌, ◌%◌, ◌<◌, ◌≤◌, [], ◌∷◌, ◌++◌, true, Ok, IfErr, OnOk};
 ghost use Rattle.bus_capture.specs.Sampling.{level, item_of};
 ghost use Rattle.bus_capture.specs.Capturing.{with_item, with_release, with_releases, with_readies, with_seen, at_time, settled, is_known, unknown, untouched, strobing_after, begun, later, changed, strobe_seen, IsSeen, IsRefusalOf};
 ghost use Rattle.bus_capture.specs.Still.{IsStill, IsStillUnless};
@@ -238,6 +238,7 @@ impl Sampler {
 
     // What is seen of a strobe now.
     #[inline(always)]
+    #[tactic(auto, using(crate::proofs::Strobes::nothing_seen))]
     fn look(&self, strobe: Strobe, known: Strobing) -> Result<Seen, BusFault>
         requires few { self.now.targets ≤ 4 }
         ensures { result ≡ strobe_seen self.now strobe known }

@@ -62,6 +62,7 @@ fn with_enable(level: Level, number: u8, enabled: Option<u8>) -> Result<Option<u
 }
 
 // The one chip that is enabled, of so many.
+#[tactic(auto, using(crate::proofs::Strobes::enabled_next))]
 fn enabled_of(levels: &Levels, targets: u8) -> Result<Option<u8>, BusFault>
     requires few { targets ≤ 4 }
     ensures { result ≡ enabled_from levels.now.of targets 0 None }
