@@ -79,8 +79,12 @@ pub(crate) fn find_sources<A: Allocator + Clone>(
     }
 }
 
-// One text after the other.
-fn join<A: Allocator>(alloc: A, first: &[u8], second: &[u8]) -> Result<Vec<u8, A>, CaptureRefusal>
+/// One text after the other.
+pub(crate) fn join<A: Allocator>(
+    alloc: A,
+    first: &[u8],
+    second: &[u8],
+) -> Result<Vec<u8, A>, CaptureRefusal>
     ensures ok { IfOk result (λ v. v.items ≡ first.now ++ second.now) }
     ensures err { IfErr result (λ e. e ≡ CaptureRefusal.OutOfMemory) }
 {
