@@ -56,8 +56,8 @@ pub(crate) enum Opened<A: Allocator> {
 /// the order of the file. Those of a CSV: of the row of names (G9), of the lines' signals (G3), and then of the rows (G9) and of the levels. `OutOfMemory` is
 /// answered only where memory was refused, or where a text has 2^64 lines. The items are on one of four targets, and of one of four LUNs.
 ///
-/// A dump takes memory for its header and for its longest word, a CSV for what stands above the rows and for its longest row, and both for what is seen after a rise of R/B# before it is known how the work ended (at most 65,536
-/// items).
+/// A dump takes memory for its header and for its longest word, a CSV for what stands above its rows and for its longest row, and both for what is seen after
+/// a rise of R/B# before it is known how the work ended (at most 65,536 items).
 #[derive(Drop)]
 pub struct CaptureReader<'m, A: Allocator> {
     alloc: A,
