@@ -15,13 +15,15 @@ use Rattle.bus_capture.specs.declared.sampler.Observation.TheVariants as observa
 use Rattle.bus_capture.specs.declared.sampler.Observed.{Observed}
 use Rattle.bus_capture.specs.declared.inferring.Stamped.{Stamped}
 use Rattle.bus_capture.specs.declared.dump_reader.DumpReader.{DumpReader}
+use Rattle.bus_capture.specs.declared.table_reader.TableReader.{TableReader}
+use Rattle.csv_text.specs.Shown as csv
 use Rattle.bus_capture.specs.declared.reading.Setup.{Setup}
 use Rattle.bus_capture.specs.declared.reading.CaptureReader.{CaptureReader}
 use Rattle.bus_capture.specs.declared.reading.CaptureForm.{CaptureForm}
 use Rattle.bus_capture.specs.declared.reading.CaptureForm.TheVariants as form
 use Rattle.bus_capture.specs.Capturing.{Shown, capturing, shown_in, shown_in_csv}
 use Rattle.bus_capture.specs.Inferring.{items_after, stamps, with_shown, state_after, sure_after, release_of, released, inferred_by, inferred}
-use Rattle.bus_capture.specs.Tracing.{inferred_on, traced, comes_dump, comes_as}
+use Rattle.bus_capture.specs.Tracing.{inferred_on, traced, comes_dump, last_of, comes_table, comes_as}
 use Rattle.bus_capture.specs.Fronts.{in_front, KeepsFront}
 
 shown_front : (sure : Bool) (state : BusView) (time : ℕ) (item : Item) (xs ys : List Stamped) → with_shown sure state time item (xs ++ ys) ≡ xs ++ with_shown sure state time item ys
@@ -74,12 +76,18 @@ traced_front t xs ys told =
 dump_front : {A : Type 0} (dump : Option (DumpReader A)) (setup : Setup) (head : List ℕ) (xs ys : List Stamped) (rest : List ℕ)
     → comes_dump dump setup head (xs ++ ys) rest ≡ in_front xs (comes_dump dump setup head ys rest)
 dump_front None setup head xs ys rest = shown_items_front (shown_in setup (head ++ rest)) setup xs ys
-dump_front (Some d) setup head xs ys rest = traced_front d.tracer xs ys (told_at d.widths.entries d.standing (d.left.items ++ rest))
+dump_front (Some d) setup head xs ys rest = traced_front d.tracer xs ys (told_at d.widths d.standing (d.left.items ++ rest))
 
-front_as : {A : Type 0} (f : CaptureForm) (dump : Option (DumpReader A)) (setup : Setup) (head : List ℕ) (xs ys : List Stamped) (rest : List ℕ)
-    → comes_as f dump setup head (xs ++ ys) rest ≡ in_front xs (comes_as f dump setup head ys rest)
-front_as form.Dump dump setup head xs ys rest = dump_front dump setup head xs ys rest
-front_as form.Table dump setup head xs ys rest = shown_items_front (shown_in_csv setup (head ++ rest)) setup xs ys
+table_front : {A : Type 0} (table : Option (TableReader A)) (setup : Setup) (head : List ℕ) (xs ys : List Stamped) (rest : List ℕ)
+    → comes_table table setup head (xs ++ ys) rest ≡ in_front xs (comes_table table setup head ys rest)
+table_front None setup head xs ys rest = shown_items_front (shown_in_csv setup (head ++ rest)) setup xs ys
+table_front (Some t) setup head xs ys rest =
+    traced_front t.tracer xs ys (csv.told_at t.standing t.names.items (last_of t.has_last t.last.items) (t.left.items ++ rest))
+
+front_as : {A : Type 0} (f : CaptureForm) (dump : Option (DumpReader A)) (table : Option (TableReader A)) (setup : Setup) (head : List ℕ) (xs ys : List Stamped) (rest : List ℕ)
+    → comes_as f dump table setup head (xs ++ ys) rest ≡ in_front xs (comes_as f dump table setup head ys rest)
+front_as form.Dump dump table setup head xs ys rest = dump_front dump setup head xs ys rest
+front_as form.Table dump table setup head xs ys rest = table_front table setup head xs ys rest
 
 pub keeps_front : {A : Type 0} (r : CaptureReader A) → KeepsFront r
-keeps_front r xs ys rest = front_as r.setup.now.form r.dump r.setup.now r.head.items xs ys rest
+keeps_front r xs ys rest = front_as r.setup.now.form r.dump r.table r.setup.now r.head.items xs ys rest

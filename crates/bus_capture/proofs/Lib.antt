@@ -5,3 +5,4 @@ pub mod Looking
 pub mod Tracing
 pub mod Spanning
 pub mod Fronts
+pub mod Strobes

@@ -16,7 +16,11 @@ use Rattle.vcd_text.specs.Shown.{told_at, told_before, told_left, place_of, stan
 use Rattle.vcd_text.specs.Dumps.{read_of, beginning}
 use Rattle.vcd_text.proofs.Going.{told_joins, before_none}
 use Rattle.vcd_text.proofs.Headers.{with_more, header_joins, header_fails}
-use Rattle.csv_text.specs.Rows.{rows}
+use Rattle.csv_text.specs.declared.rows.Row.{Row}
+use Rattle.csv_text.specs.declared.rows.Rows.{Rows}
+use Rattle.csv_text.specs.declared.body.Standing.{Standing as TableStanding}
+use Rattle.csv_text.specs.Rows.{rows, rows_from, AreLines, MayFollow as MayFollowLines}
+use Rattle.csv_text.specs.Shown.{rows_before, with_row, told_at as table_told}
 use Rattle.csv_text.specs.Table.{table_of}
 use Rattle.csv_text.specs.Table as table
 use Rattle.csv_text.specs.Body.{told}
@@ -37,9 +41,9 @@ use Rattle.bus_capture.specs.declared.tracer.Tracer.{Tracer}
 use Rattle.bus_capture.specs.declared.reading.Setup.{Setup}
 use Rattle.bus_capture.specs.declared.reading.CaptureForm.TheVariants as form
 use Rattle.bus_capture.specs.Sampling.{level, rises, item_of, ready_of}
-use Rattle.bus_capture.specs.Capturing.{with_item, with_release, with_releases, with_readies, with_seen, at_time, strobe_seen, settled, later, changed, capturing, in_file, in_roles, sources_in, told_items, tells_readies, IsRefusalOf}
+use Rattle.bus_capture.specs.Capturing.{with_item, with_release, with_releases, with_readies, with_seen, at_time, strobe_seen, settled, later, changed, capturing, in_roles, sources_in, told_items, tells_readies, IsRefusalOf}
 use Rattle.bus_capture.specs.Inferring.{items_after, captured_by}
-use Rattle.bus_capture.specs.Tracing.{MayFollow, inferred_on, traced, items_told, read_after}
+use Rattle.bus_capture.specs.Tracing.{MayFollow, inferred_on, traced, items_told, read_after, table_read}
 
 pub follows_none : (is_last : Bool) → MayFollow is_last []
 follows_none true = refl
@@ -204,16 +208,48 @@ fails_more setup stamped whole more f cut ended is = fails_last setup stamped (w
 
 -- ---- a CSV
 
-pub read_table : (setup : Setup) (stamped : List Stamped) (text : List ℕ) (t : table.Table) (sources : List Source) → in_file (table_of (rows text)) ≡ Ok t
-    → in_roles (sources_of setup.targets (map (carrier_of setup.mappings.now) t.columns.variables)) ≡ Ok sources
-    → captured_by form.Table setup stamped text ≡ items_told setup sources stamped (told t)
-read_table setup stamped text t sources is found = rw (is, found) (on (told_items setup sources (told t)))
+pub table_whole : (setup : Setup) (stamped : List Stamped) (text : List ℕ) (t : table.Table) → table_of (rows text) ≡ Ok t → captured_by form.Table setup stamped text ≡ table_read setup stamped t
+table_whole setup stamped text t is = rw is (at (in_roles (sources_of setup.targets (map (carrier_of setup.mappings.now) t.columns.variables))))
   where
-    on : (seen : Result (List Observed) CaptureFault)
+    on : (sources : List Source) (seen : Result (List Observed) CaptureFault)
         → ((seen >>= λ observed. Ok (record { observed = observed; tells_readies = tells_readies sources })) >>= λ shown. Ok (items_after setup stamped shown))
         ≡ (seen >>= λ observed. Ok (items_after setup stamped (record { observed = observed; tells_readies = tells_readies sources })))
-    on (Ok observed) = refl
-    on (Err e) = refl
+    on sources (Ok observed) = refl
+    on sources (Err e) = refl
+
+    at : (found : Result (List Source) CaptureFault)
+        → ((found >>= λ sources. told_items setup sources (told t) >>= λ observed. Ok (record { observed = observed; tells_readies = tells_readies sources }))
+        >>= λ shown. Ok (items_after setup stamped shown))
+        ≡ (found >>= λ sources. items_told setup sources stamped (told t))
+    at (Ok sources) = on sources (told_items setup sources (told t))
+    at (Err e) = refl
+
+pub table_fails : (setup : Setup) (stamped : List Stamped) (text : List ℕ) (f : LineFault) → table_of (rows text) ≡ Err f → captured_by form.Table setup stamped text ≡ Err (File f)
+table_fails setup stamped text f is = rw is refl
+
+-- a table as it is read on
+pub table_begins : {A : Type 0} (setup : Setup) (t : table.Table) (sources : List Source) (tracer : Tracer A) (st now_st : TableStanding) (names now_names text tail left rest : List ℕ) (stamped : List Stamped)
+    → in_roles (sources_of setup.targets (map (carrier_of setup.mappings.now) t.columns.variables)) ≡ Ok sources
+    → ((stamped : List Stamped) (told : List Told) → traced tracer stamped told ≡ items_told setup sources stamped told)
+    → told t ≡ table_told st names None (text ++ (tail ++ rest)) → now_st ≡ st → now_names ≡ names ++ [] → left ≡ text ++ tail
+    → table_read setup stamped t ≡ traced tracer stamped (table_told now_st now_names None (left ++ rest))
+table_begins setup t sources tracer st now_st names now_names text tail left rest stamped found law tells same_st same_names joined =
+    ap (λ (found : Result (List Source) CaptureFault). found >>= λ sources. items_told setup sources stamped (told t)) found
+    ∙ (sym (law stamped (told t))
+    ∙ ap (traced tracer stamped) (tells ∙ sym (
+    ap (λ s. table_told s now_names None (left ++ rest)) same_st
+    ∙ (ap (λ n. table_told st n None (left ++ rest)) (same_names ∙ append-nil names)
+    ∙ (ap (λ l. table_told st names None (l ++ rest)) joined ∙ ap (table_told st names None) (append_assoc text tail rest))))))
+
+-- its first row
+pub rows_open : (text more : List ℕ) (old new : Rows) (row : Option Row) → old.line ≡ 1 → old.rest.now ≡ text → rows_before old more ≡ with_row row (rows_before new more)
+    → rows (text ++ more) ≡ with_row row (rows_before new more)
+rows_open text more old new row first whole step =
+    ap (λ t. rows_from 1 [] (t ++ more)) (sym whole) ∙ (ap (λ line. rows_from line [] (old.rest.now ++ more)) (sym first) ∙ step)
+
+pub lines_follow : (text more : List ℕ) → AreLines text → MayFollowLines text more
+lines_follow text [] lines = tt
+lines_follow text (b ∷ more) lines = lines
 
 pub same_refusal : {A : Type 0} (e : CaptureRefusal) (x y : Result A CaptureFault) → x ≡ y → IsRefusalOf e y → IsRefusalOf e x
 same_refusal e x y same is = subst (IsRefusalOf e) (sym same) is
@@ -260,13 +296,6 @@ on_ok (Err e) P Q f h = tt
 pub if_err : {X E : Type 0} (r : Result X E) (P Q : E → Type 0) → ((e : E) → P e → Q e) → IfErr r P → IfErr r Q
 if_err (Ok x) P Q f h = tt
 if_err (Err e) P Q f h = f e h
-
-pub table_comes : {A : Type 0} (setup : Setup) (text : List ℕ) (t : table.Table) (sources : List Source) (tracer : Tracer A) (ts : List Told) → in_file (table_of (rows text)) ≡ Ok t
-    → in_roles (sources_of setup.targets (map (carrier_of setup.mappings.now) t.columns.variables)) ≡ Ok sources
-    → ((stamped : List Stamped) (told : List Told) → traced tracer stamped told ≡ items_told setup sources stamped told) → ts ≡ told t
-    → (stamped : List Stamped) → captured_by form.Table setup stamped text ≡ traced tracer stamped ts
-table_comes setup text t sources tracer ts is found begun same stamped =
-    read_table setup stamped text t sources is found ∙ (sym (begun stamped (told t)) ∙ ap (traced tracer stamped) (sym same))
 
 pub two_pieces : (n : ℕ) (head rest : List ℕ) → head ++ rest ≡ take n head ++ (drop n head ++ rest)
 two_pieces n head rest = ap (λ text. text ++ rest) (sym (take-append-drop n head)) ∙ append_assoc (take n head) (drop n head) rest

@@ -41,7 +41,7 @@ no_fall Unknown = refl
 falls_not : (was is : Level) → was ≡ is → falls was is ≡ false
 falls_not was is same = subst (λ l. falls was l ≡ false) same (no_fall was)
 
-rises_not : (was is : Level) → was ≡ is → rises was is ≡ false
+pub rises_not : (was is : Level) → was ≡ is → rises was is ≡ false
 rises_not was is same = subst (λ l. rises was l ≡ false) same (no_rise was)
 
 none_falls : (low b c d : Bool) (x y : Item) → b ≡ false → c ≡ false → cond b (Some x) (cond (low && (c && d)) (Some y) None) ≡ None

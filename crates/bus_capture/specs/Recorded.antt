@@ -9,14 +9,14 @@ use Rattle.bus_capture.specs.declared.fault.CaptureFault.TheVariants.{File, Role
 use Rattle.bus_capture.specs.declared.fault.CaptureRefusal.{CaptureRefusal}
 use Rattle.bus_capture.specs.declared.fault.CaptureRefusal.TheVariants.{Fault, OutOfMemory}
 
--- an answer is the first of what is told, after which these are left; or there is nothing, or a fault of the file
-abbrev pub IsNext : Result (Option Event) CaptureRefusal → List Told → List Told → Type 0
-IsNext (Ok (Some e)) told later = told ≡ Ok (shown_event e) ∷ later
-IsNext (Ok None) told later = told ≡ []
-IsNext (Err (Fault (File f))) told later = told ≡ Err f ∷ []
-IsNext (Err (Fault (Role f))) told later = ⊥
-IsNext (Err (Fault (Bus f time))) told later = ⊥
-IsNext (Err OutOfMemory) told later = ⊥
+-- an answer is the first of what is told, after which these are left; or there was nothing in front of these, or a fault of the file
+abbrev pub IsRead : Result (Option Event) CaptureRefusal → (told later : List Told) → Type 0
+IsRead (Ok (Some e)) told later = told ≡ Ok (shown_event e) ∷ later
+IsRead (Ok None) told later = told ≡ later
+IsRead (Err (Fault (File f))) told later = told ≡ Err f ∷ []
+IsRead (Err (Fault (Role f))) told later = ⊥
+IsRead (Err (Fault (Bus f time))) told later = ⊥
+IsRead (Err OutOfMemory) told later = ⊥
 
 -- the same of a piece of a dump, whatever words come later
 abbrev pub IsNextOf : Widths → Body → Result (Option Event) CaptureRefusal → Body → Type 0

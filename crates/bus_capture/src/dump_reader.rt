@@ -17,16 +17,16 @@ use crate::tracer::Tracer;
 use bus_signals::{RoleRefusal, Source, carriers_of, sources_of};
 use std::alloc::Allocator;
 use std::collections::BTreeMap;
-use vcd_text::{Body, Dump, Event, Standing, Variable, whole_len};
+use vcd_text::{Body, Dump, Event, Standing, Variable, Widths, whole_len};
 
 // The next of what a piece tells.
 #[inline(always)]
 fn next_of<'a, A: Allocator>(
     body: &mut Body<'a>,
-    widths: &BTreeMap<u64, usize, A>,
+    widths: &Widths<A>,
 ) -> Result<Option<Event<'a>>, CaptureRefusal>
     requires room { body.old.words.line + length body.old.words.rest.now < 2 ^ 64 }
-    ensures told { IsNextOf widths.now.entries body.old result body.new }
+    ensures told { IsNextOf widths.now body.old result body.new }
     ensures goes_on { GoesOn body.old.words body.new.words }
     ensures shorter { IfOk result (λ o. IfSome o (λ _. length body.new.words.rest.now < length body.old.words.rest.now)) }
 {
@@ -39,17 +39,17 @@ fn next_of<'a, A: Allocator>(
 // Goes on by what a piece tells.
 fn take_events<A: Allocator + Clone>(
     tracer: &mut Tracer<A>,
-    widths: &BTreeMap<u64, usize, A>,
+    widths: &Widths<A>,
     body: &mut Body<'_>,
 ) -> Result<(), CaptureRefusal>
     requires tracing { IsTracing tracer.old }
     requires room { body.old.words.line + length body.old.words.rest.now < 2 ^ 64 }
-    ensures ok { OnOk result ((stamped : List Stamped) (more : List Word) → traced tracer.old stamped (told_before widths.now.entries body.old more)
-        ≡ traced tracer.new stamped (told_before widths.now.entries body.new more)) }
+    ensures ok { OnOk result ((stamped : List Stamped) (more : List Word) → traced tracer.old stamped (told_before widths.now body.old more)
+        ≡ traced tracer.new stamped (told_before widths.now body.new more)) }
     ensures tracing { OnOk result (IsTracing tracer.new) }
-    ensures over { OnOk result (IsOver widths.now.entries body.new) }
+    ensures over { OnOk result (IsOver widths.now body.new) }
     ensures goes_on { OnOk result (GoesOn body.old.words body.new.words) }
-    ensures err { IfErr result (λ e. (stamped : List Stamped) (more : List Word) → IsRefusalOf e (traced tracer.old stamped (told_before widths.now.entries body.old more))) }
+    ensures err { IfErr result (λ e. (stamped : List Stamped) (more : List Word) → IsRefusalOf e (traced tracer.old stamped (told_before widths.now body.old more))) }
 {
     'events: while let Some(event) = next_of(body, widths)? {
         tracer.take_event(event)?;
@@ -79,8 +79,12 @@ pub(crate) fn find_sources<A: Allocator + Clone>(
     }
 }
 
-// One text after the other.
-fn join<A: Allocator>(alloc: A, first: &[u8], second: &[u8]) -> Result<Vec<u8, A>, CaptureRefusal>
+/// One text after the other.
+pub(crate) fn join<A: Allocator>(
+    alloc: A,
+    first: &[u8],
+    second: &[u8],
+) -> Result<Vec<u8, A>, CaptureRefusal>
     ensures ok { IfOk result (λ v. v.items ≡ first.now ++ second.now) }
     ensures err { IfErr result (λ e. e ≡ CaptureRefusal.OutOfMemory) }
 {
@@ -91,11 +95,25 @@ fn join<A: Allocator>(alloc: A, first: &[u8], second: &[u8]) -> Result<Vec<u8, A
     Ok(text)
 }
 
+// The widths of a header, made for looking them up.
+fn widths_of<A: Allocator>(
+    alloc: A,
+    all: BTreeMap<u64, usize, A>,
+) -> Result<Widths<A>, CaptureRefusal>
+    ensures ok { IfOk result (λ w. w ≡ all.entries) }
+    ensures err { IfErr result (λ e. e ≡ CaptureRefusal.OutOfMemory) }
+{
+    match Widths::of(alloc, all) {
+        Ok(widths) => Ok(widths),
+        Err(_) => Err(CaptureRefusal::OutOfMemory),
+    }
+}
+
 /// A dump whose header is read: what is told of the bus so far, where reading is in its body, and the text that isn't read yet.
 #[derive(Drop)]
 pub(crate) struct DumpReader<A: Allocator> {
     alloc: A,
-    widths: BTreeMap<u64, usize, A>,
+    widths: Widths<A>,
     standing: Standing,
     left: Vec<u8, A>,
     pub(crate) tracer: Tracer<A>,
@@ -121,9 +139,10 @@ impl<A: Allocator + Clone> DumpReader<A> {
         let sources = find_sources(copy_of(&alloc)?, setup, header.variables.as_slice())?;
         let tracer = Tracer::begun(copy_of(&alloc)?, setup, sources)?;
         let left = join(copy_of(&alloc)?, body.rest(), tail)?;
+        let widths = widths_of(copy_of(&alloc)?, header.widths)?;
         Ok(DumpReader {
             alloc,
-            widths: header.widths,
+            widths,
             standing: body.standing(),
             left,
             tracer,

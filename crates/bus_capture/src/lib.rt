@@ -2,7 +2,6 @@
 #![tactic(auto)]
 
 mod ahead;
-mod csv_capturing;
 mod dump_reader;
 mod fault;
 mod inferring;
@@ -12,6 +11,7 @@ mod reading;
 mod sampler;
 mod sampling;
 mod spans;
+mod table_reader;
 mod tracer;
 
 pub use fault::{BusFault, CaptureFault, CaptureRefusal};

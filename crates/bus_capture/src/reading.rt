@@ -3,16 +3,17 @@ ghost use Rattle.std.specs.Prelude.{◌≡◌, ◌≤◌, ◌++◌, List, ℕ, [
 ghost use Rattle.bus_capture.specs.Capturing.{IsRefusalOf};
 ghost use Rattle.bus_capture.specs.Inferring.{captured_by, captured_after, captured};
 ghost use Rattle.bus_capture.specs.Inside.{AreInside};
-ghost use Rattle.bus_capture.specs.Tracing.{comes, comes_dump, dump_after, IsReading, IsCapturing, IsTracing, OpensAs};
+ghost use Rattle.bus_capture.specs.Tracing.{comes, comes_dump, comes_table, dump_after, table_after, IsReading, IsCapturing, IsTabling, IsTablingIf, IsTracing, OpensAs, OpensTable};
 
-use crate::csv_capturing::read_table_into;
 use crate::dump_reader::DumpReader;
 use crate::fault::{CaptureFault, CaptureRefusal, copy_of};
 use crate::inferring::Stamped;
+use crate::table_reader::TableReader;
 use bus_signals::Mapping;
+use csv_text::{Rows, name_columns, whole_lines_len};
 use nand_geometry::Geometry;
 use std::alloc::Allocator;
-use vcd_text::{HeaderRefusal, LineFault, read_header, whole_len};
+use vcd_text::{DumpFault, HeaderRefusal, LineFault, read_header, whole_len};
 
 /// As what a capture is read.
 #[derive(Clone, Copy, Debug, PartialEq, Eq)]
@@ -55,16 +56,17 @@ pub(crate) enum Opened<A: Allocator> {
 /// the order of the file. Those of a CSV: of the row of names (G9), of the lines' signals (G3), and then of the rows (G9) and of the levels. `OutOfMemory` is
 /// answered only where memory was refused, or where a text has 2^64 lines. The items are on one of four targets, and of one of four LUNs.
 ///
-/// A dump takes memory for its header, for its longest word, and for what is seen after a rise of R/B# before it is known how the work ended (at most 65,536
-/// items); a CSV is kept whole until its end.
+/// A dump takes memory for its header and for its longest word, a CSV for what stands above its rows and for its longest row, and both for what is seen after
+/// a rise of R/B# before it is known how the work ended (at most 65,536 items).
 #[derive(Drop)]
 pub struct CaptureReader<'m, A: Allocator> {
     alloc: A,
     setup: &'m Setup<'m>,
-    // The text whose header isn't whole yet, and how long it was when that was last tried.
+    // The text whose header or row of names isn't whole yet, and how long it was when that was last tried.
     head: Vec<u8, A>,
     tried: usize,
     dump: Option<DumpReader<A>>,
+    table: Option<TableReader<A>>,
 }
 
 impl<'m, A: Allocator + Clone> CaptureReader<'m, A> {
@@ -84,6 +86,7 @@ impl<'m, A: Allocator + Clone> CaptureReader<'m, A> {
             head: Vec::new(copy),
             tried: 0,
             dump: None,
+            table: None,
         })
     }
 
@@ -110,10 +113,38 @@ impl<'m, A: Allocator + Clone> CaptureReader<'m, A> {
             Err(HeaderRefusal::OutOfMemory) => Err(CaptureRefusal::OutOfMemory),
         }
     }
-    // Takes a piece of a text whose header isn't whole, or of a CSV.
+
+    // Reads the row of names of a CSV, with this text after it, if it is there.
+    fn open_table(
+        &self,
+        whole: &[u8],
+        tail: &[u8],
+    ) -> Result<Option<TableReader<A>>, CaptureRefusal>
+        requires few { self.now.setup.now.targets ≤ 4 }
+        ensures { OpensTable self.now.setup.now whole.now tail.now result }
+    {
+        let copy = copy_of(&self.alloc)?;
+        let other = copy_of(&self.alloc)?;
+        let mut rows = Rows::of(whole);
+        let Some(row) = rows.next_row() else {
+            return Ok(None);
+        };
+        match name_columns(copy, row, rows) {
+            Ok(table) => match TableReader::begun(other, self.setup, table, tail) {
+                Ok(reader) => Ok(Some(reader)),
+                Err(refusal) => Err(refusal),
+            },
+            Err(HeaderRefusal::Fault(fault)) => {
+                Err(CaptureRefusal::Fault(CaptureFault::File(fault)))
+            }
+            Err(HeaderRefusal::OutOfMemory) => Err(CaptureRefusal::OutOfMemory),
+        }
+    }
+
+    // Takes a piece of a text whose header or row of names isn't whole.
     fn push_head(&mut self, piece: &[u8]) -> Result<(), CaptureRefusal>
         ensures head { OnOk result (self.new.head.items ≡ self.old.head.items ++ piece.now) }
-        ensures same { (self.new.setup ≡ self.old.setup) × (self.new.dump ≡ self.old.dump) }
+        ensures same { (self.new.setup ≡ self.old.setup) × (self.new.dump ≡ self.old.dump) × (self.new.table ≡ self.old.table) }
         ensures err { IfErr result (λ e. e ≡ CaptureRefusal.OutOfMemory) }
     {
         match self.head.extend_from_slice(piece) {
@@ -130,7 +161,7 @@ impl<'m, A: Allocator + Clone> CaptureReader<'m, A> {
             ≡ comes_dump self.new.dump self.new.setup.now self.new.head.items stamped rest) }
         ensures err { IfErr result (λ e. (stamped : List Stamped) (rest : List ℕ) → IsRefusalOf e (captured_by CaptureForm.Dump self.old.setup.now stamped (self.old.head.items ++ rest))) }
         ensures reading { OnOk result (IsReading self.new.dump) }
-        ensures same { self.new.setup ≡ self.old.setup }
+        ensures same { (self.new.setup ≡ self.old.setup) × (self.new.table ≡ self.old.table) }
     {
         let count = whole_len(self.head.as_slice());
         let (whole, tail) = self.head.as_slice().split_at(count);
@@ -143,6 +174,29 @@ impl<'m, A: Allocator + Clone> CaptureReader<'m, A> {
         }
         Ok(())
     }
+
+    // Goes on to the rows of a CSV if its row of names is there.
+    fn open_table_head(&mut self) -> Result<(), CaptureRefusal>
+        requires few { self.old.setup.now.targets ≤ 4 }
+        requires none { self.old.table ≡ None }
+        ensures ok { OnOk result ((stamped : List Stamped) (rest : List ℕ) → captured_by CaptureForm.Table self.old.setup.now stamped (self.old.head.items ++ rest)
+            ≡ comes_table self.new.table self.new.setup.now self.new.head.items stamped rest) }
+        ensures err { IfErr result (λ e. (stamped : List Stamped) (rest : List ℕ) → IsRefusalOf e (captured_by CaptureForm.Table self.old.setup.now stamped (self.old.head.items ++ rest))) }
+        ensures tabling { OnOk result (IsTablingIf self.new.table) }
+        ensures same { (self.new.setup ≡ self.old.setup) × (self.new.dump ≡ self.old.dump) }
+    {
+        let count = whole_lines_len(self.head.as_slice());
+        let (whole, tail) = self.head.as_slice().split_at(count);
+        match self.open_table(whole, tail)? {
+            Some(table) => {
+                self.table = Some(table);
+                self.head.clear();
+            }
+            None => self.tried = self.head.len(),
+        }
+        Ok(())
+    }
+
     // Takes a piece of a dump.
     fn take_dump<B: Allocator>(
         &mut self,
@@ -168,6 +222,34 @@ impl<'m, A: Allocator + Clone> CaptureReader<'m, A> {
         Ok(())
     }
 
+    // Takes a piece of a CSV.
+    fn take_table<B: Allocator>(
+        &mut self,
+        piece: &[u8],
+        stamped: &mut Vec<Stamped, B>,
+    ) -> Result<(), CaptureRefusal>
+        requires capturing { IsCapturing self.old }
+        requires inside { AreInside stamped.old.items }
+        ensures ok { OnOk result ((rest : List ℕ) → comes_table self.old.table self.old.setup.now self.old.head.items stamped.old.items (piece.now ++ rest)
+            ≡ comes_table self.new.table self.new.setup.now self.new.head.items stamped.new.items rest) }
+        ensures capturing { OnOk result (IsCapturing self.new) }
+        ensures inside { OnOk result (AreInside stamped.new.items) }
+        ensures same { self.new.setup ≡ self.old.setup }
+        ensures err { IfErr result (λ e. (rest : List ℕ) → IsRefusalOf e (comes_table self.old.table self.old.setup.now self.old.head.items stamped.old.items (piece.now ++ rest))) }
+    {
+        if let Some(table) = &mut self.table {
+            return table.take(piece, stamped);
+        }
+        self.push_head(piece)?;
+        if self.tried <= self.head.len() / 2 {
+            return match self.open_table_head() {
+                Ok(()) => Ok(()),
+                Err(refusal) => Err(refusal),
+            };
+        }
+        Ok(())
+    }
+
     /// Goes on by a piece of the text, of any length, and adds the items that are known then. After a refusal nothing more is to be asked for.
     pub fn take<B: Allocator>(
         &mut self,
@@ -183,7 +265,7 @@ impl<'m, A: Allocator + Clone> CaptureReader<'m, A> {
     {
         match self.setup.form {
             CaptureForm::Dump => self.take_dump(piece, stamped),
-            CaptureForm::Table => self.push_head(piece),
+            CaptureForm::Table => self.take_table(piece, stamped),
         }
     }
 
@@ -219,6 +301,41 @@ impl<'m, A: Allocator + Clone> CaptureReader<'m, A> {
         Ok(dump.tracer.unselected)
     }
 
+    // The CSV at its end: its row of names has to be there.
+    fn open_last_table(&mut self) -> Result<TableReader<A>, CaptureRefusal>
+        requires capturing { IsCapturing self.old }
+        ensures ok { IfOk result (λ t. (stamped : List Stamped) → comes_table self.old.table self.old.setup.now self.old.head.items stamped [] ≡ table_after t stamped []) }
+        ensures tabling { IfOk result (λ t. IsTabling t) }
+        ensures err { IfErr result (λ e. (stamped : List Stamped) → IsRefusalOf e (comes_table self.old.table self.old.setup.now self.old.head.items stamped [])) }
+    {
+        if let Some(table) = self.table.take() {
+            return Ok(table);
+        }
+        match self.open_table(self.head.as_slice(), &[])? {
+            Some(table) => Ok(table),
+            None => Err(CaptureRefusal::Fault(CaptureFault::File(LineFault {
+                fault: DumpFault::NoColumnNames,
+                line: 1,
+            }))),
+        }
+    }
+
+    // Adds the items that are left of a CSV: how many strobes rose with no chip enabled.
+    fn finish_table<B: Allocator>(
+        &mut self,
+        stamped: &mut Vec<Stamped, B>,
+    ) -> Result<u64, CaptureRefusal>
+        requires capturing { IsCapturing self.old }
+        requires inside { AreInside stamped.old.items }
+        ensures ok { OnOk result (comes_table self.old.table self.old.setup.now self.old.head.items stamped.old.items [] ≡ Ok stamped.new.items) }
+        ensures inside { OnOk result (AreInside stamped.new.items) }
+        ensures err { IfErr result (λ e. IsRefusalOf e (comes_table self.old.table self.old.setup.now self.old.head.items stamped.old.items [])) }
+    {
+        let mut table = self.open_last_table()?;
+        table.finish(stamped)?;
+        Ok(table.tracer.unselected)
+    }
+
     /// Adds the items that are left where the text ends: how many strobes rose with no chip enabled. Nothing more is to be asked for then.
     pub fn finish<B: Allocator>(
         &mut self,
@@ -232,12 +349,7 @@ impl<'m, A: Allocator + Clone> CaptureReader<'m, A> {
     {
         match self.setup.form {
             CaptureForm::Dump => self.finish_dump(stamped),
-            CaptureForm::Table => {
-                let Ok(copy) = self.alloc.clone() else {
-                    return Err(CaptureRefusal::OutOfMemory);
-                };
-                read_table_into(copy, self.setup, self.head.as_slice(), stamped)
-            }
+            CaptureForm::Table => self.finish_table(stamped),
         }
     }
 }

@@ -1,5 +1,5 @@
 //! What is seen of a bus, from one time to the next.
-ghost use Rattle.std.specs.Prelude.{◌≡◌, ◌+◌, ◌*◌, ◌/◌, ◌%◌, ◌<◌, ◌≤◌, [], ◌∷◌, ◌++◌, Ok, IfErr, OnOk};
+ghost use Rattle.std.specs.Prelude.{◌≡◌, ◌+◌, ◌*◌, ◌/◌, ◌%◌, ◌<◌, ◌≤◌, [], ◌∷◌, ◌++◌, true, Ok, IfErr, OnOk};
 ghost use Rattle.bus_capture.specs.Sampling.{level, item_of};
 ghost use Rattle.bus_capture.specs.Capturing.{with_item, with_release, with_releases, with_readies, with_seen, at_time, settled, is_known, unknown, untouched, strobing_after, begun, later, changed, strobe_seen, IsSeen, IsRefusalOf};
 ghost use Rattle.bus_capture.specs.Still.{IsStill, IsStillUnless};
@@ -55,6 +55,19 @@ fn is_known(level: Level) -> bool
     match level {
         Level::Low | Level::High => true,
         Level::Unknown => false,
+    }
+}
+
+#[inline(always)]
+fn is_same(first: Level, second: Level) -> bool
+    ensures { result ≡ true → first ≡ second }
+{
+    match (first, second) {
+        (Level::Low, Level::Low) | (Level::High, Level::High) | (Level::Unknown, Level::Unknown) =>
+            true,
+        (Level::Low, Level::High | Level::Unknown)
+        | (Level::High, Level::Low | Level::Unknown)
+        | (Level::Unknown, Level::Low | Level::High) => false,
     }
 }
 
@@ -225,10 +238,17 @@ impl Sampler {
 
     // What is seen of a strobe now.
     #[inline(always)]
+    #[tactic(auto, using(crate::proofs::Strobes::nothing_seen))]
     fn look(&self, strobe: Strobe, known: Strobing) -> Result<Seen, BusFault>
         requires few { self.now.targets ≤ 4 }
         ensures { result ≡ strobe_seen self.now strobe known }
     {
+        if is_same(
+            self.before.level(strobe.line()),
+            self.after.level(strobe.line()),
+        ) {
+            return Ok(Seen::Nothing);
+        }
         let short = is_short(self.glitch, self.time, known.since);
         let _ = steady(self.targets, strobe, short, &self.before, &self.after)?;
         seen_of(

@@ -26,7 +26,7 @@ pub enum Seen {
 
 impl Strobe {
     #[inline(always)]
-    fn line(self) -> Role
+    pub(crate) fn line(self) -> Role
         ensures { result ≡ line_of self }
     {
         match self {
@@ -35,6 +35,7 @@ impl Strobe {
         }
     }
 
+    #[inline(always)]
     fn other_line(self) -> Role
         ensures { result ≡ other_line self }
     {
@@ -46,6 +47,7 @@ impl Strobe {
 }
 
 // Whether one more chip is enabled, after some.
+#[inline(always)]
 fn with_enable(level: Level, number: u8, enabled: Option<u8>) -> Result<Option<u8>, BusFault>
     ensures { result ≡ with_enable level number enabled }
 {
@@ -59,25 +61,25 @@ fn with_enable(level: Level, number: u8, enabled: Option<u8>) -> Result<Option<u
     }
 }
 
-// The one chip that is enabled, of so many from this number on.
-fn enabled_from(
-    levels: &Levels,
-    count: u8,
-    number: u8,
-    enabled: Option<u8>,
-) -> Result<Option<u8>, BusFault>
-    requires few { count + number ≤ 4 }
-    ensures { result ≡ enabled_from levels.now.of count number enabled }
+// The one chip that is enabled, of so many.
+#[tactic(auto, using(crate::proofs::Strobes::enabled_next))]
+fn enabled_of(levels: &Levels, targets: u8) -> Result<Option<u8>, BusFault>
+    requires few { targets ≤ 4 }
+    ensures { result ≡ enabled_from levels.now.of targets 0 None }
 {
-    if count == 0 {
-        return Ok(enabled);
+    let mut enabled = None;
+    let mut number = 0;
+    'numbers: while number < targets {
+        match with_enable(levels.level(Role::Enable(number)), number, enabled) {
+            Ok(now) => enabled = now,
+            Err(fault) => return Err(fault),
+        }
+        number += 1;
     }
-    match with_enable(levels.level(Role::Enable(number)), number, enabled) {
-        Ok(now) => enabled_from(levels, count - 1, number + 1, now),
-        Err(fault) => Err(fault),
-    }
+    Ok(enabled)
 }
 
+#[inline(always)]
 fn written_kind(cle: Level, ale: Level) -> Result<Kind, BusFault>
     ensures { result ≡ written_kind cle ale }
 {
@@ -92,6 +94,7 @@ fn written_kind(cle: Level, ale: Level) -> Result<Kind, BusFault>
     }
 }
 
+#[inline(always)]
 fn read_kind(cle: Level, ale: Level) -> Result<Kind, BusFault>
     ensures { result ≡ read_kind cle ale }
 {
@@ -106,6 +109,7 @@ fn read_kind(cle: Level, ale: Level) -> Result<Kind, BusFault>
     }
 }
 
+#[inline(always)]
 fn kind_of(strobe: Strobe, levels: &Levels) -> Result<Kind, BusFault>
     ensures { result ≡ kind_of strobe levels.now.of }
 {
@@ -118,6 +122,7 @@ fn kind_of(strobe: Strobe, levels: &Levels) -> Result<Kind, BusFault>
 }
 
 // A bit of DQ, by its weight.
+#[inline(always)]
 fn weighed(level: Level, weight: u8) -> Result<u8, BusFault>
     ensures value { result ≡ weighed level weight }
     ensures most { IfOk result (λ n. n ≤ weight) }
@@ -129,6 +134,7 @@ fn weighed(level: Level, weight: u8) -> Result<u8, BusFault>
     }
 }
 
+#[inline(always)]
 fn byte_of(levels: &Levels) -> Result<u8, BusFault>
     ensures { result ≡ byte_of levels.now.of }
 {
@@ -144,6 +150,7 @@ fn byte_of(levels: &Levels) -> Result<u8, BusFault>
 }
 
 // The other strobe is high.
+#[inline(always)]
 fn apart(level: Level) -> Result<bool, BusFault>
     ensures { result ≡ apart level }
 {
@@ -155,6 +162,7 @@ fn apart(level: Level) -> Result<bool, BusFault>
 }
 
 // The cycle of a strobe, by the levels before it rises.
+#[inline(always)]
 fn cycle_of(strobe: Strobe, ce: u8, levels: &Levels) -> Result<Seen, BusFault>
     ensures { result ≡ cycle_of strobe ce levels.now.of }
 {
@@ -164,6 +172,7 @@ fn cycle_of(strobe: Strobe, ce: u8, levels: &Levels) -> Result<Seen, BusFault>
     Ok(Seen::Sampled(Cycle { ce, kind, byte }))
 }
 
+#[inline(always)]
 fn cycle_if(strobe: Strobe, enabled: Option<u8>, levels: &Levels) -> Result<Seen, BusFault>
     ensures { result ≡ cycle_if strobe enabled levels.now.of }
 {
@@ -222,11 +231,11 @@ pub fn seen_of(
     let was = before.level(strobe.line());
     let is = after.level(strobe.line());
     if rises(was, is) {
-        let enabled = enabled_from(before, targets, 0, None)?;
+        let enabled = enabled_of(before, targets)?;
         return cycle_if(strobe, enabled, before);
     }
     if is_lost(driven, was, is) {
-        let enabled = enabled_from(before, targets, 0, None)?;
+        let enabled = enabled_of(before, targets)?;
         return lost_if(enabled);
     }
     Ok(Seen::Nothing)
@@ -278,7 +287,7 @@ pub(crate) fn steady(
     ensures { result ≡ steady targets strobe short before.now.of after.now.of }
 {
     if short && is_edge(before.level(strobe.line()), after.level(strobe.line())) {
-        let enabled = enabled_from(before, targets, 0, None)?;
+        let enabled = enabled_of(before, targets)?;
         return glitch_if(enabled);
     }
     Ok(false)

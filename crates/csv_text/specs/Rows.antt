@@ -1,5 +1,5 @@
 -- The rows of a CSV: its lines but those that are empty or comments.
-use Rattle.std.specs.Prelude.{ℕ, ◌+◌, ◌==◌, not, Bool, false, if◌then◌else◌, List, [], ◌∷◌, ◌++◌}
+use Rattle.std.specs.Prelude.{◌≡◌, ⊤, ℕ, ◌+◌, ◌==◌, not, Bool, false, if◌then◌else◌, List, [], ◌∷◌, ◌++◌}
 use Rattle.std.specs.Str.Lines.{strip_carriage_return}
 use Rattle.csv_text.specs.Fields.{trim_front}
 
@@ -31,3 +31,21 @@ rows_from line front (b ∷ bytes) = if b == 10 then ended line front (rows_from
 -- the rows of a file
 abbrev pub rows : List ℕ → List Row
 rows text = rows_from 1 [] text
+
+-- ---- a text in pieces
+
+-- the last line is ended
+abbrev pub EndsLine : List ℕ → Type 0
+EndsLine [] = ⊥
+EndsLine (b ∷ []) = b ≡ 10
+EndsLine (b ∷ c ∷ bytes) = EndsLine (c ∷ bytes)
+
+-- no line goes on behind a text
+abbrev pub AreLines : List ℕ → Type 0
+AreLines [] = ⊤
+AreLines (b ∷ bytes) = EndsLine (b ∷ bytes)
+
+-- more may follow on whole lines, and nothing on any text
+abbrev pub MayFollow : (text more : List ℕ) → Type 0
+MayFollow text [] = ⊤
+MayFollow text (b ∷ more) = AreLines text

@@ -1,16 +1,19 @@
 -- Rows, fields and files in memory.
-use Rattle.std.specs.Prelude.{◌≡◌, ⊤, ℕ, ◌+◌, ◌*◌, ◌<◌, ◌≤◌, ◌^◌, false, List, [], ◌∷◌, length, Option, Some, None, Result, Ok, Err}
+use Rattle.std.specs.Prelude.{◌≡◌, ⊤, ℕ, ◌+◌, ◌*◌, ◌<◌, ◌≤◌, ◌^◌, false, List, [], ◌∷◌, ◌++◌, length, Option, Some, None, Result, Ok, Err}
 use Rattle.std.specs.Option.{option_copied}
 use Rattle.vcd_text.specs.declared.fault.DumpFault.{DumpFault}
 use Rattle.vcd_text.specs.declared.fault.LineFault.{LineFault}
 use Rattle.vcd_text.specs.declared.fault.HeaderRefusal.{HeaderRefusal}
 use Rattle.vcd_text.specs.declared.fault.HeaderRefusal.TheVariants as refusal
+use Rattle.vcd_text.specs.declared.body.Event.{Event}
 use Rattle.vcd_text.specs.Body.{Told}
+use Rattle.vcd_text.specs.Shown.{shown_event}
 use Rattle.vcd_text.specs.Sections.{shown_variables}
 use Rattle.csv_text.specs.declared.rows.Row.{Row}
 use Rattle.csv_text.specs.declared.rows.Rows.{Rows}
 use Rattle.csv_text.specs.declared.body.Body.{Body}
 use Rattle.csv_text.specs.declared.body.Judged.{Judged}
+use Rattle.csv_text.specs.declared.body.Standing.{Standing}
 use Rattle.csv_text.specs.declared.table.Table.{Table}
 use Rattle.csv_text.specs.Rows as rows
 use Rattle.csv_text.specs.Fields.{fields_from, fields}
@@ -24,6 +27,10 @@ row_of r = record { line = r.line; text = r.text.now }
 
 abbrev pub rows_left : Rows → List rows.Row
 rows_left r = rows.rows_from r.line [] r.rest.now
+
+-- the same with more text behind them
+abbrev pub rows_before : Rows → (more : List ℕ) → List rows.Row
+rows_before r more = rows.rows_from r.line [] (r.rest.now ++ more)
 
 abbrev pub with_row : Option Row → List rows.Row → List rows.Row
 with_row None later = later
@@ -57,17 +64,34 @@ IsJudged (Err e) judged = judged ≡ Err e
 abbrev pub place_of : Body → told.Place
 place_of b = record { time = b.time; count = b.count; before = fields_in (option_copied b.last.rest) }
 
--- what the rows that are left tell
-abbrev pub told_rows : Body → List Told
-told_rows b = told.told_from b.has_times (fields b.names.now) (place_of b) (rows_left b.rows)
+-- what the rows that are left tell, with more text behind them
+abbrev pub told_rows : Body → (more : List ℕ) → List Told
+told_rows b more = told.told_from b.has_times (fields b.names.now) (place_of b) (rows_before b.rows more)
 
 -- what is left of a row, in front of what is told later
 abbrev pub with_row_left : Body → List Told → List Told
 with_row_left b later = told.with_changes b.code (fields_in (option_copied b.before.rest)) (fields_in (option_copied b.row.rest)) later
 
--- what is left to be told
-abbrev pub told_left : Body → List Told
-told_left b = with_row_left b (told_rows b)
+-- what is left to be told, with more text behind it
+abbrev pub told_before : Body → (more : List ℕ) → List Told
+told_before b more = with_row_left b (told_rows b more)
+
+-- an answer is the first of what is told, after which these are left; or there was nothing in front of these, or a fault
+abbrev pub IsRead : Result (Option Event) LineFault → (told later : List Told) → Type 0
+IsRead (Ok (Some e)) told later = told ≡ Ok (shown_event e) ∷ later
+IsRead (Ok None) told later = told ≡ later
+IsRead (Err f) told later = told ≡ Err f ∷ []
+
+-- nothing is left of a text
+abbrev pub IsOver : Body → Type 0
+IsOver b = (b.rows.rest.now ≡ []) × (option_copied b.row.rest ≡ None)
+
+abbrev pub standing_of : Body → Standing
+standing_of b = record { has_times = b.has_times; time = b.time; count = b.count; line = b.rows.line }
+
+-- what a text tells from where reading stands, with these names of the columns and this left of the last row
+abbrev pub told_at : Standing → (names : List ℕ) → (last : Option (List ℕ)) → List ℕ → List Told
+told_at s names last text = told.told_from s.has_times (fields names) (record { time = s.time; count = s.count; before = fields_in last }) (rows.rows_from s.line [] text)
 
 -- lines, rows and columns can be counted
 pub record HasRoom (b : Body) : Type 0 where
@@ -80,11 +104,12 @@ pub record HasRoom (b : Body) : Type 0 where
 abbrev pub bytes_left : Body → ℕ
 bytes_left b = 3 * length b.rows.rest.now + room_in (option_copied b.row.rest)
 
-abbrev pub shown_table : {A : Type 0} → Table A → table.Table
-shown_table t = record {
+-- a table in memory, with more text behind it
+abbrev pub table_before : {A : Type 0} → Table A → (more : List ℕ) → table.Table
+table_before t more = record {
   columns = record { has_times = t.body.has_times; variables = shown_variables t.variables.items };
   names = t.body.names.now;
-  rows = rows_left t.body.rows;
+  rows = rows_before t.body.rows more;
 }
 
 -- a refusal is the fault that reading tells; of memory that was refused nothing is said

@@ -1,11 +1,12 @@
 //! The changes of a CSV.
-ghost use Rattle.std.specs.Prelude.{◌≡◌, ℕ, ◌+◌, ◌<◌, ◌≤◌, ◌^◌, List, ◌∷◌, length, Ok, Err, IfOk, IfSome, IfNone};
+ghost use Rattle.std.specs.Prelude.{◌≡◌, ℕ, ◌+◌, ◌<◌, ◌≤◌, ◌^◌, List, ◌∷◌, ◌++◌, length, None, Ok, Err, IfOk, IfSome, IfNone};
 ghost use Rattle.std.specs.Option.{option_copied};
 ghost use Rattle.vcd_text.specs.Body.{Told};
-ghost use Rattle.vcd_text.specs.Shown.{shown_event, IsFirst};
+ghost use Rattle.vcd_text.specs.Shown.{shown_event};
 ghost use Rattle.csv_text.specs.Fields.{fields};
 ghost use Rattle.csv_text.specs.Body.{are_as_many, are_signals, signals_at, timed, judged, is_same, with_changes, first_code, told_from, beginning};
-ghost use Rattle.csv_text.specs.Shown.{rows_left, fields_in, room_in, IsJudged, place_of, told_rows, with_row_left, told_left, HasRoom, bytes_left};
+ghost use Rattle.csv_text.specs.Rows.{MayFollow};
+ghost use Rattle.csv_text.specs.Shown.{rows_before, fields_in, room_in, IsJudged, IsRead, IsOver, place_of, standing_of, told_rows, with_row_left, told_before, told_at, HasRoom, bytes_left};
 
 use crate::fields::Fields;
 use crate::rows::Rows;
@@ -84,6 +85,58 @@ fn is_same(before: Option<&[u8]>, field: &[u8]) -> bool
     }
 }
 
+/// Where reading of the rows of a CSV is between two pieces of its text.
+#[derive(Clone, Copy, Debug)]
+pub struct Standing {
+    pub(crate) has_times: bool,
+    // The time, and how many rows there were.
+    pub(crate) time: u64,
+    pub(crate) count: u64,
+    pub(crate) line: usize,
+}
+
+impl Standing {
+    /// Goes on with this text, by the row of names and what [`Body::last`] said of the row before.
+    pub fn with<'a>(self, names: &'a [u8], last: Option<&'a [u8]>, text: &'a [u8]) -> Body<'a>
+        requires first { 1 ≤ self.line }
+        requires lines { self.line + length text.now < 2 ^ 64 }
+        requires rows { self.count + length text.now < 2 ^ 64 }
+        ensures told { (more : List ℕ) → told_before result more ≡ told_at self names.entry.now (option_copied last.entry) (text.entry.now ++ more) }
+        ensures rest { result.rows.rest.now ≡ text.entry.now }
+        ensures names { result.names.now ≡ names.entry.now }
+        ensures room { HasRoom result }
+    {
+        Body {
+            rows: Rows {
+                line: self.line,
+                rest: text,
+            },
+            has_times: self.has_times,
+            names,
+            time: self.time,
+            count: self.count,
+            last: Fields { rest: last },
+            row: Fields::none(),
+            before: Fields::none(),
+            code: 0,
+        }
+    }
+
+    /// The number of the next line.
+    pub fn line(self) -> usize
+        ensures { result ≡ self.line }
+    {
+        self.line
+    }
+
+    /// How many rows there were.
+    pub fn count(self) -> u64
+        ensures { result ≡ self.count }
+    {
+        self.count
+    }
+}
+
 /// What is left of the changes of a CSV.
 #[derive(Clone, Copy, Debug)]
 pub struct Body<'a> {
@@ -105,7 +158,8 @@ impl<'a> Body<'a> {
     pub(crate) fn begin(rows: Rows<'a>, has_times: bool, names: &'a [u8]) -> Body<'a>
         requires first { 1 ≤ rows.line }
         requires room { rows.line + length rows.rest.now < 2 ^ 64 }
-        ensures told { told_left result ≡ told_from has_times (fields names.entry.now) beginning (rows_left rows.entry) }
+        ensures told { (more : List ℕ) → told_before result more ≡ told_from has_times (fields names.entry.now) beginning (rows_before rows.entry more) }
+        ensures begins { (more : List ℕ) → told_before result more ≡ told_at (standing_of result) names.entry.now None (rows.entry.rest.now ++ more) }
         ensures rows { result.rows ≡ rows.entry }
         ensures has_times { result.has_times ≡ has_times }
         ensures names { result.names.now ≡ names.entry.now }
@@ -122,6 +176,39 @@ impl<'a> Body<'a> {
             before: Fields::none(),
             code: 0,
         }
+    }
+
+    /// Where reading is.
+    pub fn standing(self) -> Standing
+        ensures { result ≡ standing_of self.entry }
+    {
+        Standing {
+            has_times: self.has_times,
+            time: self.time,
+            count: self.count,
+            line: self.rows.line,
+        }
+    }
+
+    /// The row of names.
+    pub fn names(self) -> &'a [u8]
+        ensures { result.now ≡ self.entry.names.now }
+    {
+        self.names
+    }
+
+    /// What of the last row is needed to go on: the fields of its signals.
+    pub fn last(self) -> Option<&'a [u8]>
+        ensures { option_copied result ≡ option_copied self.entry.last.rest }
+    {
+        self.last.rest
+    }
+
+    /// The text that isn't read yet.
+    pub fn rest(self) -> &'a [u8]
+        ensures { result.now ≡ self.entry.rows.rest.now }
+    {
+        self.rows.rest
     }
 
     // Whether a row may be told.
@@ -170,7 +257,11 @@ impl<'a> Body<'a> {
     // The time of the next row.
     fn next_row(&mut self) -> Result<Option<Event<'a>>, LineFault>
         requires room { HasRoom self.old }
-        ensures told { IsFirst result (told_rows self.old) (told_left self.new) }
+        requires row { option_copied self.old.row.rest ≡ None }
+        ensures told { (more : List ℕ) → MayFollow self.old.rows.rest.now more → IsRead result (told_rows self.old more) (told_before self.new more) }
+        ensures follows { IfOk result (λ _. (more : List ℕ) → MayFollow self.old.rows.rest.now more → MayFollow self.new.rows.rest.now more) }
+        ensures over { IfOk result (λ o. IfNone o (IsOver self.new)) }
+        ensures names { self.new.names ≡ self.old.names }
         ensures room { IfOk result (λ _. HasRoom self.new) }
         ensures shorter { IfOk result (λ o. IfSome o (λ _. bytes_left self.new < bytes_left self.old)) }
     {
@@ -194,7 +285,10 @@ impl<'a> Body<'a> {
         requires room { HasRoom self.old }
         ensures some { IfSome result (λ e. (later : List Told) → with_row_left self.old later ≡ Ok (shown_event e) ∷ with_row_left self.new later) }
         ensures none { IfNone result ((later : List Told) → with_row_left self.old later ≡ later) }
-        ensures rows { told_rows self.new ≡ told_rows self.old }
+        ensures rows { self.new.rows ≡ self.old.rows }
+        ensures told { (more : List ℕ) → told_rows self.new more ≡ told_rows self.old more }
+        ensures row { IfNone result (option_copied self.new.row.rest ≡ None) }
+        ensures names { self.new.names ≡ self.old.names }
         ensures room { HasRoom self.new }
         ensures less { bytes_left self.new ≤ bytes_left self.old }
         ensures shorter { IfSome result (λ _. bytes_left self.new < bytes_left self.old) }
@@ -213,7 +307,10 @@ impl<'a> Body<'a> {
     /// The next of what the rows tell: the time of a row, and then its changes, each of one column. After a fault nothing more is to be asked for.
     pub fn next_event(&mut self) -> Result<Option<Event<'a>>, LineFault>
         requires room { HasRoom self.old }
-        ensures told { IsFirst result (told_left self.old) (told_left self.new) }
+        ensures told { (more : List ℕ) → MayFollow self.old.rows.rest.now more → IsRead result (told_before self.old more) (told_before self.new more) }
+        ensures follows { IfOk result (λ _. (more : List ℕ) → MayFollow self.old.rows.rest.now more → MayFollow self.new.rows.rest.now more) }
+        ensures over { IfOk result (λ o. IfNone o (IsOver self.new)) }
+        ensures names { self.new.names ≡ self.old.names }
         ensures room { IfOk result (λ _. HasRoom self.new) }
         ensures shorter { IfOk result (λ o. IfSome o (λ _. bytes_left self.new < bytes_left self.old)) }
     {

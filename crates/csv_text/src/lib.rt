@@ -8,8 +8,8 @@ mod rows;
 mod table;
 mod times;
 
-pub use body::Body;
+pub use body::{Body, Standing};
 pub use fields::Fields;
-pub use rows::{Row, Rows};
-pub use table::{Table, read_table};
+pub use rows::{Row, Rows, whole_lines_len};
+pub use table::{Table, name_columns, read_table};
 pub use times::time_of;

@@ -1,9 +1,9 @@
 //! The rows of a CSV.
-ghost use Rattle.std.specs.Prelude.{◌≡◌, ℕ, ◌+◌, ◌<◌, ◌≤◌, ◌^◌, [], length, take, drop, IfSome, IfNone};
+ghost use Rattle.std.specs.Prelude.{◌≡◌, ℕ, ◌+◌, ◌<◌, ◌≤◌, ◌^◌, List, [], ◌++◌, length, take, drop, IfSome, IfNone};
 ghost use Rattle.std.specs.Str.Lines.{strip_carriage_return};
 ghost use Rattle.csv_text.specs.Fields.{is_blank, trim_front};
-ghost use Rattle.csv_text.specs.Rows.{is_row, ended, rows_from, rows};
-ghost use Rattle.csv_text.specs.Shown.{rows_left, with_row};
+ghost use Rattle.csv_text.specs.Rows.{is_row, ended, rows_from, rows, AreLines, MayFollow};
+ghost use Rattle.csv_text.specs.Shown.{rows_left, rows_before, with_row};
 
 use crate::fields::trim_front;
 
@@ -43,12 +43,27 @@ fn strip_carriage_return(line: &[u8]) -> &[u8]
 
 // How many bytes stand in front of the first line feed, or in the whole text.
 fn line_len(text: &[u8]) -> usize
+    requires some { 0 < length text.now }
     ensures within { result ≤ length text.now }
-    ensures ended { (line : ℕ) → rows_from line [] text.now ≡ ended line (take result text.now) (rows_from (line + 1) [] (drop 1 (drop result text.now))) }
+    ensures ended { (line : ℕ) (more : List ℕ) → MayFollow text.now more
+        → rows_from line [] (text.now ++ more) ≡ ended line (take result text.now) (rows_from (line + 1) [] (drop 1 (drop result text.now) ++ more)) }
+    ensures follows { (more : List ℕ) → MayFollow text.now more → MayFollow (drop 1 (drop result text.now)) more }
 {
     let mut count = 0;
     'bytes: while count < text.len() && text[count] != b'\n' {
         count += 1;
+    }
+    count
+}
+
+/// How many bytes of a piece stand in whole lines.
+pub fn whole_lines_len(piece: &[u8]) -> usize
+    ensures within { result ≤ length piece.now }
+    ensures lines { AreLines (take result piece.now) }
+{
+    let mut count = piece.len();
+    'bytes: while count > 0 && piece[count - 1] != b'\n' {
+        count -= 1;
     }
     count
 }
@@ -69,6 +84,7 @@ impl<'a> Rows<'a> {
         ensures rows { rows_left result ≡ rows text.entry.now }
         ensures room { result.line + length result.rest.now < 2 ^ 64 }
         ensures first { result.line ≡ 1 }
+        ensures rest { result.rest.now ≡ text.entry.now }
     {
         Rows {
             line: 1,
@@ -80,7 +96,8 @@ impl<'a> Rows<'a> {
     fn take_line(&mut self) -> Option<Row<'a>>
         requires some { 0 < length self.old.rest.now }
         requires room { self.old.line + length self.old.rest.now < 2 ^ 64 }
-        ensures rows { rows_left self.old ≡ with_row result (rows_left self.new) }
+        ensures rows { (more : List ℕ) → MayFollow self.old.rest.now more → rows_before self.old more ≡ with_row result (rows_before self.new more) }
+        ensures follows { (more : List ℕ) → MayFollow self.old.rest.now more → MayFollow self.new.rest.now more }
         ensures room { self.new.line + length self.new.rest.now ≤ self.old.line + length self.old.rest.now }
         ensures line { self.old.line ≤ self.new.line }
         ensures shorter { length self.new.rest.now < length self.old.rest.now }
@@ -102,8 +119,9 @@ impl<'a> Rows<'a> {
     /// The next row.
     pub fn next_row(&mut self) -> Option<Row<'a>>
         requires room { self.old.line + length self.old.rest.now < 2 ^ 64 }
-        ensures rows { rows_left self.old ≡ with_row result (rows_left self.new) }
-        ensures none { IfNone result (rows_left self.old ≡ []) }
+        ensures rows { (more : List ℕ) → MayFollow self.old.rest.now more → rows_before self.old more ≡ with_row result (rows_before self.new more) }
+        ensures follows { (more : List ℕ) → MayFollow self.old.rest.now more → MayFollow self.new.rest.now more }
+        ensures none { IfNone result (self.new.rest.now ≡ []) }
         ensures room { self.new.line + length self.new.rest.now ≤ self.old.line + length self.old.rest.now }
         ensures line { self.old.line ≤ self.new.line }
         ensures shorter { IfSome result (λ _. length self.new.rest.now < length self.old.rest.now) }

@@ -1,5 +1,5 @@
 //! The row of names.
-ghost use Rattle.std.specs.Prelude.{◌≡◌, ◌+◌, ◌<◌, ◌≤◌, ◌^◌, length, Ok, Err, IfOk, IfErr, OnOk};
+ghost use Rattle.std.specs.Prelude.{◌≡◌, ℕ, List, [], ◌∷◌, ◌++◌, ◌+◌, ◌<◌, ◌≤◌, ◌^◌, length, None, Ok, Err, IfOk, IfErr, OnOk};
 ghost use Rattle.std.specs.Option.{option_copied};
 ghost use Rattle.vcd_text.specs.Sections.{shown_variables};
 ghost use Rattle.vcd_text.specs.declared.fault.HeaderRefusal.TheVariants as refusal;
@@ -7,11 +7,11 @@ ghost use Rattle.csv_text.specs.Rows.{rows};
 ghost use Rattle.csv_text.specs.Fields.{fields};
 ghost use Rattle.csv_text.specs.Table.{is_signal, is_value, are_values, names_time, variables_from, columns_of, no_names, table_of};
 ghost use Rattle.csv_text.specs.Body.{told};
-ghost use Rattle.csv_text.specs.Shown.{fields_in, room_in, told_left, HasRoom, shown_table, IsRefusalOf};
+ghost use Rattle.csv_text.specs.Shown.{fields_in, room_in, row_of, rows_before, told_before, told_at, standing_of, HasRoom, table_before, IsRefusalOf};
 
 use crate::body::Body;
 use crate::fields::Fields;
-use crate::rows::Rows;
+use crate::rows::{Row, Rows};
 use crate::times::time_of;
 use std::alloc::Allocator;
 use vcd_text::{DumpFault, HeaderRefusal, LineFault, Variable, level_of};
@@ -132,20 +132,24 @@ fn columns_of(names: &[u8]) -> Columns<'_>
     }
 }
 
-/// Reads the row of names of a CSV, which has to be there: the first row, of which some field is no value. Empty lines are no rows, and nor are those that
-/// begin with `;`. A file without names is refused by the line of its first row, or by line 1. `OutOfMemory` is answered only where memory was refused, to a file
-/// that has names.
-pub fn read_table<'a, A: Allocator>(alloc: A, text: &'a [u8]) -> Result<Table<'a, A>, HeaderRefusal>
-    ensures ok { IfOk result (λ t. table_of (rows text.entry.now) ≡ Ok (shown_table t)) }
+/// The table whose columns this row names, of which some field is no value, and that has these rows below; or a row without names is refused. `OutOfMemory` is
+/// answered only where memory was refused, to a row that has names.
+pub fn name_columns<'a, A: Allocator>(
+    alloc: A,
+    row: Row<'a>,
+    rows: Rows<'a>,
+) -> Result<Table<'a, A>, HeaderRefusal>
+    requires first { 1 ≤ rows.line }
+    requires room { rows.line + length rows.rest.now < 2 ^ 64 }
+    requires names { length row.text.now + 2 < 2 ^ 64 }
+    ensures ok { IfOk result (λ t. (more : List ℕ) → table_of (row_of row.entry ∷ rows_before rows.entry more) ≡ Ok (table_before t more)) }
     // The body stands at the beginning of the rows below.
-    ensures told { IfOk result (λ t. told_left t.body ≡ told (shown_table t)) }
+    ensures told { IfOk result (λ t. (more : List ℕ) → told_before t.body more ≡ told (table_before t more)) }
+    ensures begins { IfOk result (λ t. (more : List ℕ) → told_before t.body more ≡ told_at (standing_of t.body) t.body.names.now None (rows.entry.rest.now ++ more)) }
+    ensures rows { IfOk result (λ t. t.body.rows ≡ rows.entry) }
     ensures room { IfOk result (λ t. HasRoom t.body) }
-    ensures err { IfErr result (λ e. IsRefusalOf e (table_of (rows text.entry.now))) }
+    ensures err { IfErr result (λ e. (more : List ℕ) → IsRefusalOf e (table_of (row_of row.entry ∷ rows_before rows.entry more))) }
 {
-    let mut rows = Rows::of(text);
-    let Some(row) = rows.next_row() else {
-        return Err(no_names(1));
-    };
     if are_values(Fields::of(row.text)) {
         return Err(no_names(row.line));
     }
@@ -156,5 +160,24 @@ pub fn read_table<'a, A: Allocator>(alloc: A, text: &'a [u8]) -> Result<Table<'a
             body: Body::begin(rows, columns.has_times, row.text),
         }),
         Err(refusal) => Err(refusal),
+    }
+}
+
+/// Reads the row of names of a CSV, which has to be there: the first row. Empty lines are no rows, and nor are those that begin with `;`. A file without names
+/// is refused by the line of its first row, or by line 1.
+pub fn read_table<'a, A: Allocator>(alloc: A, text: &'a [u8]) -> Result<Table<'a, A>, HeaderRefusal>
+    ensures ok { IfOk result (λ t. table_of (rows text.entry.now) ≡ Ok (table_before t [])) }
+    // The body stands at the beginning of the rows below.
+    ensures told { IfOk result (λ t. told_before t.body [] ≡ told (table_before t [])) }
+    ensures room { IfOk result (λ t. HasRoom t.body) }
+    ensures err { IfErr result (λ e. IsRefusalOf e (table_of (rows text.entry.now))) }
+{
+    let mut rows = Rows::of(text);
+    match rows.next_row() {
+        None => Err(no_names(1)),
+        Some(row) => match name_columns(alloc, row, rows) {
+            Ok(table) => Ok(table),
+            Err(refusal) => Err(refusal),
+        },
     }
 }

@@ -165,17 +165,97 @@ fn memory_of_a_long_dump(rt: HostRuntime) -> Result<(), Fail> {
     Ok(())
 }
 
-const TABLE: &str = "Time [s],CE#,CLE,ALE,WE#,RE#,DQ0,DQ1,DQ2,DQ3,DQ4,DQ5,DQ6,DQ7\n\
+// How many items a CSV shows that has these names and so often these rows, and is read by this memory.
+fn count_rows<A: Allocator + Clone>(
+    alloc: A,
+    setup: &Setup<'_>,
+    names: &str,
+    rows: &str,
+    times: u32,
+) -> Result<usize, Fail> {
+    if setup.targets > 4 {
+        return Err(Fail::from("more than 4 targets"));
+    }
+    let mut reader = CaptureReader::new(alloc.clone()?, setup).map_err(refused)?;
+    let mut stamped = Vec::new(alloc);
+    reader
+        .take(names.as_bytes(), &mut stamped)
+        .map_err(refused)?;
+    let mut count = 0usize;
+    for _ in 0..times {
+        reader.take(rows.as_bytes(), &mut stamped).map_err(refused)?;
+        count = count.saturating_add(stamped.len());
+        stamped.clear();
+    }
+    let _ = reader.finish(&mut stamped).map_err(refused)?;
+    Ok(count.saturating_add(stamped.len()))
+}
+
+// A CSV of a quarter of a megabyte is read by 64 KB: its rows are let go of once they are told.
+#[test]
+fn memory_of_a_long_table(rt: HostRuntime) -> Result<(), Fail> {
+    let heap = LocalHeap::new(rt.alloc(), 65_536)?;
+    let setup = Setup {
+        form: CaptureForm::Table,
+        geometry: Geometry::of(SMALL_CHIP)?,
+        targets: 1,
+        mappings: &[],
+        glitch: 0,
+    };
+    let names = "CE#,CLE,ALE,WE#,RE#,DQ0,DQ1,DQ2,DQ3,DQ4,DQ5,DQ6,DQ7\n";
+    let rows = "0,1,0,0,1,0,0,0,0,1,1,1,0\n0,1,0,1,1,0,0,0,0,1,1,1,0\n";
+    let count = count_rows(&heap, &setup, names, rows, 5_000)?;
+    assert_eq!(rt; count, 5_000);
+    Ok(())
+}
+
+const TABLE: &str = "; a capture\r\n\r\n\
+Time [s],CE#,CLE,ALE,WE#,RE#,DQ0,DQ1,DQ2,DQ3,DQ4,DQ5,DQ6,DQ7\r\n\
 0.000000000,1,0,0,1,1,0,0,0,0,0,0,0,0\n\
+; between\n\
 0.000000010,0,1,0,0,1,0,0,0,0,1,1,1,0\n\
 0.000000020,0,1,0,1,1,0,0,0,0,1,1,1,0\n";
 
-// A CSV may come in pieces too.
+fn try_table(rt: &impl Abort, alloc: Global, text: &str, want: &str) -> Result<(), Fail> {
+    for length in 1..=40 {
+        let found = shown(alloc, CaptureForm::Table, 0, text, length)?;
+        assert_eq!(rt; found.as_str(), want, "pieces of {length}");
+    }
+    let found = shown(alloc, CaptureForm::Table, 0, text, text.len())?;
+    assert_eq!(rt; found.as_str(), want);
+    Ok(())
+}
+
+// Comments, names and rows are cut anywhere.
 #[test]
 fn pieces_of_a_table(rt: HostRuntime) -> Result<(), Fail> {
-    for length in 1..=40 {
-        let found = shown(rt.alloc(), CaptureForm::Table, 0, TABLE, length)?;
-        assert_eq!(rt; found.as_str(), "0 C 70\n", "pieces of {length}");
+    try_table(&rt, rt.alloc(), TABLE, "0 C 70\n")
+}
+
+// So are faults: rows without names, a time that goes back, a row that ends too early, no row at all. The last row needs no line feed.
+#[test]
+fn faults_of_a_table_in_pieces(rt: HostRuntime) -> Result<(), Fail> {
+    for (old, new, want) in [
+        (
+            "Time [s],CE#,CLE,ALE,WE#,RE#,DQ0,DQ1,DQ2,DQ3,DQ4,DQ5,DQ6,DQ7\r\n",
+            "",
+            "G9 in line 3",
+        ),
+        ("0.000000020,", "0.000000005,", "G9 in line 7"),
+        (
+            "0.000000020,0,1,0,1,1,0,0,0,0,1,1,1,0\n",
+            "0.000000020,0",
+            "G9 in line 7",
+        ),
+        (
+            "0.000000020,0,1,0,1,1,0,0,0,0,1,1,1,0\n",
+            "0.000000020,0,1,0,1,1,0,0,0,0,1,1,1,0",
+            "0 C 70\n",
+        ),
+    ] {
+        let text = with_changes(rt.alloc(), TABLE, &[(old, new)])?;
+        try_table(&rt, rt.alloc(), text.as_str(), want)?;
     }
-    Ok(())
+    try_table(&rt, rt.alloc(), "", "G9 in line 1")?;
+    try_table(&rt, rt.alloc(), "; nothing\n\n", "G9 in line 1")
 }

@@ -3,3 +3,5 @@ pub mod Begins
 pub mod Pieces
 pub mod Going
 pub mod Headers
+pub mod Looking
+pub mod Digits

@@ -3,6 +3,9 @@ pub mod Tokens
 pub mod Header
 pub mod Sections
 pub mod Body
+pub mod Widths
+pub mod Scalars
+pub mod Timed
 pub mod Shown
 pub mod Dumps
 pub mod Codes

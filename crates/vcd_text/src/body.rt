@@ -1,15 +1,17 @@
 //! The changes of a dump.
-ghost use Rattle.std.specs.Prelude.{◌≡◌, ℕ, ◌+◌, ◌<◌, ◌≤◌, ◌^◌, ◌==◌, List, length, Ok, Err, IfOk, IfSome};
+ghost use Rattle.std.specs.Prelude.{◌≡◌, ℕ, ◌+◌, ◌<◌, ◌≤◌, ◌^◌, ◌==◌, List, length, Ok, Err, IfOk, IfSome, IfNone};
 ghost use Rattle.vcd_text.specs.Tokens.{is_known, level_of};
 ghost use Rattle.vcd_text.specs.Words.{words_left, GoesOn, IsCut};
-ghost use Rattle.vcd_text.specs.Body.{width_of, fits, change, new_time, vector, is_mark, mark, begins_vector, begins_other, other_word, any_word, comment, said, ended_by, time_after, Anything};
+ghost use Rattle.vcd_text.specs.Body.{fits, change, new_time, vector, is_mark, mark, begins_vector, begins_other, other_word, any_word, comment, said, ended_by, time_after, Anything};
 ghost use Rattle.vcd_text.specs.Shown.{IsTelling, IsSaid, IsCoded, IsProgress, IsNext, IsOver, IsEnd, Moves, shown_event, shown_said, place_of, told_left, standing_of};
 
 use crate::fault::{DumpFault, LineFault};
+use crate::scalar::Scalar;
+use crate::timed::Timed;
 use crate::tokens::{are_bits, code_of, decimal, is_bit, is_named};
+use crate::widths::Widths;
 use crate::words::Words;
 use std::alloc::Allocator;
-use std::collections::BTreeMap;
 
 /// What a dump tells.
 #[derive(Clone, Copy, Debug)]
@@ -57,25 +59,17 @@ fn fits(width: usize, bits: &[u8]) -> bool
     width == 0 || bits.len() <= width
 }
 
-// The width of a code.
-#[inline(always)]
-fn width_of<A: Allocator>(widths: &BTreeMap<u64, usize, A>, code: u64) -> Option<usize>
-    ensures { result ≡ width_of widths.now.entries code }
-{
-    widths.get(&code).copied()
-}
-
 // A change of a code.
 #[inline(always)]
 fn change<'a, A: Allocator>(
-    widths: &BTreeMap<u64, usize, A>,
+    widths: &Widths<A>,
     bits: &'a [u8],
     word: &[u8],
 ) -> Result<Event<'a>, DumpFault>
-    ensures { IsTelling result (change widths.now.entries bits.entry.now word.now) }
+    ensures { IsTelling result (change widths.now bits.entry.now word.now) }
 {
     let code = code_of(word).ok_or(DumpFault::NotDeclared)?;
-    let width = width_of(widths, code).ok_or(DumpFault::NotDeclared)?;
+    let width = widths.get(code).ok_or(DumpFault::NotDeclared)?;
     if fits(width, bits) {
         Ok(Event::Change { code, bits })
     } else {
@@ -86,11 +80,11 @@ fn change<'a, A: Allocator>(
 // The same as what a word says.
 #[inline(always)]
 fn say_change<'a, A: Allocator>(
-    widths: &BTreeMap<u64, usize, A>,
+    widths: &Widths<A>,
     bits: &'a [u8],
     word: &[u8],
 ) -> Result<Said<'a>, DumpFault>
-    ensures { IsSaid result (change widths.now.entries bits.entry.now word.now) }
+    ensures { IsSaid result (change widths.now bits.entry.now word.now) }
 {
     match change(widths, bits, word) {
         Ok(event) => Ok(Said::Told(event)),
@@ -173,11 +167,11 @@ fn other_word(word: &[u8]) -> Result<Said<'_>, DumpFault>
 // A word that may be anything: a time, a bit in front of its code, or something else.
 #[inline(always)]
 fn any_word<'a, A: Allocator>(
-    widths: &BTreeMap<u64, usize, A>,
+    widths: &Widths<A>,
     time: u64,
     word: &'a [u8],
 ) -> Result<Said<'a>, DumpFault>
-    ensures { IsSaid result (any_word widths.now.entries time word.entry.now) }
+    ensures { IsSaid result (any_word widths.now time word.entry.now) }
 {
     if word.is_empty() {
         return Err(DumpFault::UnknownChange);
@@ -270,12 +264,8 @@ impl<'a> Body<'a> {
 
     // What a word says.
     #[inline(always)]
-    fn say<A: Allocator>(
-        self,
-        widths: &BTreeMap<u64, usize, A>,
-        word: &'a [u8],
-    ) -> Result<Said<'a>, DumpFault>
-        ensures { IsSaid result (said widths.now.entries (place_of self.entry) word.entry.now) }
+    fn say<A: Allocator>(self, widths: &Widths<A>, word: &'a [u8]) -> Result<Said<'a>, DumpFault>
+        ensures { IsSaid result (said widths.now (place_of self.entry) word.entry.now) }
     {
         match self.next {
             Next::Anything => any_word(widths, self.time, word),
@@ -285,10 +275,10 @@ impl<'a> Body<'a> {
     }
 
     /// What is wrong at the end of the file, where no whole change is left.
-    pub fn end<A: Allocator>(self, widths: &BTreeMap<u64, usize, A>) -> Option<LineFault>
+    pub fn end<A: Allocator>(self, widths: &Widths<A>) -> Option<LineFault>
         requires room { self.words.line + length self.words.rest.now < 2 ^ 64 }
-        requires over { IsOver widths.now.entries self }
-        ensures { IsEnd result (told_left widths.now.entries self.entry) }
+        requires over { IsOver widths.now self }
+        ensures { IsEnd result (told_left widths.now self.entry) }
     {
         let mut words = self.words;
         if let Some(word) = words.next_word() {
@@ -326,12 +316,12 @@ impl<'a> Body<'a> {
     #[inline(always)]
     fn read_code<A: Allocator>(
         &mut self,
-        widths: &BTreeMap<u64, usize, A>,
+        widths: &Widths<A>,
         words: Words<'a>,
         bits: &'a [u8],
     ) -> Result<Progress<'a>, LineFault>
         requires room { words.line + length words.rest.now < 2 ^ 64 }
-        ensures coded { IsCoded widths.now.entries self.old words.entry bits.entry.now result self.new }
+        ensures coded { IsCoded widths.now self.old words.entry bits.entry.now result self.new }
     {
         let mut left = words;
         let Some(word) = left.next_word() else {
@@ -350,15 +340,70 @@ impl<'a> Body<'a> {
         }
     }
 
+    // Reads the next line if it is a change of one bit whose code has one character.
+    #[inline(always)]
+    fn read_scalar<A: Allocator>(&mut self, widths: &Widths<A>) -> Option<Event<'a>>
+        requires room { self.old.words.line + length self.old.words.rest.now < 2 ^ 64 }
+        requires anything { self.old.next ≡ Next.Anything }
+        ensures told { IfSome result (λ e. IsProgress widths.now self.old (Ok (Progress.Told e)) self.new) }
+        ensures moves { IfSome result (λ e. Moves self.old (Ok (Progress.Told e)) self.new) }
+        ensures none { IfNone result (self.new ≡ self.old) }
+    {
+        let scalar = Scalar::in_line(self.words.rest)?;
+        let code = u64::from(scalar.code);
+        let _ = widths.get(code)?;
+        self.words.line += 1;
+        self.words.rest = scalar.rest;
+        self.line = self.words.line;
+        Some(Event::Change {
+            code,
+            bits: scalar.bits,
+        })
+    }
+
+    // Reads the next line if it is a time.
+    #[inline(always)]
+    fn read_time(&mut self) -> Option<Event<'a>>
+        requires room { self.old.words.line + length self.old.words.rest.now < 2 ^ 64 }
+        requires anything { self.old.next ≡ Next.Anything }
+        ensures told { IfSome result (λ e. (widths : List (ℕ × ℕ)) → IsProgress widths self.old (Ok (Progress.Told e)) self.new) }
+        ensures moves { IfSome result (λ e. Moves self.old (Ok (Progress.Told e)) self.new) }
+        ensures none { IfNone result (self.new ≡ self.old) }
+    {
+        let timed = Timed::in_line(self.words.rest)?;
+        if timed.time < self.time {
+            return None;
+        }
+        self.words.line += 1;
+        self.words.rest = timed.rest;
+        self.line = self.words.line;
+        self.time = timed.time;
+        Some(Event::Time(timed.time))
+    }
+
+    // Reads the next line if it is a time or such a change.
+    #[inline(always)]
+    fn read_line<A: Allocator>(&mut self, widths: &Widths<A>) -> Option<Event<'a>>
+        requires room { self.old.words.line + length self.old.words.rest.now < 2 ^ 64 }
+        ensures told { IfSome result (λ e. IsProgress widths.now self.old (Ok (Progress.Told e)) self.new) }
+        ensures moves { IfSome result (λ e. Moves self.old (Ok (Progress.Told e)) self.new) }
+        ensures none { IfNone result (self.new ≡ self.old) }
+    {
+        if !matches!(self.next, Next::Anything) {
+            return None;
+        }
+        match self.read_scalar(widths) {
+            Some(event) => Some(event),
+            None => self.read_time(),
+        }
+    }
+
     // Reads a word, and where it has the bits of a vector its code too, if that is there.
     #[inline(always)]
     #[tactic(auto, using(crate::proofs::Going::coded_moves))]
-    fn read_on<A: Allocator>(
-        &mut self,
-        widths: &BTreeMap<u64, usize, A>,
-    ) -> Result<Progress<'a>, LineFault>
+    fn read_on<A: Allocator>(&mut self, widths: &Widths<A>) -> Result<Progress<'a>, LineFault>
         requires room { self.old.words.line + length self.old.words.rest.now < 2 ^ 64 }
-        ensures told { IsProgress widths.now.entries self.old result self.new }
+        ensures told { IsProgress widths.now self.old result self.new }
         ensures moves { Moves self.old result self.new }
     {
         let mut words = self.words;
@@ -386,16 +431,14 @@ impl<'a> Body<'a> {
         }
     }
 
-    /// The next of what a piece of a dump tells, with the widths of its header; None where no whole change is left in it. What is left then
-    /// ([`Body::rest`]) is to stand in front of the next piece. A piece ends in white space, or it is the last. After a fault nothing more is to be asked for.
-    #[inline(always)]
+    // The same as [`Body::next_in_piece`], word by word.
     #[tactic(auto, using(crate::proofs::Going::progress_on, crate::proofs::Going::goes_on, crate::proofs::Going::shorter_on))]
-    pub fn next_in_piece<A: Allocator>(
+    fn next_by_words<A: Allocator>(
         &mut self,
-        widths: &BTreeMap<u64, usize, A>,
+        widths: &Widths<A>,
     ) -> Result<Option<Event<'a>>, LineFault>
         requires room { self.old.words.line + length self.old.words.rest.now < 2 ^ 64 }
-        ensures told { IsNext widths.now.entries self.old result self.new }
+        ensures told { IsNext widths.now self.old result self.new }
         ensures goes_on { GoesOn self.old.words self.new.words }
         ensures shorter { IfOk result (λ o. IfSome o (λ _. length self.new.words.rest.now < length self.old.words.rest.now)) }
     {
@@ -406,6 +449,24 @@ impl<'a> Body<'a> {
         match progress {
             Progress::Told(event) => Ok(Some(event)),
             Progress::Quiet | Progress::Over => Ok(None),
+        }
+    }
+
+    /// The next of what a piece of a dump tells, with the widths of its header; None where no whole change is left in it. What is left then
+    /// ([`Body::rest`]) is to stand in front of the next piece. A piece ends in white space, or it is the last. After a fault nothing more is to be asked for.
+    #[inline(always)]
+    pub fn next_in_piece<A: Allocator>(
+        &mut self,
+        widths: &Widths<A>,
+    ) -> Result<Option<Event<'a>>, LineFault>
+        requires room { self.old.words.line + length self.old.words.rest.now < 2 ^ 64 }
+        ensures told { IsNext widths.now self.old result self.new }
+        ensures goes_on { GoesOn self.old.words self.new.words }
+        ensures shorter { IfOk result (λ o. IfSome o (λ _. length self.new.words.rest.now < length self.old.words.rest.now)) }
+    {
+        match self.read_line(widths) {
+            Some(event) => Ok(Some(event)),
+            None => self.next_by_words(widths),
         }
     }
 }

@@ -29,7 +29,8 @@ pub(crate) fn is_named(word: &[u8], text: &str) -> bool
     word == text.as_bytes()
 }
 
-fn is_digit(byte: u8) -> bool
+#[inline(always)]
+pub(crate) fn is_digit(byte: u8) -> bool
     ensures { result ≡ is_digit byte }
 {
     byte >= b'0' && byte <= b'9'

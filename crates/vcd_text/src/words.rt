@@ -18,7 +18,7 @@ pub struct Words<'a> {
 
 // White space: a space, or a control character.
 #[inline(always)]
-fn is_blank(byte: u8) -> bool
+pub(crate) fn is_blank(byte: u8) -> bool
     ensures { result ≡ is_blank byte }
 {
     byte <= b' '

@@ -10,7 +10,7 @@ invariant-events g l = record {
   tracing : IsTracing l.tracer;
   room : l.body.words.line + length l.body.words.rest.now < 2 ^ 64;
   goes_on : GoesOn l.initial.body.words l.body.words;
-  same : (stamped : List Stamped) (more : List Word) → traced l.initial.tracer stamped (told_before l.widths.entries l.initial.body more) ≡ traced l.tracer stamped (told_before l.widths.entries l.body more);
+  same : (stamped : List Stamped) (more : List Word) → traced l.initial.tracer stamped (told_before l.widths l.initial.body more) ≡ traced l.tracer stamped (told_before l.widths l.body more);
 }
 
 abbrev pub decreases-events : goal.decreases-events

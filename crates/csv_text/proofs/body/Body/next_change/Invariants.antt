@@ -1,4 +1,4 @@
-use Rattle.std.proofs.Common.{◌≡◌, ◌≤◌, List}
+use Rattle.std.proofs.Common.{◌≡◌, ◌≤◌, ℕ, List}
 use Rattle.std.specs.Option.{option_copied}
 use Rattle.vcd_text.specs.Body.{Told}
 use Rattle.csv_text.specs.Shown.{room_in, with_row_left, told_rows, HasRoom, bytes_left}
@@ -7,7 +7,9 @@ use Rattle.csv_text.proofs.body.Body.next_change.Given as goal
 abbrev pub invariant-fields : goal.invariant-fields
 invariant-fields l = record {
   same : (later : List Told) → with_row_left l.self later ≡ with_row_left l.initial.self later;
-  rows : told_rows l.self ≡ told_rows l.initial.self;
+  rows : l.self.rows ≡ l.initial.self.rows;
+  told : (more : List ℕ) → told_rows l.self more ≡ told_rows l.initial.self more;
+  names : l.self.names ≡ l.initial.self.names;
   room : HasRoom l.self;
   less : bytes_left l.self ≤ bytes_left l.initial.self;
 }
