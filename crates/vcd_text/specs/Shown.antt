@@ -106,12 +106,6 @@ IsNext widths old (Ok (Some e)) new = (later : List words.Word) → told_before 
 IsNext widths old (Ok None) new = ((later : List words.Word) → told_before widths old later ≡ told_before widths new later) × IsOver widths new
 IsNext widths old (Err f) new = (later : List words.Word) → told_before widths old later ≡ Err f ∷ []
 
--- an answer is the first of what is told, after which these are left; or there is nothing, or a fault
-abbrev pub IsFirst : Result (Option Event) LineFault → List told.Told → List told.Told → Type 0
-IsFirst (Ok (Some e)) told later = told ≡ Ok (shown_event e) ∷ later
-IsFirst (Ok None) told later = told ≡ []
-IsFirst (Err f) told later = told ≡ Err f ∷ []
-
 -- the file ends with nothing more to tell, or with a fault
 abbrev pub IsEnd : Option LineFault → List told.Told → Type 0
 IsEnd None told = told ≡ []
