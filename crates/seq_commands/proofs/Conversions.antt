@@ -48,10 +48,9 @@ pub taken : {A : Type 0} (old new : CaptureConverter A) (read : CaptureReader A)
     → new.reader ≡ read → new.has_times ≡ old.has_times
     → ((rest : List ℕ) → comes old.reader [] (piece ++ rest) ≡ comes read xs rest) → made ≡ seen_text old.has_times xs
     → GoesOn (λ rest made. Shows old.has_times (comes old.reader [] rest) made) (λ rest made. Shows new.has_times (comes new.reader [] rest) made)
-        (λ rest why. IsRefusalOf why (comes old.reader [] rest)) (λ rest why. IsRefusalOf why (comes new.reader [] rest)) piece made
+    (λ rest why. IsRefusalOf why (comes old.reader [] rest)) (λ rest why. IsRefusalOf why (comes new.reader [] rest)) piece made
 taken old new read xs piece made same times takes is =
-    let gone = goes_on old.reader read old.has_times xs piece made takes is in
-    (
+    let gone = goes_on old.reader read old.has_times xs piece made takes is in (
       λ rest more shows. gone.0 rest more
           (subst (λ (t : Bool). Shows t (comes read [] rest) more) times (subst (λ r. Shows new.has_times (comes r [] rest) more) same shows)),
       λ rest why refused. gone.1 rest why (subst (λ r. IsRefusalOf why (comes r [] rest)) same refused),
