@@ -10,6 +10,8 @@ mod fault_tests;
 #[cfg(test)]
 mod made_trace_tests;
 #[cfg(test)]
+mod middle_tests;
+#[cfg(test)]
 mod name_tests;
 #[cfg(test)]
 mod piece_tests;
