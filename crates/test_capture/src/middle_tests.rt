@@ -38,11 +38,12 @@ fn count_in_parts(
     readies: Readies,
 ) -> Result<usize, Fail> {
     let mut granted = 0usize;
-    let mut part = items;
-    while let [_, _, _, later @ ..] = part {
-        let count = count_granted(rt, alloc, geometry, targets, later, readies)?;
-        granted = granted.saturating_add(count);
-        part = later;
+    for place in 0..items.len() {
+        if place % 3 == 0 {
+            let (_, part) = items.split_at(place);
+            let count = count_granted(rt, alloc, geometry, targets, part, readies)?;
+            granted = granted.saturating_add(count);
+        }
     }
     Ok(granted)
 }
