@@ -23,3 +23,5 @@ mod ready_tests;
 mod round_trip_tests;
 #[cfg(test)]
 mod unshown_tests;
+#[cfg(test)]
+mod worked_trace_tests;

@@ -1,6 +1,7 @@
 //! No part of a legal trace has a fault, wherever its recording began.
 use crate::made_trace_tests::{made_trace, parts_of};
 use crate::unshown_tests::{cycles_of, text_of};
+use crate::worked_trace_tests::worked_trace;
 use nand_geometry::Geometry;
 use onfi_cycle::Item;
 use std::alloc::Global;
@@ -48,7 +49,22 @@ fn count_in_parts(
     Ok(granted)
 }
 
-// How much of the parts of the legal trace with this number was taken for granted, with its readies and without them.
+// How much of the parts of a legal trace was taken for granted, with its readies and without them.
+fn count_in_both(
+    rt: &impl Abort,
+    alloc: Global,
+    geometry: &Geometry,
+    targets: u8,
+    items: &[Item],
+) -> Result<usize, Fail> {
+    let written = count_in_parts(rt, alloc, geometry, targets, items, Readies::Written)?;
+    let cycles = cycles_of(alloc, items)?;
+    let cycles = cycles.as_slice();
+    let shown = count_in_parts(rt, alloc, geometry, targets, cycles, Readies::Shown)?;
+    Ok(written.saturating_add(shown))
+}
+
+// How much of the parts of the legal trace with this number was taken for granted; each fourth trace is one of whole sequences.
 fn count_in_made(
     rt: &impl Abort,
     alloc: Global,
@@ -57,14 +73,13 @@ fn count_in_made(
     luns: u8,
     number: u32,
 ) -> Result<usize, Fail> {
-    let geometry = Geometry::of(parts_of(luns, number))?;
-    let items = made_trace(alloc, seed, geometry, targets, 60 + number % 61)?;
-    let items = items.as_slice();
-    let written = count_in_parts(rt, alloc, &geometry, targets, items, Readies::Written)?;
-    let cycles = cycles_of(alloc, items)?;
-    let cycles = cycles.as_slice();
-    let shown = count_in_parts(rt, alloc, &geometry, targets, cycles, Readies::Shown)?;
-    Ok(written.saturating_add(shown))
+    let geometry = Geometry::of(parts_of(luns, number / 4))?;
+    let items = if number % 4 == 0 {
+        worked_trace(alloc, seed, geometry, targets, 30 + number % 41)?
+    } else {
+        made_trace(alloc, seed, geometry, targets, 60 + number % 61)?
+    };
+    count_in_both(rt, alloc, &geometry, targets, items.as_slice())
 }
 
 // So many traces on targets of so many LUNs have no part with a fault.
