@@ -10,6 +10,8 @@ mod fault_tests;
 #[cfg(test)]
 mod made_trace_tests;
 #[cfg(test)]
+mod middle_tests;
+#[cfg(test)]
 mod name_tests;
 #[cfg(test)]
 mod piece_tests;
@@ -21,3 +23,5 @@ mod ready_tests;
 mod round_trip_tests;
 #[cfg(test)]
 mod unshown_tests;
+#[cfg(test)]
+mod worked_trace_tests;

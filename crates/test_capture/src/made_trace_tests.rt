@@ -18,8 +18,8 @@ const COMMANDS: [u8; 18] = [
 // Addresses that aren't 0: of columns, pages and blocks, and of the other LUNs.
 const ADDRESSES: [u8; 10] = [0x01, 0x02, 0x04, 0x08, 0x10, 0x20, 0x24, 0x40, 0x60, 0x64];
 
-// The next number of a fixed generator.
-fn next(seed: &mut u32) -> u32 {
+/// The next number of a fixed generator.
+pub(crate) fn next(seed: &mut u32) -> u32 {
     let mut x = *seed;
     x ^= x << 13;
     x ^= x >> 17;
@@ -61,8 +61,13 @@ fn cycle(ce: u8, kind: Kind, byte: u8) -> Item {
     Item::Cyc(Cycle { ce, kind, byte })
 }
 
-// The next item of a trace: one that the model permits, of the first thousand that are drawn.
-fn permitted_item(seed: &mut u32, state: &BusState, targets: u8, luns: u8) -> Option<Item> {
+/// The next item of a trace: one that the model permits, of the first thousand that are drawn.
+pub(crate) fn permitted_item(
+    seed: &mut u32,
+    state: &BusState,
+    targets: u8,
+    luns: u8,
+) -> Option<Item> {
     for _ in 0..1_000 {
         let item = any_item(seed, targets, luns);
         if state.judge(item).is_none() {

@@ -8,8 +8,8 @@ use std::test::Fail;
 use trace_faults::{Readies, complete, find_faults, find_not_shown};
 use trace_text::{is_printable, print};
 
-// The cycles of a trace.
-fn cycles_of(alloc: Global, items: &[Item]) -> Result<Vec<Item>, Fail> {
+/// The cycles of a trace.
+pub(crate) fn cycles_of(alloc: Global, items: &[Item]) -> Result<Vec<Item>, Fail> {
     let mut cycles = Vec::new(alloc);
     for item in items {
         match *item {
@@ -20,8 +20,8 @@ fn cycles_of(alloc: Global, items: &[Item]) -> Result<Vec<Item>, Fail> {
     Ok(cycles)
 }
 
-// Some items as a text.
-fn text_of(alloc: Global, items: &[Item]) -> Result<String, Fail> {
+/// Some items as a text.
+pub(crate) fn text_of(alloc: Global, items: &[Item]) -> Result<String, Fail> {
     if !is_printable(items) {
         return Err(Fail::from("an item that can't be printed"));
     }

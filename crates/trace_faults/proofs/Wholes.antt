@@ -14,7 +14,7 @@ use Rattle.trace_faults.specs.declared.readies.Readies.{Readies}
 use Rattle.trace_faults.specs.Recovery.{gone_on}
 use Rattle.trace_faults.specs.Faults.{fault_at, before_taken, before_item, taken_on, faults_from}
 use Rattle.trace_faults.proofs.Middles.{still_granted}
-use Rattle.trace_faults.specs.Middle.{Seen, known_of, doubts, doubts_lun, hangs_on_before, of_cycle, of_ready, verdict_on, verdict_here, is_passed_over, is_granted, is_granted_here, shown_here, here, with_ready_taken, said_of, seen_by, verdicts_from, broken_in, granted_in, one_passed_over, all_broken, all_granted, count_passed_over, first_seen}
+use Rattle.trace_faults.specs.Middle.{Seen, known_of, doubts, doubts_ready, hangs_on_before, of_cycle, of_ready, verdict_on, verdict_here, is_passed_over, is_granted, is_granted_here, shown_here, here, with_ready_taken, said_of, seen_by, verdicts_from, broken_in, granted_in, one_passed_over, all_broken, all_granted, count_passed_over, first_seen}
 use Rattle.trace_faults.specs.Laws.{WholeAreJudgedWhole}
 
 -- what is said is the rule that is broken, unless that is taken for granted
@@ -39,8 +39,8 @@ ready_says doubted (Some rule) = chosen doubted rule
 
 says : (state : BusView) (k : Known) (i : Item) → Says (verdict_on state k i) (judged state i)
 says state k (Cyc c) = cycle_says (doubts state k c.ce) (judged state (Cyc c))
-says state k (Rdy ce lun fail) = ready_says (doubts_lun state k ce lun) (judged state (Rdy ce lun fail))
-says state k (Ard ce lun) = ready_says (doubts_lun state k ce lun) (judged state (Ard ce lun))
+says state k (Rdy ce lun fail) = ready_says (doubts_ready state k ce lun) (judged state (Rdy ce lun fail))
+says state k (Ard ce lun) = ready_says (doubts_ready state k ce lun) (judged state (Ard ce lun))
 
 with_says : (o : Option UnshownReady) (v : Verdict) (rule : Option Forbidden) → Says v rule → Says (with_ready_taken o v) rule
 with_says None v rule said = said

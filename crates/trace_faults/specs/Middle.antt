@@ -6,10 +6,17 @@ use Rattle.onfi_cycle.specs.declared.item.Item.TheVariants.{Cyc, Rdy, Ard}
 use Rattle.onfi_cycle.specs.declared.forbidden.Forbidden.{Forbidden}
 use Rattle.onfi_cycle.specs.declared.forbidden.Forbidden.TheVariants.{NotThere, CommandUnknown, SequenceOpen, SeveralLuns, NoColumnToChange, CommandMisplaced, AddressMisplaced, RowOutside, LunBusy, QueueClash, InputMisplaced, NoSoleDriver, DataNotReady, ColumnOutside, CacheReadMisplaced}
 use Rattle.onfi_cycle.specs.declared.lun_state.LunState.{LunState}
-use Rattle.onfi_cycle.specs.Sequence.{target_of}
+use Rattle.onfi_cycle.specs.declared.command.Command.TheVariants.{Reset}
+use Rattle.onfi_cycle.specs.declared.target_cycle.TargetCycle.{TargetCycle}
+use Rattle.onfi_cycle.specs.declared.target_cycle.TargetCycle.TheVariants.{CommandCycle}
+use Rattle.onfi_cycle.specs.Sequence.{target_of, target_cycle}
+use Rattle.onfi_cycle.specs.Effect.{is_off}
 use Rattle.onfi_cycle.specs.State.{BusView, judged, bus_without}
 use Rattle.onfi_cycle.specs.Look.{looked}
 use Rattle.trace_faults.specs.declared.known.Known.{Known}
+use Rattle.trace_faults.specs.declared.looks.Looks.{Looks}
+use Rattle.trace_faults.specs.declared.lun_known.LunKnown.{LunKnown}
+use Rattle.trace_faults.specs.declared.lun_known.LunKnown.TheVariants.{Nothing, Work, All}
 use Rattle.trace_faults.specs.declared.verdict.Verdict.{Verdict}
 use Rattle.trace_faults.specs.declared.verdict.Verdict.TheVariants.{Permitted, PassedOver, Granted, Broken, NotShown as WithoutReady}
 use Rattle.trace_faults.specs.declared.broken_rule.BrokenRule.{BrokenRule}
@@ -17,18 +24,17 @@ use Rattle.trace_faults.specs.declared.readies.Readies.{Readies}
 use Rattle.trace_faults.specs.Recovery.{is_opening, gone_on}
 use Rattle.trace_faults.specs.declared.unshown.UnshownReady.{UnshownReady}
 use Rattle.trace_faults.specs.declared.unshown.NotShown.{NotShown}
-use Rattle.trace_faults.specs.Unshown.{works}
 use Rattle.trace_faults.specs.Faults.{fresh, before_taken, before_item, taken_on}
 
 -- ---- what is known
 
 -- of a target where nothing has been seen: neither an opener, nor work of one of its four LUNs
 abbrev pub nothing_known : Known
-nothing_known = record { opened = false; zeroth = false; first = false; second = false; third = false }
+nothing_known = record { opened = false; zeroth = Nothing; first = Nothing; second = Nothing; third = Nothing }
 
 -- of a target that isn't there nothing is in doubt
 abbrev pub all_known : Known
-all_known = record { opened = true; zeroth = true; first = true; second = true; third = true }
+all_known = record { opened = true; zeroth = All; first = All; second = All; third = All }
 
 abbrev pub first_known : Bool → Known
 first_known there = if there then nothing_known else all_known
@@ -40,31 +46,91 @@ all_first_known targets = first_known (nat_lt 0 targets) ∷ (first_known (nat_l
 abbrev pub known_of : List Known → ℕ → Known
 known_of known ce = get_or known ce all_known
 
--- the LUN of a number has begun work since the recording began
-abbrev pub knows : Known → ℕ → Bool
+-- what is known of the LUN of a number
+abbrev pub knows : Known → ℕ → LunKnown
 knows k number =
-    if number == 0 then k.zeroth else (if number == 1 then k.first else (if number == 2 then k.second else (if number == 3 then k.third else true)))
+    if number == 0 then k.zeroth else (if number == 1 then k.first else (if number == 2 then k.second else (if number == 3 then k.third else All)))
+
+-- it has begun work since the recording began
+abbrev pub has_begun : LunKnown → Bool
+has_begun Nothing = false
+has_begun Work = true
+has_begun All = true
+
+-- and whether it drives the bus is known
+abbrev pub is_all : LunKnown → Bool
+is_all Nothing = false
+is_all Work = false
+is_all All = true
 
 -- a LUN that is there, and isn't known
 abbrev pub is_doubtful : Option LunState → Bool → Bool
 is_doubtful None known = false
 is_doubtful (Some lun) known = not known
 
-abbrev pub doubts_lun : BusView → Known → (ce number : ℕ) → Bool
-doubts_lun state k ce number = is_doubtful (looked state (record { ce = ce; lun = number })) (knows k number)
+-- of a ready: whether the LUN is busy isn't known
+abbrev pub doubts_ready : BusView → Known → (ce number : ℕ) → Bool
+doubts_ready state k ce number = is_doubtful (looked state (record { ce = ce; lun = number })) (has_begun (knows k number))
 
--- some LUN of the target isn't known
+-- of a cycle: not all is known of the LUN
+abbrev pub doubts_lun : BusView → Known → (ce number : ℕ) → Bool
+doubts_lun state k ce number = is_doubtful (looked state (record { ce = ce; lun = number })) (is_all (knows k number))
+
+-- not all is known of some LUN of the target
 abbrev pub doubts : BusView → Known → ℕ → Bool
 doubts state k ce = doubts_lun state k ce 0 || (doubts_lun state k ce 1 || (doubts_lun state k ce 2 || doubts_lun state k ce 3))
 
--- what is known of the target of an item after it: an opener may have come, and a LUN that works now has begun that since
-abbrev pub learned : BusView → Item → Known → Known
-learned state i k = record {
+-- ---- what an item shows of its target
+
+abbrev pub is_reset_cycle : TargetCycle → Bool
+is_reset_cycle (CommandCycle Reset) = true
+is_reset_cycle _ = false
+
+abbrev pub is_reset : Item → Bool
+is_reset (Cyc c) = is_reset_cycle (target_cycle c.kind c.byte)
+is_reset (Rdy _ _ _) = false
+is_reset (Ard _ _) = false
+
+-- the LUN begins work between these looks at it, which sets what it holds and has begun; a cache read that goes on hangs on what it had begun
+abbrev pub begins_anew : (before after : Option LunState) → Bool
+begins_anew None after = false
+begins_anew (Some before) None = false
+begins_anew (Some before) (Some after) = not before.busy && (after.busy && not after.caching)
+
+-- the LUN drives the bus; before anything was seen, none does
+abbrev pub is_driving : Option LunState → Bool
+is_driving None = false
+is_driving (Some lun) = not (is_off lun.latch)
+
+abbrev pub once_begun : (drives : Bool) → LunKnown
+once_begun drives = if drives then All else Work
+
+abbrev pub learned_by : (begins drives : Bool) → LunKnown → LunKnown
+learned_by begins drives Nothing = if begins then once_begun drives else Nothing
+learned_by begins drives Work = once_begun drives
+learned_by begins drives All = All
+
+-- what is known of a LUN after an item: an erase and a program leave what it drives as that was, so they tell nothing of it; a reset and a read do, and
+-- once it is seen to drive the bus all that stops it is seen
+abbrev pub learned_lun : Item → (before after : Option LunState) → LunKnown → LunKnown
+learned_lun i before after k = learned_by (begins_anew before after) (is_driving after || (begins_anew before after && is_reset i)) k
+
+abbrev pub looks_of : BusView → ℕ → Looks
+looks_of state ce = record {
+  zeroth = looked state (record { ce = ce; lun = 0 });
+  first = looked state (record { ce = ce; lun = 1 });
+  second = looked state (record { ce = ce; lun = 2 });
+  third = looked state (record { ce = ce; lun = 3 });
+}
+
+-- what is known of the target of an item after it
+abbrev pub learned : Item → (before after : Looks) → Known → Known
+learned i before after k = record {
   opened = k.opened || is_opening i;
-  zeroth = k.zeroth || works state (target_of i) 0;
-  first = k.first || works state (target_of i) 1;
-  second = k.second || works state (target_of i) 2;
-  third = k.third || works state (target_of i) 3;
+  zeroth = learned_lun i before.zeroth after.zeroth k.zeroth;
+  first = learned_lun i before.first after.first k.first;
+  second = learned_lun i before.second after.second k.second;
+  third = learned_lun i before.third after.third k.third;
 }
 
 -- ---- what is said of an item
@@ -99,8 +165,8 @@ of_ready doubted (Some rule) = if doubted then Granted rule else Broken rule
 
 abbrev pub verdict_on : BusView → Known → Item → Verdict
 verdict_on state k (Cyc c) = of_cycle (doubts state k c.ce) (judged state (Cyc c))
-verdict_on state k (Rdy ce lun fail) = of_ready (doubts_lun state k ce lun) (judged state (Rdy ce lun fail))
-verdict_on state k (Ard ce lun) = of_ready (doubts_lun state k ce lun) (judged state (Ard ce lun))
+verdict_on state k (Rdy ce lun fail) = of_ready (doubts_ready state k ce lun) (judged state (Rdy ce lun fail))
+verdict_on state k (Ard ce lun) = of_ready (doubts_ready state k ce lun) (judged state (Ard ce lun))
 
 -- an item that belongs to a sequence whose opener wasn't seen: a cycle of a target before its first opener
 abbrev pub is_passed_over : Known → Item → Bool
@@ -121,15 +187,20 @@ granted_to (Rdy _ _ _) seen = seen
 granted_to (Ard _ _) seen = seen
 
 -- what an item leaves that is judged
-abbrev pub judged_on : BusView → List Known → Item → Seen
-judged_on state known i = record { state = state; known = slice_set known (target_of i) (learned state i (known_of known (target_of i))) }
+abbrev pub judged_on : Item → Seen → Seen
+judged_on i seen = record {
+  state = gone_on i seen.state;
+  known =
+      slice_set seen.known (target_of i)
+      (learned i (looks_of seen.state (target_of i)) (looks_of (gone_on i seen.state) (target_of i)) (known_of seen.known (target_of i)));
+}
 
 abbrev pub seen_by : Verdict → Item → Seen → Seen
-seen_by Permitted i seen = judged_on (gone_on i seen.state) seen.known i
+seen_by Permitted i seen = judged_on i seen
 seen_by PassedOver i seen = seen
 seen_by (Granted rule) i seen = granted_to i seen
-seen_by (Broken rule) i seen = judged_on (gone_on i seen.state) seen.known i
-seen_by (WithoutReady ready) i seen = judged_on (gone_on i seen.state) seen.known i
+seen_by (Broken rule) i seen = judged_on i seen
+seen_by (WithoutReady ready) i seen = judged_on i seen
 
 abbrev pub verdict_here : Seen → Item → Verdict
 verdict_here seen i = verdict_on seen.state (known_of seen.known (target_of i)) i

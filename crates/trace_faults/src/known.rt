@@ -1,22 +1,23 @@
 //! What a recording that began in the middle has shown of a target.
 ghost use Rattle.std.specs.Prelude.{◌≡◌, get_or, slice_set, nat_lt};
-ghost use Rattle.trace_faults.specs.Middle.{nothing_known, all_known, first_known, all_first_known, known_of, knows, is_doubtful, doubts_lun, doubts, learned};
+ghost use Rattle.trace_faults.specs.Middle.{nothing_known, all_known, first_known, all_first_known, known_of, knows, is_doubtful, doubts_ready, doubts_lun, doubts, learned};
 
+use crate::looks::Looks;
+use crate::lun_known::LunKnown;
 use crate::recovery::is_opening;
-use crate::unshown::works;
 use onfi_cycle::{BusState, Item, Lun, LunState};
 
 /// How many targets a channel has at most.
 pub(crate) const MOST_TARGETS: usize = 4;
 
-/// What is known of a target: whether an opener of it has come, and which of its four LUNs have begun work since the recording began.
+/// What is known of a target: whether an opener of it has come, and what the recording has shown of its four LUNs.
 #[derive(Clone, Copy)]
 pub(crate) struct Known {
     pub(crate) opened: bool,
-    pub(crate) zeroth: bool,
-    pub(crate) first: bool,
-    pub(crate) second: bool,
-    pub(crate) third: bool,
+    pub(crate) zeroth: LunKnown,
+    pub(crate) first: LunKnown,
+    pub(crate) second: LunKnown,
+    pub(crate) third: LunKnown,
 }
 
 /// What is known of each target.
@@ -39,10 +40,10 @@ impl Known {
     {
         Known {
             opened: false,
-            zeroth: false,
-            first: false,
-            second: false,
-            third: false,
+            zeroth: LunKnown::Nothing,
+            first: LunKnown::Nothing,
+            second: LunKnown::Nothing,
+            third: LunKnown::Nothing,
         }
     }
 
@@ -52,10 +53,10 @@ impl Known {
     {
         Known {
             opened: true,
-            zeroth: true,
-            first: true,
-            second: true,
-            third: true,
+            zeroth: LunKnown::All,
+            first: LunKnown::All,
+            second: LunKnown::All,
+            third: LunKnown::All,
         }
     }
 
@@ -70,8 +71,8 @@ impl Known {
         }
     }
 
-    // Whether the LUN of this number has begun work.
-    fn knows(self, number: u8) -> bool
+    // What is known of the LUN of this number.
+    fn knows(self, number: u8) -> LunKnown
         ensures { result ≡ knows self number }
     {
         match number {
@@ -79,18 +80,28 @@ impl Known {
             1 => self.first,
             2 => self.second,
             3 => self.third,
-            _ => true,
+            _ => LunKnown::All,
         }
     }
 
-    /// Whether the LUN of this number is there and isn't known.
-    pub(crate) fn doubts_lun(self, state: &BusState, ce: u8, lun: u8) -> bool
-        ensures { result ≡ doubts_lun state.now self ce lun }
+    /// Whether the LUN of this number is there and hasn't begun work.
+    pub(crate) fn doubts_ready(self, state: &BusState, ce: u8, lun: u8) -> bool
+        ensures { result ≡ doubts_ready state.now self ce lun }
     {
-        is_doubtful(state.lun_state(Lun { ce, lun }), self.knows(lun))
+        is_doubtful(
+            state.lun_state(Lun { ce, lun }),
+            self.knows(lun).has_begun(),
+        )
     }
 
-    /// Whether some LUN of its target isn't known.
+    // Whether the LUN of this number is there, and not all is known of it.
+    fn doubts_lun(self, state: &BusState, ce: u8, lun: u8) -> bool
+        ensures { result ≡ doubts_lun state.now self ce lun }
+    {
+        is_doubtful(state.lun_state(Lun { ce, lun }), self.knows(lun).is_all())
+    }
+
+    /// Whether there is a LUN of its target of which not all is known.
     pub(crate) fn doubts(self, state: &BusState, ce: u8) -> bool
         ensures { result ≡ doubts state.now self ce }
     {
@@ -100,17 +111,16 @@ impl Known {
             || self.doubts_lun(state, ce, 3)
     }
 
-    /// What is known after an item of its target, which has left this state.
-    pub(crate) fn learned(self, state: &BusState, item: Item) -> Known
-        ensures { result ≡ learned state.now item self }
+    /// What is known after an item of its target, with a look at its LUNs before it and one after it.
+    pub(crate) fn learned(self, item: Item, before: Looks, after: Looks) -> Known
+        ensures { result ≡ learned item before after self }
     {
-        let ce = item.target();
         Known {
             opened: self.opened || is_opening(item),
-            zeroth: self.zeroth || works(state, ce, 0),
-            first: self.first || works(state, ce, 1),
-            second: self.second || works(state, ce, 2),
-            third: self.third || works(state, ce, 3),
+            zeroth: self.zeroth.learned(item, before.zeroth, after.zeroth),
+            first: self.first.learned(item, before.first, after.first),
+            second: self.second.learned(item, before.second, after.second),
+            third: self.third.learned(item, before.third, after.third),
         }
     }
 }

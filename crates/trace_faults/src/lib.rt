@@ -13,6 +13,8 @@ mod completing;
 mod finding;
 mod known;
 pub mod laws;
+mod looks;
+mod lun_known;
 mod middle;
 mod middle_faults;
 mod readies;

@@ -5,6 +5,7 @@ ghost use Rattle.trace_faults.specs.Recovery.{gone_on};
 ghost use Rattle.onfi_cycle.specs.Sequence.{target_of};
 
 use crate::known::{AllKnown, Known, known_of, note_known};
+use crate::looks::Looks;
 use crate::readies::Readies;
 use crate::recovery::{go_on, is_opening};
 use crate::verdict::Verdict;
@@ -27,8 +28,8 @@ fn verdict_on(state: &BusState, known: Known, item: Item) -> Verdict
     let rule = state.judge(item);
     match item {
         Item::Cyc(cycle) => Verdict::of_cycle(known.doubts(state, cycle.ce), rule),
-        Item::Rdy { ce, lun, .. } => Verdict::of_ready(known.doubts_lun(state, ce, lun), rule),
-        Item::Ard { ce, lun } => Verdict::of_ready(known.doubts_lun(state, ce, lun), rule),
+        Item::Rdy { ce, lun, .. } => Verdict::of_ready(known.doubts_ready(state, ce, lun), rule),
+        Item::Ard { ce, lun } => Verdict::of_ready(known.doubts_ready(state, ce, lun), rule),
     }
 }
 
@@ -56,11 +57,12 @@ fn grant(state: &mut BusState, known: &mut AllKnown, item: Item)
 // Goes on after an item that was judged.
 fn go_on_judged(state: &mut BusState, known: &mut AllKnown, item: Item)
     ensures state { state.new ≡ gone_on item state.old }
-    ensures known { known.new ≡ (judged_on (gone_on item state.old) known.old item).known }
+    ensures known { known.new ≡ (judged_on item (record { state = state.old; known = known.old })).known }
 {
-    let _ = go_on(state, item);
     let target = item.target();
-    let now = known_of(known, target).learned(state, item);
+    let before = Looks::of(state, target);
+    let _ = go_on(state, item);
+    let now = known_of(known, target).learned(item, before, Looks::of(state, target));
     note_known(known, target, now);
 }
 
