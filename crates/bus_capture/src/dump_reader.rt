@@ -120,6 +120,11 @@ pub(crate) struct DumpReader<A: Allocator> {
 }
 
 impl<A: Allocator + Clone> DumpReader<A> {
+    /// How many bytes are kept of what isn't whole yet.
+    pub(crate) fn kept(&self) -> usize {
+        self.left.len()
+    }
+
     /// The body of a dump, with this text after it.
     pub(crate) fn begun(
         alloc: A,

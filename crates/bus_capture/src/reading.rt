@@ -336,6 +336,16 @@ impl<'m, A: Allocator + Clone> CaptureReader<'m, A> {
         Ok(table.tracer.unselected)
     }
 
+    /// How many bytes of the text are kept, as they may go on: of a header, of a word, or of a row.
+    pub fn kept(&self) -> usize {
+        let left = match (&self.dump, &self.table) {
+            (Some(dump), _) => dump.kept(),
+            (None, Some(table)) => table.kept(),
+            (None, None) => 0,
+        };
+        self.head.len().saturating_add(left)
+    }
+
     /// Adds the items that are left where the text ends: how many strobes rose with no chip enabled. Nothing more is to be asked for then.
     pub fn finish<B: Allocator>(
         &mut self,

@@ -87,6 +87,11 @@ pub(crate) struct TableReader<A: Allocator> {
 }
 
 impl<A: Allocator + Clone> TableReader<A> {
+    /// How many bytes are kept of what isn't whole yet.
+    pub(crate) fn kept(&self) -> usize {
+        self.left.len()
+    }
+
     /// The rows below a row of names, with this text after them.
     pub(crate) fn begun(
         alloc: A,

@@ -82,6 +82,9 @@ pub(crate) struct CaptureTally {
     pub(crate) unselected: u64,
 }
 
+/// Of a text that may go on no more bytes are kept than these: a header, a word or a row that is longer is out of memory, as an input without an end may be.
+const MOST_KEPT: usize = 512 << 20;
+
 /// A capture that becomes the text of a trace, with the times or without.
 #[derive(Drop)]
 pub(crate) struct CaptureConverter<'m, A: Allocator> {
@@ -191,9 +194,13 @@ impl<'m, A: Allocator + Clone> Convert for CaptureConverter<'m, A> {
         self.keep_lines(piece)?;
         let mut stamped = Vec::new(copy_of(&self.alloc)?);
         match self.reader.take(piece, &mut stamped) {
-            Ok(()) => self.push_seen(stamped.as_slice(), output),
-            Err(refusal) => Err(refusal),
+            Ok(()) => {}
+            Err(refusal) => return Err(refusal),
         }
+        if self.reader.kept() > MOST_KEPT {
+            return Err(CaptureRefusal::OutOfMemory);
+        }
+        self.push_seen(stamped.as_slice(), output)
     }
 
     fn finish<B: Allocator>(&mut self, output: &mut Vec<u8, B>) -> Result<(), CaptureRefusal> {

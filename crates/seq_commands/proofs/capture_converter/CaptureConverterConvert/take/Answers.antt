@@ -3,8 +3,8 @@ use Rattle.seq_commands.specs.Captures.{seen_text}
 use Rattle.seq_commands.proofs.Conversions.{ok_more, taken}
 use Rattle.seq_commands.proofs.capture_converter.CaptureConverterConvert.take.Goals as goal
 
-pub returns-in-Ok-clause-made : goal.returns-in-Ok-clause-made
-returns-in-Ok-clause-made g c =
+pub returns-clause-made : goal.returns-clause-made
+returns-clause-made g c =
     let made = seen_text c.args.self.now.has_times c.take.new.stamped.items in
     let same : c.push_seen.new.self.reader ≡ c.take.new.self = search rules in
     let times : c.push_seen.new.self.has_times ≡ c.args.self.now.has_times = search rules in
