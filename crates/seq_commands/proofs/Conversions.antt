@@ -1,5 +1,5 @@
 -- A capture that becomes a text piece by piece: what is shown of a piece stands in front of what is shown of the rest.
-use Rattle.std.proofs.Common.{◌≡◌, ℕ, Bool, true, false, List, [], ◌++◌, Result, Ok, Err, OnOk, flat_map, sym, ap, ◌∙◌, subst}
+use Rattle.std.proofs.Common.{◌≡◌, ℕ, Bool, true, false, List, [], ◌++◌, Result, Ok, Err, flat_map, sym, ap, ◌∙◌, subst}
 use Rattle.std.proofs.lemmas.List.{append-nil, map-append}
 use Rattle.std.proofs.lemmas.Grind.{flat_map-append}
 use Rattle.trace_text.specs.Line.{line}
@@ -55,7 +55,3 @@ taken old new read xs piece made same times takes is =
           (subst (λ (t : Bool). Shows t (comes read [] rest) more) times (subst (λ r. Shows new.has_times (comes r [] rest) more) same shows)),
       λ rest why refused. gone.1 rest why (subst (λ r. IsRefusalOf why (comes r [] rest)) same refused),
     )
-
-pub ok_more : {A E : Type 0} {P Q : Type 0} (r : Result A E) → OnOk r P → (P → Q) → OnOk r Q
-ok_more (Ok x) p more = more p
-ok_more (Err e) p more = tt
