@@ -5,6 +5,9 @@
  *     libonfiseq_verify_c.a   verify, verify_run                        takes memory by malloc, realloc and free
  *     libonfiseq_text_c.a     assemble, disassemble, words              takes memory by malloc, realloc and free
  *     libonfiseq_live_c.a     live_.., job_..                           takes no memory, needs memcpy and memset alone
+ *     libonfiseq_show_c.a     picture, notes                            takes memory by malloc, realloc and free
+ *
+ * It is the same for every processor and byte order. release/onfiseq.c has the calls of the first four libraries for whatever has a C compiler, one thread at a time.
  *
  * No call aborts, and none keeps anything behind your back. A call may be made from several threads at once, as long as they don't share what it writes.
  *
@@ -15,8 +18,8 @@
  *  - a bool is 0 or 1: begin records with = {0}, or fill them whole;
  *  - a struct onfiseq_bus comes from onfiseq_begin, a struct onfiseq_live from onfiseq_live_begin, and only the calls below change them. They may be copied,
  *    compared and thrown away as you like. A struct onfiseq_job may hold anything: what isn't one is an answer;
- *  - there is stack enough: 36 KB for libonfiseq_c.a, 22 KB for libonfiseq_live_c.a, 8 KB for libonfiseq_text_c.a; for onfiseq_verify 96 KB where a program has no branch and no loop, 280 KB
- *    where it has 64 words at most, and else 2.2 MB.
+ *  - there is stack enough: 32 KB for libonfiseq_c.a, 36 KB for libonfiseq_show_c.a, 14 KB for libonfiseq_live_c.a, 8 KB for libonfiseq_text_c.a; for onfiseq_verify 96 KB where a program has no branch and no loop, 200 KB
+ *    where it has 64 words at most, and else 1 MB.
  */
 #ifndef ONFISEQ_H
 #define ONFISEQ_H
@@ -30,6 +33,13 @@ extern "C" {
 #endif
 
 #define ONFISEQ_VERSION 1
+
+/* A number of 64 bits in a record, at a multiple of 8 bytes: so a record has its fields at the same places on every processor, whatever a size_t is there. */
+#ifdef __GNUC__
+typedef uint64_t onfiseq_u64 __attribute__((aligned(8)));
+#else
+typedef uint64_t onfiseq_u64;
+#endif
 
 /* ---- the chip */
 
@@ -70,7 +80,7 @@ struct onfiseq_item {
 struct onfiseq_answer {
     uint8_t letter;
     uint32_t number;
-    size_t at;
+    onfiseq_u64 at;
 };
 
 /* Checks whether so many items are a legal trace on a channel of so many targets, 1 to 4. */
@@ -78,7 +88,7 @@ struct onfiseq_answer onfiseq_check(const struct onfiseq_geometry *geometry, uin
 
 /* The state of a channel. Its fields are for debuggers: onfiseq_look tells what stands in them. */
 struct onfiseq_queued {
-    uint64_t page;
+    onfiseq_u64 page;
     uint32_t block;
     bool is_program;
 };
@@ -91,10 +101,10 @@ struct onfiseq_lun {
     uint8_t register_; /* what its register holds: 0 nothing, 1 a page, 2 the parameter page, 3 the identifier */
     bool has_column, lost;
     uint32_t column, array_block;
-    uint64_t array_page;
+    onfiseq_u64 array_page;
     uint32_t register_block;
-    uint64_t register_page;
-    size_t outputs, queued;
+    onfiseq_u64 register_page;
+    onfiseq_u64 outputs, queued;
     struct onfiseq_queued queue[4];
 };
 
@@ -103,14 +113,14 @@ struct onfiseq_target {
     uint8_t opener, phase, r1, r2, r3;
     bool is_empty;
     uint32_t column;
-    size_t addresses, inputs, count;
+    onfiseq_u64 addresses, inputs, count;
     struct onfiseq_lun luns[4];
 };
 
 struct onfiseq_bus {
     uint32_t magic;
     struct onfiseq_geometry geometry;
-    size_t count; /* how many targets it has; 0 where no channel was begun */
+    onfiseq_u64 count; /* how many targets it has; 0 where no channel was begun */
     struct onfiseq_target targets[4];
 };
 
@@ -123,7 +133,7 @@ struct onfiseq_bus onfiseq_begin(const struct onfiseq_geometry *geometry, uint8_
 #define ONFISEQ_DAMAGED 254
 uint32_t onfiseq_push(struct onfiseq_bus *bus, const struct onfiseq_item *item);
 
-/* Pushes items one by one up to the first that is refused; the answer is its, or 0, and *done says how many went. Many items cost much less in one call. */
+/* Pushes items one by one up to the first that is refused; the answer is its, or 0, and *done says how many went. */
 uint32_t onfiseq_push_all(struct onfiseq_bus *bus, const struct onfiseq_item *items, size_t count, size_t *done);
 
 /* Pushes an item of a bus whose R/B# isn't seen: where it is a status output, of the one LUN that drives the bus, which shows that LUN ready that was busy
@@ -143,8 +153,8 @@ struct onfiseq_look {
     uint8_t register_;
     bool has_column;
     uint32_t block;
-    uint64_t page, column;
-    size_t queued;
+    onfiseq_u64 page, column;
+    onfiseq_u64 queued;
 };
 
 struct onfiseq_look onfiseq_look(const struct onfiseq_bus *bus, uint8_t ce, uint8_t lun);
@@ -156,7 +166,7 @@ struct onfiseq_look onfiseq_look(const struct onfiseq_bus *bus, uint8_t ce, uint
 struct onfiseq_verdict {
     uint8_t letter;
     uint32_t number;
-    size_t at;
+    onfiseq_u64 at;
 };
 
 /* Verifies a word file for the chip of a parameter page. */
@@ -174,7 +184,7 @@ struct onfiseq_verdict onfiseq_verify_run(const uint8_t *page, size_t page_lengt
 struct onfiseq_placed {
     uint8_t letter;
     uint32_t number;
-    size_t at, length;
+    onfiseq_u64 at, length;
 };
 
 /* Assembles a text (no 0 behind it): its word file stands in the buffer. 4,112 bytes are enough for any. */
@@ -186,6 +196,19 @@ struct onfiseq_placed onfiseq_disassemble(const uint8_t *file, size_t file_lengt
 /* What an answer's letter and number mean, in English, in room bytes with a 0 at the end, cut where it doesn't fit. The answer is the length of all the words, as
  * snprintf's is; 0 where no answer has this letter and number. 160 bytes are enough for any. */
 size_t onfiseq_words(uint8_t letter, uint32_t number, char *text, size_t room);
+
+/* ---- pictures and notes, for people
+ *
+ * letter 0: all stands at the front of the buffer, length bytes long, with no 0 behind it. Else the buffer is as it was: 'P' the geometry has a fault, which onfiseq_check
+ * tells; 'T' the targets aren't 1 to 4; 'I' the numbers at `at` are no item; 'M' the file can't be read, which onfiseq_disassemble tells; 'B' the buffer is too
+ * short, and length is how long it must be; 'O' memory was refused. */
+
+/* Draws items as a trace on a channel of so many targets, legal or not: an SVG. An item that breaks a rule is drawn, and what comes after it is grey. */
+struct onfiseq_placed onfiseq_picture(const struct onfiseq_geometry *geometry, uint8_t targets, const struct onfiseq_item *items, size_t count, uint8_t *picture, size_t room);
+
+/* Notes what the author of a word file surely didn't mean, though onfiseq_verify accepts it for this geometry: a line for each note, of its code, its word or - for
+ * the header, and what is wrong and mends it. Of a file that isn't accepted it may say anything. */
+struct onfiseq_placed onfiseq_notes(const struct onfiseq_geometry *geometry, const uint8_t *file, size_t file_length, uint8_t *notes, size_t room);
 
 /* ---- the sequencer on your pins
  *
@@ -236,7 +259,7 @@ struct onfiseq_live {
  *   'O'       take len bytes from the chip */
 struct onfiseq_burst {
     uint8_t kind, ce, bytes[5];
-    size_t place, len;
+    onfiseq_u64 place, len;
 };
 
 /* letter 0: do the first count bursts, one after another, and hand the taken bytes that their outputs gave to onfiseq_job_finish. Else nothing is to be done:
@@ -247,7 +270,7 @@ struct onfiseq_burst {
 struct onfiseq_turn {
     uint8_t letter;
     uint32_t number;
-    size_t count, taken;
+    onfiseq_u64 count, taken;
     struct onfiseq_burst bursts[3];
 };
 
@@ -281,7 +304,7 @@ uint32_t onfiseq_live_array_ready(struct onfiseq_live *live, uint8_t ce, uint8_t
 
 struct onfiseq_abi {
     uint32_t version;
-    size_t geometry, page, item, answer, queued, lun, target, bus, look, sample;
+    onfiseq_u64 geometry, page, item, answer, queued, lun, target, bus, look, sample;
 };
 
 struct onfiseq_abi onfiseq_abi(void);
@@ -299,7 +322,7 @@ struct onfiseq_sample onfiseq_sample(uint32_t flags);
 
 struct onfiseq_live_abi {
     uint32_t version;
-    size_t loops, job, live, burst, turn, step, sample;
+    onfiseq_u64 loops, job, live, burst, turn, step, sample;
 };
 
 struct onfiseq_live_abi onfiseq_live_abi(void);
@@ -312,6 +335,33 @@ struct onfiseq_live_sample {
 
 /* One of each record with a number of its own in each field, in the order of this header's fields. */
 struct onfiseq_live_sample onfiseq_live_sample(void);
+
+/* ---- the size of each record: a compiler that lays one out otherwise stops here */
+
+#define ONFISEQ_SIZE(record, bytes) typedef char onfiseq_##record##_has_its_size[sizeof(struct onfiseq_##record) == (bytes) ? 1 : -1]
+ONFISEQ_SIZE(geometry, 24);
+ONFISEQ_SIZE(page, 28);
+ONFISEQ_SIZE(item, 4);
+ONFISEQ_SIZE(answer, 16);
+ONFISEQ_SIZE(queued, 16);
+ONFISEQ_SIZE(lun, 120);
+ONFISEQ_SIZE(target, 520);
+ONFISEQ_SIZE(bus, 2120);
+ONFISEQ_SIZE(look, 40);
+ONFISEQ_SIZE(verdict, 16);
+ONFISEQ_SIZE(placed, 24);
+ONFISEQ_SIZE(loop, 4);
+ONFISEQ_SIZE(loops, 18);
+ONFISEQ_SIZE(job, 48);
+ONFISEQ_SIZE(live, 2128);
+ONFISEQ_SIZE(burst, 24);
+ONFISEQ_SIZE(turn, 96);
+ONFISEQ_SIZE(step, 8);
+ONFISEQ_SIZE(abi, 88);
+ONFISEQ_SIZE(sample, 608);
+ONFISEQ_SIZE(live_abi, 64);
+ONFISEQ_SIZE(live_sample, 152);
+#undef ONFISEQ_SIZE
 
 #ifdef __cplusplus
 }

@@ -4,20 +4,11 @@
 
 at the root; it takes seconds. It asks the functions of the kit's own `rt`, so it says what that says.
 """
-import importlib.machinery
-import importlib.util
 import os
 import re
-import shutil
 import sys
 
-
-def load_gate():
-    loader = importlib.machinery.SourceFileLoader("gate", os.path.realpath(shutil.which("rt")))
-    made = importlib.util.module_from_spec(importlib.util.spec_from_loader("gate", loader))
-    sys.modules["gate"] = made
-    loader.exec_module(made)
-    return made
+from kit_gate import load_gate
 
 
 def stops(call, *given):

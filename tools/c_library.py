@@ -20,7 +20,7 @@ import sys
 import time
 from concurrent.futures import ThreadPoolExecutor
 
-LIBRARIES = ("onfiseq_c", "onfiseq_verify_c", "onfiseq_text_c", "onfiseq_live_c")
+LIBRARIES = ("onfiseq_c", "onfiseq_verify_c", "onfiseq_text_c", "onfiseq_live_c", "onfiseq_show_c")
 CC = ["cc", "-std=c99", "-Wall", "-Wextra", "-Werror", "-pedantic", "-O2", "-Iinclude"]
 CXX = ["c++", "-std=c++11", "-Wall", "-Wextra", "-Werror", "-Iinclude"]
 OUT = "out/c"
@@ -86,7 +86,8 @@ def build(library, crate):
     if lacking:
         return "%s isn't proved here: run rt ci first" % lacking[0]
     os.makedirs(os.path.dirname(path), exist_ok=True)
-    words = [library.RATTLE, "build", *crate.words([], keeps=False), "--toolchain", library.KIT + "/toolchain"]
+    # what is kept of this check, tools/machines takes for the other processors
+    words = [library.RATTLE, "build", *crate.words([]), *library.KEPT, "--toolchain", library.KIT + "/toolchain"]
     words += ["-o", os.path.abspath(path)]
     ran = subprocess.run(words, cwd=crate.folder, stdout=subprocess.PIPE, stderr=subprocess.STDOUT, text=True, errors="replace")
     if ran.returncode or not os.path.isfile(path):

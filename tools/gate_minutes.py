@@ -1,7 +1,7 @@
 """Passes on what the gate prints, and lists before its last line the minute at which each step ended and the processor time of each crate.
-Where a file is named, the last line goes there.
+Where a file is named, the last line goes there, and with --table the minutes go into docs/develop/minutes.tsv, which `tools/house.py` reads.
 
-    rt ci | python3 tools/gate_minutes.py [FILE]
+    rt ci | python3 tools/gate_minutes.py [--table] [FILE]
 
 A step is a crate's proof or tests proved, its edits begun, or a program or tests run. Processor time is read each second off the provers that
 run on this machine, so nothing else that proves should run beside the gate. docs/develop/GATE.md says what the minutes are for.
@@ -17,6 +17,7 @@ import time
 STEP = re.compile(r"^rt: (\S+?):? (proved|NOT PROVED|its tests (are )?(proved|NOT PROVED|passed|FAILED)|trying its must-fail edits.*|ran\b.*)$")
 LAST = re.compile(r"^\d+ passed, \d+ failed$")
 KINDS = ("proof", "tests", "edits")
+TABLE = "docs/develop/minutes.tsv"
 
 
 def kind_of(words, folder):
@@ -59,12 +60,23 @@ class Provers:
                     self.seconds[crate, kind, folder] = seconds
             time.sleep(1)
 
-    def table(self):
-        """A line for each crate, the dearest first, and one for all."""
+    def minutes(self):
+        """The minutes of each crate by kind, the dearest first."""
         crates = collections.defaultdict(lambda: dict.fromkeys(KINDS, 0.0))
         for (crate, kind, _), seconds in self.seconds.items():
             crates[crate][kind] += seconds / 60
-        rows = sorted(crates.items(), key=lambda row: -sum(row[1].values()))
+        return sorted(crates.items(), key=lambda row: -sum(row[1].values()))
+
+    def write(self):
+        """Keeps the minutes of each crate."""
+        with open(TABLE, "w", encoding="utf-8") as table:
+            table.write("# Processor minutes of each crate: its proof, its tests, its wrong bodies in the gate.\n")
+            for name, row in sorted(self.minutes()):
+                table.write("\t".join([name, *(f"{row[kind]:.1f}" for kind in KINDS)]) + "\n")
+
+    def table(self):
+        """A line for each crate, the dearest first, and one for all."""
+        rows = self.minutes()
         every = {kind: sum(row[kind] for _, row in rows) for kind in KINDS}
         for name, row in [*rows, ("all", every)]:
             each = ", ".join(f"{row[kind]:5.1f} {kind}" for kind in KINDS)
@@ -87,8 +99,11 @@ def main():
     provers.is_over = True
     watch.join()
     sys.stdout.write("".join([*steps, *provers.table()]))
-    if last and len(sys.argv) > 1:
-        with open(sys.argv[1], "w", encoding="utf-8") as file:
+    words = [word for word in sys.argv[1:] if word != "--table"]
+    if "--table" in sys.argv:
+        provers.write()
+    if last and words:
+        with open(words[0], "w", encoding="utf-8") as file:
             file.write(last)
     elif last:
         sys.stdout.write(last)

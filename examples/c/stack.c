@@ -60,6 +60,9 @@ static void *do_job(void *it) {
 }
 static void *do_words(void *it) { return onfiseq_words('V', 14, (char *)room, 160), it; }
 
+static void *do_picture(void *it) { return onfiseq_picture(&chip, 1, erase, ITEMS, room, sizeof room), it; }
+static void *do_notes(void *it) { return onfiseq_notes(&chip, file, file_length, room, sizeof room), it; }
+
 static size_t stack_of(void *(*call)(void *)) {
     pthread_attr_t how;
     pthread_t thread;
@@ -97,6 +100,7 @@ int main(int count, char **words) {
     tell("push_all", do_push_all, idle);
     tell("ask and look", do_look, idle);
     tell("words", do_words, idle);
+    tell("picture", do_picture, idle);
     for (int k = 2; k < count; k++) {
         file_length = read_all(words[k], file, sizeof file);
         tell("verify", do_verify, idle);
@@ -104,6 +108,7 @@ int main(int count, char **words) {
         tell("job", do_job, idle);
         tell("disassemble", do_disassemble, idle);
         tell("assemble", do_assemble, idle);
+        tell("notes", do_notes, idle);
     }
     return 0;
 }

@@ -33,7 +33,7 @@ struct Item {
 struct Answer {
     letter: u8,
     number: u32,
-    at: usize,
+    at: u64,
 }
 
 unsafe extern "C" {

@@ -3,3 +3,4 @@ pub mod Pushed
 pub mod Fresh
 pub mod AllPushed
 pub mod Runs
+pub mod Changed

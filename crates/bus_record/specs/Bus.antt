@@ -1,10 +1,11 @@
 -- The state of a channel in the caller's memory.
-use Rattle.std.specs.Prelude.{◌==◌, Bool, ◌≡◌, ℕ, ◌≤◌, List, ◌∷◌, Option, Some, None, map, take, length}
+use Rattle.std.specs.Prelude.{◌==◌, Bool, ◌≡◌, ℕ, ◌≤◌, List, ◌∷◌, Option, Some, None, map, take, length, IfSome}
 use Rattle.std.specs.List.{All}
 use Rattle.nand_geometry.specs.declared.parts.Parts.{Parts}
 use Rattle.nand_geometry.specs.Limits.{fault_of}
 use Rattle.onfi_cycle.specs.declared.item.Item.{Item}
-use Rattle.onfi_cycle.specs.Bounds.{BusFits}
+use Rattle.onfi_cycle.specs.declared.forbidden.Forbidden.{Forbidden}
+use Rattle.onfi_cycle.specs.Bounds.{BusFits, TargetFits}
 use Rattle.onfi_cycle.specs.Permitted.{judge, broken}
 use Rattle.onfi_cycle.specs.State.{TargetView, BusView, Follows, judged, bus_after, target_after}
 use Rattle.bus_record.specs.Geometry.{parts_of}
@@ -44,6 +45,14 @@ answered_there g n s i = by_option (judge g n s.tail s.luns i) 0 rule_number
 -- the target after it: an item that breaks a rule changes nothing
 abbrev pub target_pushed : Parts → ℕ → TargetView → Item → TargetView
 target_pushed g n s i = by_option (judge g n s.tail s.luns i) (target_after g i s) (λ rule. s)
+
+-- a target's record after an item, and what was answered to it: a refused item leaves each number as it was
+pub record IsStep (g : Parts) (n : ℕ) (old new : OnfiseqTarget) (i : Item) (answer : Option Forbidden) : Type 0 where
+  pub rule : answer ≡ judge g n (target_of old).tail (target_of old).luns i
+  pub state : target_of new ≡ target_pushed g n (target_of old) i
+  pub refused : IfSome answer (λ rule. new ≡ old)
+  pub numbers : IsTarget new
+  pub fits : TargetFits g (target_of new)
 
 -- the same of a channel: 0, or the number of the first rule that it breaks; 255 for what is none
 abbrev pub pushed : BusView → Option Item → ℕ

@@ -8,3 +8,5 @@ pub mod Channel
 pub mod Many
 pub mod Runs
 pub mod Look
+pub mod Judging
+pub mod Changing

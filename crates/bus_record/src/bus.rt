@@ -1,20 +1,26 @@
 //! The state of a channel in the caller's memory, and how it goes on item by item.
-ghost use Rattle.std.specs.Prelude.{◌≡◌, ℕ, ◌≤◌, [], Some, None, true};
+ghost use Rattle.std.specs.Prelude.{◌≡◌, ℕ, ◌≤◌, [], Some, None, IfSome, true};
 ghost use Rattle.nand_geometry.specs.declared.parts.Parts.{Parts};
+ghost use Rattle.onfi_cycle.specs.declared.item.Item.{Item as ItemValue};
+ghost use Rattle.onfi_cycle.specs.declared.item.Kind.{Kind as KindValue};
 ghost use Rattle.onfi_cycle.specs.State.{Follows, bus_after, judged, target_view};
 ghost use Rattle.onfi_cycle.specs.Permitted.{judge};
 ghost use Rattle.bus_record.specs.Geometry.{parts_of};
-ghost use Rattle.bus_record.specs.Bus.{bus_view, is_bus, CanBegin, IsTarget, target_pushed, pushed, bus_pushed};
+ghost use Rattle.bus_record.specs.Bus.{bus_view, is_bus, CanBegin, IsTarget, IsStep, target_pushed, pushed, bus_pushed};
+ghost use Rattle.bus_record.specs.Item.{item_of};
 ghost use Rattle.bus_record.specs.Channel.{IsSameChannel};
 ghost use Rattle.bus_record.specs.Record.{target_of};
 ghost use Rattle.onfi_cycle.specs.Bounds.{TargetFits};
 ghost use Rattle.nand_geometry.specs.Limits.{InLimits};
 
+use crate::changing::{apply_input, apply_output, apply_there};
 use crate::geometry::OnfiseqGeometry;
-use crate::record::{NO_TARGET, OnfiseqTarget, target_of, target_record};
+use crate::item::OnfiseqItem;
+use crate::judging::{judge_input_of, judge_output_of, judge_there};
+use crate::record::{NO_TARGET, OnfiseqTarget, target_record};
 use crate::rule::rule_number;
 use nand_geometry::Geometry;
-use onfi_cycle::{Forbidden, Item, TargetState, judge};
+use onfi_cycle::{Cycle, Forbidden, Item, Kind, TargetState};
 use std::marker::Model;
 
 // What stands first in a record that a call left: `OBUS`.
@@ -107,35 +113,98 @@ pub fn is_bus(bus: &OnfiseqBus) -> bool
     bus.magic == MAGIC
 }
 
-// A target goes on by an item that is permitted. Else the answer is the first rule that it breaks, and nothing changes.
-fn step_target(
-    geometry: &Geometry,
+// A target goes on by an output, if that is permitted.
+#[inline(always)]
+fn step_output(
+    geometry: &OnfiseqGeometry,
+    targets: u8,
+    kept: &mut OnfiseqTarget,
+    cycle: Cycle,
+) -> Option<Forbidden>
+    requires output { cycle.kind ≡ KindValue.Dout }
+    requires limits { InLimits (parts_of geometry.now) }
+    requires numbers { IsTarget kept.old }
+    requires fits { TargetFits (parts_of geometry.now) (target_of kept.old) }
+    ensures { IsStep (parts_of geometry.now) targets kept.old kept.new (ItemValue.Cyc cycle) result }
+{
+    if let Some(rule) = judge_output_of(geometry, targets, kept, cycle) {
+        return Some(rule);
+    }
+    apply_output(geometry, targets, kept, cycle);
+    None
+}
+
+// A target goes on by an input, if that is permitted.
+#[inline(always)]
+fn step_input(
+    geometry: &OnfiseqGeometry,
+    targets: u8,
+    kept: &mut OnfiseqTarget,
+    cycle: Cycle,
+) -> Option<Forbidden>
+    requires input { cycle.kind ≡ KindValue.Din }
+    requires limits { InLimits (parts_of geometry.now) }
+    requires numbers { IsTarget kept.old }
+    requires fits { TargetFits (parts_of geometry.now) (target_of kept.old) }
+    ensures { IsStep (parts_of geometry.now) targets kept.old kept.new (ItemValue.Cyc cycle) result }
+{
+    if let Some(rule) = judge_input_of(geometry, targets, kept, cycle) {
+        return Some(rule);
+    }
+    apply_input(geometry, kept, cycle);
+    None
+}
+
+// A target goes on by an item of any kind, if that is permitted.
+#[inline(never)]
+fn step_any(
+    geometry: &OnfiseqGeometry,
     targets: u8,
     kept: &mut OnfiseqTarget,
     item: Item,
 ) -> Option<Forbidden>
-    requires limits { InLimits geometry.now }
+    requires limits { InLimits (parts_of geometry.now) }
     requires numbers { IsTarget kept.old }
-    requires fits { TargetFits geometry.now (target_of kept.old) }
-    ensures rule { result ≡ judge geometry.now targets (target_of kept.old).tail (target_of kept.old).luns item }
-    ensures state { target_of kept.new ≡ target_pushed geometry.now targets (target_of kept.old) item }
-    ensures numbers { IsTarget kept.new }
-    ensures fits { TargetFits geometry.now (target_of kept.new) }
+    requires fits { TargetFits (parts_of geometry.now) (target_of kept.old) }
+    ensures { IsStep (parts_of geometry.now) targets kept.old kept.new (item) result }
 {
-    let mut target = target_of(kept);
-    if let Some(rule) = judge(geometry, targets, target.tail, target.luns.as_slice(), item) {
+    if let Some(rule) = judge_there(geometry, targets, kept, item) {
         return Some(rule);
     }
-    target.apply(geometry, item);
-    *kept = target_record(&target);
+    apply_there(geometry, targets, kept, item);
     None
 }
 
-/// The channel goes on by an item that is permitted. Else the answer is the first rule that it breaks, and nothing changes.
-pub fn push_item(bus: &mut OnfiseqBus, item: Item) -> Option<Forbidden>
+// A target goes on by an item that is permitted. Else the answer is the first rule that it breaks, and nothing changes.
+#[inline(always)]
+fn step_target(
+    geometry: &OnfiseqGeometry,
+    targets: u8,
+    kept: &mut OnfiseqTarget,
+    item: Item,
+) -> Option<Forbidden>
+    requires limits { InLimits (parts_of geometry.now) }
+    requires numbers { IsTarget kept.old }
+    requires fits { TargetFits (parts_of geometry.now) (target_of kept.old) }
+    ensures { IsStep (parts_of geometry.now) targets kept.old kept.new (item) result }
+{
+    match item {
+        Item::Cyc(cycle) => match cycle.kind {
+            Kind::Dout => step_output(geometry, targets, kept, cycle),
+            Kind::Din => step_input(geometry, targets, kept, cycle),
+            Kind::Cmd | Kind::Adr => step_any(geometry, targets, kept, item),
+        },
+        Item::Rdy { .. } | Item::Ard { .. } => step_any(geometry, targets, kept, item),
+    }
+}
+
+// As [`push_item`], for each of its callers by itself.
+#[inline(always)]
+fn push_here(bus: &mut OnfiseqBus, item: Item) -> Option<Forbidden>
     ensures rule { result ≡ judged (bus_view bus.old) item }
     ensures state { bus_view bus.new ≡ bus_pushed (bus_view bus.old) (Some item) }
     ensures after { result ≡ None → bus_view bus.new ≡ bus_after item (bus_view bus.old) }
+    ensures refused { IfSome result (λ rule. bus.new ≡ bus.old) }
     ensures same { IsSameChannel (bus_view bus.old) (bus_view bus.new) }
     ensures count { bus.new.count ≡ bus.old.count }
 {
@@ -143,22 +212,64 @@ pub fn push_item(bus: &mut OnfiseqBus, item: Item) -> Option<Forbidden>
     if bus.count <= ce {
         return Some(Forbidden::NotThere);
     }
-    let geometry = Geometry::of(bus.geometry.parts()).unwrap();
     let count = bus.count as u8;
-    let mut kept = bus.targets[ce];
-    let rule = step_target(&geometry, count, &mut kept, item);
-    bus.targets[ce] = kept;
+    let rule = step_target(&bus.geometry, count, &mut bus.targets[ce], item);
     rule
+}
+
+/// The channel goes on by an item that is permitted. Else the answer is the first rule that it breaks, and nothing changes.
+pub fn push_item(bus: &mut OnfiseqBus, item: Item) -> Option<Forbidden>
+    ensures rule { result ≡ judged (bus_view bus.old) item }
+    ensures state { bus_view bus.new ≡ bus_pushed (bus_view bus.old) (Some item) }
+    ensures after { result ≡ None → bus_view bus.new ≡ bus_after item (bus_view bus.old) }
+    ensures refused { IfSome result (λ rule. bus.new ≡ bus.old) }
+    ensures same { IsSameChannel (bus_view bus.old) (bus_view bus.new) }
+    ensures count { bus.new.count ≡ bus.old.count }
+{
+    push_here(bus, item)
 }
 
 /// The channel goes on by an item: 0 where it is permitted, else the number of the first rule that it breaks, and nothing changes.
 pub fn push(bus: &mut OnfiseqBus, item: Item) -> u32
     ensures answer { result ≡ pushed (bus_view bus.old) (Some item) }
     ensures state { bus_view bus.new ≡ bus_pushed (bus_view bus.old) (Some item) }
+    ensures refused { (result ≡ 0 → ⊥) → bus.new ≡ bus.old }
     ensures count { bus.new.count ≡ bus.old.count }
 {
     match push_item(bus, item) {
         Some(rule) => rule_number(rule),
         None => 0,
+    }
+}
+
+// The channel goes on by a data cycle.
+#[inline(always)]
+fn push_data(bus: &mut OnfiseqBus, ce: u8, kind: Kind, byte: u8) -> u32
+    ensures answer { result ≡ pushed (bus_view bus.old) (Some (ItemValue.Cyc (record { ce = ce; kind = kind; byte = byte }))) }
+    ensures state { bus_view bus.new ≡ bus_pushed (bus_view bus.old) (Some (ItemValue.Cyc (record { ce = ce; kind = kind; byte = byte }))) }
+    ensures refused { (result ≡ 0 → ⊥) → bus.new ≡ bus.old }
+    ensures count { bus.new.count ≡ bus.old.count }
+{
+    match push_here(bus, Item::Cyc(Cycle { ce, kind, byte })) {
+        Some(rule) => rule_number(rule),
+        None => 0,
+    }
+}
+
+/// The channel goes on by the item that numbers stand for, as [`push`] does; 255 where they are none.
+#[inline(always)]
+pub fn push_numbers(bus: &mut OnfiseqBus, item: &OnfiseqItem) -> u32
+    ensures answer { result ≡ pushed (bus_view bus.old) (item_of item.now) }
+    ensures state { bus_view bus.new ≡ bus_pushed (bus_view bus.old) (item_of item.now) }
+    ensures refused { (result ≡ 0 → ⊥) → bus.new ≡ bus.old }
+    ensures count { bus.new.count ≡ bus.old.count }
+{
+    match item.kind {
+        b'O' if item.fail == 0 => push_data(bus, item.ce, Kind::Dout, item.byte),
+        b'I' if item.fail == 0 => push_data(bus, item.ce, Kind::Din, item.byte),
+        _ => match item.item() {
+            Some(item) => push(bus, item),
+            None => 255,
+        },
     }
 }

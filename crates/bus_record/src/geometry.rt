@@ -1,8 +1,9 @@
 //! A geometry as numbers.
 ghost use Rattle.std.specs.Prelude.{◌≡◌};
+ghost use Rattle.nand_geometry.specs.Limits.{InLimits, page_len};
 ghost use Rattle.bus_record.specs.Geometry.{parts_of};
 
-use nand_geometry::Parts;
+use nand_geometry::{Geometry, Parts};
 
 /// A geometry: sizes in bytes, pages of a block, blocks and LUNs; `plane_bits` is the binary logarithm of the planes of a LUN.
 #[repr(C)]
@@ -35,6 +36,21 @@ impl OnfiseqGeometry {
             multi_plane: self.multi_plane,
             cache: self.cache,
         }
+    }
+
+    /// The geometry of these numbers.
+    pub(crate) fn known(&self) -> Geometry
+        requires { InLimits (parts_of self.now) }
+        ensures { result ≡ parts_of self.now }
+    {
+        Geometry::of(self.parts()).unwrap()
+    }
+
+    /// How many bytes a page has.
+    pub(crate) fn page_len(&self) -> u64
+        ensures { result ≡ page_len (parts_of self.now) }
+    {
+        u64::from(self.page_bytes) + u64::from(self.spare_bytes)
     }
 
     /// The numbers of parts.

@@ -6,15 +6,17 @@
 #![tactic(auto)]
 
 mod bus;
+mod changing;
 mod geometry;
 mod item;
+mod judging;
 mod look;
 mod many;
 mod record;
 mod rule;
 mod run;
 
-pub use bus::{DAMAGED, OnfiseqBus, begin, is_bus, push, push_item};
+pub use bus::{DAMAGED, OnfiseqBus, begin, is_bus, push, push_item, push_numbers};
 pub use geometry::OnfiseqGeometry;
 pub use item::OnfiseqItem;
 pub use look::{OnfiseqLook, ask, copy_of, geometry_of, has_lun, look_at_lun, no_look};

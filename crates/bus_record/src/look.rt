@@ -3,17 +3,19 @@ ghost use Rattle.std.specs.Prelude.{◌≡◌, ◌≤◌, Some, None, IfSome, If
 ghost use Rattle.nand_geometry.specs.Limits.{InLimits};
 ghost use Rattle.onfi_cycle.specs.Bounds.{TargetFits};
 ghost use Rattle.onfi_cycle.specs.Look.{look_at, look_on, looked};
-ghost use Rattle.onfi_cycle.specs.Lun.{output_column};
 ghost use Rattle.bus_record.specs.Bus.{IsTarget, bus_view, answered_there, pushed};
 ghost use Rattle.bus_record.specs.Channel.{is_on};
+ghost use Rattle.bus_record.specs.Geometry.{parts_of};
 ghost use Rattle.bus_record.specs.Look.{look_of};
 ghost use Rattle.bus_record.specs.Record.{IsRecord, lun_of, target_of};
 
 use crate::bus::OnfiseqBus;
-use crate::record::{OnfiseqLun, OnfiseqTarget, closer_of, given_of, target_of};
+use crate::geometry::OnfiseqGeometry;
+use crate::judging::{judge_there, output_column};
+use crate::record::{OnfiseqLun, OnfiseqTarget, closer_of};
 use crate::rule::rule_number;
 use nand_geometry::Geometry;
-use onfi_cycle::{Item, Lun, ReadColumn, is_cache_read, judge};
+use onfi_cycle::{Item, Lun, is_cache_read};
 
 /// A look at a LUN. `latch`: what it drives the bus with, 0 nothing, 1 its status, 2 data. `register`: what its register holds, 0 nothing, 1 the page of `block`
 /// and `page`, 2 the parameter page, 3 the identifier. `column`, where `has_column`: the place that the next output gives. `queued`: the rows of its queue.
@@ -47,19 +49,6 @@ const NO_LOOK: OnfiseqLook = OnfiseqLook {
     column: 0,
     queued: 0,
 };
-
-// The column of the next output.
-fn output_column(kept: &OnfiseqLun) -> Option<u64>
-    requires { IsRecord kept.now }
-    ensures { result ≡ output_column (lun_of kept.now).column }
-{
-    let column = ReadColumn {
-        given: given_of(kept.has_column, kept.column),
-        outputs: kept.outputs,
-        lost: kept.lost,
-    };
-    column.output_column()
-}
 
 /// What is told where no LUN is there.
 pub fn no_look() -> OnfiseqLook
@@ -113,14 +102,14 @@ pub fn look_at_lun(bus: &OnfiseqBus, ce: u8, lun: u8) -> OnfiseqLook
 }
 
 // What would be answered to an item on its target.
-fn ask_target(geometry: &Geometry, targets: u8, kept: &OnfiseqTarget, item: Item) -> u32
-    requires limits { InLimits geometry.now }
+#[inline(always)]
+fn ask_target(geometry: &OnfiseqGeometry, targets: u8, kept: &OnfiseqTarget, item: Item) -> u32
+    requires limits { InLimits (parts_of geometry.now) }
     requires numbers { IsTarget kept.now }
-    requires fits { TargetFits geometry.now (target_of kept.now) }
-    ensures { result ≡ answered_there geometry.now targets (target_of kept.now) item }
+    requires fits { TargetFits (parts_of geometry.now) (target_of kept.now) }
+    ensures { result ≡ answered_there (parts_of geometry.now) targets (target_of kept.now) item }
 {
-    let target = target_of(kept);
-    match judge(geometry, targets, target.tail, target.luns.as_slice(), item) {
+    match judge_there(geometry, targets, kept, item) {
         Some(rule) => rule_number(rule),
         None => 0,
     }
@@ -134,8 +123,7 @@ pub fn ask(bus: &OnfiseqBus, item: Item) -> u32
     if bus.count <= ce {
         return 1;
     }
-    let geometry = Geometry::of(bus.geometry.parts()).unwrap();
-    ask_target(&geometry, bus.count as u8, &bus.targets[ce], item)
+    ask_target(&bus.geometry, bus.count as u8, &bus.targets[ce], item)
 }
 
 /// The geometry of the targets of a channel; None where none was begun.

@@ -4,11 +4,9 @@ ghost use Rattle.std.specs.List.{All};
 ghost use Rattle.onfi_cycle.specs.Command.{command};
 ghost use Rattle.bus_record.specs.Record.{latch_of, phase_of, closer_of, opening_of, register_of, given_of, queued_of, queue_of, lun_of, luns_of, tail_of, target_of, page_address, IsRecord, HasRoom};
 
-use arrayvec::ArrayVec;
-use nand_geometry::MAX_LUNS;
 use onfi_cycle::{
-    Command, DataPhase, Latch, LunFacts, Opening, PageAddress, Queued, ReadColumn, Register,
-    RowBytes, RowQueue, TailFacts, TargetState,
+    Command, DataPhase, Latch, LunFacts, Opening, PageAddress, Queued, Register, RowBytes,
+    RowQueue, TailFacts, TargetState,
 };
 
 /// A row in the queue of a LUN: an erase's, or a program's.
@@ -60,7 +58,8 @@ pub struct OnfiseqTarget {
     pub luns: [OnfiseqLun; 4],
 }
 
-fn latch_of(code: u8) -> Latch
+#[inline(always)]
+pub(crate) fn latch_of(code: u8) -> Latch
     ensures { result ≡ latch_of code }
 {
     match code {
@@ -70,7 +69,8 @@ fn latch_of(code: u8) -> Latch
     }
 }
 
-fn latch_code(latch: Latch) -> u8
+#[inline(always)]
+pub(crate) fn latch_code(latch: Latch) -> u8
     ensures { latch_of result ≡ latch }
 {
     match latch {
@@ -80,7 +80,8 @@ fn latch_code(latch: Latch) -> u8
     }
 }
 
-fn phase_of(code: u8) -> DataPhase
+#[inline(always)]
+pub(crate) fn phase_of(code: u8) -> DataPhase
     ensures { result ≡ phase_of code }
 {
     match code {
@@ -91,7 +92,8 @@ fn phase_of(code: u8) -> DataPhase
     }
 }
 
-fn phase_code(phase: DataPhase) -> u8
+#[inline(always)]
+pub(crate) fn phase_code(phase: DataPhase) -> u8
     ensures { phase_of result ≡ phase }
 {
     match phase {
@@ -104,7 +106,7 @@ fn phase_code(phase: DataPhase) -> u8
 
 // The byte of a command. 01h is none of the commands, so it stands for any that isn't known.
 #[tactic(auto, unfolding(onfi_cycle::specs::Command::command))]
-fn command_code(named: Command) -> u8
+pub(crate) fn command_code(named: Command) -> u8
     ensures { command result ≡ named }
 {
     match named.opcode() {
@@ -113,7 +115,7 @@ fn command_code(named: Command) -> u8
     }
 }
 
-fn queued_of(kept: &OnfiseqQueued) -> Queued
+pub(crate) fn queued_of(kept: &OnfiseqQueued) -> Queued
     ensures { result ≡ queued_of kept.now }
 {
     let at = PageAddress {
@@ -127,7 +129,7 @@ fn queued_of(kept: &OnfiseqQueued) -> Queued
     }
 }
 
-fn queued_record(queued: Queued) -> OnfiseqQueued
+pub(crate) fn queued_record(queued: Queued) -> OnfiseqQueued
     ensures { queued_of result ≡ queued }
 {
     match queued {
@@ -144,19 +146,8 @@ fn queued_record(queued: Queued) -> OnfiseqQueued
     }
 }
 
-fn queue_of(records: &[OnfiseqQueued]) -> RowQueue
-    requires { length records.now ≤ 4 }
-    ensures { result.items ≡ queue_of records.now }
-{
-    let mut queue: RowQueue = ArrayVec::new();
-    for kept in records {
-        queue.push(queued_of(kept));
-    }
-    queue
-}
-
 // What stands in the free places of a queue.
-const NO_ROW: OnfiseqQueued = OnfiseqQueued {
+pub(crate) const NO_ROW: OnfiseqQueued = OnfiseqQueued {
     page: 0,
     block: 0,
     is_program: false,
@@ -174,7 +165,8 @@ fn queue_records(queue: &[Queued]) -> [OnfiseqQueued; 4]
     records
 }
 
-fn register_of(code: u8, block: u32, page: u64) -> Register
+#[inline(always)]
+pub(crate) fn register_of(code: u8, block: u32, page: u64) -> Register
     ensures { result ≡ register_of code block page }
 {
     match code {
@@ -187,13 +179,13 @@ fn register_of(code: u8, block: u32, page: u64) -> Register
 
 // A register as numbers.
 #[derive(Clone, Copy)]
-struct RegisterRecord {
-    code: u8,
-    block: u32,
-    page: u64,
+pub(crate) struct RegisterRecord {
+    pub(crate) code: u8,
+    pub(crate) block: u32,
+    pub(crate) page: u64,
 }
 
-fn register_record(register: Register) -> RegisterRecord
+pub(crate) fn register_record(register: Register) -> RegisterRecord
     ensures { register_of result.code result.block result.page ≡ register }
 {
     match register {
@@ -220,47 +212,26 @@ fn register_record(register: Register) -> RegisterRecord
     }
 }
 
+#[inline(always)]
 pub(crate) fn closer_of(has: bool, byte: u8) -> Option<Command>
     ensures { result ≡ closer_of has byte }
 {
     if has { Some(Command::of(byte)) } else { None }
 }
 
+#[inline(always)]
 pub(crate) fn given_of(has: bool, column: u32) -> Option<u32>
     ensures { result ≡ given_of has column }
 {
     if has { Some(column) } else { None }
 }
 
-fn closer_byte(closer: Option<Command>) -> u8
+pub(crate) fn closer_byte(closer: Option<Command>) -> u8
     ensures { IfSome closer (λ c. command result ≡ c) }
 {
     match closer {
         None => 0,
         Some(closer) => command_code(closer),
-    }
-}
-
-fn lun_of(kept: &OnfiseqLun) -> LunFacts<RowQueue>
-    requires { IsRecord kept.now }
-    ensures { result ≡ lun_of kept.now }
-{
-    LunFacts {
-        latch: latch_of(kept.latch),
-        busy: kept.busy,
-        closer: closer_of(kept.has_closer, kept.closer),
-        array_busy: kept.array_busy,
-        array_page: PageAddress {
-            block: kept.array_block,
-            page: kept.array_page,
-        },
-        register: register_of(kept.register, kept.register_block, kept.register_page),
-        column: ReadColumn {
-            given: given_of(kept.has_column, kept.column),
-            outputs: kept.outputs,
-            lost: kept.lost,
-        },
-        queue: queue_of(&kept.queue[..kept.queued]),
     }
 }
 
@@ -327,18 +298,6 @@ pub(crate) const NO_TARGET: OnfiseqTarget = OnfiseqTarget {
     luns: [NO_LUN; 4],
 };
 
-fn luns_of(records: &[OnfiseqLun]) -> ArrayVec<LunFacts<RowQueue>, MAX_LUNS>
-    requires count { length records.now ≤ 4 }
-    requires fit { All IsRecord records.now }
-    ensures { result.items ≡ luns_of records.now }
-{
-    let mut luns: ArrayVec<LunFacts<RowQueue>, MAX_LUNS> = ArrayVec::new();
-    for kept in records {
-        luns.push(lun_of(kept));
-    }
-    luns
-}
-
 fn lun_records(luns: &[LunFacts<RowQueue>]) -> [OnfiseqLun; 4]
     requires count { length luns.now ≤ 4 }
     requires queues { All HasRoom luns.now }
@@ -352,7 +311,8 @@ fn lun_records(luns: &[LunFacts<RowQueue>]) -> [OnfiseqLun; 4]
     records
 }
 
-fn opening_of(has: bool, byte: u8, addresses: usize) -> Option<Opening>
+#[inline(always)]
+pub(crate) fn opening_of(has: bool, byte: u8, addresses: usize) -> Option<Opening>
     ensures { result ≡ opening_of has byte addresses }
 {
     if has {
@@ -365,7 +325,8 @@ fn opening_of(has: bool, byte: u8, addresses: usize) -> Option<Opening>
     }
 }
 
-fn opener_byte(opening: Option<Opening>) -> u8
+#[inline(always)]
+pub(crate) fn opener_byte(opening: Option<Opening>) -> u8
     ensures { IfSome opening (λ o. command result ≡ o.opener) }
 {
     match opening {
@@ -374,7 +335,8 @@ fn opener_byte(opening: Option<Opening>) -> u8
     }
 }
 
-fn address_count(opening: Option<Opening>) -> usize
+#[inline(always)]
+pub(crate) fn address_count(opening: Option<Opening>) -> usize
     ensures { IfSome opening (λ o. result ≡ o.addresses) }
 {
     match opening {
@@ -383,7 +345,8 @@ fn address_count(opening: Option<Opening>) -> usize
     }
 }
 
-fn tail_of(kept: &OnfiseqTarget) -> TailFacts
+#[inline(always)]
+pub(crate) fn tail_of(kept: &OnfiseqTarget) -> TailFacts
     ensures { result ≡ tail_of kept.now }
 {
     TailFacts {
@@ -397,18 +360,6 @@ fn tail_of(kept: &OnfiseqTarget) -> TailFacts
         column: kept.column,
         inputs: kept.inputs,
         is_empty: kept.is_empty,
-    }
-}
-
-/// The target of a record.
-pub(crate) fn target_of(kept: &OnfiseqTarget) -> TargetState
-    requires count { kept.now.count ≤ 4 }
-    requires fit { All IsRecord kept.now.luns }
-    ensures { result ≡ target_of kept.now }
-{
-    TargetState {
-        tail: tail_of(kept),
-        luns: luns_of(&kept.luns[..kept.count]),
     }
 }
 

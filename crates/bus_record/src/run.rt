@@ -1,38 +1,42 @@
 //! Runs of data cycles on one target, at the cost of one cycle.
-ghost use Rattle.std.specs.Prelude.{◌≡◌, ◌+◌, ◌^◌, ◌<◌, ◌≤◌, None, length, map};
+ghost use Rattle.std.specs.Prelude.{◌≡◌, ◌+◌, ◌^◌, ◌<◌, ◌≤◌, None, length, map, take};
 ghost use Rattle.std.specs.List.{All};
 ghost use Rattle.nand_geometry.specs.Limits.{InLimits};
 ghost use Rattle.onfi_cycle.specs.Bounds.{TargetFits};
 ghost use Rattle.onfi_cycle.specs.Channel.{cycle};
+ghost use Rattle.onfi_cycle.specs.declared.item.Item.{Item as ItemValue};
 ghost use Rattle.onfi_cycle.specs.Inputs.{has_no_room, fed_target, judged_inputs, after_inputs};
 ghost use Rattle.onfi_cycle.specs.Outputs.{has_fewer, against_rest, given_on, given_target, judged_outputs, after_outputs, AreFew};
 ghost use Rattle.bus_record.specs.Bus.{IsTarget, bus_view};
 ghost use Rattle.bus_record.specs.Channel.{IsSameChannel};
-ghost use Rattle.bus_record.specs.Record.{lun_of, target_of};
+ghost use Rattle.bus_record.specs.Geometry.{parts_of};
+ghost use Rattle.bus_record.specs.Record.{IsRecord, lun_of, luns_of, tail_of, target_of};
 ghost use Rattle.bus_record.specs.Runs.{inputs_rule, inputs_pushed, outputs_rule, outputs_pushed};
 
 use crate::bus::OnfiseqBus;
-use crate::record::{OnfiseqTarget, target_of, target_record};
-use nand_geometry::Geometry;
-use onfi_cycle::{
-    Cycle, Forbidden, Item, Kind, LunFacts, RowQueue, TailFacts, TargetCycle, TargetState, driver,
-    judge,
+use crate::changing::note_output;
+use crate::geometry::OnfiseqGeometry;
+use crate::judging::{
+    driver, judge_input_of, judge_output_of, output_column, register_len, shows_data,
 };
+use crate::record::{OnfiseqLun, OnfiseqTarget};
+use onfi_cycle::{Cycle, Forbidden, Kind};
 
 // A data cycle on a target; which byte it is isn't judged.
-fn data_cycle(ce: u8, kind: Kind) -> Item
-    ensures { result ≡ cycle ce kind 0 }
+fn data_cycle(ce: u8, kind: Kind) -> Cycle
+    ensures value { ItemValue.Cyc result ≡ cycle ce kind 0 }
+    ensures kind { result.kind ≡ kind }
 {
-    Item::Cyc(Cycle { ce, kind, byte: 0 })
+    Cycle { ce, kind, byte: 0 }
 }
 
 // The page has no place for so many inputs more.
-fn has_no_room(geometry: &Geometry, tail: TailFacts, count: usize) -> bool
-    requires { (tail.column < 2 ^ 16) × (tail.inputs < 2 ^ 63) }
-    ensures { result ≡ has_no_room geometry.now count tail }
+fn has_no_room(geometry: &OnfiseqGeometry, kept: &OnfiseqTarget, count: usize) -> bool
+    requires { (kept.now.column < 2 ^ 16) × (kept.now.inputs < 2 ^ 63) }
+    ensures { result ≡ has_no_room (parts_of geometry.now) count (tail_of kept.now) }
 {
-    let len = u64::from(geometry.page_len());
-    let column = tail.input_column();
+    let len = geometry.page_len();
+    let column = u64::from(kept.column) + kept.inputs as u64;
     len < column || len - column < count as u64
 }
 
@@ -53,20 +57,22 @@ fn fed(kept: &OnfiseqTarget, count: usize) -> OnfiseqTarget
 }
 
 // The LUN shows data, and has fewer bytes left than these.
-fn has_fewer(geometry: &Geometry, lun: &LunFacts<RowQueue>, count: usize) -> bool
-    ensures { result ≡ has_fewer geometry.now count lun.now }
+fn has_fewer(geometry: &OnfiseqGeometry, lun: &OnfiseqLun, count: usize) -> bool
+    requires { IsRecord lun.now }
+    ensures { result ≡ has_fewer (parts_of geometry.now) count (lun_of lun.now) }
 {
-    let len = u64::from(lun.register.len(geometry));
-    let is_over = match lun.column.output_column() {
+    let len = register_len(geometry, lun);
+    let is_over = match output_column(lun) {
         None => false,
         Some(column) => len < column || len - column < count as u64,
     };
-    lun.latch.is_data() && is_over
+    shows_data(lun) && is_over
 }
 
 // What is against so many outputs, whose first is permitted.
-fn against_rest(geometry: &Geometry, luns: &[LunFacts<RowQueue>], count: usize) -> Option<Forbidden>
-    ensures { result ≡ against_rest geometry.now count luns.now }
+fn against_rest(geometry: &OnfiseqGeometry, luns: &[OnfiseqLun], count: usize) -> Option<Forbidden>
+    requires { All IsRecord luns.now }
+    ensures { result ≡ against_rest (parts_of geometry.now) count (luns_of luns.now) }
 {
     match driver(luns) {
         Some(lun) if has_fewer(geometry, lun, count) => Some(Forbidden::ColumnOutside),
@@ -74,10 +80,24 @@ fn against_rest(geometry: &Geometry, luns: &[LunFacts<RowQueue>], count: usize) 
     }
 }
 
+// A LUN gives so many bytes more, where it shows data.
+fn give(lun: &mut OnfiseqLun, count: usize)
+    requires few { (given_on count (lun_of lun.old)).column.outputs ≤ 2 ^ 16 }
+    requires numbers { IsRecord lun.old }
+    ensures value { lun_of lun.new ≡ given_on count (lun_of lun.old) }
+    ensures numbers { IsRecord lun.new }
+{
+    if shows_data(lun) {
+        lun.outputs += count;
+    }
+}
+
 // The LUNs of a target give so many bytes more, where they show data.
-fn give_from(luns: &mut [LunFacts<RowQueue>], count: usize)
-    requires { AreFew (map (given_on count) luns.old) }
-    ensures { luns.new ≡ map (given_on count) luns.old }
+fn give_from(luns: &mut [OnfiseqLun], count: usize)
+    requires few { AreFew (map (given_on count) (luns_of luns.old)) }
+    requires numbers { All IsRecord luns.old }
+    ensures value { luns_of luns.new ≡ map (given_on count) (luns_of luns.old) }
+    ensures numbers { All IsRecord luns.new }
 {
     if luns.is_empty() {
         return;
@@ -87,43 +107,37 @@ fn give_from(luns: &mut [LunFacts<RowQueue>], count: usize)
     give_from(rest, count);
 }
 
-// A LUN gives so many bytes more, where it shows data.
-fn give(lun: &mut LunFacts<RowQueue>, count: usize)
-    requires { (given_on count lun.old).column.outputs ≤ 2 ^ 16 }
-    ensures { lun.new ≡ given_on count lun.old }
+// The first so many of an array do.
+fn give_run(luns: &mut [OnfiseqLun; 4], there: usize, count: usize)
+    requires there { there ≤ 4 }
+    requires few { AreFew (map (given_on count) (luns_of (take there luns.old))) }
+    requires numbers { All IsRecord luns.old }
+    ensures value { luns_of (take there luns.new) ≡ map (given_on count) (luns_of (take there luns.old)) }
+    ensures numbers { All IsRecord luns.new }
 {
-    if lun.latch.is_data() {
-        lun.column.outputs += count;
-    }
+    let (first, _rest) = luns.split_at_mut(there);
+    give_from(first, count);
 }
 
 // So many inputs on their target, if they break no rule.
 fn push_inputs_there(
-    geometry: &Geometry,
+    geometry: &OnfiseqGeometry,
     targets: u8,
     kept: &mut OnfiseqTarget,
     ce: u8,
     count: usize,
 ) -> Option<Forbidden>
-    requires limits { InLimits geometry.now }
+    requires limits { InLimits (parts_of geometry.now) }
     requires numbers { IsTarget kept.old }
-    requires fits { TargetFits geometry.now (target_of kept.old) }
-    ensures rule { result ≡ inputs_rule geometry.now targets ce count (target_of kept.old) }
-    ensures state { target_of kept.new ≡ inputs_pushed geometry.now targets ce count (target_of kept.old) }
+    requires fits { TargetFits (parts_of geometry.now) (target_of kept.old) }
+    ensures rule { result ≡ inputs_rule (parts_of geometry.now) targets ce count (target_of kept.old) }
+    ensures state { target_of kept.new ≡ inputs_pushed (parts_of geometry.now) targets ce count (target_of kept.old) }
     ensures numbers { IsTarget kept.new }
 {
-    let target = target_of(kept);
-    let first = data_cycle(ce, Kind::Din);
-    if let Some(rule) = judge(
-        geometry,
-        targets,
-        target.tail,
-        target.luns.as_slice(),
-        first,
-    ) {
+    if let Some(rule) = judge_input_of(geometry, targets, kept, data_cycle(ce, Kind::Din)) {
         return Some(rule);
     }
-    if has_no_room(geometry, target.tail, count) {
+    if has_no_room(geometry, kept, count) {
         return Some(Forbidden::ColumnOutside);
     }
     *kept = fed(kept, count);
@@ -132,37 +146,28 @@ fn push_inputs_there(
 
 // So many outputs on their target, if they break no rule.
 fn push_outputs_there(
-    geometry: &Geometry,
+    geometry: &OnfiseqGeometry,
     targets: u8,
     kept: &mut OnfiseqTarget,
     ce: u8,
     count: usize,
 ) -> Option<Forbidden>
-    requires limits { InLimits geometry.now }
+    requires limits { InLimits (parts_of geometry.now) }
     requires numbers { IsTarget kept.old }
-    requires fits { TargetFits geometry.now (target_of kept.old) }
-    requires few { outputs_rule geometry.now targets ce count (target_of kept.old) ≡ None → AreFew (map (given_on count) (target_of kept.old).luns) }
-    ensures rule { result ≡ outputs_rule geometry.now targets ce count (target_of kept.old) }
-    ensures state { target_of kept.new ≡ outputs_pushed geometry.now targets ce count (target_of kept.old) }
+    requires fits { TargetFits (parts_of geometry.now) (target_of kept.old) }
+    requires few { outputs_rule (parts_of geometry.now) targets ce count (target_of kept.old) ≡ None → AreFew (map (given_on count) (target_of kept.old).luns) }
+    ensures rule { result ≡ outputs_rule (parts_of geometry.now) targets ce count (target_of kept.old) }
+    ensures state { target_of kept.new ≡ outputs_pushed (parts_of geometry.now) targets ce count (target_of kept.old) }
     ensures numbers { IsTarget kept.new }
 {
-    let mut target = target_of(kept);
-    let first = data_cycle(ce, Kind::Dout);
-    if let Some(rule) = judge(
-        geometry,
-        targets,
-        target.tail,
-        target.luns.as_slice(),
-        first,
-    ) {
+    if let Some(rule) = judge_output_of(geometry, targets, kept, data_cycle(ce, Kind::Dout)) {
         return Some(rule);
     }
-    if let Some(rule) = against_rest(geometry, target.luns.as_slice(), count) {
+    if let Some(rule) = against_rest(geometry, &kept.luns[..kept.count], count) {
         return Some(rule);
     }
-    give_from(target.luns.as_mut_slice(), count);
-    target.tail.extend(TargetCycle::OutputCycle);
-    *kept = target_record(&target);
+    give_run(&mut kept.luns, kept.count, count);
+    note_output(kept);
     None
 }
 
@@ -181,11 +186,8 @@ pub fn push_inputs(bus: &mut OnfiseqBus, ce: u8, count: usize) -> Option<Forbidd
     if bus.count <= place {
         return Some(Forbidden::NotThere);
     }
-    let geometry = Geometry::of(bus.geometry.parts()).unwrap();
     let targets = bus.count as u8;
-    let mut kept = bus.targets[place];
-    let rule = push_inputs_there(&geometry, targets, &mut kept, ce, count);
-    bus.targets[place] = kept;
+    let rule = push_inputs_there(&bus.geometry, targets, &mut bus.targets[place], ce, count);
     rule
 }
 
@@ -203,10 +205,7 @@ pub fn push_outputs(bus: &mut OnfiseqBus, ce: u8, count: usize) -> Option<Forbid
     if bus.count <= place {
         return Some(Forbidden::NotThere);
     }
-    let geometry = Geometry::of(bus.geometry.parts()).unwrap();
     let targets = bus.count as u8;
-    let mut kept = bus.targets[place];
-    let rule = push_outputs_there(&geometry, targets, &mut kept, ce, count);
-    bus.targets[place] = kept;
+    let rule = push_outputs_there(&bus.geometry, targets, &mut bus.targets[place], ce, count);
     rule
 }

@@ -23,21 +23,21 @@ of_lun l jobs = filter (λ x. same_lun l x.job.lun) jobs
 
 -- the value under the lock is lawful
 pub record IsLawful (v : HistoryView) : Type 0 where
-  -- the events that are stored, a load's job being the one of its name among those that the taker took, and how they were answered
+  -- the events that are stored, with the job of a load found by its name among those that were taken, and how they were answered
   pub events : List Event
   pub replies : List Reply
   pub stored : AreStoredAs v.taker.taken v.events events
   -- no event that was refused is stored, and each job that was loaded is verified
   pub answered : AreAnswered v.events replies
   pub verified : AllLoadVerified events
-  -- the core is the run of the stored events
+  -- these events, run from a new channel, come to the core
   pub run : RanFrom v.core (fresh (channel_in v.core)) events replies v.core
   -- the loads among them are the started jobs, in order
   pub loads : loads_of v.events ≡ v.started
-  -- what the unloads gave, in order, is what is done, each under the name last started on its LUN
+  -- the jobs that are done are those that the unloads gave, in order, and each has the name that was started on its LUN last
   pub gave : given_in replies ≡ map (λ d. (d.job, d.code)) v.done
   pub done : unloaded_names (reverse v.events) ≡ map (λ d. Some d.name) (reverse v.done)
-  -- for each LUN, its started jobs and then its backlog are the taken jobs of that LUN, in the order of taking
+  -- of each LUN, the taken jobs are those that were started and behind them those that wait, in their order
   pub jobs : List (QueuedJob Job)
   pub started : map name_of jobs ≡ v.started
   pub order : (l : Lun) → of_lun l jobs ++ of_lun l v.backlog ≡ of_lun l v.taker.taken

@@ -31,7 +31,7 @@ use Rattle.micro_word.specs.Text.{Microprogram}
 use Rattle.micro_program.specs.Lines.{Line}
 use Rattle.micro_program.specs.Program.{Job, Done, index_now}
 use Rattle.micro_claims.specs.Spans.{Span}
-use Rattle.micro_claims.specs.State.{NoRows, other_closer, State, Registers, KnownTarget, KnownLun, NamedRow, Place, Closed, After, InData, InColumn, Shown, Held, bounds_of, Unknown}
+use Rattle.micro_claims.specs.State.{NoRows, other_closer, State, Registers, KnownTarget, KnownLun, NamedRow, Place, Closed, After, InData, InColumn, Shown, Held, bounds_of, Unknown, shows_status, holds_identifier}
 use Rattle.micro_claims.specs.Against.{is_unfit, closer_refused, drives, may_be_open, command_out_of_place, opener_refused, place_wants, shows_only_data, has_page_or_parameters}
 use Rattle.micro_claims.specs.Reasons.{breaks_cycle_forbidden}
 use Rattle.micro_claims.specs.Leaves.{paid, with_registers, resumed_shows, data_shown, opened_by, work_started, given_at, cached_at, shows_after_read, read_started, command_leaves}
@@ -94,7 +94,7 @@ resumed_shown : (o : Option Shown) (t : TailFacts) (c : Scene) → ShowsFit o c 
 resumed_shown None t c f = tt
 resumed_shown (Some w) t c f = (f.0, lit c.view.latch f.1)
   where
-    lit : (x : Latch) → latch_among w x ≡ true → latch_among (record { status = false; register = true }) (resumed x) ≡ true
+    lit : (x : Latch) → latch_among w x ≡ true → latch_among (record { 0 = 2 }) (resumed x) ≡ true
     lit Off h = cc
     lit Status h = refl
     lit Data h = refl
@@ -138,14 +138,14 @@ changes (Some w) (Some r) c shows fits ready shown page = (shows.0, rw (is_shown
   where
     is_shown : (x : Latch) → latch_among w x ≡ true → is_data x ≡ true
     is_shown Off h = cc
-    is_shown Status h = let none = not-true w.status shown in cc
+    is_shown Status h = let none = not-true (shows_status w) shown in cc
     is_shown Data h = refl
 
     is_held : (x : Register) → register_among r x ≡ true → is_page_or_parameters x ≡ true
     is_held Empty h = cc
     is_held (Page p) h = refl
     is_held ParameterPage h = refl
-    is_held Identifier h = let none = not-true r.identifier page in cc
+    is_held Identifier h = let none = not-true (holds_identifier r) page in cc
 
 pub sound_05 : (s : Channel) (j : Job) (k : KnownJob s j) (v : State) (past : List Item) (c : Scene) (done : List Done) (rest : List Line) (at byte : ℕ) → command byte ≡ ChangeReadColumn → IsScene s j.lun past c → Fits s.geometry j v done c true → NoReasons s.geometry j.text v (CommandWord byte) → accepts s.geometry (bounds_of j.text) None (state_after s.geometry v (CommandWord byte)) rest ≡ true → SoundWord s j past done rest at (CommandWord byte)
 sound_05 s j k v past c done rest at byte is scene f clear acc =
@@ -234,12 +234,12 @@ page_below g j a now (Some n) h base = h.page base
 
 -- what is shown behind a read
 read_shown : (g : Parts) (o : Option Shown) (c d : Scene) → d.sole ≡ (c.sole || not (ltb 1 g.luns)) → d.view.latch ≡ Data → ShowsFit o c → ShowsFit (shows_after_read g o) d
-read_shown g (Some w) c d sole latch f = (sole ∙ rw f.0 refl, ap (latch_among (record { status = false; register = true })) latch)
+read_shown g (Some w) c d sole latch f = (sole ∙ rw f.0 refl, ap (latch_among (record { 0 = 2 })) latch)
 read_shown g None c d sole latch f = at (ltb 1 g.luns) refl
   where
     at : (b : Bool) → ltb 1 g.luns ≡ b → ShowsFit (cond b None data_shown) d
     at true e = tt
-    at false e = (sole ∙ (ap (λ (b : Bool). c.sole || not b) e ∙ or-true c.sole), ap (latch_among (record { status = false; register = true })) latch)
+    at false e = (sole ∙ (ap (λ (b : Bool). c.sole || not b) e ∙ or-true c.sole), ap (latch_among (record { 0 = 2 })) latch)
 
 pub sound_30 : (s : Channel) (j : Job) (k : KnownJob s j) (v : State) (past : List Item) (c : Scene) (done : List Done) (rest : List Line) (at byte : ℕ) → command byte ≡ ReadConfirm → IsScene s j.lun past c → Fits s.geometry j v done c true → NoReasons s.geometry j.text v (CommandWord byte) → accepts s.geometry (bounds_of j.text) None (state_after s.geometry v (CommandWord byte)) rest ≡ true → SoundWord s j past done rest at (CommandWord byte)
 sound_30 s j k v past c done rest at byte is scene f clear acc =

@@ -18,7 +18,7 @@ use Rattle.micro_program.specs.Moves.{Move, Take, moves}
 use Rattle.micro_program.specs.Played.{Played, answered}
 use Rattle.micro_program.specs.Step.{Stride, answered_step, stride, first_byte}
 use Rattle.micro_program.specs.Safe.{after_step}
-use Rattle.micro_claims.specs.State.{State, Registers, KnownLun, OutputColumn, QueuedRows, NoRows, SomeRows, AnyRows, closed, bounds_of}
+use Rattle.micro_claims.specs.State.{State, Registers, KnownLun, OutputColumn, QueuedRows, NoRows, SomeRows, AnyRows, closed, bounds_of, may_be_31}
 use Rattle.micro_claims.specs.Against.{may_be_open, may_be_queued}
 use Rattle.micro_claims.specs.Reasons.{breaks_cycle_forbidden, breaks_address_unaligned, breaks_handover_in_sequence, breaks_buffer_passed, breaks_row_or_plane_outside, breaks_column_too_large, breaks_no_status, breaks_ends_too_soon, breaks_over_budget, breaks_command_not_allowed, reason_against}
 use Rattle.micro_claims.specs.Leaves.{with_registers, paid, status_shown, unread}
@@ -60,7 +60,7 @@ poll_fits s j v done new later c p l r registers lun =
       registers = registers;
       tail = λ e. closed_fits s.geometry j None None status_shown (now_of j new) p.now.facts p.closed;
       free = λ e. cc;
-      shows = (p.sole, ap (λ (w : LunView). latch_among (record { status = true; register = false }) w.latch) p.view);
+      shows = (p.sole, ap (λ (w : LunView). latch_among (record { 0 = 1 }) w.latch) p.view);
       lun = subst (λ (w : LunView). LunFits s.geometry j l (index_now j.base new) w) (sym p.view) lun;
     }
 
@@ -309,7 +309,7 @@ no_rows g now AnyRows view h f = cc
 pub sound_end : (s : Channel) (j : Job) (k : KnownJob s j) (v : State) (past : List Item) (c : Scene) (done : List Done) (rest : List Line) (at code : ℕ) → IsScene s j.lun past c → Fits s.geometry j v done c true → NoReasons s.geometry j.text v (End code) → SoundWord s j past done rest at (End code)
 unfolding breaks_ends_too_soon
 sound_end s j k v past c done rest at code scene f clear =
-    let three = or_parts (v.lun.busy || may_be_open v || may_be_queued v.lun.queue) v.lun.last.cache clear.no_ends_too_soon in
+    let three = or_parts (v.lun.busy || may_be_open v || may_be_queued v.lun.queue) (may_be_31 v.lun.last) clear.no_ends_too_soon in
     let two = or_parts (v.lun.busy || may_be_open v) (may_be_queued v.lun.queue) three.0 in
     let one = or_parts v.lun.busy (may_be_open v) two.0 in
     let shut = closed_tail s.geometry j v.target (now_of j done) c.facts (f.tail refl) one.1 in

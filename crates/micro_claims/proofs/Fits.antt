@@ -22,7 +22,7 @@ use Rattle.onfi_cycle.specs.Sequence.{facts_of, facts_after, is_open, input_colu
 use Rattle.onfi_cycle.specs.Lun.{output_column}
 use Rattle.micro_claims.specs.Spans.{Span}
 use Rattle.micro_claims.specs.Planes.{Planes, has_plane}
-use Rattle.micro_claims.specs.State.{State, Registers, KnownTarget, KnownLun, PageRange, Place, Closed, After, InData, InColumn, Unknown, Drift, NamedRow, Shown, Held, OutputColumn, QueuedRows, NoRows, SomeRows, AnyRows, LastCloser}
+use Rattle.micro_claims.specs.State.{State, Registers, KnownTarget, KnownLun, PageRange, Place, Closed, After, InData, InColumn, Unknown, Drift, NamedRow, Shown, Held, OutputColumn, QueuedRows, NoRows, SomeRows, AnyRows, LastCloser, shows_status, shows_register, holds_page, holds_parameters, holds_identifier, may_be_30, may_be_31, may_be_other}
 use Rattle.micro_claims.specs.Against.{is_inside_address, next_address, first_address}
 use Rattle.micro_program.specs.Program.{Job, Done, column_now, plane_now, index_now, place_now, cost_now}
 use Rattle.micro_program.proofs.Scenes.{Scene}
@@ -202,18 +202,21 @@ pub record TailFits (g : Parts) (j : Job) (v : KnownTarget) (n : Now) (t : TailF
 
 abbrev pub latch_among : Shown → Latch → Bool
 latch_among w Off = false
-latch_among w Status = w.status
-latch_among w Data = w.register
+latch_among w Status = shows_status w
+latch_among w Data = shows_register w
 
 abbrev pub ShowsFit : Option Shown → Scene → Type 0
 ShowsFit None c = Unit {0}
 ShowsFit (Some w) c = (c.sole ≡ true) × (latch_among w c.view.latch ≡ true)
 
+abbrev pub among_held : (page parameters identifier : Bool) → Register → Bool
+among_held p q i Empty = false
+among_held p q i (Page a) = p
+among_held p q i ParameterPage = q
+among_held p q i Identifier = i
+
 abbrev pub register_among : Held → Register → Bool
-register_among r Empty = false
-register_among r (Page p) = r.page
-register_among r ParameterPage = r.parameters
-register_among r Identifier = r.identifier
+register_among r = among_held (holds_page r) (holds_parameters r) (holds_identifier r)
 
 abbrev pub RegisterFits : Option Held → Register → Type 0
 RegisterFits None r = Unit {0}
@@ -257,12 +260,12 @@ RowsFit g now (SomeRows erase planes d) qs = AllFit (RowFits g now erase planes 
 RowsFit g now AnyRows qs = Unit {0}
 
 abbrev pub command_among : LastCloser → Command → Bool
-command_among w ReadConfirm = w.read
-command_among w ReadCacheSequential = w.cache
-command_among w _ = w.other
+command_among w ReadConfirm = may_be_30 w
+command_among w ReadCacheSequential = may_be_31 w
+command_among w _ = may_be_other w
 
 abbrev pub closer_among : LastCloser → Option Command → Bool
-closer_among w None = w.other
+closer_among w None = may_be_other w
 closer_among w (Some c) = command_among w c
 
 pub record LunFits (g : Parts) (j : Job) (v : KnownLun) (index : ℕ) (view : LunView) : Type 0 where
@@ -271,7 +274,7 @@ pub record LunFits (g : Parts) (j : Job) (v : KnownLun) (index : ℕ) (view : Lu
   pub column : OutputColumnFits v.column view.column
   pub queue : RowsFit g index v.queue view.queue
   pub last : closer_among v.last view.closer ≡ true
-  pub cached : j.base % g.pages ≡ 0 → v.last.other ≡ false → Below view.array_page.page v.cached.page.hi
+  pub cached : j.base % g.pages ≡ 0 → may_be_other v.last ≡ false → Below view.array_page.page v.cached.page.hi
 
 -- 5. all of it
 

@@ -24,7 +24,7 @@ use Rattle.micro_program.specs.Lines.{Line}
 use Rattle.micro_program.specs.Program.{Job, Done, column_now, index_now}
 use Rattle.micro_program.specs.Moves.{address, gives, and_then}
 use Rattle.micro_claims.specs.Spans.{only}
-use Rattle.micro_claims.specs.State.{Registers, KnownTarget, State, Place, Closed, After, InData, InColumn, QueuedRows, NoRows, SomeRows, AnyRows, closed, bounds_of, Unknown}
+use Rattle.micro_claims.specs.State.{Registers, KnownTarget, State, Place, Closed, After, InData, InColumn, QueuedRows, NoRows, SomeRows, AnyRows, closed, bounds_of, Unknown, may_be_31}
 use Rattle.micro_claims.specs.Against.{may_be_open, may_be_queued, opener_refused, takes_identity_at, is_identity_byte, byte_of_column, address_out_of_place}
 use Rattle.micro_claims.specs.Reasons.{breaks_cycle_forbidden}
 use Rattle.micro_claims.specs.Leaves.{identity_read, address_leaves_at, with_registers, paid, data_shown}
@@ -50,8 +50,8 @@ pub sound_90 : (s : Channel) (j : Job) (k : KnownJob s j) (v : State) (past : Li
 sound_90 s j k v past c done rest at byte is scene f clear acc =
     let dec = declared s.geometry j.text v byte ReadId is clear in
     let free = or_parts (may_be_open v) (opener_refused s.geometry v ReadId) (opener_free s.geometry j.text v byte ReadId is refl refl clear) in
-    let calm = subst (λ (b : Bool). (not b && (v.lun.busy || may_be_queued v.lun.queue || v.lun.last.cache)) ≡ false) dec.one free.1 in
-    let two = or_parts (v.lun.busy || may_be_queued v.lun.queue) v.lun.last.cache calm in
+    let calm = subst (λ (b : Bool). (not b && (v.lun.busy || may_be_queued v.lun.queue || may_be_31 v.lun.last)) ≡ false) dec.one free.1 in
+    let two = or_parts (v.lun.busy || may_be_queued v.lun.queue) (may_be_31 v.lun.last) calm in
     let one = or_parts v.lun.busy (may_be_queued v.lun.queue) two.0 in
     plain_opener s j k v past c done rest at byte ReadId is scene f clear
     (record { closed = closed_tail s.geometry j v.target (now_of j done) c.facts (f.tail refl) free.0; one = dec.one; ready = f.lun.ready one.0; no_queue = none_queued s.geometry (index_now j.base done) v.lun.queue c.view.queue one.1 f.lun.queue; no_cache = not_caching v.lun.last c.view.closer f.lun.last two.1 })
@@ -61,8 +61,8 @@ pub sound_ec : (s : Channel) (j : Job) (k : KnownJob s j) (v : State) (past : Li
 sound_ec s j k v past c done rest at byte is scene f clear acc =
     let dec = declared s.geometry j.text v byte ReadParameterPage is clear in
     let free = or_parts (may_be_open v) (opener_refused s.geometry v ReadParameterPage) (opener_free s.geometry j.text v byte ReadParameterPage is refl refl clear) in
-    let calm = subst (λ (b : Bool). (not b && (v.lun.busy || may_be_queued v.lun.queue || v.lun.last.cache)) ≡ false) dec.one free.1 in
-    let two = or_parts (v.lun.busy || may_be_queued v.lun.queue) v.lun.last.cache calm in
+    let calm = subst (λ (b : Bool). (not b && (v.lun.busy || may_be_queued v.lun.queue || may_be_31 v.lun.last)) ≡ false) dec.one free.1 in
+    let two = or_parts (v.lun.busy || may_be_queued v.lun.queue) (may_be_31 v.lun.last) calm in
     let one = or_parts v.lun.busy (may_be_queued v.lun.queue) two.0 in
     plain_opener s j k v past c done rest at byte ReadParameterPage is scene f clear
     (record { closed = closed_tail s.geometry j v.target (now_of j done) c.facts (f.tail refl) free.0; one = dec.one; ready = f.lun.ready one.0; no_queue = none_queued s.geometry (index_now j.base done) v.lun.queue c.view.queue one.1 f.lun.queue; no_cache = not_caching v.lun.last c.view.closer f.lun.last two.1 })
@@ -129,7 +129,7 @@ at_identity s j k v past c done rest at from count o view facts id step shut lat
       registers = subst (λ (r : Registers). RegistersFit g j (paid count r) (record { word = AddressWord from count; answer = answer } ∷ done)) (sym same) (unmoved g j v v.registers.place v.registers.polled done (AddressWord from count) answer f.registers clear (record { column = λ n. refl; plane = λ n. refl; index = λ b n. refl }) f.registers.place);
       tail = λ e. subst (λ (t : KnownTarget). TailFits g j t (now_of j done) facts) (sym target) (closed_fits g j None None data_shown (now_of j done) facts shut);
       free = λ e. cc;
-      shows = subst (λ (t : KnownTarget). ShowsFit t.shows (record { facts = facts; view = view; sole = not (ltb 1 g.luns) })) (sym target) (ap not id.single, ap (latch_among (record { status = false; register = true })) latch);
+      shows = subst (λ (t : KnownTarget). ShowsFit t.shows (record { facts = facts; view = view; sole = not (ltb 1 g.luns) })) (sym target) (ap not id.single, ap (latch_among (record { 0 = 2 })) latch);
       lun = lun;
     })))
     acc

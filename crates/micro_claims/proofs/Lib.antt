@@ -1,5 +1,6 @@
 pub mod Fits
 pub mod Numbers
+pub mod Sets
 pub mod PlaneSets
 pub mod Tails
 pub mod Sounding

@@ -25,7 +25,7 @@ use Rattle.micro_word.specs.declared.word.Word.TheVariants.{Command as CommandWo
 use Rattle.micro_program.specs.Lines.{Line}
 use Rattle.micro_claims.specs.Spans.{bound_plus, is_at_most}
 use Rattle.micro_claims.specs.Planes.{no_planes, either_plane}
-use Rattle.micro_claims.specs.State.{State, Place, Closed, After, InData, InColumn, NamedRow, Drift, QueuedRows, NoRows, SomeRows, AnyRows, LastCloser, bounds_of, Unknown}
+use Rattle.micro_claims.specs.State.{State, Place, Closed, After, InData, InColumn, NamedRow, Drift, QueuedRows, NoRows, SomeRows, AnyRows, LastCloser, bounds_of, Unknown, may_be_30, may_be_other}
 use Rattle.micro_claims.specs.Against.{opener_refused, closer_refused, is_unfit, asks_status, command_not_for_programs, drives, may_be_open, place_wants, same_test, continues_unseen}
 use Rattle.micro_claims.specs.Reasons.{breaks_command_not_allowed}
 use Rattle.micro_claims.specs.Leaves.{work_started, rows_at, goes_along, queued_planes, queued_more, data_shown, command_leaves}
@@ -168,13 +168,13 @@ sound_ff s j k v past c done rest at byte is scene f clear acc =
     acc
 
 -- 31h and 3Fh
-page_read : (w : LastCloser) (o : Option Command) → closer_among w o ≡ true → w.other ≡ false → is_page_read o ≡ true
+page_read : (w : LastCloser) (o : Option Command) → closer_among w o ≡ true → may_be_other w ≡ false → is_page_read o ≡ true
 page_read w None h e = cc
 page_read w (Some ReadConfirm) h e = refl
 page_read w (Some ReadCacheSequential) h e = refl
 page_read w (Some _) h e = cc
 
-cache_only : (w : LastCloser) (o : Option Command) → closer_among w o ≡ true → w.other ≡ false → w.read ≡ false → is_cache_read o ≡ true
+cache_only : (w : LastCloser) (o : Option Command) → closer_among w o ≡ true → may_be_other w ≡ false → may_be_30 w ≡ false → is_cache_read o ≡ true
 cache_only w None h e r = cc
 cache_only w (Some ReadConfirm) h e r = cc
 cache_only w (Some ReadCacheSequential) h e r = refl
@@ -185,8 +185,8 @@ sound_31 s j k v past c done rest at byte is scene f clear acc =
     let g = s.geometry in
     let dec = declared g j.text v byte ReadCacheSequential is clear in
     let free = or_parts (may_be_open v) (opener_refused g v ReadCacheSequential) (opener_free g j.text v byte ReadCacheSequential is dec.fit refl clear) in
-    let three = or_parts (not (drives v.target.shows) || v.lun.busy || v.lun.last.other) (not (is_at_most (bound_plus v.lun.cached.page.hi 2) g.pages)) free.1 in
-    let two = or_parts (not (drives v.target.shows) || v.lun.busy) v.lun.last.other three.0 in
+    let three = or_parts (not (drives v.target.shows) || v.lun.busy || may_be_other v.lun.last) (not (is_at_most (bound_plus v.lun.cached.page.hi 2) g.pages)) free.1 in
+    let two = or_parts (not (drives v.target.shows) || v.lun.busy) (may_be_other v.lun.last) three.0 in
     let one = or_parts (not (drives v.target.shows)) v.lun.busy two.0 in
     let shut = closed_tail g j v.target (now_of j done) c.facts (f.tail refl) free.0 in
     let drive = driven v.target.shows c f.shows one.0 in
@@ -198,7 +198,7 @@ sound_31 s j k v past c done rest at byte is scene f clear acc =
     let effect : cycle_effect g c.facts (shown_alone c) (CommandCycle ReadCacheSequential) j.lun.lun ≡ CacheReadContinued = rw (drive.0, drive.1) refl in
     command_sound s j k v past c done rest at byte ReadCacheSequential is scene f clear (record { closed = shut; declared = not-false g.cache dec.fit; sole = drive.0; passes = rw (ready, read, next) refl }) refl
     (closed_fits g j None None data_shown (now_of j done) _ refl)
-    (drive.0, ap (λ (e : Effect). latch_among (record { status = false; register = true }) (view_after e c.view).latch) effect)
+    (drive.0, ap (λ (e : Effect). latch_among (record { 0 = 2 }) (view_after e c.view).latch) effect)
     (subst (λ (e : Effect). LunFits g j (command_leaves g v ReadCacheSequential).lun (index_now j.base done) (view_after e c.view)) (sym effect)
     (record { ready = λ e. cc; register = refl; column = record { at = 0; is = refl; below = (in_exactly 0).most; unread = λ e. refl }; queue = f.lun.queue; last = refl; cached = λ e x. below_plus c.view.array_page.page v.lun.cached.page.hi 1 1 (f.lun.cached e two.1) (omega arith) }))
     acc
@@ -208,8 +208,8 @@ sound_3f s j k v past c done rest at byte is scene f clear acc =
     let g = s.geometry in
     let dec = declared g j.text v byte ReadCacheEnd is clear in
     let free = or_parts (may_be_open v) (opener_refused g v ReadCacheEnd) (opener_free g j.text v byte ReadCacheEnd is dec.fit refl clear) in
-    let three = or_parts (not (drives v.target.shows) || v.lun.busy || v.lun.last.other) v.lun.last.read free.1 in
-    let two = or_parts (not (drives v.target.shows) || v.lun.busy) v.lun.last.other three.0 in
+    let three = or_parts (not (drives v.target.shows) || v.lun.busy || may_be_other v.lun.last) (may_be_30 v.lun.last) free.1 in
+    let two = or_parts (not (drives v.target.shows) || v.lun.busy) (may_be_other v.lun.last) three.0 in
     let one = or_parts (not (drives v.target.shows)) v.lun.busy two.0 in
     let shut = closed_tail g j v.target (now_of j done) c.facts (f.tail refl) free.0 in
     let drive = driven v.target.shows c f.shows one.0 in
@@ -218,7 +218,7 @@ sound_3f s j k v past c done rest at byte is scene f clear acc =
     let effect : cycle_effect g c.facts (shown_alone c) (CommandCycle ReadCacheEnd) j.lun.lun ≡ CacheReadEnded = rw (drive.0, drive.1) refl in
     command_sound s j k v past c done rest at byte ReadCacheEnd is scene f clear (record { closed = shut; declared = not-false g.cache dec.fit; sole = drive.0; passes = rw (ready, read) refl }) refl
     (closed_fits g j None None data_shown (now_of j done) _ refl)
-    (drive.0, ap (λ (e : Effect). latch_among (record { status = false; register = true }) (view_after e c.view).latch) effect)
+    (drive.0, ap (λ (e : Effect). latch_among (record { 0 = 2 }) (view_after e c.view).latch) effect)
     (subst (λ (e : Effect). LunFits g j (command_leaves g v ReadCacheEnd).lun (index_now j.base done) (view_after e c.view)) (sym effect)
     (record { ready = λ e. cc; register = refl; column = record { at = 0; is = refl; below = (in_exactly 0).most; unread = λ e. refl }; queue = f.lun.queue; last = refl; cached = λ e x. cc }))
     acc

@@ -48,9 +48,9 @@ page_in_block p lo over hi some low high same =
 
 greatest_page : (p : ℕ) (r : PageRange) (lo : ℕ) (hi : Option ℕ) (base over : ℕ) → 0 < p → base % p ≡ 0 → lo ≤ over → Below over hi → InRange ((base + over) % p) r → (base + over) % p ≤ greatest_page_of p r lo hi
 greatest_page p r lo None base over some h low high is = is.most
-greatest_page p r lo (Some hi) base over some h low high is = at (lo / p == hi / p && ltb (hi % p) r.hi && nat_le hi 4611686018427387904) refl
+greatest_page p r lo (Some hi) base over some h low high is = at (lo / p == hi / p && ltb (hi % p) r.hi && nat_le hi 4294967295) refl
   where
-    at : (b : Bool) → (lo / p == hi / p && ltb (hi % p) r.hi && nat_le hi 4611686018427387904) ≡ b → (base + over) % p ≤ cond b (hi % p) r.hi
+    at : (b : Bool) → (lo / p == hi / p && ltb (hi % p) r.hi && nat_le hi 4294967295) ≡ b → (base + over) % p ≤ cond b (hi % p) r.hi
     at true e =
         let same = eqb-true (lo / p) (hi / p) (and_parts _ _ (and_parts _ _ e).0).0 in
         subst (λ (n : ℕ). n ≤ hi % p) (sym (over_page p base over h)) (page_in_block p lo over hi some low high same)

@@ -1,9 +1,16 @@
 -- Sets of planes: who is in them.
-use Rattle.std.proofs.Common.{◌≡◌, ℕ, zero, suc, ◌≤◌, ◌<◌, ◌==◌, Bool, true, false, ◌&&◌, ◌||◌, not, nat_le, refl, sym, ap, ◌∙◌, arith, eqb-true, eq-eqb}
+use Rattle.std.proofs.Common.{◌≡◌, ℕ, zero, suc, ◌+◌, ◌*◌, ◌/◌, ◌%◌, ◌^◌, ◌≤◌, ◌<◌, ◌==◌, Bool, true, false, ◌||◌, not, cond, nat_le, refl, sym, ap, ◌∙◌, arith, eqb-true, eq-eqb}
+use Rattle.std.specs.Prelude.{bit_and, nat_lt}
+use Rattle.std.specs.Int.{bit_at}
+use Rattle.std.specs.Int.Bits.{and_self}
+use Rattle.std.proofs.Math.Pow.{pow_mono}
 use Rattle.std.proofs.lemmas.Bool.Decides.{nat_tests}
-use Rattle.std.proofs.lemmas.Bool.{and_parts, or_left, or_right}
-use Rattle.onfi_cycle.proofs.Booleans.{and_rest}
-use Rattle.micro_claims.specs.Planes.{Planes, has_plane, just_plane, either_plane, share_a_plane, are_below}
+use Rattle.std.proofs.lemmas.Bool.{not-false, not-true}
+use Rattle.std.proofs.lemmas.Nat.{and_assoc, and_comm, and_le_l, pow_pos, pow_below}
+use Rattle.std.proofs.lemmas.Nat.Bits.{bit_at-lt, bit_at_above, bit_at_cat_low, same_from_bits, bit_at-suc, bit_at_lowest}
+use Rattle.micro_claims.specs.Sets.{has}
+use Rattle.micro_claims.specs.Planes.{Planes, has_plane, no_planes, just_plane, either_plane, share_a_plane, are_below}
+use Rattle.micro_claims.proofs.Sets.{has_more, has_first, has_second, has_bit, has_either, has_none, has_only, shares_one}
 
 -- the one plane of a set of one
 pub just_has : (n : ℕ) → n ≤ 3 → has_plane n (just_plane n) ≡ true
@@ -14,98 +21,128 @@ just_has (suc (suc (suc zero))) h = refl
 just_has (suc (suc (suc (suc n)))) h = absurd (omega (arith, h))
 
 pub among_first : (n : ℕ) (p q : Planes) → has_plane n p ≡ true → has_plane n (either_plane p q) ≡ true
-among_first zero p q h = or_left p.zero q.zero h
-among_first (suc zero) p q h = or_left p.one q.one h
-among_first (suc (suc zero)) p q h = or_left p.two q.two h
-among_first (suc (suc (suc zero))) p q h = or_left p.three q.three h
-among_first (suc (suc (suc (suc n)))) p q h = cc
+among_first n p q h = has_more (2 ^ n) p.0 _ (has_first p.0 q.0) h
 
 pub among_second : (n : ℕ) (p q : Planes) → has_plane n q ≡ true → has_plane n (either_plane p q) ≡ true
-among_second zero p q h = or_right p.zero q.zero h
-among_second (suc zero) p q h = or_right p.one q.one h
-among_second (suc (suc zero)) p q h = or_right p.two q.two h
-among_second (suc (suc (suc zero))) p q h = or_right p.three q.three h
-among_second (suc (suc (suc (suc n)))) p q h = cc
+among_second n p q h = has_more (2 ^ n) q.0 _ (has_second p.0 q.0) h
 
 -- a set whose planes are below a number
-record Below (count : ℕ) (p : Planes) : Type 0 where
-  zero : (p.zero && nat_le count 0) ≡ false
-  one : (p.one && nat_le count 1) ≡ false
-  two : (p.two && nat_le count 2) ≡ false
-  three : (p.three && nat_le count 3) ≡ false
-
-none_of : (a b c d : Bool) → not (a || b || c || d) ≡ true → (a ≡ false) × (b ≡ false) × (c ≡ false) × (d ≡ false)
-none_of false false false false h = (refl, refl, refl, refl)
-none_of true b c d h = cc
-none_of false true c d h = cc
-none_of false false true d h = cc
-none_of false false false true h = cc
-
 pub below_count : (count n : ℕ) (p : Planes) → are_below count p ≡ true → has_plane n p ≡ true → n < count
-below_count count n p h has = at n has (none_of (p.zero && nat_le count 0) (p.one && nat_le count 1) (p.two && nat_le count 2) (p.three && nat_le count 3) h)
+below_count count n p h has = at (nat_le count n) refl
   where
-    above : (m : ℕ) → nat_le count m ≡ false → m < count
-    above m e = grind (arith, nat_tests, e)
-
-    at : (n : ℕ) → has_plane n p ≡ true → ((p.zero && nat_le count 0) ≡ false) × ((p.one && nat_le count 1) ≡ false) × ((p.two && nat_le count 2) ≡ false) × ((p.three && nat_le count 3) ≡ false) → n < count
-    at zero has b = above 0 (and_rest p.zero (nat_le count 0) has b.0)
-    at (suc zero) has b = above 1 (and_rest p.one (nat_le count 1) has b.1)
-    at (suc (suc zero)) has b = above 2 (and_rest p.two (nat_le count 2) has b.2)
-    at (suc (suc (suc zero))) has b = above 3 (and_rest p.three (nat_le count 3) has b.3)
-    at (suc (suc (suc (suc m)))) has b = cc
-
-none_shared : (a b c d : Bool) → (a || b || c || d) ≡ false → (a ≡ false) × (b ≡ false) × (c ≡ false) × (d ≡ false)
-none_shared false false false false h = (refl, refl, refl, refl)
-none_shared true b c d h = cc
-none_shared false true c d h = cc
-none_shared false false true d h = cc
-none_shared false false false true h = cc
-
-clash : {X : Type 0} → (a b : Bool) → a ≡ true → b ≡ true → (a && b) ≡ false → X
-clash true true h k e = cc
-clash true false h k e = cc
-clash false b h k e = cc
+    at : (b : Bool) → nat_le count n ≡ b → n < count
+    at false e = grind (arith, nat_tests, e)
+    at true e =
+        let order : count ≤ n = grind (arith, nat_tests, e) in
+        let above = pow_mono {i = count} {j = n} order in
+        let is = eqb-true (bit_and p.0 (2 ^ n)) (2 ^ n) has in
+        let less = and_le_l p.0 (2 ^ n) in
+        let below : p.0 < 2 ^ count = grind (arith, nat_tests, h) in
+        absurd (omega (arith, above, is, less, below))
 
 -- planes of two sets that share none differ
 pub none_common : (p q : Planes) (n m : ℕ) → share_a_plane p q ≡ false → has_plane n p ≡ true → has_plane m q ≡ true → (n == m) ≡ false
 none_common p q n m apart here there = at (n == m) refl
   where
-    same : (k : ℕ) → has_plane k p ≡ true → has_plane k q ≡ true → ((p.zero && q.zero) ≡ false) × ((p.one && q.one) ≡ false) × ((p.two && q.two) ≡ false) × ((p.three && q.three) ≡ false) → ⊥
-    same zero a b none = clash p.zero q.zero a b none.0
-    same (suc zero) a b none = clash p.one q.one a b none.1
-    same (suc (suc zero)) a b none = clash p.two q.two a b none.2
-    same (suc (suc (suc zero))) a b none = clash p.three q.three a b none.3
-    same (suc (suc (suc (suc k)))) a b none = cc
+    same : (k : ℕ) → has_plane k p ≡ true → has_plane k q ≡ true → ⊥
+    same k a b =
+        let none = eqb-true (bit_and p.0 q.0) 0 (not-false _ apart) in
+        let one = eqb-true (bit_and p.0 (2 ^ k)) (2 ^ k) a in
+        let other = eqb-true (bit_and q.0 (2 ^ k)) (2 ^ k) b in
+        let both : 2 ^ k ≡ 0 = sym (sym (ap (λ (x : ℕ). bit_and x (2 ^ k)) none) ∙ (and_assoc (2 ^ k) p.0 q.0 ∙ (ap (bit_and p.0) other ∙ one))) in
+        let some = pow_pos k in
+        absurd (omega (arith, both, some))
 
     at : (b : Bool) → (n == m) ≡ b → (n == m) ≡ false
     at false e = e
-    at true e = absurd (same m (ap (λ (k : ℕ). has_plane k p) (sym (eqb-true n m e)) ∙ here) there (none_shared (p.zero && q.zero) (p.one && q.one) (p.two && q.two) (p.three && q.three) apart))
+    at true e = absurd (same m (ap (λ (k : ℕ). has_plane k p) (sym (eqb-true n m e)) ∙ here) there)
+
+-- in two sets together is what is in one of them
+pub either_has : (n : ℕ) (p q : Planes) → has_plane n (either_plane p q) ≡ (has_plane n p || has_plane n q)
+either_has n p q = has_either n p.0 q.0
+
+pub none_has : (n : ℕ) → has_plane n no_planes ≡ false
+none_has = has_none
+
+-- a set of one
+just_is : (n : ℕ) → n ≤ 3 → just_plane n ≡ record { 0 = 2 ^ n }
+just_is n h = let low : nat_lt n 4 ≡ true = grind (arith, nat_tests, h) in ap (λ (b : Bool). cond b (record { 0 = 2 ^ n }) no_planes) low
+
+pub share_just : (n : ℕ) (p : Planes) → n ≤ 3 → share_a_plane (just_plane n) p ≡ has_plane n p
+share_just n p h = ap (λ (q : Planes). share_a_plane q p) (just_is n h) ∙ shares_one n p.0
+
+pub just_same : (n m : ℕ) → n ≤ 3 → has_plane n (just_plane m) ≡ (n == m)
+just_same n m h = at (nat_lt m 4) refl
+  where
+    at : (b : Bool) → nat_lt m 4 ≡ b → has_plane n (cond b (record { 0 = 2 ^ m }) no_planes) ≡ (n == m)
+    at true e = has_only n m
+    at false e = has_none n ∙ (let b : false ≡ (n == m) = grind (arith, nat_tests, h, e) in b)
+
+-- a set of one is below a number where its plane is
+below_power : (n count : ℕ) → nat_lt (2 ^ n) (2 ^ count) ≡ nat_lt n count
+below_power n count = at (nat_lt n count) refl
+  where
+    at : (b : Bool) → nat_lt n count ≡ b → nat_lt (2 ^ n) (2 ^ count) ≡ b
+    at true e = let order : n < count = grind (arith, nat_tests, e) in let power = pow_below n count order in grind (arith, nat_tests, power)
+    at false e = let order : count ≤ n = grind (arith, nat_tests, e) in let power = pow_mono {i = count} {j = n} order in grind (arith, nat_tests, power)
+
+pub below_just : (count n : ℕ) → n ≤ 3 → are_below count (just_plane n) ≡ nat_lt n count
+below_just count n h = ap (are_below count) (just_is n h) ∙ below_power n count
+
+-- a set has a plane where the bit is
+bit_has : (n : ℕ) (p : Planes) → bit_at p.0 n ≡ 1 → has_plane n p ≡ true
+bit_has n p e = has_bit n p.0 ∙ eq-eqb (bit_at p.0 n) 1 e
 
 -- a set whose planes are each below a number
 pub below_all : (count : ℕ) (p : Planes) → ((n : ℕ) → has_plane n p ≡ true → n < count) → are_below count p ≡ true
-below_all count p h = at p.zero p.one p.two p.three refl refl refl refl
+below_all count p h =
+    let some = pow_pos count in
+    let whole : p.0 ≡ p.0 % 2 ^ count = same_from_bits p.0 (p.0 % 2 ^ count) each in
+    let low : p.0 % 2 ^ count < 2 ^ count = omega (arith, some) in
+    let small : p.0 < 2 ^ count = omega (arith, whole, low) in
+    grind (arith, nat_tests, small)
   where
-    above : (n : ℕ) → n < count → nat_le count n ≡ false
-    above n l = grind (arith, nat_tests, l)
+    high : (i x : ℕ) → bit_at p.0 i ≡ x → x < 2 → count ≤ i → x ≡ 0
+    high i zero e l order = refl
+    high i (suc zero) e l order = let y = h i (bit_has i p e) in absurd (omega (arith, y, order))
+    high i (suc (suc x)) e l order = absurd (omega (arith, l))
 
-    off : (b : Bool) (n : ℕ) → (b ≡ true → n < count) → (b && nat_le count n) ≡ false
-    off true n f = above n (f refl)
-    off false n f = refl
-
-    at : (a b c d : Bool) → p.zero ≡ a → p.one ≡ b → p.two ≡ c → p.three ≡ d → are_below count p ≡ true
-    at a b c d ea eb ec ed =
-        rw (off p.zero 0 (h 0), off p.one 1 (h 1), off p.two 2 (h 2), off p.three 3 (h 3)) refl
+    each : (i : ℕ) → bit_at p.0 i ≡ bit_at (p.0 % 2 ^ count) i
+    each i = at (nat_le count i) refl
+      where
+        at : (b : Bool) → nat_le count i ≡ b → bit_at p.0 i ≡ bit_at (p.0 % 2 ^ count) i
+        at true e =
+            let order : count ≤ i = grind (arith, nat_tests, e) in
+            let some = pow_pos count in
+            let none = high i (bit_at p.0 i) refl (bit_at-lt p.0 i) order in
+            none ∙ sym (bit_at_above (p.0 % 2 ^ count) count i (omega (arith, some)) order)
+        at false e =
+            let order : i < count = grind (arith, nat_tests, e) in
+            let parts : p.0 ≡ p.0 / 2 ^ count * 2 ^ count + p.0 % 2 ^ count = omega arith in
+            ap (λ (n : ℕ). bit_at n i) parts ∙ bit_at_cat_low (p.0 / 2 ^ count) count (p.0 % 2 ^ count) i order
 
 -- two sets that share a plane have one that is in both
-pub shared : (p q : Planes) → share_a_plane p q ≡ true → (n : ℕ) × ((has_plane n p ≡ true) × (has_plane n q ≡ true))
-shared p q h = at (p.zero && q.zero) refl (p.one && q.one) refl (p.two && q.two) refl (p.three && q.three) refl h
+some_bit : (count x : ℕ) → x ≤ count → 0 < x → (n : ℕ) × (bit_at x n ≡ 1)
+some_bit zero x most some = absurd (omega (arith, most, some))
+some_bit (suc count) x most some = at (x % 2) refl (some_bit count (x / 2))
   where
-    at : (a : Bool) → (p.zero && q.zero) ≡ a → (b : Bool) → (p.one && q.one) ≡ b → (c : Bool) → (p.two && q.two) ≡ c → (d : Bool) → (p.three && q.three) ≡ d → (a || b || c || d) ≡ true → (n : ℕ) × ((has_plane n p ≡ true) × (has_plane n q ≡ true))
-    at true ea b eb c ec d ed h = (0, and_parts p.zero q.zero ea)
-    at false ea true eb c ec d ed h = (1, and_parts p.one q.one eb)
-    at false ea false eb true ec d ed h = (2, and_parts p.two q.two ec)
-    at false ea false eb false ec true ed h = (3, and_parts p.three q.three ed)
-    at false ea false eb false ec false ed h = cc
+    at : (r : ℕ) → x % 2 ≡ r → (x / 2 ≤ count → 0 < x / 2 → (n : ℕ) × (bit_at (x / 2) n ≡ 1)) → (n : ℕ) × (bit_at x n ≡ 1)
+    at zero e half = let rest = half (omega (arith, most, some)) (omega (arith, e, some)) in (suc rest.0, bit_at-suc x rest.0 ∙ rest.1)
+    at (suc zero) e half = (0, bit_at_lowest x ∙ e)
+    at (suc (suc r)) e half = absurd (omega (arith, e))
+
+pub shared : (p q : Planes) → share_a_plane p q ≡ true → (n : ℕ) × ((has_plane n p ≡ true) × (has_plane n q ≡ true))
+shared p q h =
+    let some : 0 < bit_and p.0 q.0 = (let x = not-true _ h in grind (arith, nat_tests, x)) in
+    let bit = some_bit (bit_and p.0 q.0) (bit_and p.0 q.0) (omega arith) some in
+    let both = bit_has bit.0 (record { 0 = bit_and p.0 q.0 }) bit.1 in
+    let is = eqb-true (bit_and (bit_and p.0 q.0) (2 ^ bit.0)) (2 ^ bit.0) both in
+    let right : has (bit_and p.0 q.0) q.0 ≡ true = eq-eqb _ _ (in_right p.0 q.0) in
+    let left : has (bit_and p.0 q.0) p.0 ≡ true = eq-eqb _ _ (ap (bit_and p.0) (and_comm p.0 q.0) ∙ (in_right q.0 p.0 ∙ and_comm q.0 p.0)) in
+    (bit.0, (has_more (2 ^ bit.0) (bit_and p.0 q.0) p.0 left both, has_more (2 ^ bit.0) (bit_and p.0 q.0) q.0 right both))
+  where
+    in_right : (a b : ℕ) → bit_and b (bit_and a b) ≡ bit_and a b
+    in_right a b = ap (bit_and b) (and_comm a b) ∙ (sym (and_assoc a b b) ∙ (ap (λ (n : ℕ). bit_and n a) (and_self b) ∙ and_comm b a))
 
 pub sharing : (p q : Planes) (n : ℕ) → has_plane n p ≡ true → has_plane n q ≡ true → share_a_plane p q ≡ true
 sharing p q n a b = at (share_a_plane p q) refl

@@ -29,7 +29,7 @@ use Rattle.onfi_cycle.specs.Channel.{Channel}
 use Rattle.micro_claims.specs.Spans.{bound_plus, is_at_most, copied}
 use Rattle.micro_claims.specs.Planes.{Planes, has_plane, share_a_plane}
 use Rattle.micro_claims.proofs.PlaneSets.{none_common}
-use Rattle.micro_claims.specs.State.{Drift, NamedRow, Shown, Held, State, LastCloser, Place, Closed, After, InData, InColumn, QueuedRows, NoRows, SomeRows, AnyRows, bounds_of, Unknown}
+use Rattle.micro_claims.specs.State.{Drift, NamedRow, Shown, Held, State, LastCloser, Place, Closed, After, InData, InColumn, QueuedRows, NoRows, SomeRows, AnyRows, bounds_of, Unknown, may_be_31}
 use Rattle.micro_claims.specs.Against.{is_read, is_erase, same_test, drives, least_length, takes_identity_at, address_out_of_place, begins_elsewhere, column_past, queue_refuses, row_refused, has_second_column, column_limit, is_inside_address}
 use Rattle.micro_claims.specs.Reasons.{breaks_cycle_forbidden, breaks_address_unaligned, breaks_row_or_plane_outside, breaks_column_too_large}
 use Rattle.micro_claims.specs.Leaves.{paid, with_registers, with_target, address_leads_to, target_after_addresses, name_now, address_leaves_at, after_few, column_leads_to}
@@ -52,7 +52,7 @@ use Rattle.micro_claims.proofs.NamesNow.{named_now}
 
 -- 1. the last row cycle
 
-pub not_caching : (w : LastCloser) (o : Option Command) → closer_among w o ≡ true → w.cache ≡ false → is_cache_read o ≡ false
+pub not_caching : (w : LastCloser) (o : Option Command) → closer_among w o ≡ true → may_be_31 w ≡ false → is_cache_read o ≡ false
 not_caching w None h e = refl
 not_caching w (Some ReadCacheSequential) h e = cc
 not_caching w (Some _) h e = refl
@@ -116,8 +116,8 @@ queue_goes g now (SomeRows erase queued d) queue regs o p plane f clear low amon
 
 row_goes : (g : Parts) (j : Job) (v : State) (done : List Done) (view : LunView) (a : Address) (o : Command) (n : ℕ) → RegistersFit g j v.registers done → a.index ≡ index_now j.base done → a.plane ≡ plane_now done → LunFits g j v.lun (index_now j.base done) view → RowIs g j a → row_refused v (After o n) ≡ false → RowGoes g j.lun.lun a view o
 row_goes g j v done view a o n registers index plane f row clear =
-    let two = or_parts (v.lun.busy || v.lun.last.cache) (queue_refuses v.lun.queue v.registers.planes o) clear in
-    let one = or_parts v.lun.busy v.lun.last.cache two.0 in
+    let two = or_parts (v.lun.busy || may_be_31 v.lun.last) (queue_refuses v.lun.queue v.registers.planes o) clear in
+    let one = or_parts v.lun.busy (may_be_31 v.lun.last) two.0 in
     record {
       inside = row.inside;
       names = eq-eqb _ _ (ap (λ (p : RowParts). p.lun) row.reads);

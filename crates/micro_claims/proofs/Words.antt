@@ -22,14 +22,14 @@ use Rattle.micro_program.specs.Lines.{Line}
 use Rattle.micro_program.specs.Program.{Job, Done, index_now, place_now, buffer_now}
 use Rattle.micro_program.specs.Moves.{Take, gives, and_then, part, put_bytes}
 use Rattle.micro_claims.specs.Spans.{Span, bound_plus, is_at_most, plus, plus_between}
-use Rattle.micro_claims.specs.State.{State, KnownLun, Place, Closed, After, InData, InColumn, Unknown, Shown, Held, OutputColumn, bounds_of}
+use Rattle.micro_claims.specs.State.{State, KnownLun, Place, Closed, After, InData, InColumn, Unknown, Shown, Held, OutputColumn, bounds_of, shows_status, shows_register, holds_page, holds_parameters, holds_identifier}
 use Rattle.micro_claims.specs.Against.{may_be_open, drives, may_show_data, has_register, has_column, least_length, column_bound, span_bound, is_in_data}
 use Rattle.micro_claims.specs.Reasons.{breaks_cycle_forbidden, breaks_buffer_passed, breaks_column_too_large}
 use Rattle.micro_claims.specs.Leaves.{column_read, span_more}
 use Rattle.micro_claims.specs.Accepts.{state_after, accepts}
 use Rattle.micro_program.proofs.Scenes.{Scene, IsScene}
 use Rattle.micro_program.proofs.SceneMoves.{scene_after}
-use Rattle.micro_claims.proofs.Fits.{Below, TailFits, ShowsFit, LunFits, OutputFits, OutputColumnFits, RegisterFits, register_among, latch_among, ColumnFits, Fits, now_of}
+use Rattle.micro_claims.proofs.Fits.{among_held, Below, TailFits, ShowsFit, LunFits, OutputFits, OutputColumnFits, RegisterFits, register_among, latch_among, ColumnFits, Fits, now_of}
 use Rattle.micro_claims.proofs.Numbers.{below_plus, surely}
 use Rattle.micro_claims.proofs.Tails.{closed_tail, closed_fits, programming}
 use Rattle.micro_claims.proofs.Sounding.{KnownJob, NoReasons, unmoved, SoundWord, plain_sound}
@@ -58,9 +58,9 @@ min_r a b = grind arith
 
 pub least_register : (g : Parts) (o : Option Held) (r : Register) → RegisterFits o r → has_register o ≡ true → 4 ≤ page_len g → least_length g o ≤ register_len g r
 least_register g None r f h small = cc
-least_register g (Some w) r f h small = by w.identifier w.page w.parameters r f
+least_register g (Some w) r f h small = by (holds_identifier w) (holds_page w) (holds_parameters w) r f
   where
-    by : (i p q : Bool) (r : Register) → register_among (record { page = p; parameters = q; identifier = i }) r ≡ true → cond i 4 (cond p (cond q (min 768 (page_len g)) (page_len g)) 768) ≤ register_len g r
+    by : (i p q : Bool) (r : Register) → among_held p q i r ≡ true → cond i 4 (cond p (cond q (min 768 (page_len g)) (page_len g)) 768) ≤ register_len g r
     by i p q Empty f = cc
     by true p q (Page x) f = small
     by true p q ParameterPage f = omega arith
@@ -106,7 +106,7 @@ record GetGoes (g : Parts) (j : Job) (l : KnownLun) (o : Option Shown) (i : ℕ)
 -- the column behind outputs of status, and behind those of data
 status_column : (w : Shown) (n : ℕ) (o : Option OutputColumn) (k : ReadColumn) → OutputColumnFits o k → OutputColumnFits (column_read (Some w) n o) k
 status_column w n None k f = tt
-status_column w n (Some c) k f = at w.register w.status
+status_column w n (Some c) k f = at (shows_register w) (shows_status w)
   where
     least : (b : Bool) → ℕ
     least b = cond b 0 n
@@ -117,10 +117,10 @@ status_column w n (Some c) k f = at w.register w.status
         record { at = f.at; is = f.is; below = subst (λ (m : ℕ). Below m (bound_plus c.at.hi n)) (let e : f.at + 0 ≡ f.at = omega arith in e) more; unread = λ e. cc }
     at false s = f
 
-data_column : (w : Shown) (n : ℕ) (o : Option OutputColumn) (k : ReadColumn) → w.register ≡ true → OutputColumnFits o k → OutputColumnFits (column_read (Some w) n o) (record k { outputs = k.outputs + n })
+data_column : (w : Shown) (n : ℕ) (o : Option OutputColumn) (k : ReadColumn) → shows_register w ≡ true → OutputColumnFits o k → OutputColumnFits (column_read (Some w) n o) (record k { outputs = k.outputs + n })
 data_column w n None k e f = tt
 data_column w n (Some c) k e f =
-    subst (λ (b : Bool). OutputColumnFits (cond b (Some (record { at = plus_between c.at (cond w.status 0 n) n; read = true })) (Some c)) (record k { outputs = k.outputs + n })) (sym e)
+    subst (λ (b : Bool). OutputColumnFits (cond b (Some (record { at = plus_between c.at (cond (shows_status w) 0 n) n; read = true })) (Some c)) (record k { outputs = k.outputs + n })) (sym e)
     (record { at = f.at + n; is = read_more n k f.at f.is; below = below_plus f.at c.at.hi n n f.below (omega arith); unread = λ x. cc })
 
 can_read : (g : Parts) (j : Job) (l : KnownLun) (i n : ℕ) (view : LunView) → LunFits g j l i view → view.latch ≡ Data → l.busy ≡ false → has_register l.register ≡ true → (k : OutputColumn) → l.column ≡ Some k → (f : OutputFits k view.column) → is_at_most (bound_plus k.at.hi n) (least_length g l.register) ≡ true → 4 ≤ page_len g → CanRead g view f.at n
@@ -146,7 +146,7 @@ get_goes : (g : Parts) (j : Job) (l : KnownLun) (o : Option Shown) (i n : ℕ) (
 get_goes g j l None i n c closed shows lun free small = let d = free.driven in cc
 get_goes g j l (Some w) i n c closed shows lun free small = by c.view.latch refl shows.1
   where
-    with_column : (k : Option OutputColumn) → l.column ≡ k → OutputColumnFits k c.view.column → has_column k ≡ true → is_at_most (bound_plus (column_bound k) n) (least_length g l.register) ≡ true → c.view.latch ≡ Data → w.register ≡ true → GetGoes g j l (Some w) i n c
+    with_column : (k : Option OutputColumn) → l.column ≡ k → OutputColumnFits k c.view.column → has_column k ≡ true → is_at_most (bound_plus (column_bound k) n) (least_length g l.register) ≡ true → c.view.latch ≡ Data → shows_register w ≡ true → GetGoes g j l (Some w) i n c
     with_column None is f has inside latch e = cc
     with_column (Some k) is f has inside latch e =
         let ready = free.ready e in

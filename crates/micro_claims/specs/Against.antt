@@ -9,7 +9,7 @@ use Rattle.onfi_cycle.specs.Sequence.{is_proper_beginning}
 use Rattle.onfi_cycle.specs.Rules.{is_undeclared}
 use Rattle.micro_claims.specs.Spans.{bound_plus, is_at_most, only}
 use Rattle.micro_claims.specs.Planes.{share_a_plane, are_below}
-use Rattle.micro_claims.specs.State.{State, Span, Planes, Place, Closed, After, InData, InColumn, Unknown, Shown, Held, OutputColumn, QueuedRows, NoRows, SomeRows, AnyRows, Bounds}
+use Rattle.micro_claims.specs.State.{State, Span, Planes, Place, Closed, After, InData, InColumn, Unknown, Shown, Held, OutputColumn, QueuedRows, NoRows, SomeRows, AnyRows, Bounds, shows_status, shows_register, holds_page, holds_parameters, holds_identifier, may_be_30, may_be_31, may_be_other}
 
 -- ---- places of the tail
 
@@ -76,7 +76,7 @@ is_inside_address Unknown = true
 
 abbrev pub shows_only_data : Option Shown → Bool
 shows_only_data None = false
-shows_only_data (Some w) = not w.status
+shows_only_data (Some w) = not (shows_status w)
 
 abbrev pub drives : Option Shown → Bool
 drives None = false
@@ -84,7 +84,7 @@ drives (Some w) = true
 
 abbrev pub may_show_data : Option Shown → Bool
 may_show_data None = false
-may_show_data (Some w) = w.register
+may_show_data (Some w) = shows_register w
 
 abbrev pub has_register : Option Held → Bool
 has_register None = false
@@ -92,7 +92,7 @@ has_register (Some r) = true
 
 abbrev pub has_page_or_parameters : Option Held → Bool
 has_page_or_parameters None = false
-has_page_or_parameters (Some r) = not r.identifier
+has_page_or_parameters (Some r) = not (holds_identifier r)
 
 abbrev pub has_column : Option OutputColumn → Bool
 has_column None = false
@@ -101,7 +101,7 @@ has_column (Some k) = true
 -- the least length that the register may have
 abbrev pub length_of : Parts → Held → ℕ
 length_of g r =
-    if r.identifier then 4 else (if r.page then (if r.parameters then min 768 (page_len g) else page_len g) else 768)
+    if holds_identifier r then 4 else (if holds_page r then (if holds_parameters r then min 768 (page_len g) else page_len g) else 768)
 
 abbrev pub least_length : Parts → Option Held → ℕ
 least_length g None = 0
@@ -138,7 +138,7 @@ is_unfit g c = not (is_known c) || is_undeclared g c
 
 -- 90h or ECh may not come, though nothing is open: only a target of one LUN is asked, as another refuses them by a rule that comes first
 abbrev pub identity_opener_refused : Parts → State → Bool
-identity_opener_refused g s = not (nat_lt 1 g.luns) && (s.lun.busy || may_be_queued s.lun.queue || s.lun.last.cache)
+identity_opener_refused g s = not (nat_lt 1 g.luns) && (s.lun.busy || may_be_queued s.lun.queue || may_be_31 s.lun.last)
 
 -- an opener may not come, though nothing is open
 abbrev pub opener_refused : Parts → State → Command → Bool
@@ -149,8 +149,8 @@ opener_refused g s PageProgram = s.lun.busy
 opener_refused g s ReadId = identity_opener_refused g s
 opener_refused g s ReadParameterPage = identity_opener_refused g s
 opener_refused g s ReadCacheSequential =
-    not (drives s.target.shows) || s.lun.busy || s.lun.last.other || not (is_at_most (bound_plus s.lun.cached.page.hi 2) g.pages)
-opener_refused g s ReadCacheEnd = not (drives s.target.shows) || s.lun.busy || s.lun.last.other || s.lun.last.read
+    not (drives s.target.shows) || s.lun.busy || may_be_other s.lun.last || not (is_at_most (bound_plus s.lun.cached.page.hi 2) g.pages)
+opener_refused g s ReadCacheEnd = not (drives s.target.shows) || s.lun.busy || may_be_other s.lun.last || may_be_30 s.lun.last
 opener_refused g s _ = false
 
 -- a command that is no opener works on the one driver, and there may be none
@@ -208,7 +208,7 @@ identity_refused g s from count _ = false
 
 -- the last row cycle may be refused
 abbrev pub row_refused : State → Place → Bool
-row_refused s (After opener n) = s.lun.busy || s.lun.last.cache || queue_refuses s.lun.queue s.registers.planes opener
+row_refused s (After opener n) = s.lun.busy || may_be_31 s.lun.last || queue_refuses s.lun.queue s.registers.planes opener
 row_refused s _ = false
 
 -- the column is surely past its limit, so that nothing is asked of the cycles after it
@@ -258,4 +258,4 @@ abbrev pub input_past : Parts → State → ℕ → Bool
 input_past g s n = not (is_at_most (bound_plus (span_bound s.target.column) n) (page_len g))
 
 abbrev pub may_be_unready : State → Bool
-may_be_unready s = s.lun.busy || may_be_open s || may_be_queued s.lun.queue || s.lun.last.cache
+may_be_unready s = s.lun.busy || may_be_open s || may_be_queued s.lun.queue || may_be_31 s.lun.last

@@ -1,5 +1,5 @@
 -- What two states both claim.
-use Rattle.std.specs.Prelude.{◌≡◌, ℕ, min, max, true, ◌&&◌, ◌||◌, if◌then◌else◌, Option, Some, None}
+use Rattle.std.specs.Prelude.{◌≡◌, ℕ, min, max, true, ◌&&◌, ◌||◌, if◌then◌else◌, Option, Some, None, bit_or}
 use Rattle.micro_claims.specs.Spans.{Span, Growth}
 use Rattle.micro_claims.specs.Planes.{either_plane}
 use Rattle.micro_claims.specs.State.{State, Registers, KnownTarget, KnownLun, PageRange, Place, Closed, Unknown, Drift, NamedRow, Shown, Held, OutputColumn, QueuedRows, NoRows, SomeRows, AnyRows, LastCloser, CachedPage}
@@ -59,7 +59,7 @@ joined_name n m =
     }
 
 abbrev pub joined_shown : Shown → Shown → Shown
-joined_shown w x = record { status = w.status || x.status; register = w.register || x.register }
+joined_shown w x = record { 0 = bit_or w.0 x.0 }
 
 abbrev pub joined_target : KnownTarget → KnownTarget → KnownTarget
 joined_target s t =
@@ -71,7 +71,7 @@ joined_target s t =
     }
 
 abbrev pub joined_held : Held → Held → Held
-joined_held r q = record { page = r.page || q.page; parameters = r.parameters || q.parameters; identifier = r.identifier || q.identifier }
+joined_held r q = record { 0 = bit_or r.0 q.0 }
 
 abbrev pub joined_output : OutputColumn → OutputColumn → OutputColumn
 joined_output k m = record { at = joined_span k.at m.at; read = k.read || m.read }
@@ -83,7 +83,7 @@ joined_rows (SomeRows erase planes d) (SomeRows kind ps e) = if same_test erase 
 joined_rows _ _ = AnyRows
 
 abbrev pub joined_closer : LastCloser → LastCloser → LastCloser
-joined_closer c d = record { read = c.read || d.read; cache = c.cache || d.cache; other = c.other || d.other }
+joined_closer c d = record { 0 = bit_or c.0 d.0 }
 
 abbrev pub joined_cached : CachedPage → CachedPage → CachedPage
 joined_cached c d = record { index = joined_span c.index d.index; page = joined_span c.page d.page }

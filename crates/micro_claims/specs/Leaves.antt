@@ -5,7 +5,7 @@ use Rattle.onfi_cycle.specs.declared.command.Command.{Command}
 use Rattle.onfi_cycle.specs.declared.command.Command.TheVariants.{Read, ReadConfirm, ChangeReadColumn, ChangeReadColumnConfirm, BlockErase, BlockEraseConfirm, BlockErasePlane, PageProgram, ChangeWriteColumn, ProgramConfirm, ProgramPlane, ReadId, ReadParameterPage, Reset, ReadCacheSequential, ReadCacheEnd}
 use Rattle.micro_claims.specs.Spans.{copied, plus, plus_between, greatest_bound}
 use Rattle.micro_claims.specs.Planes.{no_planes, either_plane}
-use Rattle.micro_claims.specs.State.{State, Registers, KnownTarget, KnownLun, Span, PageRange, Place, Closed, After, InData, InColumn, Unknown, Drift, IndexMove, On, To, NamedRow, Shown, Held, OutputColumn, QueuedRows, NoRows, SomeRows, AnyRows, LastCloser, CachedPage, Planes, exactly, not_cached, other_closer, closed}
+use Rattle.micro_claims.specs.State.{State, Registers, KnownTarget, KnownLun, Span, PageRange, Place, Closed, After, InData, InColumn, Unknown, Drift, IndexMove, On, To, NamedRow, Shown, Held, OutputColumn, QueuedRows, NoRows, SomeRows, AnyRows, LastCloser, CachedPage, Planes, exactly, not_cached, other_closer, closed, shows_status, shows_register}
 use Rattle.micro_claims.specs.Against.{same_test}
 
 -- ---- parts of a state
@@ -20,10 +20,10 @@ abbrev pub with_lun : State → KnownLun → State
 with_lun s l = record { registers = s.registers; target = s.target; lun = l }
 
 abbrev pub status_shown : Option Shown
-status_shown = Some (record { status = true; register = false })
+status_shown = Some (record { 0 = 1 })
 
 abbrev pub data_shown : Option Shown
-data_shown = Some (record { status = false; register = true })
+data_shown = Some (record { 0 = 2 })
 
 -- what is shown behind 00h
 abbrev pub resumed_shows : Option Shown → Option Shown
@@ -40,7 +40,7 @@ given_at None = None
 given_at (Some at) = Some (record { at = copied at; read = false })
 
 abbrev pub page_register : Option Held
-page_register = Some (record { page = true; parameters = false; identifier = false })
+page_register = Some (record { 0 = 1 })
 
 -- ---- cost and status
 
@@ -179,7 +179,7 @@ read_started g s =
         register = page_register;
         column = given_at s.target.column;
         queue = s.lun.queue;
-        last = record { read = true; cache = false; other = false };
+        last = record { 0 = 1 };
         cached = cached_at s.target.named;
       };
     }
@@ -210,7 +210,7 @@ command_leaves g s ProgramPlane = work_started (queued_more false s.lun.queue s.
 command_leaves g s Reset =
     record { registers = s.registers; target = closed None; lun = record { busy = true; register = None; column = None; queue = NoRows; last = other_closer; cached = s.lun.cached } }
 command_leaves g s ReadCacheSequential =
-    cache_read (record { read = false; cache = true; other = false }) (record { index = plus s.lun.cached.index 1; page = plus s.lun.cached.page 1 }) s
+    cache_read (record { 0 = 2 }) (record { index = plus s.lun.cached.index 1; page = plus s.lun.cached.page 1 }) s
 command_leaves g s ReadCacheEnd = cache_read other_closer s.lun.cached s
 command_leaves g s _ = s
 
@@ -262,13 +262,13 @@ identity_read s ReadId =
     record {
       registers = s.registers;
       target = closed data_shown;
-      lun = record s.lun { register = Some (record { page = false; parameters = false; identifier = true }); column = Some (record { at = exactly 0; read = false }); last = other_closer };
+      lun = record s.lun { register = Some (record { 0 = 4 }); column = Some (record { at = exactly 0; read = false }); last = other_closer };
     }
 identity_read s ReadParameterPage =
     record {
       registers = s.registers;
       target = closed data_shown;
-      lun = record s.lun { busy = true; register = Some (record { page = false; parameters = true; identifier = false }); column = Some (record { at = exactly 0; read = false }); last = other_closer };
+      lun = record s.lun { busy = true; register = Some (record { 0 = 2 }); column = Some (record { at = exactly 0; read = false }); last = other_closer };
     }
 identity_read s _ = s
 
@@ -286,7 +286,7 @@ address_leaves g s from count = address_leaves_at g s from count s.target.tail
 abbrev pub column_read : Option Shown → ℕ → Option OutputColumn → Option OutputColumn
 column_read None n k = None
 column_read (Some w) n None = None
-column_read (Some w) n (Some k) = if w.register then Some (record { at = plus_between k.at (if w.status then 0 else n) n; read = true }) else Some k
+column_read (Some w) n (Some k) = if shows_register w then Some (record { at = plus_between k.at (if shows_status w then 0 else n) n; read = true }) else Some k
 
 abbrev pub get_leaves : State → ℕ → State
 get_leaves s n =

@@ -1,4 +1,6 @@
 pub mod Spans
+pub mod Packed
+pub mod Sets
 pub mod Planes
 pub mod State
 pub mod Against

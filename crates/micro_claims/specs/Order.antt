@@ -4,8 +4,9 @@ use Rattle.nand_geometry.specs.declared.parts.Parts.{Parts}
 use Rattle.onfi_cycle.specs.Command.{opcode}
 use Rattle.micro_word.specs.declared.word.Word.{Word}
 use Rattle.micro_claims.specs.Spans.{greatest_bound, kept, saturated, bound_plus}
+use Rattle.micro_claims.specs.Sets.{has}
 use Rattle.micro_claims.specs.Planes.{Planes, has_plane}
-use Rattle.micro_claims.specs.State.{State, Registers, KnownTarget, KnownLun, Span, Growth, Place, Closed, After, InData, InColumn, Unknown, Drift, NamedRow, Shown, Held, OutputColumn, QueuedRows, NoRows, SomeRows, AnyRows, LoopPlace, Head, Heads, AfterTurns, Bounds, any_number, first_state}
+use Rattle.micro_claims.specs.State.{State, Registers, KnownTarget, KnownLun, Span, Growth, Place, Closed, After, InData, InColumn, Unknown, Drift, NamedRow, Shown, Held, OutputColumn, QueuedRows, NoRows, SomeRows, AnyRows, LoopPlace, Head, Heads, AfterTurns, Bounds, any_number, first_state, shows_status, shows_register, holds_page, holds_parameters, holds_identifier, may_be_30, may_be_31, may_be_other}
 use Rattle.micro_claims.specs.Against.{same_test, is_open_place}
 use Rattle.micro_claims.specs.Reasons.{reason_against}
 use Rattle.micro_claims.specs.Accepts.{state_after}
@@ -115,7 +116,7 @@ abbrev pub may_within : Bool → Bool → Bool
 may_within b c = not b || c
 
 abbrev pub are_planes_within : Planes → Planes → Bool
-are_planes_within p q = may_within p.zero q.zero && (may_within p.one q.one && (may_within p.two q.two && may_within p.three q.three))
+are_planes_within p q = has p.0 q.0
 
 abbrev pub same_code : Option ℕ → Option ℕ → Bool
 same_code (Some n) (Some m) = n == m
@@ -199,7 +200,7 @@ IsFineNamed g (Some m) = IsFineName g m
 abbrev pub ShowsIs : Option Shown → Option Shown → Type 0
 ShowsIs None a = Unit {0}
 ShowsIs (Some w) None = ⊥
-ShowsIs (Some w) (Some x) = May x.status w.status × (May x.register w.register × ((x.status || x.register) ≡ true))
+ShowsIs (Some w) (Some x) = May (shows_status x) (shows_status w) × (May (shows_register x) (shows_register w) × ((shows_status x || shows_register x) ≡ true))
 
 pub record TargetAt (g : Parts) (v s a : KnownTarget) : Type 0 where
   pub tail : PlaceIs s.tail a.tail
@@ -211,10 +212,10 @@ pub record TargetAt (g : Parts) (v s a : KnownTarget) : Type 0 where
 
 -- of an actual register it is known what it holds
 pub record RegisterIs (r q : Held) : Type 0 where
-  pub page : May q.page r.page
-  pub parameters : May q.parameters r.parameters
-  pub identifier : May q.identifier r.identifier
-  pub some : (q.page || (q.parameters || q.identifier)) ≡ true
+  pub page : May (holds_page q) (holds_page r)
+  pub parameters : May (holds_parameters q) (holds_parameters r)
+  pub identifier : May (holds_identifier q) (holds_identifier r)
+  pub some : (holds_page q || (holds_parameters q || holds_identifier q)) ≡ true
 
 abbrev pub RegisteredIs : Option Held → Option Held → Type 0
 RegisteredIs None a = Unit {0}
@@ -239,9 +240,9 @@ pub record LunAt (v s a : KnownLun) : Type 0 where
   pub has_column : HasOutput s.column a.column
   pub column : SpanAt (output_number v.column) (output_number s.column) (output_number a.column)
   pub queue : RowsAre s.queue a.queue
-  pub last_read : May a.last.read s.last.read
-  pub last_cache : May a.last.cache s.last.cache
-  pub last_other : May a.last.other s.last.other
+  pub last_read : May (may_be_30 a.last) (may_be_30 s.last)
+  pub last_cache : May (may_be_31 a.last) (may_be_31 s.last)
+  pub last_other : May (may_be_other a.last) (may_be_other s.last)
   pub cached_index : SpanAt v.cached.index s.cached.index a.cached.index
   pub cached_page : SpanAt v.cached.page s.cached.page a.cached.page
 
@@ -274,7 +275,7 @@ is_named_within (Some n) (Some m) = is_name_within n m
 abbrev pub is_shows_within : Option Shown → Option Shown → Bool
 is_shows_within s None = true
 is_shows_within None (Some x) = false
-is_shows_within (Some w) (Some x) = may_within w.status x.status && may_within w.register x.register
+is_shows_within (Some w) (Some x) = has w.0 x.0
 
 abbrev pub is_target_within : KnownTarget → KnownTarget → Bool
 is_target_within s t =
@@ -283,7 +284,7 @@ is_target_within s t =
 abbrev pub is_register_within : Option Held → Option Held → Bool
 is_register_within s None = true
 is_register_within None (Some q) = false
-is_register_within (Some r) (Some q) = may_within r.page q.page && (may_within r.parameters q.parameters && may_within r.identifier q.identifier)
+is_register_within (Some r) (Some q) = has r.0 q.0
 
 abbrev pub is_output_within : Option OutputColumn → Option OutputColumn → Bool
 is_output_within s None = true
@@ -299,8 +300,7 @@ are_rows_within _ _ = false
 abbrev pub is_lun_within : KnownLun → KnownLun → Bool
 is_lun_within s t =
     may_within s.busy t.busy && (is_register_within s.register t.register && (is_output_within s.column t.column && (are_rows_within s.queue t.queue
-    && (may_within s.last.read t.last.read && (may_within s.last.cache t.last.cache && (may_within s.last.other t.last.other
-    && (is_span_within s.cached.index t.cached.index && is_span_within s.cached.page t.cached.page)))))))
+    && (has s.last.0 t.last.0 && (is_span_within s.cached.index t.cached.index && is_span_within s.cached.page t.cached.page)))))
 
 -- the first claims at least what the second claims
 unfoldable pub is_state_within : State → State → Bool

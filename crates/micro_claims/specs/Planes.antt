@@ -1,29 +1,31 @@
--- Sets of planes.
-use Rattle.std.specs.Prelude.{ℕ, zero, suc, ◌==◌, Bool, false, ◌&&◌, ◌||◌, not, nat_le}
+-- Sets of planes: a plane is in a set where the bit of its number is.
+use Rattle.std.specs.Prelude.{ℕ, ◌^◌, ◌==◌, Bool, not, nat_lt, if◌then◌else◌, bit_and, bit_or}
 pub use Rattle.micro_claims.specs.declared.planes.Planes.{Planes}
+use Rattle.micro_claims.specs.Sets.{has}
 
 -- the plane is one of these
 abbrev pub has_plane : ℕ → Planes → Bool
-has_plane zero p = p.zero
-has_plane (suc zero) p = p.one
-has_plane (suc (suc zero)) p = p.two
-has_plane (suc (suc (suc zero))) p = p.three
-has_plane (suc (suc (suc (suc n)))) p = false
+has_plane n p = has (2 ^ n) p.0
+
+-- the greatest of these; 0 where none is greater
+abbrev pub greatest_plane : Planes → ℕ
+greatest_plane p = if has 8 p.0 then 3 else if has 4 p.0 then 2 else if has 2 p.0 then 1 else 0
 
 abbrev pub no_planes : Planes
-no_planes = record { zero = false; one = false; two = false; three = false }
+no_planes = record { 0 = 0 }
 
+-- the plane of this number alone, where a plane may have it
 abbrev pub just_plane : ℕ → Planes
-just_plane n = record { zero = n == 0; one = n == 1; two = n == 2; three = n == 3 }
+just_plane n = if nat_lt n 4 then record { 0 = 2 ^ n } else no_planes
 
 -- the planes of both
 abbrev pub either_plane : Planes → Planes → Planes
-either_plane p q = record { zero = p.zero || q.zero; one = p.one || q.one; two = p.two || q.two; three = p.three || q.three }
+either_plane p q = record { 0 = bit_or p.0 q.0 }
 
 -- some plane is in both
 abbrev pub share_a_plane : Planes → Planes → Bool
-share_a_plane p q = (p.zero && q.zero) || (p.one && q.one) || (p.two && q.two) || (p.three && q.three)
+share_a_plane p q = not (bit_and p.0 q.0 == 0)
 
 -- each of them is one of the first so many
 abbrev pub are_below : ℕ → Planes → Bool
-are_below count p = not ((p.zero && nat_le count 0) || (p.one && nat_le count 1) || (p.two && nat_le count 2) || (p.three && nat_le count 3))
+are_below count p = nat_lt p.0 (2 ^ count)

@@ -1,11 +1,16 @@
 -- Numbers that are known by their bounds, and that may grow in loops.
 use Rattle.std.specs.Prelude.{ℕ, ◌+◌, ◌==◌, Bool, false, nat_le, if◌then◌else◌, Option, Some, None}
 pub use Rattle.micro_claims.specs.declared.growth.Growth.{Growth}
-pub use Rattle.micro_claims.specs.declared.span.Span.{Span}
+
+-- a number from `lo` on, up to `hi` if there is a bound, and how much it has grown, where it may
+pub record Span : Type 0 where
+  pub lo : ℕ
+  pub hi : Option ℕ
+  pub grown : Option Growth
 
 -- bounds are kept up to this number; a higher one is no bound
 abbrev pub greatest_bound : ℕ
-greatest_bound = 4611686018427387904
+greatest_bound = 4294967295
 
 abbrev pub kept : ℕ → Option ℕ
 kept n = if nat_le n greatest_bound then Some n else None

@@ -1,8 +1,9 @@
 -- What is known of a program before its first word, and where something is open.
-use Rattle.std.specs.Prelude.{true, false, Option, None}
+use Rattle.std.specs.Prelude.{Bool, true, false, Option, None}
 use Rattle.micro_word.specs.Text.{Microprogram}
 use Rattle.micro_program.specs.Lines.{continues_cache_read}
 pub use Rattle.micro_claims.specs.Spans.{Span, Growth, exactly}
+use Rattle.micro_claims.specs.Sets.{has}
 pub use Rattle.micro_claims.specs.Planes.{Planes, just_plane}
 pub use Rattle.micro_claims.specs.declared.page_range.PageRange.{PageRange}
 pub use Rattle.micro_claims.specs.declared.registers.Registers.{Registers}
@@ -26,16 +27,43 @@ pub use Rattle.micro_claims.specs.declared.known_lun.KnownLun.{KnownLun}
 pub use Rattle.micro_claims.specs.declared.state.State.{State}
 pub use Rattle.micro_claims.specs.declared.bounds.Bounds.{Bounds}
 
+-- what may be shown: the status, the register
+abbrev pub shows_status : Shown → Bool
+shows_status w = has 1 w.0
+
+abbrev pub shows_register : Shown → Bool
+shows_register w = has 2 w.0
+
+-- what may be held: a page, the parameter page, the identifier
+abbrev pub holds_page : Held → Bool
+holds_page r = has 1 r.0
+
+abbrev pub holds_parameters : Held → Bool
+holds_parameters r = has 2 r.0
+
+abbrev pub holds_identifier : Held → Bool
+holds_identifier r = has 4 r.0
+
+-- what the last closer may be: 30h, 31h, another or none
+abbrev pub may_be_30 : LastCloser → Bool
+may_be_30 c = has 1 c.0
+
+abbrev pub may_be_31 : LastCloser → Bool
+may_be_31 c = has 2 c.0
+
+abbrev pub may_be_other : LastCloser → Bool
+may_be_other c = has 4 c.0
+
 -- what is read off a text before its first word
 abbrev pub bounds_of : Microprogram → Bounds
 bounds_of text = record { rows = text.rows; buffer = text.buffer; budget = text.budget; continues_cache_read = continues_cache_read text.words }
 
 -- the last closer is 30h or another one or none, but not 31h
 abbrev pub any_but_31 : LastCloser
-any_but_31 = record { read = true; cache = false; other = true }
+any_but_31 = record { 0 = 5 }
 
 abbrev pub other_closer : LastCloser
-other_closer = record { read = false; cache = false; other = true }
+other_closer = record { 0 = 4 }
 
 abbrev pub any_number : Span
 any_number = record { lo = 0; hi = None; grown = None }

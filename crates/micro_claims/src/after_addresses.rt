@@ -1,17 +1,33 @@
 //! What addresses leave of what is known before them.
-ghost use Rattle.std.specs.Prelude.{◌≡◌};
+ghost use Rattle.std.specs.Prelude.{◌≡◌, if◌then◌else◌, Some};
 ghost use Rattle.onfi_cycle.specs.declared.command.Command.TheVariants.{ReadId, ReadParameterPage};
 ghost use Rattle.micro_claims.specs.Leaves.{target_after_addresses, identity_read, address_leaves};
 
 use crate::held::Held;
 use crate::known_target::KnownTarget;
-use crate::last_closer::OTHER_CLOSER;
+use crate::last_closer::LastCloser;
+use crate::named_row::NamedRow;
 use crate::output_column::OutputColumn;
 use crate::place::Place;
 use crate::shown::DATA_SHOWN;
+use crate::span::Span;
 use crate::state::State;
 use nand_geometry::Geometry;
 use onfi_cycle::Command;
+
+// The column that is given, where it is whole now; else the one before.
+fn either_column(is_whole: bool, given: Span, before: Option<Span>) -> Option<Span>
+    ensures { result ≡ if is_whole then Some given else before }
+{
+    if is_whole { Some(given) } else { before }
+}
+
+// The row that is named, where it is whole now; else the one before.
+fn either_name(is_whole: bool, named: NamedRow, before: Option<NamedRow>) -> Option<NamedRow>
+    ensures { result ≡ if is_whole then Some named else before }
+{
+    if is_whole { Some(named) } else { before }
+}
 
 impl State {
     // The target after so many addresses.
@@ -20,18 +36,13 @@ impl State {
     {
         let end = u32::from(from) + u32::from(count);
         let target = self.target;
+        let given = self.registers.column.copied();
+        let column = either_column(from <= 1 && end >= 2, given, target.column);
+        let named = either_name(end >= 5, self.registers.row(geometry), target.named);
         KnownTarget {
             tail: target.tail.after_addresses(count),
-            column: if from <= 1 && end >= 2 {
-                Some(self.registers.column.copied())
-            } else {
-                target.column
-            },
-            named: if end >= 5 {
-                Some(self.registers.row(geometry))
-            } else {
-                target.named
-            },
+            column,
+            named,
             shows: target.shows,
         }
     }
@@ -41,13 +52,9 @@ impl State {
         ensures { self.new ≡ identity_read self.old ReadId }
     {
         self.target = KnownTarget::closed(DATA_SHOWN);
-        self.lun.register = Some(Held {
-            page: false,
-            parameters: false,
-            identifier: true,
-        });
+        self.lun.register = Some(Held::IDENTIFIER);
         self.lun.column = Some(OutputColumn::first());
-        self.lun.last = OTHER_CLOSER;
+        self.lun.last = LastCloser::OTHER;
     }
 
     // After the address of Read Parameter Page.
@@ -56,13 +63,9 @@ impl State {
     {
         self.target = KnownTarget::closed(DATA_SHOWN);
         self.lun.busy = true;
-        self.lun.register = Some(Held {
-            page: false,
-            parameters: true,
-            identifier: false,
-        });
+        self.lun.register = Some(Held::PARAMETERS);
         self.lun.column = Some(OutputColumn::first());
-        self.lun.last = OTHER_CLOSER;
+        self.lun.last = LastCloser::OTHER;
     }
 
     // After so many addresses.

@@ -7,7 +7,7 @@ use crate::cached_page::CachedPage;
 use crate::held::PAGE_HELD;
 use crate::known_lun::KnownLun;
 use crate::known_target::KnownTarget;
-use crate::last_closer::{CACHE_CLOSER, LastCloser, OTHER_CLOSER};
+use crate::last_closer::LastCloser;
 use crate::output_column::OutputColumn;
 use crate::place::Place;
 use crate::queued_rows::QueuedRows;
@@ -41,11 +41,7 @@ impl State {
             register: PAGE_HELD,
             column: OutputColumn::given(self.target.column),
             queue: self.lun.queue,
-            last: LastCloser {
-                read: true,
-                cache: false,
-                other: false,
-            },
+            last: LastCloser::READ,
             cached: CachedPage::of(self.target.named),
         };
         self.target = KnownTarget::closed(self.target.shows_after_read(geometry));
@@ -117,8 +113,10 @@ impl State {
             Command::BlockErasePlane => self.queue_row(true),
             Command::ProgramPlane => self.queue_row(false),
             Command::Reset => self.reset(),
-            Command::ReadCacheSequential => self.read_cache(CACHE_CLOSER, self.lun.cached.next()),
-            Command::ReadCacheEnd => self.read_cache(OTHER_CLOSER, self.lun.cached),
+            Command::ReadCacheSequential => {
+                self.read_cache(LastCloser::CACHE, self.lun.cached.next())
+            },
+            Command::ReadCacheEnd => self.read_cache(LastCloser::OTHER, self.lun.cached),
             Command::ReadStatus | Command::ReadStatusEnhanced | Command::Unknown => {}
         }
     }

@@ -3,9 +3,10 @@ ghost use Rattle.std.specs.Prelude.{◌≡◌};
 ghost use Rattle.micro_claims.specs.Joins.{joined_cached};
 ghost use Rattle.micro_claims.specs.Leaves.{cached_at};
 ghost use Rattle.micro_claims.specs.Spans.{plus};
+ghost use Rattle.micro_claims.specs.State.{not_cached};
 
 use crate::named_row::NamedRow;
-use crate::span::{ANY_NUMBER, Span};
+use crate::span::{Span, any_number};
 
 /// The page that the array reads, where the last closer is 30h or 31h.
 #[derive(Clone, Copy)]
@@ -16,10 +17,15 @@ pub struct CachedPage {
     pub page: Span,
 }
 
-pub(crate) const NOT_CACHED: CachedPage = CachedPage {
-    index: ANY_NUMBER,
-    page: ANY_NUMBER,
-};
+// Nothing is known of it.
+pub(crate) fn not_cached() -> CachedPage
+    ensures { result ≡ not_cached }
+{
+    CachedPage {
+        index: any_number(),
+        page: any_number(),
+    }
+}
 
 impl CachedPage {
     // The row that the tail names.
@@ -27,14 +33,10 @@ impl CachedPage {
         ensures { result ≡ cached_at named }
     {
         match named {
-            None => NOT_CACHED,
+            None => not_cached(),
             Some(row) => CachedPage {
                 index: row.index.copied(),
-                page: Span {
-                    lo: 0,
-                    hi: Some(u64::from(row.page)),
-                    grown: None,
-                },
+                page: Span::of(0, Some(row.page), None),
             },
         }
     }

@@ -9,15 +9,15 @@ use crate::limits::GREATEST_BOUND;
 /// How far the index register is from the index of a row: register + `behind` is index + `ahead`, and one of the two is 0.
 #[derive(Clone, Copy, PartialEq, Eq)]
 pub struct Drift {
-    pub ahead: u64,
-    pub behind: u64,
+    pub ahead: u32,
+    pub behind: u32,
 }
 
 /// A move of the index register: on by so many rows, or to a row from where it is, if that is known.
 #[derive(Clone, Copy)]
 pub enum IndexMove {
     On { rows: u64 },
-    To { from: Option<u64>, row: u64 },
+    To { from: Option<u32>, row: u64 },
 }
 
 impl Drift {
@@ -28,8 +28,8 @@ impl Drift {
         if ahead <= GREATEST_BOUND && behind <= GREATEST_BOUND {
             let both = ahead.min(behind);
             Some(Drift {
-                ahead: ahead - both,
-                behind: behind - both,
+                ahead: (ahead - both) as u32,
+                behind: (behind - both) as u32,
             })
         } else {
             None
@@ -40,9 +40,9 @@ impl Drift {
     fn more(self, rows: u64) -> Option<Drift>
         ensures { result ≡ drift_more rows self }
     {
-        match self.ahead.checked_add(rows) {
+        match u64::from(self.ahead).checked_add(rows) {
             None => None,
-            Some(ahead) => Drift::of(ahead, self.behind),
+            Some(ahead) => Drift::of(ahead, u64::from(self.behind)),
         }
     }
 
@@ -50,7 +50,10 @@ impl Drift {
     pub(crate) fn moved(self, from: u64, to: u64) -> Option<Drift>
         ensures { result ≡ drift_moved from to self }
     {
-        match (self.ahead.checked_add(to), self.behind.checked_add(from)) {
+        match (
+            u64::from(self.ahead).checked_add(to),
+            u64::from(self.behind).checked_add(from),
+        ) {
             (Some(ahead), Some(behind)) => Drift::of(ahead, behind),
             _ => None,
         }
@@ -65,7 +68,7 @@ impl Drift {
             IndexMove::To {
                 from: Some(from),
                 row,
-            } => self.moved(from, row),
+            } => self.moved(u64::from(from), row),
         }
     }
 }

@@ -9,8 +9,8 @@ use crate::limits::{bound_plus, greater_bound, is_bound_within, lesser, lower_pl
 /// How much a number has grown since the turn of a loop began.
 #[derive(Clone, Copy)]
 pub struct Growth {
-    pub lo: u64,
-    pub hi: Option<u64>,
+    pub lo: u32,
+    pub hi: Option<u32>,
 }
 
 pub(crate) const NO_GROWTH: Option<Growth> = Some(Growth { lo: 0, hi: Some(0) });

@@ -5,15 +5,16 @@ ghost use Rattle.micro_claims.specs.Joins.{joined_lun};
 ghost use Rattle.micro_claims.specs.Leaves.{unread, page_register, column_read};
 ghost use Rattle.micro_claims.specs.Order.{is_lun_within};
 ghost use Rattle.micro_claims.specs.Spans.{exactly};
-ghost use Rattle.micro_claims.specs.State.{other_closer};
+ghost use Rattle.micro_claims.specs.State.{other_closer, may_be_31};
 
 use crate::cached_page::CachedPage;
 use crate::flags::may_within;
 use crate::held::{Held, PAGE_HELD, is_register_within, joined_registered};
-use crate::last_closer::{LastCloser, OTHER_CLOSER};
+use crate::last_closer::LastCloser;
 use crate::output_column::{OutputColumn, is_output_within, joined_outputs, widened_output};
 use crate::queued_rows::QueuedRows;
 use crate::shown::Shown;
+use bitflags::Flags;
 use nand_geometry::Geometry;
 
 /// What is known of the LUN, whoever has the bus.
@@ -21,12 +22,12 @@ use nand_geometry::Geometry;
 pub struct KnownLun {
     /// It may be busy.
     pub busy: bool,
+    pub last: LastCloser,
     /// None where it may be empty.
     pub register: Option<Held>,
     /// None where it may be lost.
     pub column: Option<OutputColumn>,
     pub queue: QueuedRows,
-    pub last: LastCloser,
     pub cached: CachedPage,
 }
 
@@ -53,10 +54,14 @@ impl KnownLun {
             None => return None,
             Some(column) => column,
         };
-        if !shown.register {
+        if !shown.contains(Shown::REGISTER) {
             return Some(column);
         }
-        let least = if shown.status { 0 } else { u64::from(len) };
+        let least = if shown.contains(Shown::STATUS) {
+            0
+        } else {
+            u64::from(len)
+        };
         Some(OutputColumn {
             at: column.at.plus_between(least, u64::from(len)),
             read: true,
@@ -79,7 +84,7 @@ impl KnownLun {
             register: None,
             column: None,
             queue,
-            last: OTHER_CLOSER,
+            last: LastCloser::OTHER,
             cached: self.cached,
         }
     }
@@ -110,7 +115,7 @@ impl KnownLun {
     {
         match self.register {
             None => false,
-            Some(held) => !held.identifier,
+            Some(held) => !held.contains(Held::IDENTIFIER),
         }
     }
 
@@ -125,9 +130,9 @@ impl KnownLun {
 
     // An opener that reads an identifier or a parameter page may be refused.
     pub(crate) fn may_work(&self) -> bool
-        ensures { result ≡ self.now.busy || may_be_queued self.now.queue || self.now.last.cache }
+        ensures { result ≡ self.now.busy || may_be_queued self.now.queue || may_be_31 self.now.last }
     {
-        self.busy || self.queue.may_be_some() || self.last.cache
+        self.busy || self.queue.may_be_some() || self.last.contains(LastCloser::CACHE)
     }
 
     pub(crate) fn is_within(&self, other: &KnownLun) -> bool
@@ -137,9 +142,7 @@ impl KnownLun {
             && is_register_within(self.register, other.register)
             && is_output_within(self.column, other.column)
             && self.queue.are_within(other.queue)
-            && may_within(self.last.read, other.last.read)
-            && may_within(self.last.cache, other.last.cache)
-            && may_within(self.last.other, other.last.other)
+            && other.last.contains(self.last)
             && self.cached.index.is_within(other.cached.index)
             && self.cached.page.is_within(other.cached.page)
     }

@@ -10,6 +10,7 @@ use crate::named_row::{NamedRow, is_named_within, joined_named, widened_name};
 use crate::place::Place;
 use crate::shown::{DATA_SHOWN, Shown, is_shows_within, joined_shows};
 use crate::span::{Span, is_column_within, joined_columns, widened_column};
+use bitflags::Flags;
 use nand_geometry::Geometry;
 use onfi_cycle::Command;
 
@@ -86,7 +87,7 @@ impl KnownTarget {
     {
         match self.shows {
             None => false,
-            Some(shown) => !shown.status,
+            Some(shown) => !shown.contains(Shown::STATUS),
         }
     }
 
@@ -95,7 +96,7 @@ impl KnownTarget {
     {
         match self.shows {
             None => false,
-            Some(shown) => shown.register,
+            Some(shown) => shown.contains(Shown::REGISTER),
         }
     }
 

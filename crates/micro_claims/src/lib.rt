@@ -18,6 +18,7 @@ mod bounds;
 mod cached_page;
 mod drift;
 mod flags;
+mod grows;
 mod growth;
 mod held;
 mod known_lun;

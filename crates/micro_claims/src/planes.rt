@@ -1,41 +1,64 @@
 //! Sets of planes.
-ghost use Rattle.std.specs.Prelude.{◌≡◌};
+ghost use Rattle.std.specs.Prelude.{⊤, ◌≡◌, [], ◌∷◌, codes};
 ghost use Rattle.micro_claims.specs.Order.{are_planes_within};
-ghost use Rattle.micro_claims.specs.Planes.{no_planes, just_plane, either_plane, share_a_plane, are_below};
+ghost use Rattle.micro_claims.specs.Planes.{greatest_plane, no_planes, just_plane, either_plane, share_a_plane, are_below};
 
-use crate::flags::may_within;
+use bitflags::{Flag, Flags, bitflag_items};
 
-/// Some of the four numbers that a plane may have.
+/// Some of the four numbers that a plane may have: the bit of each is its plane's.
 #[derive(Clone, Copy)]
-pub struct Planes {
-    pub zero: bool,
-    pub one: bool,
-    pub two: bool,
-    pub three: bool,
+pub struct Planes(pub u8);
+
+bitflag_items! {
+    impl Planes: u8 {
+        const ZERO = 1;
+        const ONE = 2;
+        const TWO = 4;
+        const THREE = 8;
+    }
+}
+
+impl Flags for Planes {
+    type Bits = u8;
+
+    ghost exact = { ⊤ };
+
+    ghost table = { (codes "ZERO", 1) ∷ (codes "ONE", 2) ∷ (codes "TWO", 4) ∷ (codes "THREE", 8) ∷ [] };
+
+    ghost set_of = { λ p. p.0 };
+
+    fn flags<'a>() -> &'a [Flag<Planes>] {
+        Planes::FLAGS
+    }
+
+    fn bits(&self) -> u8 {
+        self.0
+    }
+
+    fn from_bits_retain(bits: u8) -> Planes {
+        Planes(bits)
+    }
 }
 
 impl Planes {
+    /// Each plane that there may be.
+    pub(crate) const ANY: Planes = Planes(15);
+
     /// No plane.
     pub fn none() -> Planes
         ensures { result ≡ no_planes }
     {
-        Planes {
-            zero: false,
-            one: false,
-            two: false,
-            three: false,
-        }
+        Planes(0)
     }
 
     /// The plane of this number alone.
     pub fn just(plane: u8) -> Planes
         ensures { result ≡ just_plane plane }
     {
-        Planes {
-            zero: plane == 0,
-            one: plane == 1,
-            two: plane == 2,
-            three: plane == 3,
+        if plane < 4 {
+            Planes(1 << plane)
+        } else {
+            Planes(0)
         }
     }
 
@@ -43,11 +66,21 @@ impl Planes {
     pub fn or(self, other: Planes) -> Planes
         ensures { result ≡ either_plane self other }
     {
-        Planes {
-            zero: self.zero || other.zero,
-            one: self.one || other.one,
-            two: self.two || other.two,
-            three: self.three || other.three,
+        self.union(other)
+    }
+
+    /// The greatest of them; 0 where none is greater.
+    pub fn greatest(self) -> u8
+        ensures { result ≡ greatest_plane self }
+    {
+        if self.contains(Planes::THREE) {
+            3
+        } else if self.contains(Planes::TWO) {
+            2
+        } else if self.contains(Planes::ONE) {
+            1
+        } else {
+            0
         }
     }
 
@@ -55,28 +88,19 @@ impl Planes {
     pub fn meet(self, other: Planes) -> bool
         ensures { result ≡ share_a_plane self other }
     {
-        self.zero && other.zero
-            || self.one && other.one
-            || self.two && other.two
-            || self.three && other.three
+        self.intersects(other)
     }
 
     /// Each of them is one of the first so many.
     pub fn are_below(self, count: u32) -> bool
         ensures { result ≡ are_below count self }
     {
-        !(self.zero && count <= 0
-            || self.one && count <= 1
-            || self.two && count <= 2
-            || self.three && count <= 3)
+        count >= 8 || self.0 >> count == 0
     }
 
     pub(crate) fn are_within(self, other: Planes) -> bool
         ensures { result ≡ are_planes_within self other }
     {
-        may_within(self.zero, other.zero)
-            && may_within(self.one, other.one)
-            && may_within(self.two, other.two)
-            && may_within(self.three, other.three)
+        other.contains(self)
     }
 }

@@ -6,10 +6,12 @@ ghost use Rattle.micro_claims.specs.Spans.{bound_plus, is_at_most};
 ghost use Rattle.micro_program.specs.Program.{cost};
 
 use crate::bounds::Bounds;
+use crate::last_closer::LastCloser;
 use crate::limits::{bound_plus, is_at_most};
 use crate::place::Place;
 use crate::refusal::Reason;
 use crate::state::State;
+use bitflags::Flags;
 use micro_word::Word;
 use nand_geometry::Geometry;
 use onfi_cycle::{Command, is_undeclared};
@@ -52,7 +54,7 @@ fn has_second_column(from: u8, count: u8) -> bool
 }
 
 // The byte of the column register, where it is known.
-fn is_identity_byte(opener: Command, from: u8, column: Option<u64>) -> bool
+fn is_identity_byte(opener: Command, from: u8, column: Option<u32>) -> bool
     ensures { result ≡ is_identity_byte opener from column }
 {
     match column {
@@ -88,7 +90,7 @@ impl State {
     fn may_leave_the_block(&self, geometry: &Geometry) -> bool
         ensures { result ≡ not (is_at_most (bound_plus self.now.lun.cached.page.hi 2) geometry.now.pages) }
     {
-        let next = bound_plus(self.lun.cached.page.hi, 2);
+        let next = bound_plus(self.lun.cached.page.hi(), 2);
         !is_at_most(next, u64::from(geometry.parts().pages))
     }
 
@@ -109,11 +111,14 @@ impl State {
             Command::ReadCacheSequential => {
                 !self.target.drives()
                     || self.lun.busy
-                    || self.lun.last.other
+                    || self.lun.last.contains(LastCloser::OTHER)
                     || self.may_leave_the_block(geometry)
             }
             Command::ReadCacheEnd => {
-                !self.target.drives() || self.lun.busy || self.lun.last.other || self.lun.last.read
+                !self.target.drives()
+                    || self.lun.busy
+                    || self.lun.last.contains(LastCloser::OTHER)
+                    || self.lun.last.contains(LastCloser::READ)
             }
             _ => false,
         }
@@ -144,7 +149,7 @@ impl State {
     {
         command == Command::ReadCacheSequential
             && !is_unfit(geometry, command)
-            && !is_at_most(bound_plus(self.lun.cached.index.hi, 2), u64::from(rows))
+            && !is_at_most(bound_plus(self.lun.cached.index.hi(), 2), u64::from(rows))
     }
 
     // How long what the column is of may be.
@@ -187,7 +192,7 @@ impl State {
         match self.target.tail {
             Place::After { opener, .. } => {
                 self.lun.busy
-                    || self.lun.last.cache
+                    || self.lun.last.contains(LastCloser::CACHE)
                     || self.lun.queue.refuses(self.registers.planes, opener)
             }
             _ => false,
@@ -206,7 +211,7 @@ impl State {
         ensures { result ≡ surely_past geometry.now self.now from count self.now.target.tail }
     {
         self.completes_column(from, count)
-            && u64::from(self.column_limit(geometry)) <= self.registers.column.lo
+            && self.column_limit(geometry) <= self.registers.column.lo()
     }
 
     fn refuses_address(&self, geometry: &Geometry, from: u8, count: u8) -> bool
@@ -246,7 +251,7 @@ impl State {
             && !tail.takes_identity()
             && self.completes_column(from, count)
             && !is_at_most(
-                bound_plus(self.registers.column.hi, 1),
+                bound_plus(self.registers.column.hi(), 1),
                 u64::from(self.column_limit(geometry)),
             )
     }
@@ -256,7 +261,7 @@ impl State {
         ensures { result ≡ row_outside geometry.now rows self.now from count }
     {
         u32::from(from) + u32::from(count) > 2
-            && (!is_at_most(bound_plus(self.registers.index.hi, 1), u64::from(rows))
+            && (!is_at_most(bound_plus(self.registers.index.hi(), 1), u64::from(rows))
                 || !self.registers.planes.are_below(geometry.planes()))
     }
 
@@ -274,7 +279,7 @@ impl State {
     {
         let column = match self.lun.column {
             None => None,
-            Some(column) => column.at.hi,
+            Some(column) => column.at.hi(),
         };
         self.target.may_show_data()
             && !is_at_most(
@@ -288,7 +293,7 @@ impl State {
     {
         let column = match self.target.column {
             None => None,
-            Some(column) => column.hi,
+            Some(column) => column.hi(),
         };
         !is_at_most(
             bound_plus(column, u64::from(len)),
@@ -300,7 +305,10 @@ impl State {
     fn may_be_unready(&self) -> bool
         ensures { result ≡ may_be_unready self.now }
     {
-        self.lun.busy || self.may_be_open() || self.lun.queue.may_be_some() || self.lun.last.cache
+        self.lun.busy
+            || self.may_be_open()
+            || self.lun.queue.may_be_some()
+            || self.lun.last.contains(LastCloser::CACHE)
     }
 
     #[tactic(auto, unfolding(crate::specs::Reasons::breaks_cycle_forbidden))]
@@ -346,7 +354,7 @@ impl State {
     {
         match word {
             Word::Get { len } | Word::Put { len } => !is_at_most(
-                bound_plus(self.registers.place.hi, u64::from(len)),
+                bound_plus(self.registers.place.hi(), u64::from(len)),
                 u64::from(buffer),
             ),
             _ => false,
@@ -396,7 +404,11 @@ impl State {
         ensures { result ≡ breaks_over_budget geometry.now budget self.now word }
     {
         let cost = cost(geometry, word);
-        cost > 0 && !is_at_most(bound_plus(self.registers.cost.hi, cost), u64::from(budget))
+        cost > 0
+            && !is_at_most(
+                bound_plus(self.registers.cost.hi(), cost),
+                u64::from(budget),
+            )
     }
 
     /// The lowest reason against a word.

@@ -20,7 +20,6 @@ use nand_geometry::Geometry;
 #[derive(Clone, Copy)]
 pub struct Registers {
     pub column: Span,
-    pub planes: Planes,
     /// The row index, counted from the job's base.
     pub index: Span,
     /// The page of the row index in its block, for a base that begins a block.
@@ -29,6 +28,7 @@ pub struct Registers {
     pub place: Span,
     /// The cost of the words so far, in cycles.
     pub cost: Span,
+    pub planes: Planes,
     /// A status was asked for.
     pub polled: bool,
 }
@@ -37,13 +37,13 @@ pub struct Registers {
 fn greatest_page(geometry: &Geometry, registers: &Registers) -> u32
     ensures { result ≡ greatest_page_of geometry.now.pages registers.now.page registers.now.index.lo registers.now.index.hi }
 {
-    let pages = u64::from(geometry.parts().pages);
+    let pages = geometry.parts().pages;
     let most = registers.page.hi;
-    match registers.index.hi {
+    match registers.index.hi() {
         Some(hi)
-            if registers.index.lo / pages == hi / pages
-                && hi % pages < u64::from(most)
-                && hi <= GREATEST_BOUND => { (hi % pages) as u32 }
+            if registers.index.lo() / pages == hi / pages
+                && hi % pages < most
+                && u64::from(hi) <= GREATEST_BOUND => { hi % pages }
         _ => most,
     }
 }

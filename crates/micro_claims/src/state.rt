@@ -6,7 +6,7 @@ ghost use Rattle.micro_claims.specs.Joins.{joined};
 ghost use Rattle.micro_claims.specs.Order.{is_state_within, state_at_head, state_at_heads, state_after_turns, span_in_loop, state_by};
 ghost use Rattle.micro_claims.specs.State.{first_state};
 
-use crate::cached_page::{CachedPage, NOT_CACHED};
+use crate::cached_page::{CachedPage, not_cached};
 use crate::known_lun::KnownLun;
 use crate::known_target::KnownTarget;
 use crate::last_closer::LastCloser;
@@ -17,7 +17,7 @@ use crate::place::Place;
 use crate::planes::Planes;
 use crate::queued_rows::QueuedRows;
 use crate::registers::Registers;
-use crate::span::{ANY_NUMBER, Span, column_in_loop};
+use crate::span::{Span, any_number, column_in_loop};
 
 /// What is known before a word.
 #[derive(Clone, Copy)]
@@ -48,12 +48,8 @@ impl State {
                 register: None,
                 column: None,
                 queue: QueuedRows::NoRows,
-                last: LastCloser {
-                    read: true,
-                    cache: false,
-                    other: true,
-                },
-                cached: NOT_CACHED,
+                last: LastCloser::ANY_BUT_CACHE,
+                cached: not_cached(),
             },
         }
     }
@@ -62,17 +58,12 @@ impl State {
     pub fn unknown() -> State {
         State {
             registers: Registers {
-                column: ANY_NUMBER,
-                planes: Planes {
-                    zero: true,
-                    one: true,
-                    two: true,
-                    three: true,
-                },
-                index: ANY_NUMBER,
+                column: any_number(),
+                planes: Planes::ANY,
+                index: any_number(),
                 page: ANY_PAGE,
-                place: ANY_NUMBER,
-                cost: ANY_NUMBER,
+                place: any_number(),
+                cost: any_number(),
                 polled: false,
             },
             target: KnownTarget {
@@ -86,15 +77,8 @@ impl State {
                 register: None,
                 column: None,
                 queue: QueuedRows::AnyRows,
-                last: LastCloser {
-                    read: true,
-                    cache: true,
-                    other: true,
-                },
-                cached: CachedPage {
-                    index: ANY_NUMBER,
-                    page: ANY_NUMBER,
-                },
+                last: LastCloser::ANY,
+                cached: not_cached(),
             },
         }
     }

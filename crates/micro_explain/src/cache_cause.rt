@@ -27,9 +27,9 @@ impl CacheCause {
         let pages = refused.geometry.parts().pages;
         if let Some(cause) = CacheCause::of_lun(refused) {
             Some(cause)
-        } else if lun.last.other {
+        } else if lun.last.may_be_other() {
             Some(CacheCause::NothingToContinue)
-        } else if !is_at_most(bound_plus(lun.cached.page.hi, 2), u64::from(pages)) {
+        } else if !is_at_most(bound_plus(lun.cached.page.hi(), 2), u64::from(pages)) {
             Some(CacheCause::PastBlock { pages })
         } else {
             None
@@ -41,7 +41,7 @@ impl CacheCause {
         let last = refused.state.lun.last;
         if let Some(cause) = CacheCause::of_lun(refused) {
             Some(cause)
-        } else if last.other || last.read {
+        } else if last.may_be_other() || last.may_be_30() {
             Some(CacheCause::NothingToEnd)
         } else {
             None

@@ -2,14 +2,14 @@
 
 use crate::refused::Refused;
 use micro_claims::{Place, bound_plus};
-use onfi_cycle::{Command, IDENTIFIER_BYTES, PARAMETER_BYTES};
+use onfi_cycle::Command;
 use std::fmt;
 
 /// Which column may be past the end, and of what.
 #[derive(Clone, Copy, Debug, PartialEq, Eq)]
 pub struct ColumnCause {
     /// The greatest column that may be named, read or written; None where there is no bound.
-    pub column: Option<u64>,
+    pub column: Option<u32>,
     /// The number of columns that there are at least.
     pub length: u32,
     /// They are those of the register, not of a page.
@@ -18,24 +18,20 @@ pub struct ColumnCause {
 
 // The least length that the register may have.
 fn register_length(refused: &Refused<'_>) -> u32 {
-    let page = refused.geometry.page_len();
     match refused.state.lun.register {
         None => 0,
-        Some(held) if held.identifier => IDENTIFIER_BYTES,
-        Some(held) if !held.page => PARAMETER_BYTES,
-        Some(held) if held.parameters => page.min(PARAMETER_BYTES),
-        Some(_) => page,
+        Some(held) => held.least_length(refused.geometry),
     }
 }
 
 // The last of so many columns from this one on.
-fn last_of(column: Option<u64>, count: u32) -> Option<u64> {
+fn last_of(column: Option<u32>, count: u32) -> Option<u32> {
     bound_plus(column, u64::from(count.saturating_sub(1)))
 }
 
 impl ColumnCause {
     // A column of the register.
-    fn of_register(refused: &Refused<'_>, column: Option<u64>) -> ColumnCause {
+    fn of_register(refused: &Refused<'_>, column: Option<u32>) -> ColumnCause {
         ColumnCause {
             column,
             length: register_length(refused),
@@ -44,7 +40,7 @@ impl ColumnCause {
     }
 
     // A column of a page.
-    fn of_page(refused: &Refused<'_>, column: Option<u64>) -> ColumnCause {
+    fn of_page(refused: &Refused<'_>, column: Option<u32>) -> ColumnCause {
         ColumnCause {
             column,
             length: refused.geometry.page_len(),
@@ -54,7 +50,7 @@ impl ColumnCause {
 
     /// Against an address.
     pub(crate) fn of_address(refused: &Refused<'_>) -> ColumnCause {
-        let column = refused.state.registers.column.hi;
+        let column = refused.state.registers.column.hi();
         match refused.state.target.tail {
             Place::After {
                 opener: Command::ChangeReadColumn,
@@ -72,7 +68,7 @@ impl ColumnCause {
     pub(crate) fn of_outputs(refused: &Refused<'_>, count: u32) -> ColumnCause {
         let column = match refused.state.lun.column {
             None => None,
-            Some(column) => column.at.hi,
+            Some(column) => column.at.hi(),
         };
         ColumnCause::of_register(refused, last_of(column, count))
     }
@@ -81,7 +77,7 @@ impl ColumnCause {
     pub(crate) fn of_inputs(refused: &Refused<'_>, count: u32) -> ColumnCause {
         let column = match refused.state.target.column {
             None => None,
-            Some(column) => column.hi,
+            Some(column) => column.hi(),
         };
         ColumnCause::of_page(refused, last_of(column, count))
     }

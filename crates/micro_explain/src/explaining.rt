@@ -139,7 +139,7 @@ fn buffer_need(refused: &Refused<'_>) -> Option<Need> {
     };
     Some(Need {
         number: HeaderNumber::Buffer,
-        needed: bound_plus(refused.state.registers.place.hi, u64::from(len)),
+        needed: bound_plus(refused.state.registers.place.hi(), u64::from(len)),
         given: refused.bounds.buffer,
     })
 }
@@ -149,7 +149,7 @@ fn budget_need(refused: &Refused<'_>) -> Need {
     let cost = cost(refused.geometry, refused.word);
     Need {
         number: HeaderNumber::Budget,
-        needed: bound_plus(refused.state.registers.cost.hi, cost),
+        needed: bound_plus(refused.state.registers.cost.hi(), cost),
         given: refused.bounds.budget,
     }
 }

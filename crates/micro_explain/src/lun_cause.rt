@@ -30,7 +30,7 @@ impl LunCause {
 
     // Against what wants that no cache read goes on.
     fn of_cache(refused: &Refused<'_>) -> Option<LunCause> {
-        if refused.state.lun.last.cache {
+        if refused.state.lun.last.may_be_31() {
             Some(LunCause::CacheRead(refused.cache_read()))
         } else {
             None

@@ -8,7 +8,7 @@ use std::fmt;
 pub struct Need {
     pub number: HeaderNumber,
     /// None where there is no bound.
-    pub needed: Option<u64>,
+    pub needed: Option<u32>,
     pub given: u32,
 }
 
@@ -21,7 +21,7 @@ impl fmt::Display for Need {
                 f,
                 "no bound is known for the `{number}` that it needs, and the header gives {given}"
             ),
-            Some(needed) if needed > u64::from(most) => write!(
+            Some(needed) if needed > most => write!(
                 f,
                 "it needs `{number} {needed}`, and a header gives {most} at most"
             ),

@@ -60,7 +60,7 @@ impl OutputCause {
     fn of_column(refused: &Refused<'_>, held: Held) -> OutputCause {
         OutputCause::ColumnLost {
             poll: lost_by(refused),
-            identifier: held.identifier,
+            identifier: held.holds_identifier(),
         }
     }
 

@@ -5,7 +5,6 @@ use crate::emptied::Emptied;
 use crate::no_driver::NoDriver;
 use crate::poll_at::PollAt;
 use crate::refused::Refused;
-use micro_claims::Shown;
 use std::fmt;
 
 /// Why `cmd 05` may find no column to change.
@@ -29,7 +28,7 @@ impl ReadColumnCause {
             return Some(ReadColumnCause::Busy(Busy::of(refused)));
         }
         match refused.state.target.shows {
-            Some(Shown { status: true, .. }) => Some(ReadColumnCause::StatusShown {
+            Some(shown) if shown.shows_status() => Some(ReadColumnCause::StatusShown {
                 poll: refused.whole_history().status,
             }),
             _ => ReadColumnCause::of_register(refused),
@@ -40,7 +39,7 @@ impl ReadColumnCause {
     fn of_register(refused: &Refused<'_>) -> Option<ReadColumnCause> {
         match refused.state.lun.register {
             None => Some(ReadColumnCause::Empty(Emptied::of(refused))),
-            Some(held) if held.identifier => Some(ReadColumnCause::Identifier),
+            Some(held) if held.holds_identifier() => Some(ReadColumnCause::Identifier),
             Some(_) => None,
         }
     }

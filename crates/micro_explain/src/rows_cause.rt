@@ -3,7 +3,7 @@
 use crate::header_number::HeaderNumber;
 use crate::need::Need;
 use crate::refused::Refused;
-use micro_claims::{Planes, bound_plus, is_at_most};
+use micro_claims::{bound_plus, is_at_most};
 use onfi_cycle::Command;
 use std::fmt;
 
@@ -20,21 +20,8 @@ pub enum RowsCause {
     NoPlane { plane: u8 },
 }
 
-// The greatest plane among these.
-fn greatest(planes: Planes) -> u8 {
-    if planes.three {
-        3
-    } else if planes.two {
-        2
-    } else if planes.one {
-        1
-    } else {
-        0
-    }
-}
-
 // So many rows are needed.
-fn need(refused: &Refused<'_>, needed: Option<u64>) -> Option<Need> {
+fn need(refused: &Refused<'_>, needed: Option<u32>) -> Option<Need> {
     let given = refused.bounds.rows;
     if is_at_most(needed, u64::from(given)) {
         None
@@ -52,10 +39,10 @@ impl RowsCause {
     pub(crate) fn of_address(refused: &Refused<'_>) -> Option<RowsCause> {
         let registers = &refused.state.registers;
         let planes = refused.geometry.planes();
-        match need(refused, bound_plus(registers.index.hi, 1)) {
+        match need(refused, bound_plus(registers.index.hi(), 1)) {
             Some(need) => Some(RowsCause::Row(need)),
             None if !registers.planes.are_below(planes) => Some(RowsCause::Plane {
-                plane: greatest(registers.planes),
+                plane: registers.planes.greatest(),
                 planes,
             }),
             None => None,
@@ -65,7 +52,7 @@ impl RowsCause {
     /// Against a command: `cmd 31` goes on to the next row.
     pub(crate) fn of_command(refused: &Refused<'_>, command: Command) -> Option<RowsCause> {
         if command == Command::ReadCacheSequential {
-            let index = refused.state.lun.cached.index.hi;
+            let index = refused.state.lun.cached.index.hi();
             Some(RowsCause::CachedRow(need(refused, bound_plus(index, 2))?))
         } else {
             None

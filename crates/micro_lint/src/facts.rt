@@ -35,7 +35,7 @@ impl Facts {
     pub(crate) fn shows_status_alone(self) -> bool {
         match self.shows {
             None => false,
-            Some(shown) => shown.status && !shown.register,
+            Some(shown) => shown.shows_status() && !shown.shows_register(),
         }
     }
 
@@ -43,7 +43,7 @@ impl Facts {
     pub(crate) fn may_show_status(self) -> bool {
         match self.shows {
             None => true,
-            Some(shown) => shown.status,
+            Some(shown) => shown.shows_status(),
         }
     }
 }

@@ -8,44 +8,44 @@ use onfi_cycle::Command;
 /// How much of each number of the header words need; None where there is no bound.
 #[derive(Clone, Copy)]
 pub(crate) struct Needs {
-    pub rows: Option<u64>,
-    pub buffer: Option<u64>,
-    pub budget: Option<u64>,
+    pub rows: Option<u32>,
+    pub buffer: Option<u32>,
+    pub budget: Option<u32>,
 }
 
 // How many rows a word needs: those up to the one that an address names, or to which a cache read goes on.
-fn rows_needed(state: &State, word: Word) -> Option<u64> {
+fn rows_needed(state: &State, word: Word) -> Option<u32> {
     match word {
         Word::Address { from, count } if u32::from(from) + u32::from(count) > 2 => {
-            bound_plus(state.registers.index.hi, 1)
+            bound_plus(state.registers.index.hi(), 1)
         }
         Word::Command { byte } if Command::of(byte) == Command::ReadCacheSequential => {
-            bound_plus(state.lun.cached.index.hi, 2)
+            bound_plus(state.lun.cached.index.hi(), 2)
         }
         _ => Some(1),
     }
 }
 
 // How many bytes of the buffer a word needs.
-fn buffer_needed(state: &State, word: Word) -> Option<u64> {
+fn buffer_needed(state: &State, word: Word) -> Option<u32> {
     match word {
         Word::Get { len } | Word::Put { len } => {
-            bound_plus(state.registers.place.hi, u64::from(len))
+            bound_plus(state.registers.place.hi(), u64::from(len))
         }
         _ => Some(0),
     }
 }
 
 // How many cycles the words up to this one may cost; nothing is needed for a word without a cost.
-fn budget_needed(geometry: &Geometry, state: &State, word: Word) -> Option<u64> {
+fn budget_needed(geometry: &Geometry, state: &State, word: Word) -> Option<u32> {
     match cost(geometry, word) {
         0 => Some(0),
-        cost => bound_plus(state.registers.cost.hi, cost),
+        cost => bound_plus(state.registers.cost.hi(), cost),
     }
 }
 
 // The greater of two needs.
-fn greater(one: Option<u64>, other: Option<u64>) -> Option<u64> {
+fn greater(one: Option<u32>, other: Option<u32>) -> Option<u32> {
     Some(one?.max(other?))
 }
 

@@ -12,6 +12,8 @@ use Rattle.micro_claims.specs.declared.place.Place.{Place}
 use Rattle.micro_claims.specs.declared.place.Place.TheVariants.{Closed, After, InData, InColumn, Unknown}
 use Rattle.micro_claims.specs.declared.planes.Planes.{Planes}
 use Rattle.micro_claims.specs.Planes.{just_plane, are_below}
+use Rattle.std.specs.Prelude.{nat_lt}
+use Rattle.micro_claims.proofs.PlaneSets.{below_just}
 use Rattle.micro_claims.specs.Spans.{greatest_bound, bound_plus, is_at_most}
 use Rattle.micro_claims.specs.Against.{addresses_left, first_address, begins_elsewhere, row_outside}
 use Rattle.micro_program.specs.Program.{index_now, plane_now}
@@ -23,27 +25,7 @@ use Rattle.micro_verify.proofs.Mirrors.{RegistersMirror, PlaceMirror, begun, exa
 -- 1. a row outside
 
 planes_test : (count p : ℕ) → p ≤ 3 → not (are_below count (just_plane p)) ≡ nat_le count p
-planes_test count zero low = at (nat_le count 0)
-  where
-    at : (b : Bool) → not (not (b || false || false || false)) ≡ b
-    at true = refl
-    at false = refl
-planes_test count (suc zero) low = at (nat_le count 1)
-  where
-    at : (b : Bool) → not (not (false || b || false || false)) ≡ b
-    at true = refl
-    at false = refl
-planes_test count (suc (suc zero)) low = at (nat_le count 2)
-  where
-    at : (b : Bool) → not (not (false || false || b || false)) ≡ b
-    at true = refl
-    at false = refl
-planes_test count (suc (suc (suc zero))) low = at (nat_le count 3)
-  where
-    at : (b : Bool) → not (not (false || false || false || b)) ≡ b
-    at true = refl
-    at false = refl
-planes_test count (suc (suc (suc (suc n)))) low = absurd (omega (arith, low))
+planes_test count p low = ap not (below_just count p low) ∙ (let b : not (nat_lt p count) ≡ nat_le count p = grind (arith, nat_tests) in b)
 
 pub index_test : (n rows : ℕ) → not (nat_le (n + 1) rows) ≡ nat_le rows n
 index_test n rows = at (nat_le rows n) refl

@@ -108,7 +108,7 @@ identity_goes s text v r c from count _ n k is m reads here single b = cc
 
 -- 3. all of them
 
-pub address_exact : (s : Channel) (text : Microprogram) (v : State) (r : Run) (c : Lone) (from count : ℕ) → 1 ≤ count → from + count ≤ 5 → length r.done ≤ 65536 → IsFit s text → IsLone s r.past c → Mirrors s.geometry (lone_job s.geometry text) v r.done c → ExactWord s text v r (AddressWord from count)
+pub address_exact : (s : Channel) (text : Microprogram) (v : State) (r : Run) (c : Lone) (from count : ℕ) → 1 ≤ count → from + count ≤ 5 → length r.done ≤ 32768 → IsFit s text → IsLone s r.past c → Mirrors s.geometry (lone_job s.geometry text) v r.done c → ExactWord s text v r (AddressWord from count)
 unfolding breaks_cycle_forbidden breaks_address_unaligned breaks_row_or_plane_outside breaks_column_too_large
 address_exact s text v r c from count some few many k is m =
     record {

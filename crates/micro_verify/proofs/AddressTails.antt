@@ -44,7 +44,7 @@ greatest_is p index r lo hi page low high = (λ i. greatest_page_of p (page i) (
     either true x = refl
     either false x = refl
 
-pub named_exact : (g : Parts) (j : Job) (v : State) (done : List Done) (from count : ℕ) (a : AddressNow g j done from count) → j.base ≡ 0 → length done ≤ 65536 → RegistersMirror g v.registers done → NameMirror g (record { column = column_now done; index = index_now 0 done; plane = (of_now g j done from count a).plane; r1 = a.r1; r2 = a.r2; r3 = a.r3 }) (index_now 0 done) (name_now g v.registers)
+pub named_exact : (g : Parts) (j : Job) (v : State) (done : List Done) (from count : ℕ) (a : AddressNow g j done from count) → j.base ≡ 0 → length done ≤ 32768 → RegistersMirror g v.registers done → NameMirror g (record { column = column_now done; index = index_now 0 done; plane = (of_now g j done from count a).plane; r1 = a.r1; r2 = a.r2; r3 = a.r3 }) (index_now 0 done) (name_now g v.registers)
 named_exact g j v done from count a base many m =
     record {
       index = record { lo = m.index.lo; hi = m.index.hi };
@@ -129,13 +129,13 @@ same_read Read n m = refl
 same_read _ n m = refl
 
 -- what is named, where the last row cycle has come
-pub named_led : (s : Channel) (text : Microprogram) (v : State) (r : Run) (c : Lone) (from count : ℕ) (o : Command) (n : ℕ) → AddressAt s text v r c from count → (x : AtOpener s text r c from count o n) → length r.done ≤ 65536 → 5 ≤ from + count → NameIs s.geometry (of_now s.geometry (lone_job s.geometry text) r.done from count x.now) (index_now 0 r.done) (target_after_addresses s.geometry v from count).named
+pub named_led : (s : Channel) (text : Microprogram) (v : State) (r : Run) (c : Lone) (from count : ℕ) (o : Command) (n : ℕ) → AddressAt s text v r c from count → (x : AtOpener s text r c from count o n) → length r.done ≤ 32768 → 5 ≤ from + count → NameIs s.geometry (of_now s.geometry (lone_job s.geometry text) r.done from count x.now) (index_now 0 r.done) (target_after_addresses s.geometry v from count).named
 named_led s text v r c from count o n w x many five =
     let last : nat_le 5 (from + count) ≡ true = grind (arith, nat_tests, five) in
     subst (λ (b : Bool). NameIs s.geometry (of_now s.geometry (lone_job s.geometry text) r.done from count x.now) (index_now 0 r.done) (cond b (Some (name_now s.geometry v.registers)) v.target.named)) (sym last)
     (named_exact s.geometry (lone_job s.geometry text) v r.done from count x.now refl many w.mirrors.registers)
 
-pub tail_after : (s : Channel) (text : Microprogram) (v : State) (r : Run) (c : Lone) (from count : ℕ) (o : Command) (n : ℕ) → AddressAt s text v r c from count → (x : AtOpener s text r c from count o n) → length r.done ≤ 65536 → v.target.tail ≡ After o n → opener_leads_to o (n + count) ≡ After o (n + count) → is_place o (n + count) ≡ true → n + count ≤ address_cycles o → Behind s text r c o n → (has_column (After o n) ≡ true → BoundIs (input_column c.facts) v.target.column) → TailMirror s.geometry (lone_job s.geometry text) (target_after_addresses s.geometry v from count) (now_of (lone_job s.geometry text) r.done) (cursor o (of_now s.geometry (lone_job s.geometry text) r.done from count x.now) c.view (n + count))
+pub tail_after : (s : Channel) (text : Microprogram) (v : State) (r : Run) (c : Lone) (from count : ℕ) (o : Command) (n : ℕ) → AddressAt s text v r c from count → (x : AtOpener s text r c from count o n) → length r.done ≤ 32768 → v.target.tail ≡ After o n → opener_leads_to o (n + count) ≡ After o (n + count) → is_place o (n + count) ≡ true → n + count ≤ address_cycles o → Behind s text r c o n → (has_column (After o n) ≡ true → BoundIs (input_column c.facts) v.target.column) → TailMirror s.geometry (lone_job s.geometry text) (target_after_addresses s.geometry v from count) (now_of (lone_job s.geometry text) r.done) (cursor o (of_now s.geometry (lone_job s.geometry text) r.done from count x.now) c.view (n + count))
 tail_after s text v r c from count o n w x many here leads place most b old =
     record {
       place = After o (n + count);
@@ -167,7 +167,7 @@ five_facts a =
       command = λ d e. (wants_by (facts_behind (opener_facts PageProgram) (take 5 (bytes_of PageProgram a))) d).1 e;
     }
 
-pub tail_in_data : (s : Channel) (text : Microprogram) (v : State) (r : Run) (c : Lone) (from count n : ℕ) → AddressAt s text v r c from count → (x : AtOpener s text r c from count PageProgram n) → length r.done ≤ 65536 → v.target.tail ≡ After PageProgram n → n + count ≡ 5 → (has_column (After PageProgram n) ≡ true → BoundIs (input_column c.facts) v.target.column) → TailMirror s.geometry (lone_job s.geometry text) (target_after_addresses s.geometry v from count) (now_of (lone_job s.geometry text) r.done) (cursor PageProgram (of_now s.geometry (lone_job s.geometry text) r.done from count x.now) c.view (n + count))
+pub tail_in_data : (s : Channel) (text : Microprogram) (v : State) (r : Run) (c : Lone) (from count n : ℕ) → AddressAt s text v r c from count → (x : AtOpener s text r c from count PageProgram n) → length r.done ≤ 32768 → v.target.tail ≡ After PageProgram n → n + count ≡ 5 → (has_column (After PageProgram n) ≡ true → BoundIs (input_column c.facts) v.target.column) → TailMirror s.geometry (lone_job s.geometry text) (target_after_addresses s.geometry v from count) (now_of (lone_job s.geometry text) r.done) (cursor PageProgram (of_now s.geometry (lone_job s.geometry text) r.done from count x.now) c.view (n + count))
 tail_in_data s text v r c from count n w x many here five old =
     record {
       place = InData;

@@ -14,6 +14,7 @@ use Rattle.onfi_cycle.specs.Sequence.{facts_after, input_column}
 use Rattle.onfi_cycle.specs.Channel.{Channel}
 use Rattle.micro_word.specs.declared.word.Word.TheVariants.{Address as AddressWord}
 use Rattle.micro_word.specs.Text.{Microprogram}
+use Rattle.micro_claims.specs.State.{may_be_31}
 use Rattle.micro_claims.specs.declared.state.State.{State}
 use Rattle.micro_claims.specs.declared.named_row.NamedRow.{NamedRow}
 use Rattle.micro_claims.specs.declared.place.Place.{Place}
@@ -45,7 +46,7 @@ use Rattle.micro_verify.proofs.AddressTails.{along_now, tail_after, tail_in_data
 along_led : (g : Parts) (v : State) (r : Run) (c : Lone) (j : Job) (from count : ℕ) (o : Command) (n : ℕ) → Mirrors g j v r.done c → 5 ≤ from + count → (nat_le 5 (from + count) ≡ true → row_refused v (After o n) ≡ false) → row_goes_along (is_erase o) (target_after_addresses g v from count).named v.lun.queue ≡ true
 along_led g v r c j from count o n m five clear =
     let last : nat_le 5 (from + count) ≡ true = grind (arith, nat_tests, five) in
-    let queue = (or_parts (v.lun.busy || v.lun.last.cache) (queue_refuses v.lun.queue v.registers.planes o) (clear last)).1 in
+    let queue = (or_parts (v.lun.busy || may_be_31 v.lun.last) (queue_refuses v.lun.queue v.registers.planes o) (clear last)).1 in
     subst (λ (b : Bool). row_goes_along (is_erase o) (cond b (Some (name_now g v.registers)) v.target.named) v.lun.queue ≡ true) (sym last) (along_now g (index_now 0 r.done) v.lun.queue c.view.queue v.registers.planes o m.lun.queue queue)
 
 -- the word leads to these facts, and the tail is mirrored there
@@ -58,7 +59,7 @@ opener_left s text v r c from count o n w x clear here other tail along =
     (ap takes_identity_at here ∙ other) refl tail along
 
 -- where the tail is still after the opener
-stays : (s : Channel) (text : Microprogram) (v : State) (r : Run) (c : Lone) (from count : ℕ) (o : Command) (n : ℕ) → AddressAt s text v r c from count → AtOpener s text r c from count o n → length r.done ≤ 65536 → PlaceIsClear s v from count (limit_of s.geometry o c.view) (column_now r.done) (After o n) → v.target.tail ≡ After o n → reads_identity o ≡ false → Behind s text r c o n → (has_column (After o n) ≡ true → BoundIs (input_column c.facts) v.target.column) → opener_leads_to o (n + count) ≡ After o (n + count) → is_place o (n + count) ≡ true → (place_queues (After o (n + count)) ≡ true → (has_row (After o (n + count)) ≡ true) × (place_erases (After o (n + count)) ≡ is_erase o)) → Goes s text (state_after s.geometry v (AddressWord from count)) r (AddressWord from count)
+stays : (s : Channel) (text : Microprogram) (v : State) (r : Run) (c : Lone) (from count : ℕ) (o : Command) (n : ℕ) → AddressAt s text v r c from count → AtOpener s text r c from count o n → length r.done ≤ 32768 → PlaceIsClear s v from count (limit_of s.geometry o c.view) (column_now r.done) (After o n) → v.target.tail ≡ After o n → reads_identity o ≡ false → Behind s text r c o n → (has_column (After o n) ≡ true → BoundIs (input_column c.facts) v.target.column) → opener_leads_to o (n + count) ≡ After o (n + count) → is_place o (n + count) ≡ true → (place_queues (After o (n + count)) ≡ true → (has_row (After o (n + count)) ≡ true) × (place_erases (After o (n + count)) ≡ is_erase o)) → Goes s text (state_after s.geometry v (AddressWord from count)) r (AddressWord from count)
 stays s text v r c from count o n w x many clear here other b old leads place queues =
     opener_left s text v r c from count o n w x clear here other
     (tail_after s text v r c from count o n w x many here leads place (few_of o n count clear.left clear.few) b old)
@@ -78,7 +79,7 @@ stays s text v r c from count o n w x many clear here other b old leads place qu
         let reaches : 5 ≤ from + count = grind (arith, nat_tests, five, begins) in
         ap (λ (y : Bool). row_goes_along y (target_after_addresses g v from count).named v.lun.queue) q.1 ∙ along_led g v r c (lone_job g text) from count o n w.mirrors reaches clear.row
 
-pub opener_goes : (s : Channel) (text : Microprogram) (v : State) (r : Run) (c : Lone) (from count : ℕ) (o : Command) (n : ℕ) → AddressAt s text v r c from count → AtOpener s text r c from count o n → length r.done ≤ 65536 → PlaceIsClear s v from count (limit_of s.geometry o c.view) (column_now r.done) (After o n) → v.target.tail ≡ After o n → Behind s text r c o n → (has_column (After o n) ≡ true → BoundIs (input_column c.facts) v.target.column) → Goes s text (state_after s.geometry v (AddressWord from count)) r (AddressWord from count)
+pub opener_goes : (s : Channel) (text : Microprogram) (v : State) (r : Run) (c : Lone) (from count : ℕ) (o : Command) (n : ℕ) → AddressAt s text v r c from count → AtOpener s text r c from count o n → length r.done ≤ 32768 → PlaceIsClear s v from count (limit_of s.geometry o c.view) (column_now r.done) (After o n) → v.target.tail ≡ After o n → Behind s text r c o n → (has_column (After o n) ≡ true → BoundIs (input_column c.facts) v.target.column) → Goes s text (state_after s.geometry v (AddressWord from count)) r (AddressWord from count)
 opener_goes s text v r c from count Read n w x many clear here b old =
     let few = few_of Read n count clear.left clear.few in
     stays s text v r c from count Read n w x many clear here refl b old (few_is Read (n + count) few) (grind (arith, nat_tests, few)) (λ e. cc)

@@ -64,7 +64,7 @@ pub record IsFit (s : Channel) (text : Microprogram) : Type 0 where
 -- wherever a claim mirrors a run, behind no more words than a text may have
 abbrev pub IsExact : Channel → Microprogram → Word → Type 0
 IsExact s text word =
-    (v : State) (r : Run) (c : Lone) → length r.done ≤ 65536 → IsLone s r.past c → Mirrors s.geometry (lone_job s.geometry text) v r.done c → ExactWord s text v r word
+    (v : State) (r : Run) (c : Lone) → length r.done ≤ 32768 → IsLone s r.past c → Mirrors s.geometry (lone_job s.geometry text) v r.done c → ExactWord s text v r word
 
 abbrev pub AreExact : Channel → Microprogram → List Word → Type 0
 AreExact s text [] = Unit {0}
@@ -87,12 +87,12 @@ none_walked : (g : Parts) (text : Microprogram) (at : ℕ) (words : List Word) �
 none_walked g text at [] = refl
 none_walked g text at (word ∷ words) = none_walked g text (at + 1) words
 
-pub causes_among : (s : Channel) (text : Microprogram) (words : List Word) (at : ℕ) (v : State) (r : Run) (c : Lone) (fault : Fault) → AreExact s text words → length r.done + length words ≤ 65536 → IsLone s r.past c → Mirrors s.geometry (lone_job s.geometry text) v r.done c → walked s.geometry (bounds_of text) at (Some v) words ≡ Some fault → CauseAmong s text at words r fault
+pub causes_among : (s : Channel) (text : Microprogram) (words : List Word) (at : ℕ) (v : State) (r : Run) (c : Lone) (fault : Fault) → AreExact s text words → length r.done + length words ≤ 32768 → IsLone s r.past c → Mirrors s.geometry (lone_job s.geometry text) v r.done c → walked s.geometry (bounds_of text) at (Some v) words ≡ Some fault → CauseAmong s text at words r fault
 causes_among s text [] at v r c fault exact few is m h = cc
 causes_among s text (word ∷ words) at v r c fault exact few is m h =
     by (reason_against s.geometry (bounds_of text) v word) refl h (λ w f. causes_among s text words (at + 1) (state_after s.geometry v word) w.run w.now fault exact.1 (fewer w) w.is w.mirrors f)
   where
-    fewer : (w : Goes s text (state_after s.geometry v word) r word) → length w.run.done + length words ≤ 65536
+    fewer : (w : Goes s text (state_after s.geometry v word) r word) → length w.run.done + length words ≤ 32768
     fewer w = let more = w.longer in omega (arith, more, few)
 
     x : ExactWord s text v r word

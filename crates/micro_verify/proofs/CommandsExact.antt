@@ -41,10 +41,10 @@ use Rattle.micro_claims.specs.declared.registers.Registers.{Registers}
 use Rattle.micro_claims.specs.declared.known_target.KnownTarget.{KnownTarget}
 use Rattle.micro_claims.specs.declared.named_row.NamedRow.{NamedRow}
 use Rattle.micro_claims.specs.declared.shown.Shown.{Shown}
-use Rattle.micro_claims.specs.declared.span.Span.{Span}
+use Rattle.micro_claims.specs.Spans.{Span}
 use Rattle.micro_claims.specs.declared.place.Place.{Place}
 use Rattle.micro_claims.specs.declared.place.Place.TheVariants.{Closed, After, InData, InColumn, Unknown}
-use Rattle.micro_claims.specs.State.{bounds_of}
+use Rattle.micro_claims.specs.State.{bounds_of, may_be_other}
 use Rattle.micro_claims.specs.Spans.{greatest_bound, kept, bound_plus, is_at_most}
 use Rattle.micro_claims.specs.Against.{place_wants, same_test, is_unfit, is_data_command, may_be_open, opener_refused, shows_only_data, has_page_or_parameters, has_register, drives, asks_status, command_out_of_place, command_past_rows, command_not_for_programs, continues_unseen}
 use Rattle.micro_claims.specs.Leaves.{paid, with_registers, resumed_shows, shows_after_read, data_shown, given_at, cached_at, command_leaves, queued_more, queued_planes, goes_along, same_drift, rows_at}
@@ -99,8 +99,8 @@ past_rows s text v r c low is m ReadCacheSequential h out =
     let fit = not-true (is_unfit g ReadCacheSequential) both.0 in
     let free : (may_be_open v || opener_refused g v ReadCacheSequential) ≡ false = sym (ap (λ (b : Bool). cond b false (may_be_open v || opener_refused g v ReadCacheSequential)) fit) ∙ out in
     let all = or_parts (may_be_open v) (opener_refused g v ReadCacheSequential) free in
-    let three = or_parts (not (drives v.target.shows) || v.lun.busy || v.lun.last.other) _ all.1 in
-    let other = (or_parts (not (drives v.target.shows) || v.lun.busy) v.lun.last.other three.0).1 in
+    let three = or_parts (not (drives v.target.shows) || v.lun.busy || may_be_other v.lun.last) _ all.1 in
+    let other = (or_parts (not (drives v.target.shows) || v.lun.busy) (may_be_other v.lun.last) three.0).1 in
     let exact : not (is_at_most (bound_plus v.lun.cached.index.hi 2) text.rows) ≡ not (nat_le (index_of g c.view.array_page + 2) text.rows) =
     ap (λ (o : Option ℕ). not (is_at_most (bound_plus o 2) text.rows)) (m.cached_index other) ∙ ap not (exact_test (index_of g c.view.array_page) 2 text.rows low) in
     ap (λ (w : LunView). nat_le text.rows (index_of g w.array_page + 1)) is.view ∙ next_outside text.rows (index_of g c.view.array_page) (sym exact ∙ both.1)
@@ -643,8 +643,8 @@ goes_31 s text v r c byte k is_d is m clear =
     let j = lone_job s.geometry text in
     let dec = declared g text v byte ReadCacheSequential is_d clear in
     let free = or_parts (may_be_open v) (opener_refused g v ReadCacheSequential) (opener_free g text v byte ReadCacheSequential is_d dec.fit refl clear) in
-    let three = or_parts (not (drives v.target.shows) || v.lun.busy || v.lun.last.other) _ free.1 in
-    let two = or_parts (not (drives v.target.shows) || v.lun.busy) v.lun.last.other three.0 in
+    let three = or_parts (not (drives v.target.shows) || v.lun.busy || may_be_other v.lun.last) _ free.1 in
+    let two = or_parts (not (drives v.target.shows) || v.lun.busy) (may_be_other v.lun.last) three.0 in
     let one = or_parts (not (drives v.target.shows)) v.lun.busy two.0 in
     let shown : is_off c.view.latch ≡ false = drives_on c.view.latch (sym (ap (λ (o : Option Shown). not (drives o)) m.shows) ∙ one.0) in
     let effect : cycle_effect g c.facts c.view.latch (CommandCycle ReadCacheSequential) 0 ≡ CacheReadContinued = rw shown refl in
@@ -676,8 +676,8 @@ goes_3f s text v r c byte k is_d is m clear =
     let j = lone_job s.geometry text in
     let dec = declared g text v byte ReadCacheEnd is_d clear in
     let free = or_parts (may_be_open v) (opener_refused g v ReadCacheEnd) (opener_free g text v byte ReadCacheEnd is_d dec.fit refl clear) in
-    let three = or_parts (not (drives v.target.shows) || v.lun.busy || v.lun.last.other) _ free.1 in
-    let two = or_parts (not (drives v.target.shows) || v.lun.busy) v.lun.last.other three.0 in
+    let three = or_parts (not (drives v.target.shows) || v.lun.busy || may_be_other v.lun.last) _ free.1 in
+    let two = or_parts (not (drives v.target.shows) || v.lun.busy) (may_be_other v.lun.last) three.0 in
     let one = or_parts (not (drives v.target.shows)) v.lun.busy two.0 in
     let shown : is_off c.view.latch ≡ false = drives_on c.view.latch (sym (ap (λ (o : Option Shown). not (drives o)) m.shows) ∙ one.0) in
     let effect : cycle_effect g c.facts c.view.latch (CommandCycle ReadCacheEnd) 0 ≡ CacheReadEnded = rw shown refl in

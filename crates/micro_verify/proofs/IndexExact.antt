@@ -14,7 +14,7 @@ use Rattle.micro_claims.specs.declared.refusal.Reason.{Reason}
 use Rattle.micro_claims.specs.declared.refusal.Reason.TheVariants.{AddressUnaligned}
 use Rattle.micro_program.specs.Program.{Job, index_now, cost_now}
 use Rattle.micro_claims.specs.Spans.{kept, saturated, greatest_bound, bound_plus, only, only_of}
-use Rattle.micro_claims.specs.declared.span.Span.{Span}
+use Rattle.micro_claims.specs.Spans.{Span}
 use Rattle.micro_claims.specs.declared.state.State.{State}
 use Rattle.micro_claims.specs.declared.drift.Drift.{Drift}
 use Rattle.micro_claims.specs.declared.named_row.NamedRow.{NamedRow}
@@ -171,7 +171,7 @@ lo_plus n k lo low e = ap (λ (x : ℕ). saturated (x + k)) e ∙ (rw inside ref
     inside : nat_le n greatest_bound ≡ true
     inside = grind (arith, nat_tests, low)
 
-pub rowadd_exact : (s : Channel) (text : Microprogram) (v : State) (r : Run) (c : Lone) (n : ℕ) → n < 65536 → length r.done ≤ 65536 → IsAlone s → IsLone s r.past c → Mirrors s.geometry (lone_job s.geometry text) v r.done c → ExactWord s text v r (RowAdd n)
+pub rowadd_exact : (s : Channel) (text : Microprogram) (v : State) (r : Run) (c : Lone) (n : ℕ) → n < 65536 → length r.done ≤ 32768 → IsAlone s → IsLone s r.past c → Mirrors s.geometry (lone_job s.geometry text) v r.done c → ExactWord s text v r (RowAdd n)
 unfolding state_after breaks_cycle_forbidden breaks_address_unaligned breaks_handover_in_sequence breaks_buffer_passed breaks_row_or_plane_outside breaks_column_too_large breaks_no_status breaks_ends_too_soon breaks_over_budget breaks_command_not_allowed
 rowadd_exact s text v r c n few many k is m =
     record { cause = λ reason e. by reason (reason_is s.geometry text v (RowAdd n) reason e); goes = λ e f. goes (no_reasons s.geometry text v (RowAdd n) e).no_address_unaligned }
@@ -221,7 +221,7 @@ rowadd_exact s text v r c n few many k is m =
 
 -- 4. row
 
-pub row_exact : (s : Channel) (text : Microprogram) (v : State) (r : Run) (c : Lone) (n : ℕ) → n < 4096 → length r.done ≤ 65536 → IsAlone s → IsLone s r.past c → Mirrors s.geometry (lone_job s.geometry text) v r.done c → ExactWord s text v r (Row n)
+pub row_exact : (s : Channel) (text : Microprogram) (v : State) (r : Run) (c : Lone) (n : ℕ) → n < 4096 → length r.done ≤ 32768 → IsAlone s → IsLone s r.past c → Mirrors s.geometry (lone_job s.geometry text) v r.done c → ExactWord s text v r (Row n)
 unfolding state_after breaks_cycle_forbidden breaks_address_unaligned breaks_handover_in_sequence breaks_buffer_passed breaks_row_or_plane_outside breaks_column_too_large breaks_no_status breaks_ends_too_soon breaks_over_budget breaks_command_not_allowed
 row_exact s text v r c n few many k is m =
     record { cause = λ reason e. by reason (reason_is s.geometry text v (Row n) reason e); goes = λ e f. goes (no_reasons s.geometry text v (Row n) e).no_address_unaligned }

@@ -24,7 +24,7 @@ use Rattle.micro_program.specs.Moves.{Move, Give, gives, part, moves}
 use Rattle.micro_claims.specs.declared.state.State.{State}
 use Rattle.micro_claims.specs.declared.place.Place.{Place}
 use Rattle.micro_claims.specs.declared.place.Place.TheVariants.{Closed, After, InData, InColumn, Unknown}
-use Rattle.micro_claims.specs.declared.span.Span.{Span}
+use Rattle.micro_claims.specs.Spans.{Span}
 use Rattle.micro_claims.specs.State.{bounds_of}
 use Rattle.micro_claims.specs.Spans.{greatest_bound, bound_plus, is_at_most, plus}
 use Rattle.micro_claims.specs.Against.{is_in_data, span_bound, input_past}

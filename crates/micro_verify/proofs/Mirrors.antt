@@ -21,7 +21,7 @@ use Rattle.onfi_cycle.specs.Sequence.{is_open, is_proper_beginning, wants_addres
 use Rattle.onfi_cycle.specs.Lun.{output_column, is_cache_read, is_page_read}
 use Rattle.onfi_cycle.specs.Rules.{has_some, may_change_column}
 use Rattle.micro_program.specs.Program.{Job, Done, column_now, plane_now, index_now, place_now, cost_now}
-use Rattle.micro_claims.specs.declared.span.Span.{Span}
+use Rattle.micro_claims.specs.Spans.{Span}
 use Rattle.micro_claims.specs.Spans.{greatest_bound, kept, saturated, bound_plus, is_at_most}
 use Rattle.micro_claims.specs.Planes.{no_planes, just_plane, either_plane}
 use Rattle.micro_claims.specs.declared.planes.Planes.{Planes}
@@ -39,6 +39,7 @@ use Rattle.micro_claims.specs.declared.output_column.OutputColumn.{OutputColumn}
 use Rattle.micro_claims.specs.declared.queued_rows.QueuedRows.{QueuedRows}
 use Rattle.micro_claims.specs.declared.queued_rows.QueuedRows.TheVariants.{NoRows, SomeRows, AnyRows}
 use Rattle.micro_claims.specs.Against.{is_open_place, is_inside_address, is_data_command, has_register, may_be_open, may_be_queued}
+use Rattle.micro_claims.specs.State.{may_be_30, may_be_31, may_be_other}
 use Rattle.micro_claims.specs.Leaves.{status_shown, data_shown, goes_along}
 use Rattle.micro_verify.specs.Cause.{index_of}
 use Rattle.micro_claims.proofs.Fits.{Address, Now, now_of, IsNow, RowIs, Opened, InProgram, ColumnBegun, has_column, has_row, is_of_kind, page_of, closer_among}
@@ -108,7 +109,7 @@ drift_from now index = record { ahead = now - index; behind = index - now }
 
 -- the greatest index that the words of a text may reach
 abbrev pub greatest_index : ℕ
-greatest_index = 4294967296
+greatest_index = 2147483648
 
 pub record NameMirror (g : Parts) (a : Address) (now : ℕ) (n : NamedRow) : Type 0 where
   pub index : IsExactly a.index n.index
@@ -147,9 +148,9 @@ shows_of Data = data_shown
 
 abbrev pub held_of : Register → Option Held
 held_of Empty = None
-held_of (Page p) = Some (record { page = true; parameters = false; identifier = false })
-held_of ParameterPage = Some (record { page = false; parameters = true; identifier = false })
-held_of Identifier = Some (record { page = false; parameters = false; identifier = true })
+held_of (Page p) = Some (record { 0 = 1 })
+held_of ParameterPage = Some (record { 0 = 2 })
+held_of Identifier = Some (record { 0 = 4 })
 
 pub record ColumnIs (k : OutputColumn) (c : ReadColumn) : Type 0 where
   pub at : ℕ
@@ -204,11 +205,11 @@ pub record LunMirror (g : Parts) (v : KnownLun) (now : ℕ) (view : LunView) : T
   pub no_column : has_register v.register ≡ false → v.column ≡ None
   pub queue : RowsMirror g now v.queue view.queue
   pub last : closer_among v.last view.closer ≡ true
-  pub caching : v.last.cache ≡ is_cache_read view.closer
-  pub other : v.last.other ≡ not (is_page_read view.closer)
-  pub read : v.last.other ≡ false → v.last.read ≡ not (is_cache_read view.closer)
-  pub cached_page : v.last.other ≡ false → v.cached.page.hi ≡ kept view.array_page.page
-  pub cached_index : v.last.other ≡ false → v.cached.index.hi ≡ kept (index_of g view.array_page)
+  pub caching : may_be_31 v.last ≡ is_cache_read view.closer
+  pub other : may_be_other v.last ≡ not (is_page_read view.closer)
+  pub read : may_be_other v.last ≡ false → may_be_30 v.last ≡ not (is_cache_read view.closer)
+  pub cached_page : may_be_other v.last ≡ false → v.cached.page.hi ≡ kept view.array_page.page
+  pub cached_index : may_be_other v.last ≡ false → v.cached.index.hi ≡ kept (index_of g view.array_page)
 
 -- a row that is to be queued goes along with the queue
 abbrev pub place_erases : Place → Bool

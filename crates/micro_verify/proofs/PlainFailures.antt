@@ -1,5 +1,5 @@
 -- What is known of the last word, to which failures lead: it may end, whatever states met there.
-use Rattle.std.proofs.Common.{◌≡◌, Bool, true, false, not, ◌||◌, cond, Option, Some, None, refl, ap}
+use Rattle.std.proofs.Common.{◌≡◌, Bool, true, false, not, ◌||◌, cond, Option, Some, None, refl, ap, ◌∙◌}
 use Rattle.std.specs.Prelude.{is_none}
 use Rattle.std.proofs.lemmas.Bool.{not-true, or_from, or_parts as neither}
 use Rattle.nand_geometry.specs.declared.parts.Parts.{Parts}
@@ -10,11 +10,12 @@ use Rattle.micro_claims.specs.declared.place.Place.TheVariants.{Closed, Unknown}
 use Rattle.micro_claims.specs.declared.queued_rows.QueuedRows.{QueuedRows}
 use Rattle.micro_claims.specs.declared.queued_rows.QueuedRows.TheVariants.{NoRows, SomeRows, AnyRows}
 use Rattle.micro_claims.specs.declared.state.State.{State}
-use Rattle.micro_claims.specs.State.{bounds_of}
+use Rattle.micro_claims.specs.State.{bounds_of, may_be_31}
 use Rattle.micro_claims.specs.Against.{is_open_place, may_be_queued, may_be_unready}
 use Rattle.micro_claims.specs.Order.{same_place}
 use Rattle.micro_claims.specs.Joins.{joined, joined_rows}
 use Rattle.micro_claims.specs.Reasons.{reason_against, breaks_cycle_forbidden, breaks_address_unaligned, breaks_handover_in_sequence, breaks_buffer_passed, breaks_row_or_plane_outside, breaks_column_too_large, breaks_no_status, breaks_ends_too_soon, breaks_over_budget, breaks_command_not_allowed}
+use Rattle.micro_claims.proofs.Sets.{has_either}
 use Rattle.micro_walk.specs.Faults.{met, reason_at}
 
 -- what no way leads to may stand there, and what is known to be idle
@@ -35,17 +36,17 @@ no_rows AnyRows r hq hr = absurd cc
 pub ready_joined : (s t : State) → may_be_unready s ≡ false → may_be_unready t ≡ false → may_be_unready (joined s t) ≡ false
 unfolding joined
 ready_joined s t hs ht =
-    let s1 = neither (s.lun.busy || is_open_place s.target.tail || may_be_queued s.lun.queue) s.lun.last.cache hs in
+    let s1 = neither (s.lun.busy || is_open_place s.target.tail || may_be_queued s.lun.queue) (may_be_31 s.lun.last) hs in
     let s2 = neither (s.lun.busy || is_open_place s.target.tail) (may_be_queued s.lun.queue) s1.0 in
     let s3 = neither s.lun.busy (is_open_place s.target.tail) s2.0 in
-    let t1 = neither (t.lun.busy || is_open_place t.target.tail || may_be_queued t.lun.queue) t.lun.last.cache ht in
+    let t1 = neither (t.lun.busy || is_open_place t.target.tail || may_be_queued t.lun.queue) (may_be_31 t.lun.last) ht in
     let t2 = neither (t.lun.busy || is_open_place t.target.tail) (may_be_queued t.lun.queue) t1.0 in
     let t3 = neither t.lun.busy (is_open_place t.target.tail) t2.0 in
     or_from _ _
     (or_from _ _
     (or_from _ _ (or_from _ _ s3.0 t3.0) (closed_place s.target.tail t.target.tail (same_place s.target.tail t.target.tail) s3.1 t3.1))
     (no_rows s.lun.queue t.lun.queue s2.1 t2.1))
-    (or_from _ _ s1.1 t1.1)
+    (has_either 1 s.lun.last.0 t.lun.last.0 ∙ or_from _ _ s1.1 t1.1)
 
 pub met_may_end : (f : Option State) (t : State) → may_end f ≡ true → may_be_unready t ≡ false → may_end (Some (met f t)) ≡ true
 met_may_end None t h k = ap not k

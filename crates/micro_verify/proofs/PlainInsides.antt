@@ -1,12 +1,14 @@
 -- Operations inside a geometry: what their numbers are, and the header of their text.
-use Rattle.std.proofs.Common.{◌≡◌, ℕ, ◌+◌, ◌*◌, ◌^◌, ◌≤◌, ◌<◌, ◌==◌, Bool, true, false, ◌||◌, ◌&&◌, nat_le, nat_lt, cond, max, List, [], ◌∷◌, Option, Some, None, refl, arith, length}
+use Rattle.std.proofs.Common.{◌≡◌, ℕ, ◌+◌, ◌*◌, ◌^◌, ◌≤◌, ◌<◌, ◌==◌, Bool, true, false, ◌||◌, ◌&&◌, nat_le, nat_lt, cond, max, List, [], ◌∷◌, Option, Some, None, refl, ap, ◌∙◌, arith, length}
 use Rattle.std.proofs.Math.Nat.{le-max_left, le-max_right, max-le}
 use Rattle.std.proofs.lemmas.Bool.Decides.{nat_tests}
 use Rattle.std.proofs.Math.Pow.{pow_mono}
 use Rattle.std.proofs.lemmas.Bool.{or_parts as neither}
 use Rattle.nand_geometry.specs.declared.parts.Parts.{Parts}
 use Rattle.nand_geometry.specs.Limits.{InLimits, page_len, planes, indices}
-use Rattle.micro_claims.specs.Planes.{just_plane, are_below}
+use Rattle.micro_claims.specs.Planes.{no_planes, just_plane, are_below}
+use Rattle.std.proofs.lemmas.Nat.{pow_pos}
+use Rattle.micro_claims.proofs.PlaneSets.{below_just}
 use Rattle.micro_verify.specs.declared.plain_op.PlainOp.{PlainOp}
 use Rattle.micro_verify.specs.declared.plain_op.PlainOp.TheVariants.{Read, Program, Erase}
 use Rattle.micro_verify.specs.declared.plain_refusal.PlainFault.TheVariants.{NoOperations, TooManyWords}
@@ -75,12 +77,12 @@ few_planes g l = pow_mono l.plane_bits_most
 pub short_page : (g : Parts) → InLimits g → page_len g ≤ 20480
 short_page g l = let bytes = l.page_bytes_most in let spare = l.spare_bytes_most in omega (arith, bytes, spare)
 
--- a plane below the count isn't one that is too high
-not_too_high : (plane count k : ℕ) → plane < count → (plane == k && nat_le count k) ≡ false
-not_too_high plane count k h = grind (arith, nat_tests, h)
-
 pub plane_below : (count plane : ℕ) → plane < count → are_below count (just_plane plane) ≡ true
-plane_below count plane h = rw (not_too_high plane count 0 h, not_too_high plane count 1 h, not_too_high plane count 2 h, not_too_high plane count 3 h) refl
+plane_below count plane h = at (nat_lt plane 4) refl
+  where
+    at : (b : Bool) → nat_lt plane 4 ≡ b → are_below count (just_plane plane) ≡ true
+    at true e = below_just count plane (let low : plane ≤ 3 = grind (arith, nat_tests, e) in low) ∙ (let b : nat_lt plane count ≡ true = grind (arith, nat_tests, h) in b)
+    at false e = ap (λ (b : Bool). are_below count (cond b (record { 0 = 2 ^ plane }) no_planes)) e ∙ (let some = pow_pos count in let b : nat_lt 0 (2 ^ count) ≡ true = grind (arith, nat_tests, some) in b)
 
 -- ---- the header
 

@@ -1,12 +1,12 @@
 -- From rest to rest: over each operation nothing is against the words.
-use Rattle.std.proofs.Common.{◌≡◌, ℕ, ◌+◌, ◌^◌, ◌≤◌, ◌<◌, ◌==◌, Bool, true, false, nat_le, nat_lt, List, ◌∷◌, Option, Some, arith}
+use Rattle.std.proofs.Common.{◌≡◌, ℕ, ◌+◌, ◌^◌, ◌≤◌, ◌<◌, ◌==◌, Bool, true, false, cond, nat_le, nat_lt, List, ◌∷◌, Option, Some, refl, arith}
 use Rattle.nand_geometry.specs.declared.parts.Parts.{Parts}
 use Rattle.nand_geometry.specs.Limits.{page_len, planes}
 use Rattle.onfi_cycle.specs.Command.{command}
 use Rattle.micro_word.specs.declared.word.Word.{Word}
 use Rattle.micro_word.specs.declared.word.Word.TheVariants.{Command, Address, Get, Put, Seek, Column, Row, Plane, Wait, BranchOnStatus}
 use Rattle.micro_word.specs.Text.{Microprogram}
-use Rattle.micro_claims.specs.declared.span.Span.{Span}
+use Rattle.micro_claims.specs.Spans.{Span}
 use Rattle.micro_claims.specs.declared.growth.Growth.{Growth}
 use Rattle.micro_claims.specs.declared.planes.Planes.{Planes}
 use Rattle.micro_claims.specs.declared.page_range.PageRange.{PageRange}
@@ -18,12 +18,23 @@ use Rattle.micro_claims.specs.declared.cached_page.CachedPage.{CachedPage}
 use Rattle.micro_claims.specs.declared.state.State.{State}
 use Rattle.micro_claims.specs.Spans.{greatest_bound}
 use Rattle.micro_claims.specs.Planes.{just_plane, are_below}
-use Rattle.micro_claims.specs.State.{closed}
+use Rattle.micro_claims.specs.declared.last_closer.LastCloser.{LastCloser}
+use Rattle.micro_claims.specs.State.{closed, may_be_31}
 use Rattle.micro_claims.specs.Reasons.{reason_against, breaks_cycle_forbidden, breaks_address_unaligned, breaks_handover_in_sequence, breaks_buffer_passed, breaks_row_or_plane_outside, breaks_column_too_large, breaks_no_status, breaks_ends_too_soon, breaks_over_budget, breaks_command_not_allowed}
 use Rattle.micro_claims.specs.Accepts.{state_after}
 use Rattle.micro_walk.specs.Faults.{met}
 use Rattle.micro_verify.proofs.PlainBasics.{le_test, lt_test, not_lt_test, not_le_test, not_zero}
 use Rattle.micro_verify.proofs.PlainFollowing.{goes_well}
+
+-- the last closer may be 30h or not, and another or not, but not 31h
+abbrev pub closer_of : (read other : Bool) → LastCloser
+closer_of read other = record { 0 = cond read (cond other 5 1) (cond other 4 0) }
+
+pub calm : (read other : Bool) → may_be_31 (closer_of read other) ≡ false
+calm true true = refl
+calm true false = refl
+calm false true = refl
+calm false false = refl
 
 -- nothing is open, the LUN is ready, its queue empty and no cache read, so many cycles being paid at most; the rest may be anything
 abbrev pub at_rest : (column : Span) (planes : Planes) (index : Span) (page : PageRange) (place : Span) (least : ℕ) (grown : Option Growth) (polled : Bool) (shows : Option Shown) (register : Option Held) (output : Option OutputColumn) (read other : Bool) (cached : CachedPage) (paid : ℕ) → State
@@ -31,7 +42,7 @@ at_rest column planes index page place least grown polled shows register output 
     record {
       registers = record { column = column; planes = planes; index = index; page = page; place = place; cost = record { lo = least; hi = Some paid; grown = grown }; polled = polled };
       target = closed shows;
-      lun = record { busy = false; register = register; column = output; queue = NoRows; last = record { read = read; cache = false; other = other }; cached = cached };
+      lun = record { busy = false; register = register; column = output; queue = NoRows; last = closer_of read other; cached = cached };
     }
 
 -- from every state at rest, so many cycles being paid, all goes well
@@ -110,8 +121,8 @@ read_goes_well g x f row plane column place len paid rest p below r rows l insid
     let paid3 : nat_le (paid + 1 + 5 + 1) x.budget ≡ true = le_test _ _ (omega (arith, cost)) in
     let paid4 : nat_le (paid + 1 + 5 + 1 + 1) x.budget ≡ true = le_test _ _ (omega (arith, cost)) in
     let paid5 : nat_le (paid + 1 + 5 + 1 + 1 + len) x.budget ≡ true = le_test _ _ (omega (arith, cost)) in
-    rw (at.plane_there, below, at.row_kept, at.row_more, at.row_there, these.column_kept, these.column_more, these.column_len, these.column_there, these.column_inside, these.not_past, these.place_kept, these.place_len, these.place_inside, kept1, kept2, kept3, kept4, kept5, paid1, paid2, paid3, paid4, paid5, these.some, these.costs)
-    (on _ _ _ _ _ _ _ _ _ _ _ _ _ _))
+    rw (at.plane_there, below, at.row_kept, at.row_more, at.row_there, these.column_kept, these.column_more, these.column_len, these.column_there, these.column_inside, these.not_past, these.place_kept, these.place_len, these.place_inside, kept1, kept2, kept3, kept4, kept5, paid1, paid2, paid3, paid4, paid5, these.some, these.costs, calm read other)
+    (on _ _ _ _ _ _ _ _ _ _ _ true false _))
 
 pub program_goes_well : (g : Parts) (x : Microprogram) (f : Option State) (row plane column place len paid failure : ℕ) (rest : List Word)
     → plane ≤ 3 → are_below (planes g) (just_plane plane) ≡ true → row + 1 ≤ x.rows → x.rows ≤ 4096 → 1 ≤ len → column + len ≤ page_len g → page_len g ≤ 20480 → place + len ≤ x.buffer → x.buffer ≤ 16777215
@@ -129,8 +140,8 @@ program_goes_well g x f row plane column place len paid failure rest p below r r
     let paid2 : nat_le (paid + 1 + 5) x.budget ≡ true = le_test _ _ (omega (arith, cost)) in
     let paid3 : nat_le (paid + 1 + 5 + len) x.budget ≡ true = le_test _ _ (omega (arith, cost)) in
     let paid4 : nat_le (paid + 1 + 5 + len + 1) x.budget ≡ true = le_test _ _ (omega (arith, cost)) in
-    rw (these.some, these.costs, at.plane_there, below, at.row_kept, at.row_more, at.row_there, these.column_kept, these.column_more, these.column_len, these.column_there, these.column_inside, these.not_past, these.place_kept, these.place_len, these.place_inside, kept1, kept2, kept3, kept4, paid1, paid2, paid3, paid4)
-    (on _ _ _ _ _ _ _ _ _ _ _ _ _ _))
+    rw (these.some, these.costs, at.plane_there, below, at.row_kept, at.row_more, at.row_there, these.column_kept, these.column_more, these.column_len, these.column_there, these.column_inside, these.not_past, these.place_kept, these.place_len, these.place_inside, kept1, kept2, kept3, kept4, paid1, paid2, paid3, paid4, calm read other)
+    (on _ _ _ _ _ _ _ _ _ _ _ false true _))
 
 pub erase_goes_well : (g : Parts) (x : Microprogram) (f : Option State) (row plane paid failure : ℕ) (rest : List Word)
     → plane ≤ 3 → are_below (planes g) (just_plane plane) ≡ true → row + 1 ≤ x.rows → x.rows ≤ 4096
@@ -145,5 +156,5 @@ erase_goes_well g x f row plane paid failure rest p below r rows cost budget on 
     let paid1 : nat_le (paid + 1) x.budget ≡ true = le_test _ _ (omega (arith, cost)) in
     let paid2 : nat_le (paid + 1 + 3) x.budget ≡ true = le_test _ _ (omega (arith, cost)) in
     let paid3 : nat_le (paid + 1 + 3 + 1) x.budget ≡ true = le_test _ _ (omega (arith, cost)) in
-    rw (at.plane_there, below, at.row_kept, at.row_more, at.row_there, kept1, kept2, kept3, paid1, paid2, paid3)
-    (on _ _ _ _ _ _ _ _ _ _ _ _ _ _))
+    rw (at.plane_there, below, at.row_kept, at.row_more, at.row_there, kept1, kept2, kept3, paid1, paid2, paid3, calm read other)
+    (on _ _ _ _ _ _ _ _ _ _ _ false true _))

@@ -20,30 +20,16 @@ use Rattle.micro_claims.specs.declared.drift.Drift.{Drift}
 use Rattle.micro_claims.specs.Planes.{has_plane, just_plane, either_plane, share_a_plane}
 use Rattle.micro_claims.specs.Against.{same_test, queue_refuses}
 use Rattle.micro_claims.proofs.Fits.{is_of_kind}
+use Rattle.micro_claims.proofs.PlaneSets.{either_has, none_has, share_just, just_same}
 use Rattle.micro_verify.proofs.Mirrors.{RowsMirror, RowMirror, AllMirror, set_of}
 
 -- 1. sets of planes
 
 share_one : (p : ℕ) (s : Planes) → p ≤ 3 → share_a_plane (just_plane p) s ≡ has_plane p s
-share_one zero s low = ap (λ (b : Bool). b || false || false) (or-false s.zero) ∙ (ap (λ (b : Bool). b || false) (or-false s.zero) ∙ or-false s.zero)
-share_one (suc zero) s low = ap (λ (b : Bool). b || false) (or-false s.one) ∙ or-false s.one
-share_one (suc (suc zero)) s low = or-false s.two
-share_one (suc (suc (suc zero))) s low = refl
-share_one (suc (suc (suc (suc n)))) s low = absurd (omega (arith, low))
-
-turned : (x y : ℕ) → (x == y) ≡ (y == x)
-turned x y = at (y == x) refl
-  where
-    at : (b : Bool) → (y == x) ≡ b → (x == y) ≡ b
-    at true e = let same : y ≡ x = eqb-true y x e in eq-eqb x y (sym same)
-    at false e = grind (arith, nat_tests, e)
+share_one = share_just
 
 has_more : (p q : ℕ) (s : Planes) → p ≤ 3 → has_plane p (either_plane (just_plane q) s) ≡ ((p == q) || has_plane p s)
-has_more zero q s low = ap (λ (b : Bool). b || s.zero) (turned q 0)
-has_more (suc zero) q s low = ap (λ (b : Bool). b || s.one) (turned q 1)
-has_more (suc (suc zero)) q s low = ap (λ (b : Bool). b || s.two) (turned q 2)
-has_more (suc (suc (suc zero))) q s low = ap (λ (b : Bool). b || s.three) (turned q 3)
-has_more (suc (suc (suc (suc n)))) q s low = absurd (omega (arith, low))
+has_more p q s low = either_has p (just_plane q) s ∙ ap (λ (b : Bool). b || has_plane p s) (just_same p q low)
 
 -- 2. one row
 
@@ -112,11 +98,7 @@ clashes_are g e erase p now index plane (x ∷ []) (q ∷ []) low few page block
     last false x = refl
 
     none : (n : ℕ) → has_plane n (set_of []) ≡ false
-    none zero = refl
-    none (suc zero) = refl
-    none (suc (suc zero)) = refl
-    none (suc (suc (suc zero))) = refl
-    none (suc (suc (suc (suc n)))) = refl
+    none = none_has
 clashes_are g e erase p now index plane (x ∷ []) (q ∷ (r ∷ qs)) low few page block some m = absurd m.1
 clashes_are g e erase p now index plane (x ∷ (y ∷ ps)) (q ∷ []) low few page block some m = absurd m.1
 clashes_are g e erase p now index plane (x ∷ (y ∷ ps)) (q ∷ (r ∷ qs)) low few page block some m =

@@ -19,6 +19,7 @@ use Rattle.onfi_cycle.specs.Sequence.{is_open, wants_command, takes_inputs, open
 use Rattle.onfi_cycle.specs.Lun.{is_cache_read, is_page_read}
 use Rattle.onfi_cycle.specs.LunView.{LunView}
 use Rattle.onfi_cycle.specs.Effect.{is_data}
+use Rattle.micro_claims.specs.State.{may_be_other}
 use Rattle.micro_claims.specs.Spans.{greatest_bound, bound_plus, is_at_most}
 use Rattle.onfi_cycle.specs.Rules.{has_some, may_change_column, is_page_or_parameters, breaks_command_unknown, breaks_sequence_open, breaks_several_luns, breaks_no_column_to_change, breaks_command_misplaced, breaks_address_misplaced, breaks_row_outside, breaks_lun_busy, breaks_queue_clash, breaks_input_misplaced, breaks_no_sole_driver, breaks_data_not_ready, breaks_column_outside, breaks_cache_read_misplaced}
 use Rattle.micro_program.specs.Program.{Job, Done}
@@ -331,7 +332,7 @@ told_command g j v done c d one low m h = by d h
     drive : place_wants ChangeReadColumnConfirm v.target.tail ≡ true → drives v.target.shows ≡ true
     drive h = ap drives m.shows ∙ shows_may_change c.view (m.tail.changes (wants_change m.tail.place (sym (ap (place_wants ChangeReadColumnConfirm) m.tail.single) ∙ h)))
 
-    page_test : v.lun.last.other ≡ false → not (is_at_most (bound_plus v.lun.cached.page.hi 2) g.pages) ≡ not (nat_le (c.view.array_page.page + 2) g.pages)
+    page_test : may_be_other v.lun.last ≡ false → not (is_at_most (bound_plus v.lun.cached.page.hi 2) g.pages) ≡ not (nat_le (c.view.array_page.page + 2) g.pages)
     page_test e = ap (λ (o : Option ℕ). not (is_at_most (bound_plus o 2) g.pages)) (m.lun.cached_page e) ∙ ap not (exact_test c.view.array_page.page 2 g.pages low)
 
     by : (d : Command) → is_unfit g d ≡ false → Told (command_out_of_place g v d) (judged g c (CommandCycle d))
@@ -353,12 +354,12 @@ told_command g j v done c d one low m h = by d h
     by ProgramPlane h = told_by _ _ _ (fitting ProgramPlane h ∙ (or-false _ ∙ wanted ProgramPlane)) (told_11 g c h)
     by ReadCacheSequential h =
         told_by _ _ _
-        (fitting ReadCacheSequential h ∙ (ap (λ (b : Bool). may_be_open v || b) (or_where (not (drives v.target.shows) || v.lun.busy || v.lun.last.other) _ _ (λ e. page_test (or_second _ _ e)))
+        (fitting ReadCacheSequential h ∙ (ap (λ (b : Bool). may_be_open v || b) (or_where (not (drives v.target.shows) || v.lun.busy || may_be_other v.lun.last) _ _ (λ e. page_test (or_second _ _ e)))
         ∙ (λ i. shut i || (not (drives (m.shows i)) || m.lun.busy i || m.lun.other i || not (nat_le (c.view.array_page.page + 2) g.pages)))))
         (told_31 g c h)
     by ReadCacheEnd h =
         told_by _ _ _
-        (fitting ReadCacheEnd h ∙ (ap (λ (b : Bool). may_be_open v || b) (or_where (not (drives v.target.shows) || v.lun.busy || v.lun.last.other) _ _ (λ e. m.lun.read (or_second _ _ e)))
+        (fitting ReadCacheEnd h ∙ (ap (λ (b : Bool). may_be_open v || b) (or_where (not (drives v.target.shows) || v.lun.busy || may_be_other v.lun.last) _ _ (λ e. m.lun.read (or_second _ _ e)))
         ∙ (λ i. shut i || (not (drives (m.shows i)) || m.lun.busy i || m.lun.other i || not (is_cache_read c.view.closer)))))
         (told_3f g c h)
     by Unknown h = cc

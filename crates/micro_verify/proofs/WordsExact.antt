@@ -23,7 +23,7 @@ use Rattle.micro_claims.specs.declared.registers.Registers.{Registers}
 use Rattle.micro_claims.specs.declared.known_lun.KnownLun.{KnownLun}
 use Rattle.micro_claims.specs.declared.place.Place.TheVariants.{Closed}
 use Rattle.micro_claims.specs.Spans.{greatest_bound, kept, bound_plus, plus}
-use Rattle.micro_claims.specs.declared.span.Span.{Span}
+use Rattle.micro_claims.specs.Spans.{Span}
 use Rattle.micro_claims.specs.Against.{may_be_open}
 use Rattle.micro_claims.specs.Leaves.{paid, cost_plus, unread}
 use Rattle.micro_claims.specs.declared.planes.Planes.{Planes}

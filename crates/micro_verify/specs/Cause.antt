@@ -192,7 +192,7 @@ pub record IsStraight (g : Parts) (text : Microprogram) (format : Format) : Type
   pub rows : text.rows ≤ indices g
   pub leads_on : all_lead_on text.words ≡ true
   pub in_range : AllInRange format (length text.words) text.words
-  pub few : length text.words ≤ 65536
+  pub few : length text.words ≤ 32768
   pub buffer : text.buffer ≤ 16777215
   pub budget : text.budget < 4294967296
 

@@ -312,6 +312,12 @@ claim_got [] (suc at) = refl
 claim_got (o ∷ known) zero = refl
 claim_got (o ∷ known) (suc at) = claim_got known at
 
+-- whatever stands for a place that isn't there
+pub got : (known : List (Option State)) (at : ℕ) (d : Option State) → at < length known → get_or known at None ≡ get_or known at d
+got [] at d h = absurd (omega (arith, h))
+got (o ∷ known) zero d h = refl
+got (o ∷ known) (suc at) d h = got known at d (omega (arith, h))
+
 pub follow_goes_on : (g : Parts) (b : Bounds) (at : ℕ) (known new : List (Option State)) (o : Option State) (words : List Word) (d : Word) (before : Option Fault) → at < length words → o ≡ claim known at → before ≡ followed g b known at (drop at words) → reason_at g b o (get_or words at d) ≡ None → new ≡ led_from g known at o (get_or words at d) → before ≡ followed g b new (at + 1) (drop (at + 1) words)
 follow_goes_on g b at known new o words d before h is e none led =
     e ∙ (followed_on g b at known o words d h is ∙ (ap (λ (r : Option Reason). fault_or r at (followed g b (led_from g known at o (get_or words at d)) (at + 1) (drop (at + 1) words))) none ∙ ap (λ (k : List (Option State)). followed g b k (at + 1) (drop (at + 1) words)) (sym led)))

@@ -1,11 +1,11 @@
 -- Inputs, outputs, commands and pages: what they leave of a claim is claimed of what they leave of an actual claim.
-use Rattle.std.proofs.Common.{◌≡◌, ℕ, ◌≤◌, Bool, true, false, ◌&&◌, ◌||◌, cond, Option, Some, None, refl, sym, subst, arith, zero, suc}
+use Rattle.std.proofs.Common.{◌≡◌, ℕ, ◌≤◌, Bool, true, false, ◌&&◌, ◌||◌, cond, Option, Some, None, refl, sym, ◌∙◌, subst, arith, zero, suc}
 use Rattle.std.proofs.lemmas.Bool.{and_parts, and_from}
 use Rattle.nand_geometry.specs.declared.parts.Parts.{Parts}
 use Rattle.nand_geometry.specs.Limits.{InLimits}
 use Rattle.onfi_cycle.specs.declared.command.Command.{Command}
 use Rattle.onfi_cycle.specs.declared.command.Command.TheVariants.{Read, ReadConfirm, ChangeReadColumn, ChangeReadColumnConfirm, BlockErase, BlockEraseConfirm, BlockErasePlane, PageProgram, ChangeWriteColumn, ProgramConfirm, ProgramPlane, ReadId, ReadParameterPage, Reset, ReadCacheSequential, ReadCacheEnd}
-use Rattle.micro_claims.specs.declared.span.Span.{Span}
+use Rattle.micro_claims.specs.Spans.{Span}
 use Rattle.micro_claims.specs.Spans.{plus, plus_between}
 use Rattle.micro_claims.specs.Planes.{has_plane, no_planes, either_plane}
 use Rattle.micro_claims.specs.declared.state.State.{State}
@@ -19,10 +19,11 @@ use Rattle.micro_claims.specs.declared.queued_rows.QueuedRows.{QueuedRows}
 use Rattle.micro_claims.specs.declared.queued_rows.QueuedRows.TheVariants.{NoRows, SomeRows, AnyRows}
 use Rattle.micro_claims.specs.declared.last_closer.LastCloser.{LastCloser}
 use Rattle.micro_claims.specs.declared.cached_page.CachedPage.{CachedPage}
-use Rattle.micro_claims.specs.State.{other_closer, any_number}
+use Rattle.micro_claims.specs.State.{other_closer, any_number, shows_status, shows_register}
 use Rattle.micro_claims.specs.Against.{same_test}
 use Rattle.micro_claims.specs.Leaves.{with_target, data_shown, rows_at, work_started, same_drift, queued_more, cache_read, command_leaves, column_read, get_leaves, span_more, put_leaves, page_register}
 use Rattle.micro_claims.specs.Order.{SpanAt, May, DriftIs, HasColumn, NamedIs, ShowsIs, RegisteredIs, RowsAre, At, column_number, output_number, Exactly}
+use Rattle.micro_claims.proofs.PlaneSets.{none_has}
 use Rattle.micro_walk.proofs.SpanLaws as numbers
 use Rattle.micro_walk.proofs.Shapes.{both_among}
 use Rattle.micro_walk.proofs.LeavesKept.{with_place, any_free, fine_of, one_place, data_is, resumed_is, read_is, OutputAt, first_output, given_is, rows_placed, cached_index_is, cached_page_is, lun_with_output, output_of}
@@ -54,10 +55,10 @@ at_most_all false n = omega arith
 fine_read : (v : Span) (x : Option Shown) (n : ℕ) (a : Option OutputColumn) → SpanAt v any_number (output_number a) → SpanAt v any_number (output_number (column_read x n a))
 fine_read v None n a f = any_free v
 fine_read v (Some x) n None f = any_free v
-fine_read v (Some x) n (Some m) f = at x.register
+fine_read v (Some x) n (Some m) f = at (shows_register x)
   where
-    at : (b : Bool) → SpanAt v any_number (output_number (cond b (Some (record { at = plus_between m.at (cond x.status 0 n) n; read = true })) (Some m)))
-    at true = fine_of v v (plus_between any_number 0 n) (plus_between m.at (cond x.status 0 n) n) (numbers.grown_between v any_number m.at 0 n (cond x.status 0 n) n (omega arith) (at_most_all x.status n) (omega arith) f)
+    at : (b : Bool) → SpanAt v any_number (output_number (cond b (Some (record { at = plus_between m.at (cond (shows_status x) 0 n) n; read = true })) (Some m)))
+    at true = fine_of v v (plus_between any_number 0 n) (plus_between m.at (cond (shows_status x) 0 n) n) (numbers.grown_between v any_number m.at 0 n (cond (shows_status x) 0 n) n (omega arith) (at_most_all (shows_status x) n) (omega arith) f)
     at false = f
 
 less_read : (b c : Bool) (n : ℕ) → May c b → cond b 0 n ≤ cond c 0 n
@@ -70,7 +71,7 @@ column_read_at v None x n s a h f = record { has = tt; at = fine_read (output_nu
 column_read_at v (Some w) None n s a h f = absurd h
 column_read_at v (Some w) (Some x) n None a h f = record { has = tt; at = fine_read (output_number v) (Some x) n a (fine_of _ _ _ _ f.at) }
 column_read_at v (Some w) (Some x) n (Some k) None h f = absurd f.has
-column_read_at v (Some w) (Some x) n (Some k) (Some m) h f = at w.register x.register h.1.0 w.status x.status h.0 h.1.1
+column_read_at v (Some w) (Some x) n (Some k) (Some m) h f = at (shows_register w) (shows_register x) h.1.0 (shows_status w) (shows_status x) h.0 h.1.1
   where
     from : Span → ℕ → Span
     from y least = plus_between y least n
@@ -97,11 +98,7 @@ drift_goes None a d e h = absurd cc
 drift_goes (Some x) a d e h = subst (λ (o : Option Drift). same_drift o d ≡ true) (sym e) h
 
 none_there : (n : ℕ) → has_plane n no_planes ≡ true → ⊥
-none_there zero h = cc
-none_there (suc zero) h = cc
-none_there (suc (suc zero)) h = cc
-none_there (suc (suc (suc zero))) h = cc
-none_there (suc (suc (suc (suc n)))) h = cc
+none_there n h = let clash : true ≡ false = sym h ∙ none_has n in cc
 
 queued_is : (g : Parts) (erase : Bool) (s a : QueuedRows) (x y : Option NamedRow) → RowsAre s a → NamedIs g x y → RowsAre (queued_more erase s x) (queued_more erase a y)
 queued_is g erase s a None y e f = tt

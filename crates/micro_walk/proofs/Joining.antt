@@ -1,10 +1,10 @@
 -- What two states both claim is claimed by either.
 use Rattle.std.proofs.Common.{◌≡◌, ℕ, Bool, true, false, ◌&&◌, ◌||◌, not, cond, Option, Some, None, refl, ap, ◌∙◌, subst, arith}
-use Rattle.std.specs.Prelude.{nat_le, min, max}
+use Rattle.std.specs.Prelude.{nat_le, min, max, bit_or}
 use Rattle.std.proofs.lemmas.Bool.Decides.{nat_tests}
 use Rattle.std.proofs.lemmas.Bool.{and_from}
 use Rattle.onfi_cycle.proofs.Booleans.{eqb_self}
-use Rattle.micro_claims.specs.declared.span.Span.{Span}
+use Rattle.micro_claims.specs.Spans.{Span}
 use Rattle.micro_claims.specs.declared.growth.Growth.{Growth}
 use Rattle.micro_claims.specs.declared.planes.Planes.{Planes}
 use Rattle.micro_claims.specs.Planes.{either_plane}
@@ -24,6 +24,8 @@ use Rattle.micro_claims.specs.declared.queued_rows.QueuedRows.TheVariants.{NoRow
 use Rattle.micro_claims.specs.Against.{same_test, is_open_place}
 use Rattle.micro_claims.specs.Order.{is_bound_within, is_growth_within, is_span_within, may_within, are_planes_within, same_place, is_place_within, same_drift_as, is_drift_within, are_registers_within, is_column_within, is_name_within, is_named_within, is_shows_within, is_target_within, is_register_within, is_output_within, are_rows_within, is_lun_within, is_state_within}
 use Rattle.micro_claims.specs.Joins.{greater_bound, joined_growth, joined_span, joined_registers, joined_place, both_know, joined_drift, joined_name, joined_shown, joined_target, joined_held, joined_output, joined_rows, joined_lun, joined, JoinsClaimLess}
+use Rattle.micro_claims.specs.Sets.{has}
+use Rattle.micro_claims.proofs.Sets.{has_self, has_first, has_second}
 use Rattle.micro_walk.proofs.Shapes.{same_is, drift_is}
 
 -- both of two claims are at least what is claimed
@@ -68,8 +70,11 @@ both_must true true = record { one = refl; other = refl }
 both_must true false = record { one = refl; other = refl }
 both_must false c = record { one = refl; other = refl }
 
+sets_join : (a b : ℕ) → Both (has a (bit_or a b)) (has b (bit_or a b))
+sets_join a b = record { one = has_first a b; other = has_second a b }
+
 planes_join : (p q : Planes) → Both (are_planes_within p (either_plane p q)) (are_planes_within q (either_plane p q))
-planes_join p q = both_and _ _ _ _ (either_may p.zero q.zero) (both_and _ _ _ _ (either_may p.one q.one) (both_and _ _ _ _ (either_may p.two q.two) (either_may p.three q.three)))
+planes_join p q = sets_join p.0 q.0
 
 -- 3. the registers
 
@@ -136,7 +141,7 @@ named_join (Some n) None = record { one = refl; other = refl }
 named_join None b = record { one = refl; other = refl }
 
 shows_join : (a b : Option Shown) → Both (is_shows_within a (both_know joined_shown a b)) (is_shows_within b (both_know joined_shown a b))
-shows_join (Some w) (Some x) = both_and _ _ _ _ (either_may w.status x.status) (either_may w.register x.register)
+shows_join (Some w) (Some x) = sets_join w.0 x.0
 shows_join (Some w) None = record { one = refl; other = refl }
 shows_join None b = record { one = refl; other = refl }
 
@@ -149,7 +154,7 @@ targets_join s t =
 -- 5. the LUN
 
 registered_join : (a b : Option Held) → Both (is_register_within a (both_know joined_held a b)) (is_register_within b (both_know joined_held a b))
-registered_join (Some r) (Some q) = both_and _ _ _ _ (either_may r.page q.page) (both_and _ _ _ _ (either_may r.parameters q.parameters) (either_may r.identifier q.identifier))
+registered_join (Some r) (Some q) = sets_join r.0 q.0
 registered_join (Some r) None = record { one = refl; other = refl }
 registered_join None b = record { one = refl; other = refl }
 
@@ -165,18 +170,11 @@ test_itself true false h = absurd cc
 test_itself false true h = absurd cc
 
 rows_itself : (erase : Bool) (planes : Planes) (d : Drift) → are_rows_within (SomeRows erase planes d) (SomeRows erase planes d) ≡ true
-rows_itself erase planes d = and_from _ _ (test erase) (and_from _ _ (same planes) (drift d))
+rows_itself erase planes d = and_from _ _ (test erase) (and_from _ _ (has_self planes.0) (drift d))
   where
     test : (a : Bool) → same_test a a ≡ true
     test true = refl
     test false = refl
-
-    may : (b : Bool) → may_within b b ≡ true
-    may true = refl
-    may false = refl
-
-    same : (p : Planes) → are_planes_within p p ≡ true
-    same p = and_from _ _ (may p.zero) (and_from _ _ (may p.one) (and_from _ _ (may p.two) (may p.three)))
 
     drift : (e : Drift) → same_drift_as e e ≡ true
     drift e = and_from _ _ (eqb_self e.ahead) (eqb_self e.behind)
@@ -204,10 +202,8 @@ luns_join s t =
     (both_and _ _ _ _ (registered_join s.register t.register)
     (both_and _ _ _ _ (outputs_join s.column t.column)
     (both_and _ _ _ _ (queues_join s.queue t.queue)
-    (both_and _ _ _ _ (either_may s.last.read t.last.read)
-    (both_and _ _ _ _ (either_may s.last.cache t.last.cache)
-    (both_and _ _ _ _ (either_may s.last.other t.last.other)
-    (both_and _ _ _ _ (spans_join s.cached.index t.cached.index) (spans_join s.cached.page t.cached.page))))))))
+    (both_and _ _ _ _ (sets_join s.last.0 t.last.0)
+    (both_and _ _ _ _ (spans_join s.cached.index t.cached.index) (spans_join s.cached.page t.cached.page))))))
 
 -- 6. states
 

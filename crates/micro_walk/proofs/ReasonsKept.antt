@@ -11,7 +11,7 @@ use Rattle.micro_word.specs.declared.word.Word.{Word}
 use Rattle.micro_word.specs.declared.word.Word.TheVariants.{End, Address, Get, Put, Column, RowAdd, Row, Plane, Wait, Yield, ReadStatus, BranchOnStatus}
 use Rattle.micro_word.specs.declared.word.Word.TheVariants.{Command as CommandWord}
 use Rattle.micro_program.specs.Program.{cost}
-use Rattle.micro_claims.specs.declared.span.Span.{Span}
+use Rattle.micro_claims.specs.Spans.{Span}
 use Rattle.micro_claims.specs.Spans.{bound_plus, is_at_most, greatest_bound}
 use Rattle.micro_claims.specs.declared.state.State.{State}
 use Rattle.micro_claims.specs.declared.place.Place.{Place}

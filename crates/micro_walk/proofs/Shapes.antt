@@ -1,5 +1,5 @@
 -- Planes, places, flags and drifts: who claims less.
-use Rattle.std.proofs.Common.{◌≡◌, ℕ, zero, suc, ◌==◌, Bool, true, false, ◌&&◌, ◌||◌, not, Option, Some, None, refl, sym, ap, ◌∙◌, eqb-true}
+use Rattle.std.proofs.Common.{◌≡◌, ℕ, zero, suc, ◌==◌, ◌^◌, Bool, true, false, ◌&&◌, ◌||◌, not, Option, Some, None, refl, sym, ap, ◌∙◌, eqb-true}
 use Rattle.std.proofs.lemmas.Bool.{or_left, or_right, and_parts, and_from}
 use Rattle.onfi_cycle.specs.declared.command.Command.{Command}
 use Rattle.onfi_cycle.specs.Command.{command, opcode}
@@ -9,6 +9,8 @@ use Rattle.micro_claims.specs.declared.place.Place.TheVariants.{Closed, After, I
 use Rattle.micro_claims.specs.declared.drift.Drift.{Drift}
 use Rattle.micro_claims.specs.declared.planes.Planes.{Planes}
 use Rattle.micro_claims.specs.Planes.{has_plane, either_plane}
+use Rattle.micro_claims.proofs.Sets.{has_more}
+use Rattle.micro_claims.proofs.PlaneSets.{either_has}
 use Rattle.micro_claims.specs.Order.{are_planes_within, AllAmong, same_code, same_place, may_within, May, same_drift_as, is_drift_within, DriftIs}
 
 -- 2. planes
@@ -17,42 +19,14 @@ pub among_self : (p : Planes) → AllAmong p p
 among_self p n here = here
 
 pub planes_too : (s t a : Planes) → are_planes_within s t ≡ true → AllAmong a s → AllAmong a t
-planes_too s t a h f n here = at n (f n here)
-  where
-    p1 : (may_within s.zero t.zero ≡ true) × ((may_within s.one t.one && (may_within s.two t.two && may_within s.three t.three)) ≡ true)
-    p1 = and_parts _ _ h
-
-    p2 : (may_within s.one t.one ≡ true) × ((may_within s.two t.two && may_within s.three t.three) ≡ true)
-    p2 = and_parts _ _ p1.1
-
-    p3 : (may_within s.two t.two ≡ true) × (may_within s.three t.three ≡ true)
-    p3 = and_parts _ _ p2.1
-
-    on : (b c : Bool) → may_within b c ≡ true → b ≡ true → c ≡ true
-    on true true h e = refl
-    on true false h e = absurd cc
-    on false c h e = absurd cc
-
-    at : (n : ℕ) → has_plane n s ≡ true → has_plane n t ≡ true
-    at zero e = on s.zero t.zero p1.0 e
-    at (suc zero) e = on s.one t.one p2.0 e
-    at (suc (suc zero)) e = on s.two t.two p3.0 e
-    at (suc (suc (suc zero))) e = on s.three t.three p3.1 e
-    at (suc (suc (suc (suc m)))) e = cc
+planes_too s t a h f n here = has_more (2 ^ n) s.0 t.0 h (f n here)
 
 pub both_among : (p q r t : Planes) → AllAmong p r → AllAmong q t → AllAmong (either_plane p q) (either_plane r t)
-both_among p q r t f h n here = at n f h here
+both_among p q r t f h n here = either_has n r t ∙ by (has_plane n p) (has_plane n q) (has_plane n r) (has_plane n t) (f n) (h n) (sym (either_has n p q) ∙ here)
   where
     by : (a b c d : Bool) → (a ≡ true → c ≡ true) → (b ≡ true → d ≡ true) → (a || b) ≡ true → (c || d) ≡ true
     by true b c d f h e = or_left c d (f refl)
     by false b c d f h e = or_right c d (h e)
-
-    at : (n : ℕ) → AllAmong p r → AllAmong q t → has_plane n (either_plane p q) ≡ true → has_plane n (either_plane r t) ≡ true
-    at zero f h e = by p.zero q.zero r.zero t.zero (f 0) (h 0) e
-    at (suc zero) f h e = by p.one q.one r.one t.one (f 1) (h 1) e
-    at (suc (suc zero)) f h e = by p.two q.two r.two t.two (f 2) (h 2) e
-    at (suc (suc (suc zero))) f h e = by p.three q.three r.three t.three (f 3) (h 3) e
-    at (suc (suc (suc (suc m)))) f h e = cc
 
 same_codes : (c d : Command) (o p : Option ℕ) → opcode c ≡ o → opcode d ≡ p → same_code o p ≡ true → c ≡ d
 same_codes c d None p e f h = absurd cc

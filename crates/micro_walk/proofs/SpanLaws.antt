@@ -4,7 +4,7 @@ use Rattle.std.specs.Prelude.{nat_le, min}
 use Rattle.std.proofs.lemmas.Bool.Decides.{nat_tests}
 use Rattle.std.proofs.Math.Nat.{mul-le-mul_right}
 use Rattle.std.proofs.lemmas.Bool.{and_parts}
-use Rattle.micro_claims.specs.declared.span.Span.{Span}
+use Rattle.micro_claims.specs.Spans.{Span}
 use Rattle.micro_claims.specs.declared.growth.Growth.{Growth}
 use Rattle.micro_claims.specs.Spans.{greatest_bound, kept, saturated, bound_plus, exactly, growth_plus, plus, plus_between, is_at_most, only, only_of, copied}
 use Rattle.micro_claims.specs.State.{any_number}

@@ -4,7 +4,7 @@ use Rattle.std.proofs.lemmas.Bool.{not-true, and_parts}
 use Rattle.nand_geometry.specs.declared.parts.Parts.{Parts}
 use Rattle.nand_geometry.specs.Limits.{InLimits}
 use Rattle.micro_claims.specs.Planes.{just_plane}
-use Rattle.micro_claims.specs.declared.span.Span.{Span}
+use Rattle.micro_claims.specs.Spans.{Span}
 use Rattle.micro_claims.specs.declared.state.State.{State}
 use Rattle.micro_claims.specs.declared.registers.Registers.{Registers}
 use Rattle.micro_claims.specs.declared.known_target.KnownTarget.{KnownTarget}
@@ -16,12 +16,13 @@ use Rattle.micro_claims.specs.declared.held.Held.{Held}
 use Rattle.micro_claims.specs.declared.output_column.OutputColumn.{OutputColumn}
 use Rattle.micro_claims.specs.declared.queued_rows.QueuedRows.{QueuedRows}
 use Rattle.micro_claims.specs.declared.queued_rows.QueuedRows.TheVariants.{NoRows, SomeRows, AnyRows}
-use Rattle.micro_claims.specs.State.{first_state, any_number}
+use Rattle.micro_claims.specs.State.{first_state, any_number, may_be_30, may_be_31, may_be_other}
 use Rattle.micro_claims.specs.declared.place.Place.{Place}
 use Rattle.micro_claims.specs.declared.bounds.Bounds.{Bounds}
 use Rattle.micro_claims.specs.Against.{same_test, is_open_place}
 use Rattle.micro_claims.specs.Order.{SpanAt, AllAmong, May, RegistersAt, HasColumn, NameIs, NamedIs, IsFineNamed, ShowsIs, TargetAt, RegisteredIs, HasOutput, RowsAre, LunAt, At, column_number, output_number, may_within, same_drift_as, is_span_within, span_at_head, span_at_heads, span_after_turns, are_registers_within, is_column_within, is_name_within, is_named_within, is_shows_within, is_target_within, is_register_within, is_output_within, are_rows_within, is_lun_within, is_state_within, column_by, output_by, state_by, state_at_head, state_at_heads, state_after_turns, machine, PlaceIs, Anywhere, NothingOpen, Exactly, are_planes_within, is_place_within}
 use Rattle.micro_claims.specs.Certificate.{Turned}
+use Rattle.micro_claims.proofs.Sets.{has_more}
 use Rattle.micro_walk.proofs.SpanLaws as numbers
 use Rattle.micro_walk.proofs.SpanLaws.{le_of, Ran}
 use Rattle.micro_walk.proofs.Shapes.{planes_too, among_self, same_is, may_too, must_too, drift_is, drift_too}
@@ -140,8 +141,7 @@ shows_eased s None a h f = tt
 shows_eased None (Some x) a h f = absurd cc
 shows_eased (Some w) (Some x) None h f = f
 shows_eased (Some w) (Some x) (Some y) h f =
-    let p = and_parts (may_within w.status x.status) (may_within w.register x.register) h in
-    (may_too w.status x.status y.status p.0 f.0, (may_too w.register x.register y.register p.1 f.1.0, f.1.1))
+    (λ e. has_more 1 w.0 x.0 h (f.0 e), (λ e. has_more 2 w.0 x.0 h (f.1.0 e), f.1.1))
 
 target_eased : (g : Parts) (v s t a : KnownTarget) → is_target_within s t ≡ true → TargetAt g v s a → TargetAt g v t a
 target_eased g v s t a h f =
@@ -162,12 +162,10 @@ register_eased s None a h f = tt
 register_eased None (Some x) a h f = absurd cc
 register_eased (Some w) (Some x) None h f = f
 register_eased (Some w) (Some x) (Some y) h f =
-    let p = and_parts (may_within w.page x.page) _ h in
-    let q = and_parts (may_within w.parameters x.parameters) (may_within w.identifier x.identifier) p.1 in
     record {
-      page = may_too w.page x.page y.page p.0 f.page;
-      parameters = may_too w.parameters x.parameters y.parameters q.0 f.parameters;
-      identifier = may_too w.identifier x.identifier y.identifier q.1 f.identifier;
+      page = λ e. has_more 1 w.0 x.0 h (f.page e);
+      parameters = λ e. has_more 2 w.0 x.0 h (f.parameters e);
+      identifier = λ e. has_more 4 w.0 x.0 h (f.identifier e);
       some = f.some;
     }
 
@@ -210,19 +208,17 @@ lun_eased v s t a h f =
     let p4 = and_parts _ _ p3.1 in
     let p5 = and_parts _ _ p4.1 in
     let p6 = and_parts _ _ p5.1 in
-    let p7 = and_parts _ _ p6.1 in
-    let p8 = and_parts _ _ p7.1 in
     record {
       busy = may_too s.busy t.busy a.busy p1.0 f.busy;
       register = register_eased s.register t.register a.register p2.0 f.register;
       has_column = has_output_eased s.column t.column a.column p3.0 f.has_column;
       column = output_eased (output_number v.column) (output_number a.column) s.column t.column p3.0 f.column;
       queue = rows_eased s.queue t.queue a.queue p4.0 f.queue;
-      last_read = may_too s.last.read t.last.read a.last.read p5.0 f.last_read;
-      last_cache = may_too s.last.cache t.last.cache a.last.cache p6.0 f.last_cache;
-      last_other = may_too s.last.other t.last.other a.last.other p7.0 f.last_other;
-      cached_index = numbers.eased v.cached.index s.cached.index t.cached.index a.cached.index p8.0 f.cached_index;
-      cached_page = numbers.eased v.cached.page s.cached.page t.cached.page a.cached.page p8.1 f.cached_page;
+      last_read = λ e. has_more 1 s.last.0 t.last.0 p5.0 (f.last_read e);
+      last_cache = λ e. has_more 2 s.last.0 t.last.0 p5.0 (f.last_cache e);
+      last_other = λ e. has_more 4 s.last.0 t.last.0 p5.0 (f.last_other e);
+      cached_index = numbers.eased v.cached.index s.cached.index t.cached.index a.cached.index p6.0 f.cached_index;
+      cached_page = numbers.eased v.cached.page s.cached.page t.cached.page a.cached.page p6.1 f.cached_page;
     }
 
 pub eases : (g : Parts) (v s t a : State) → is_state_within s t ≡ true → At g v s a → At g v t a
@@ -255,9 +251,9 @@ pub record Stands (g : Parts) (r a : State) : Type 0 where
   pub register : RegisteredIs r.lun.register a.lun.register
   pub has_output : HasOutput r.lun.column a.lun.column
   pub queue : RowsAre r.lun.queue a.lun.queue
-  pub last_read : May a.lun.last.read r.lun.last.read
-  pub last_cache : May a.lun.last.cache r.lun.last.cache
-  pub last_other : May a.lun.last.other r.lun.last.other
+  pub last_read : May (may_be_30 a.lun.last) (may_be_30 r.lun.last)
+  pub last_cache : May (may_be_31 a.lun.last) (may_be_31 r.lun.last)
+  pub last_other : May (may_be_other a.lun.last) (may_be_other r.lun.last)
 
 pub stands : (g : Parts) (v s a : State) → At g v s a → Stands g s a
 stands g v s a d = record {

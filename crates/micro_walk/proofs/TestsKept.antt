@@ -10,7 +10,7 @@ use Rattle.onfi_cycle.specs.declared.command.Command.TheVariants.{Read}
 use Rattle.micro_word.specs.declared.word.Word.{Word}
 use Rattle.micro_claims.specs.declared.refusal.Reason.{Reason}
 use Rattle.micro_claims.specs.declared.refusal.Reason.TheVariants.{CycleForbidden, AddressUnaligned, HandoverInSequence, BufferPassed, RowOrPlaneOutside, ColumnTooLarge, NoStatus, EndsTooSoon, OverBudget, CommandNotAllowed}
-use Rattle.micro_claims.specs.declared.span.Span.{Span}
+use Rattle.micro_claims.specs.Spans.{Span}
 use Rattle.micro_claims.specs.Spans.{bound_plus, is_at_most, only}
 use Rattle.micro_claims.specs.declared.state.State.{State}
 use Rattle.micro_claims.specs.declared.place.Place.{Place}
@@ -28,6 +28,7 @@ use Rattle.micro_claims.specs.Reasons.{breaks_cycle_forbidden, breaks_address_un
 use Rattle.micro_claims.specs.declared.planes.Planes.{Planes}
 use Rattle.micro_claims.specs.Planes.{has_plane, share_a_plane, are_below}
 use Rattle.micro_claims.specs.Order.{top, SpanAt, SpanIs, AllAmong, May, PlaceIs, Anywhere, NothingOpen, Exactly, ShowsIs, RegisteredIs, HasOutput, RowsAre}
+use Rattle.micro_claims.specs.State.{shows_status, holds_page, holds_parameters, holds_identifier}
 use Rattle.micro_claims.proofs.PlaneSets.{below_count, below_all, shared, sharing}
 use Rattle.micro_walk.proofs.SpanLaws.{at_most_too, only_too}
 use Rattle.micro_walk.proofs.Shapes.{or_on, not_on, same_on}
@@ -147,7 +148,7 @@ most_on s a n m k h less e = at_most_more (bound_plus a n) m k less (at_most_too
 pub only_data_on : (s a : Option Shown) → ShowsIs s a → May (shows_only_data s) (shows_only_data a)
 only_data_on None a f h = absurd cc
 only_data_on (Some w) None f h = absurd f
-only_data_on (Some w) (Some x) f h = not_on w.status x.status f.0 h
+only_data_on (Some w) (Some x) f h = not_on (shows_status w) (shows_status x) f.0 h
 
 pub drives_on : (s a : Option Shown) → ShowsIs s a → May (drives s) (drives a)
 drives_on None a f h = absurd cc
@@ -167,7 +168,7 @@ has_register_on (Some w) (Some x) f h = refl
 pub has_page_on : (s a : Option Held) → RegisteredIs s a → May (has_page_or_parameters s) (has_page_or_parameters a)
 has_page_on None a f h = absurd cc
 has_page_on (Some w) None f h = absurd f
-has_page_on (Some w) (Some x) f h = not_on w.identifier x.identifier f.identifier h
+has_page_on (Some w) (Some x) f h = not_on (holds_identifier w) (holds_identifier x) f.identifier h
 
 pub has_column_on : (s a : Option OutputColumn) → HasOutput s a → May (has_column s) (has_column a)
 has_column_on None a f h = absurd cc
@@ -183,7 +184,7 @@ queued_on (SomeRows erase ps d) a f h = refl
 pub length_on : (g : Parts) → InLimits g → (s a : Option Held) → RegisteredIs s a → least_length g s ≤ least_length g a
 length_on g l None a f = omega arith
 length_on g l (Some r) None f = absurd f
-length_on g l (Some r) (Some q) f = at r.page r.parameters r.identifier q.page q.parameters q.identifier f.page f.parameters f.identifier f.some
+length_on g l (Some r) (Some q) f = at (holds_page r) (holds_parameters r) (holds_identifier r) (holds_page q) (holds_parameters q) (holds_identifier q) f.page f.parameters f.identifier f.some
   where
     len : 512 ≤ page_len g
     len = let x = l.page_bytes_least in omega (arith, x)

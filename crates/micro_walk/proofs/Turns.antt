@@ -1,6 +1,6 @@
 -- What the turns of a loop leave of a claim, part by part.
 use Rattle.std.proofs.Common.{ℕ, ◌≤◌, arith}
-use Rattle.micro_claims.specs.declared.span.Span.{Span}
+use Rattle.micro_claims.specs.Spans.{Span}
 use Rattle.micro_claims.specs.Order.{SpanAt}
 use Rattle.micro_claims.specs.Certificate.{Machine, Turned, entered, turned}
 use Rattle.micro_walk.proofs.SpanLaws.{Ran, no_turn, a_turn}

@@ -140,7 +140,7 @@ impl Walk {
             again: 0,
         };
         self.depth += 1;
-        if let Some(state) = entry {
+        if let Some(state) = &entry {
             reach(claims, self.at, &state.at_head());
         }
         true

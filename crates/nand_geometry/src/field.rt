@@ -1,30 +1,18 @@
 //! The fields of a row: how wide each is, and three of them beside one another.
 
 ghost use Rattle.std.specs.Prelude.{◌≡◌, ◌+◌, ◌*◌, ◌^◌, ◌<◌, ◌≤◌};
-ghost use Rattle.nand_geometry.specs.Limits.{halvings, width};
+ghost use Rattle.nand_geometry.specs.Limits.{width};
 
 /// The width in bits of a field for this many numbers, none for one number.
-#[tactic(auto, unfolding(crate::specs::Limits::width))]
 pub fn width(count: u32) -> u32
     requires { count ≤ 65536 }
     ensures value { result ≡ width count }
     ensures small { result ≤ 17 }
 {
-    halvings(17, count)
-}
-
-/// How often a count is halved, rounding up, until at most 1 is left, in at most so many steps.
-fn halvings(steps: u32, count: u32) -> u32
-    requires few { steps ≤ 17 }
-    requires counted { count ≤ 65536 }
-    ensures value { result ≡ halvings steps count }
-    ensures small { result ≤ steps }
-{
-    if steps == 0 || count <= 1 {
-        0
-    } else {
-        1 + halvings(steps - 1, count.div_ceil(2))
+    if count <= 1 {
+        return 0;
     }
+    32 - (count - 1).leading_zeros()
 }
 
 /// Three numbers in fields beside one another, the page in the lowest bits.

@@ -7,7 +7,7 @@ ghost use Rattle.bus_record.specs.Geometry.{parts_of};
 ghost use Rattle.bus_record.specs.Bus.{bus_view, is_bus, CanBegin, pushed, bus_pushed, GoesOn};
 ghost use Rattle.bus_record.specs.Item.{item_of};
 
-use bus_record::{DAMAGED, OnfiseqBus, OnfiseqGeometry, OnfiseqItem, begin, is_bus, push};
+use bus_record::{DAMAGED, OnfiseqBus, OnfiseqGeometry, OnfiseqItem, begin, is_bus, push_numbers};
 
 /// A channel of so many targets of this geometry, to which nothing has happened. Where the geometry has a fault or the targets aren't 1 to 4 there is no
 /// such channel, and its `count` is 0.
@@ -26,6 +26,7 @@ pub extern "C" fn onfiseq_begin(geometry: &OnfiseqGeometry, targets: u8) -> Onfi
 pub extern "C" fn onfiseq_push(bus: &mut OnfiseqBus, item: &OnfiseqItem) -> u32
     ensures answer { result ≡ (if is_bus bus.old then pushed (bus_view bus.old) (item_of item.now) else 254) }
     ensures state { bus_view bus.new ≡ (if is_bus bus.old then bus_pushed (bus_view bus.old) (item_of item.now) else bus_view bus.old) }
+    ensures refused { (result ≡ 0 → ⊥) → bus.new ≡ bus.old }
     ensures past { (g : Parts) (n : ℕ) (past : List ItemValue) (i : ItemValue) → is_bus bus.old ≡ true → item_of item.now ≡ Some i
         → Follows g n (bus_view bus.old) past
         → GoesOn g n past i result (bus_view bus.new) }
@@ -33,8 +34,5 @@ pub extern "C" fn onfiseq_push(bus: &mut OnfiseqBus, item: &OnfiseqItem) -> u32
     if !is_bus(bus) {
         return DAMAGED;
     }
-    let Some(item) = item.item() else {
-        return 255;
-    };
-    push(bus, item)
+    push_numbers(bus, item)
 }

@@ -11,10 +11,10 @@ use Rattle.micro_word.specs.declared.refusal.WordFault.TheVariants as M
 use Rattle.micro_word.specs.declared.refusal.WordRefusal.TheVariants as W
 use Rattle.micro_word.specs.Text.{Microprogram, file2, IsFileOf}
 use Rattle.micro_word.specs.Reading.{reading as file_reading}
-use Rattle.onfiseq_text_c.specs.declared.placed.OnfiseqPlaced.{OnfiseqPlaced}
+use Rattle.placed_bytes.specs.declared.placed.OnfiseqPlaced.{OnfiseqPlaced}
 use Rattle.onfiseq_text_c.specs.declared.failure.Failure.{Failure}
 use Rattle.onfiseq_text_c.specs.declared.failure.Failure.TheVariants as F
-use Rattle.onfiseq_text_c.specs.Placed.{placed, placed_in, refusal}
+use Rattle.placed_bytes.specs.Placed.{placed, placed_in, refusal}
 
 -- the number of the code of a fault of a text, A1 to A8
 abbrev pub asm_number : AsmFault → ℕ

@@ -6,9 +6,9 @@ ghost use Rattle.micro_word.specs.Text.{file2};
 ghost use Rattle.onfiseq_text_c.specs.Assembly.{Comes, SpellsFile, FailsText, ShowsFile, FailsFile};
 
 use crate::failure::Failure;
-use crate::placed::{OnfiseqPlaced, place};
 use micro_asm::{AsmRefusal, assemble, disassemble};
 use micro_word::{Text, WordRefusal, read, write};
+use placed_bytes::{OnfiseqPlaced, place};
 use std::alloc::Global;
 
 // The word file of a microprogram.

@@ -2,9 +2,9 @@
 ghost use Rattle.std.specs.Prelude.{◌≡◌};
 ghost use Rattle.onfiseq_text_c.specs.Assembly.{asm_number, word_number, told_of};
 
-use crate::placed::{OnfiseqPlaced, refused};
 use micro_asm::AsmFault;
 use micro_word::WordFault;
+use placed_bytes::{OnfiseqPlaced, refused};
 
 /// Why a text or a word file isn't written as the other.
 #[derive(Clone, Copy)]

@@ -6,10 +6,8 @@
 
 mod assembly;
 mod failure;
-mod placed;
 mod words;
 
 pub use assembly::{onfiseq_assemble, onfiseq_disassemble};
 pub use failure::Failure;
-pub use placed::OnfiseqPlaced;
 pub use words::onfiseq_words;

@@ -1,13 +1,13 @@
 //! What each code means, in words.
 ghost use Rattle.std.specs.Prelude.{◌≤◌, length};
 
-use crate::placed::place_text;
 use arrayvec::ArrayString;
 use micro_asm::AsmFault;
 use micro_claims::Reason;
 use micro_word::WordFault;
 use nand_geometry::PageFault;
 use onfi_cycle::Forbidden;
+use placed_bytes::place_text;
 use std::fmt::Write;
 
 // Words of a code: the longest have 130 bytes.

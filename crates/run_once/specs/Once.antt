@@ -4,10 +4,7 @@ use Rattle.nand_geometry.specs.declared.parts.Parts.{Parts}
 use Rattle.onfi_cycle.specs.declared.lun.Lun.{Lun}
 use Rattle.onfi_cycle.specs.Permitted.{is_legal}
 use Rattle.onfi_cycle.specs.Channel.{Channel}
-use Rattle.micro_word.specs.declared.refusal.WordRefusal.{WordRefusal}
-use Rattle.micro_word.specs.declared.refusal.WordRefusal.TheVariants.{Fault, OutOfMemory}
 use Rattle.micro_word.specs.Text.{Microprogram, IsFileOf}
-use Rattle.micro_word.specs.Reading.{reading}
 use Rattle.micro_claims.specs.declared.refusal.Fault.{Fault as TextFault}
 use Rattle.micro_walk.specs.Faults.{fault_of}
 use Rattle.micro_program.specs.Program.{Job}
@@ -24,10 +21,8 @@ use Rattle.seq_core.specs.Alone.{alone_on}
 use Rattle.trace_text.specs.Line.{text}
 use Rattle.seq_inputs.specs.declared.fault.Fault.{Fault as InputFault}
 use Rattle.seq_inputs.specs.declared.fault.Fault.TheVariants.{Text}
-use Rattle.seq_inputs.specs.Inputs.{is_source, RefusesSource}
+use Rattle.seq_inputs.specs.Inputs.{IsProgram, RefusesFile, RefusesProgram}
 use Rattle.seq_inputs.specs.Refusals.{line_of, refusal_of}
-use Rattle.seq_commands.specs.Commands.{SpellsFile}
-use Rattle.micro_word.specs.Codes.{word_fault_code}
 use Rattle.micro_claims.specs.Codes.{reason_code}
 use Rattle.seq_core.specs.Codes.{job_fault_code}
 use Rattle.seq_inputs.specs.Lines.{refusal_line, end_line}
@@ -57,40 +52,27 @@ abbrev pub refused_text : ℕ → Microprogram → Option TextFault → Option (
 refused_text base x None = refused_load (job_fault one_lun 1 the_lun base (for_one_lun x) x.buffer)
 refused_text base x (Some fault) = Some (refusal_line (reason_code fault.reason) fault.word)
 
--- that of a file, of its text, or of its job
-abbrev pub refused_file : ℕ → Result Microprogram WordRefusal → Option (List ℕ)
-refused_file base (Ok x) = refused_text base x (fault_of one_lun x)
-refused_file base (Err (Fault code word)) = Some (refusal_line (word_fault_code code) word)
-refused_file base (Err OutOfMemory) = None
-
--- the line of the refusal of a file at a base, if it is refused. Of a text with loops, the fault of its shape or of its job
-abbrev pub refused : ℕ → List ℕ → Option (List ℕ)
-refused base bytes = refused_file base (reading bytes)
+-- the line of the refusal of a microprogram at a base, if it is refused. Of a text with loops, the fault of its shape or of its job
+abbrev pub refused : ℕ → Microprogram → Option (List ℕ)
+refused base x = refused_text base x (fault_of one_lun x)
 
 -- a text with loops whose shape is right may also be refused at some word of it, for a reason against a word
-abbrev pub IsOfLoopsIn : List ℕ → InputFault → Type 0
-IsOfLoopsIn bytes (Text reason word) = (x : Microprogram) × (reading bytes ≡ Ok x) × IsOfLoops one_lun x (record { word = word; reason = reason })
-IsOfLoopsIn bytes _ = ⊥
+abbrev pub IsOfLoopsIn : Microprogram → InputFault → Type 0
+IsOfLoopsIn x (Text reason word) = IsOfLoops one_lun x (record { word = word; reason = reason })
+IsOfLoopsIn x _ = ⊥
 
--- what a file at a base may be refused for
-abbrev pub MayBeRefused : ℕ → List ℕ → InputFault → Type 0
-MayBeRefused base bytes fault = (refused base bytes ≡ Some (line_of (refusal_of fault))) ⊎ IsOfLoopsIn bytes fault
+-- what a microprogram at a base may be refused for
+abbrev pub MayBeRefused : ℕ → Microprogram → InputFault → Type 0
+MayBeRefused base x fault = (refused base x ≡ Some (line_of (refusal_of fault))) ⊎ IsOfLoopsIn x fault
 
 -- the job of a text, its buffer all 00
 abbrev pub the_job : ℕ → Microprogram → Job
 the_job base x = job_of the_lun base (for_one_lun x) (replicate x.buffer 0)
 
--- the job of the microprogram whose file the bytes are
-abbrev pub IsJobOf : ℕ → List ℕ → Job → Type 0
-IsJobOf base bytes j = (x : Microprogram) × IsFileOf bytes x × (j ≡ the_job base x)
-
--- the bytes are the file of a microprogram, not refused at this base, which runs on a channel to which nothing has happened, whose
--- pages are all FF, until it ends, its LUN becoming ready without failure after each poll that says busy; and what is written are
--- the lines of that trace and of the code
-pub record IsRun (base : ℕ) (bytes written : List ℕ) : Type 0 where
-  pub accepted : refused base bytes ≡ None
-  pub x : Microprogram
-  pub is_file : IsFileOf bytes x
+-- the microprogram is not refused at this base, and runs on a channel to which nothing has happened, whose pages are all FF, until it ends,
+-- its LUN becoming ready without failure after each poll that says busy; and what is written are the lines of that trace and of the code
+pub record IsRun (base : ℕ) (x : Microprogram) (written : List ℕ) : Type 0 where
+  pub accepted : refused base x ≡ None
   pub start : World
   pub is_start : after the_channel (fresh the_channel) (Load the_lun (the_job base x)) ≡ Some (record { world = start; reply = ToLoad Loaded })
   pub turns : ℕ
@@ -103,26 +85,18 @@ pub record IsRun (base : ℕ) (bytes written : List ℕ) : Type 0 where
   pub is_code : slot.code ≡ Some code
   pub lines : written ≡ text (reverse end.past) ++ end_line code
 
--- ---- an assembly text, or a word file
+-- ---- what is read
 
--- it is written of an assembly text what is of the word file that it spells
-abbrev pub IsSourceRun : ℕ → List ℕ → List ℕ → Type 0
-IsSourceRun base text written = (file : List ℕ) × SpellsFile text file × IsRun base file written
+-- it is written of the microprogram of a word file
+abbrev pub IsFileRun : ℕ → List ℕ → List ℕ → Type 0
+IsFileRun base bytes written = (x : Microprogram) × IsFileOf bytes x × IsRun base x written
 
-abbrev pub SourceMayBeRefused : ℕ → List ℕ → InputFault → Type 0
-SourceMayBeRefused base text fault = RefusesSource text fault ⊎ ((file : List ℕ) × SpellsFile text file × MayBeRefused base file fault)
+abbrev pub FileMayBeRefused : ℕ → List ℕ → InputFault → Type 0
+FileMayBeRefused base bytes fault = RefusesFile bytes fault ⊎ ((x : Microprogram) × IsFileOf bytes x × MayBeRefused base x fault)
 
-abbrev pub IsProgramRunAs : (is_text : Bool) → ℕ → List ℕ → List ℕ → Type 0
-IsProgramRunAs true base bytes written = IsSourceRun base bytes written
-IsProgramRunAs false base bytes written = IsRun base bytes written
-
--- it is written of an input, which is an assembly text or a word file
+-- it is written of that of an input, which is an assembly text or a word file
 abbrev pub IsProgramRun : ℕ → List ℕ → List ℕ → Type 0
-IsProgramRun base bytes written = IsProgramRunAs (is_source bytes) base bytes written
-
-abbrev pub ProgramMayBeRefusedAs : (is_text : Bool) → ℕ → List ℕ → InputFault → Type 0
-ProgramMayBeRefusedAs true base bytes fault = SourceMayBeRefused base bytes fault
-ProgramMayBeRefusedAs false base bytes fault = MayBeRefused base bytes fault
+IsProgramRun base bytes written = (x : Microprogram) × IsProgram bytes x × IsRun base x written
 
 abbrev pub ProgramMayBeRefused : ℕ → List ℕ → InputFault → Type 0
-ProgramMayBeRefused base bytes fault = ProgramMayBeRefusedAs (is_source bytes) base bytes fault
+ProgramMayBeRefused base bytes fault = RefusesProgram bytes fault ⊎ ((x : Microprogram) × IsProgram bytes x × MayBeRefused base x fault)

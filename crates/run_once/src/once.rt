@@ -1,38 +1,31 @@
-//! Running a word file once.
+//! Running a microprogram once.
 ghost use Rattle.std.specs.Prelude.{◌≡◌, ◌≤◌, false, ℕ, ◌+◌, ◌*◌, List, ◌++◌, Some, None, Ok, IfOk, OnOk, IfErr, IfSome, length};
 ghost use Rattle.std.specs.Io.KnownBytes.{Appends};
 ghost use Rattle.std.specs.List.{All};
 ghost use Rattle.std.specs.String.{string_bytes};
-ghost use Rattle.micro_word.specs.Reading.{reading};
 ghost use Rattle.micro_program.specs.Lines.{unrolled};
-ghost use Rattle.micro_walk.specs.Faults.{fault_of};
 ghost use Rattle.seq_inputs.specs.declared.refusal.Refusal.{Refusal};
 ghost use Rattle.seq_inputs.specs.Refusals.{line_of};
-ghost use Rattle.micro_word.specs.Text.{IsFileOf};
 ghost use Rattle.seq_core.specs.World.{fresh};
 ghost use Rattle.seq_core.specs.Calls.{IsEvent};
 ghost use Rattle.seq_core.specs.Event.{Ready};
 ghost use Rattle.seq_core.specs.Reply.{ToReady};
 ghost use Rattle.seq_core.specs.Shows.{IsAt, channel_in};
-ghost use Rattle.seq_inputs.specs.Inputs.{is_source, RefusesSource};
 ghost use Rattle.seq_inputs.specs.Stops.{Says, Tells};
-ghost use Rattle.seq_commands.specs.Commands.{SpellsFile};
-ghost use Rattle.run_once.specs.Once.{one_lun, the_lun, refused, MayBeRefused, the_channel, IsJobOf, IsRun, IsSourceRun, SourceMayBeRefused, IsProgramRun, ProgramMayBeRefused};
+ghost use Rattle.run_once.specs.Once.{one_lun, the_lun, refused, MayBeRefused, the_channel, the_job, IsRun, IsFileRun, FileMayBeRefused, IsProgramRun, ProgramMayBeRefused};
 ghost use Rattle.seq_inputs.specs.Lines.{end_line};
 ghost use Rattle.run_once.specs.Runs.{EndsWithin, HasRun, IsForTheLun, IsLoaded, RanAlone, TellsRun, TookTurn};
 ghost use Rattle.trace_text.specs.Line.{text, IsPrintable};
 
 use die_model::LunDie;
-use micro_program::Verified;
-use micro_verify::{TextRefused, VerifyRefusal, verify};
-use micro_word::write;
+use micro_word::Text;
 use nand_geometry::{Geometry, Parts, SMALL_CHIP};
 use onfi_cycle::{Item, Lun};
 use seq_core::{Core, Job, Stepped, UnloadedJob};
 use seq_files::read_all;
 use seq_inputs::{
-    Console, Exit, Fault, Stop, fail, finish, is_source, push_end_line, read_source, read_words,
-    words_of_job, words_of_reason,
+    Console, Exit, Fault, Stop, fail, finish, push_end_line, read_program, read_words,
+    verify_program, words_of_job,
 };
 use seq_run::{Phase, RunProgress};
 use std::alloc::{AllocError, Allocator};
@@ -62,47 +55,20 @@ fn geometry() -> Geometry
     }
 }
 
-// The microprogram of a word file, verified. Messages show it as it was given.
-#[tactic(auto, using(micro_word::proofs::Files::reading_of, crate::proofs::Refusing::file_said, crate::proofs::Refusing::reason_said))]
-fn verify_words<A: Allocator + Copy>(
-    alloc: A,
-    file: &[u8],
-    given: &[u8],
-) -> Result<Verified<A>, Stop<'static, A>>
-    ensures text { IfOk result (λ v. reading file.now ≡ Ok v.text) }
-    ensures file { IfOk result (λ v. IsFileOf file.now v.text) }
-    ensures faultless { IfOk result (λ v. fault_of one_lun v.text ≡ None) }
-    ensures geometry { IfOk result (λ v. v.geometry ≡ one_lun) }
-    ensures refused { (base : ℕ) → IfErr result (Says (MayBeRefused base file.now)) }
-{
-    let text = read_words(alloc, STREAM, file)?;
-    let TextRefused { refusal, text } = match verify(text, geometry()) {
-        Ok(verified) => return Ok(verified),
-        Err(refused) => refused,
-    };
-    match refusal {
-        VerifyRefusal::Refusal { word, reason, .. } => {
-            let words = words_of_reason(alloc, STREAM, given, &text, &geometry(), word, reason);
-            Err(Stop::refused(Fault::Text { reason, word }, words))
-        }
-        VerifyRefusal::OutOfMemory => Err(Stop::OutOfMemory),
-    }
-}
-
-// The job of a word file: its microprogram at this base, its buffer all 00.
-#[tactic(auto, using(crate::proofs::Refusing::job_said))]
+// The job of a microprogram that was read from these bytes: verified, at this base, its buffer all 00.
+#[tactic(auto, using(crate::proofs::Refusing::job_said, crate::proofs::Refusing::reason_said))]
 fn make_job<A: Allocator + Copy>(
     alloc: A,
-    file: &[u8],
+    text: Text<A>,
     given: &[u8],
     base: u32,
 ) -> Result<Job<A>, Stop<'static, A>>
-    ensures job { IfOk result (λ j. IsJobOf base file.now j) }
+    ensures job { IfOk result (λ j. j ≡ the_job base text) }
     ensures alone { IfOk result (λ j. IsForTheLun j) }
-    ensures accepted { IfOk result (λ j. refused base file.now ≡ None) }
-    ensures refused { IfErr result (Says (MayBeRefused base file.now)) }
+    ensures accepted { OnOk result (refused base text ≡ None) }
+    ensures refused { IfErr result (Says (MayBeRefused base text)) }
 {
-    let verified = match verify_words(alloc, file, given) {
+    let verified = match verify_program(alloc, STREAM, given, text, geometry()) {
         Ok(verified) => verified,
         Err(stop) => return Err(stop),
     };
@@ -240,40 +206,76 @@ fn tell_run<'a, A: Allocator>(alloc: &'a A, job: Job<&'a A>) -> Result<String<&'
     lines_of(alloc, core.trace(), code)
 }
 
-// What is written of the run of a word file. The progress is told that it runs.
-fn run_words<'a, A: Allocator, P: RunProgress>(
+// What is written of the run of a microprogram that was read from these bytes. The progress is told that it runs.
+fn run_text<'a, A: Allocator, P: RunProgress>(
     alloc: &'a A,
     progress: &mut P,
-    file: &[u8],
+    text: Text<&'a A>,
     given: &[u8],
     base: u32,
 ) -> Result<String<&'a A>, Stop<'static, &'a A>>
-    ensures ok { IfOk result (λ lines. IsRun base file.now (string_bytes lines)) }
-    ensures err { IfErr result (Says (MayBeRefused base file.now)) }
+    ensures ok { IfOk result (λ lines. IsRun base text.entry (string_bytes lines)) }
+    ensures err { IfErr result (Says (MayBeRefused base text.entry)) }
 {
-    let job = make_job(alloc, file, given, base)?;
+    let job = make_job(alloc, text, given, base)?;
     progress.begin(Phase::Running { jobs: 1 });
     Ok(tell_run(alloc, job)?)
 }
 
-// Runs a word file and writes what becomes of it.
-fn print_run<A: Allocator, W: Write, E: Write, P: RunProgress>(
-    alloc: &A,
+// Runs a microprogram that was read from these bytes, and writes what becomes of it.
+fn print_run<'a, A: Allocator, W: Write, E: Write, P: RunProgress>(
+    alloc: &'a A,
     console: &mut Console<W, E, P>,
-    file: &[u8],
+    text: Text<&'a A>,
     given: &[u8],
     base: u32,
 ) -> Exit
-    ensures done { result ≡ Exit.Done → (written : List ℕ) × IsRun base file.now written
+    ensures done { result ≡ Exit.Done → (written : List ℕ) × IsRun base text.entry written
         × Appends (W.contents console.old.output) (W.contents console.new.output) written }
-    ensures refused { (refusal : Refusal) → result ≡ Exit.Refused refusal → Tells (MayBeRefused base file.now) refusal
+    ensures refused { (refusal : Refusal) → result ≡ Exit.Refused refusal → Tells (MayBeRefused base text.entry) refusal
         × Appends (W.contents console.old.output) (W.contents console.new.output) (line_of refusal) }
 {
-    match run_words(alloc, &mut console.progress, file, given, base) {
+    match run_text(alloc, &mut console.progress, text, given, base) {
         Ok(lines) => {
             console.progress.begin(Phase::Writing);
             finish(console, lines.as_str())
         }
+        Err(stop) => fail(alloc, console, None, stop),
+    }
+}
+
+// Runs a word file and writes what becomes of it.
+fn print_file<A: Allocator, W: Write, E: Write, P: RunProgress>(
+    alloc: &A,
+    console: &mut Console<W, E, P>,
+    file: &[u8],
+    base: u32,
+) -> Exit
+    ensures done { result ≡ Exit.Done → (written : List ℕ) × IsFileRun base file.now written
+        × Appends (W.contents console.old.output) (W.contents console.new.output) written }
+    ensures refused { (refusal : Refusal) → result ≡ Exit.Refused refusal → Tells (FileMayBeRefused base file.now) refusal
+        × Appends (W.contents console.old.output) (W.contents console.new.output) (line_of refusal) }
+{
+    match read_words(alloc, STREAM, file) {
+        Ok(text) => print_run(alloc, console, text, file, base),
+        Err(stop) => fail(alloc, console, None, stop),
+    }
+}
+
+// The same of an assembly text or a word file.
+fn print_program<A: Allocator, W: Write, E: Write, P: RunProgress>(
+    alloc: &A,
+    console: &mut Console<W, E, P>,
+    given: &[u8],
+    base: u32,
+) -> Exit
+    ensures done { result ≡ Exit.Done → (written : List ℕ) × IsProgramRun base given.now written
+        × Appends (W.contents console.old.output) (W.contents console.new.output) written }
+    ensures refused { (refusal : Refusal) → result ≡ Exit.Refused refusal → Tells (ProgramMayBeRefused base given.now) refusal
+        × Appends (W.contents console.old.output) (W.contents console.new.output) (line_of refusal) }
+{
+    match read_program(alloc, STREAM, given) {
+        Ok(text) => print_run(alloc, console, text, given, base),
         Err(stop) => fail(alloc, console, None, stop),
     }
 }
@@ -293,50 +295,19 @@ pub fn once_on<A: Allocator, R: Read, W: Write, E: Write, P: RunProgress>(
     console: &mut Console<W, E, P>,
     base: u32,
 ) -> Exit
-    ensures done { result ≡ Exit.Done → IfSome (R.remaining input.old) (λ bytes. (written : List ℕ) × IsRun base bytes written
+    ensures done { result ≡ Exit.Done → IfSome (R.remaining input.old) (λ bytes. (written : List ℕ) × IsFileRun base bytes written
         × Appends (W.contents console.old.output) (W.contents console.new.output) written) }
     ensures refused { (refusal : Refusal) → result ≡ Exit.Refused refusal → IfSome (R.remaining input.old) (λ bytes.
-        Tells (MayBeRefused base bytes) refusal × Appends (W.contents console.old.output) (W.contents console.new.output) (line_of refusal)) }
+        Tells (FileMayBeRefused base bytes) refusal × Appends (W.contents console.old.output) (W.contents console.new.output) (line_of refusal)) }
 {
     console.progress.begin(Phase::Reading);
     match read_all(alloc, input) {
-        Ok(bytes) => print_run(alloc, console, bytes.as_slice(), bytes.as_slice(), base),
+        Ok(bytes) => print_file(alloc, console, bytes.as_slice(), base),
         Err(error) => fail(alloc, console, None, Stop::<&A>::of_file(STREAM, error)),
     }
 }
 
-// The word file that an assembly text spells.
-fn spell_words<'a, A: Allocator>(
-    alloc: &'a A,
-    text: &[u8],
-) -> Result<Vec<u8, &'a A>, Stop<'static, &'a A>>
-    ensures ok { IfOk result (λ file. SpellsFile text.now file.items) }
-    ensures err { IfErr result (Says (RefusesSource text.now)) }
-{
-    let program = read_source(alloc, STREAM, text)?;
-    Ok(write(alloc, &program)?)
-}
-
-// Runs an assembly text and writes what becomes of it.
-fn print_source<A: Allocator, W: Write, E: Write, P: RunProgress>(
-    alloc: &A,
-    console: &mut Console<W, E, P>,
-    text: &[u8],
-    base: u32,
-) -> Exit
-    ensures done { result ≡ Exit.Done → (written : List ℕ) × IsSourceRun base text.now written
-        × Appends (W.contents console.old.output) (W.contents console.new.output) written }
-    ensures refused { (refusal : Refusal) → result ≡ Exit.Refused refusal → Tells (SourceMayBeRefused base text.now) refusal
-        × Appends (W.contents console.old.output) (W.contents console.new.output) (line_of refusal) }
-{
-    match spell_words(alloc, text) {
-        Ok(file) => print_run(alloc, console, file.as_slice(), text, base),
-        Err(stop) => fail(alloc, console, None, stop),
-    }
-}
-
-/// The same of a word file or an assembly text, whichever the input is. Of a text an A fault is told with its line, and else it is run as the word
-/// file that it spells.
+/// The same of a word file or an assembly text, whichever the input is. Of a text an A fault is told with its line.
 pub fn run_program<A: Allocator, R: Read, W: Write, E: Write, P: RunProgress>(
     alloc: &A,
     input: &mut R,
@@ -350,14 +321,8 @@ pub fn run_program<A: Allocator, R: Read, W: Write, E: Write, P: RunProgress>(
         × Appends (W.contents console.old.output) (W.contents console.new.output) (line_of refusal) }
 {
     console.progress.begin(Phase::Reading);
-    let bytes = match read_all(alloc, input) {
-        Ok(bytes) => bytes,
-        Err(error) => return fail(alloc, console, None, Stop::<&A>::of_file(STREAM, error)),
-    };
-    let given = bytes.as_slice();
-    if is_source(given) {
-        print_source(alloc, console, given, base)
-    } else {
-        print_run(alloc, console, given, given, base)
+    match read_all(alloc, input) {
+        Ok(bytes) => print_program(alloc, console, bytes.as_slice(), base),
+        Err(error) => fail(alloc, console, None, Stop::<&A>::of_file(STREAM, error)),
     }
 }

@@ -3,13 +3,15 @@ use Rattle.std.specs.Prelude.{◌≡◌, ◌⊎◌, ℕ, List, Option, IfSome, c
 use Rattle.seq_files.specs.Store.{Store}
 use Rattle.trace_files.specs.Files.{no_outputs}
 use Rattle.seq_inputs.specs.declared.refusal.Refusal.{Refusal}
-use Rattle.seq_inputs.specs.Inputs.{FileIsRefused}
+use Rattle.seq_inputs.specs.Inputs.{PageIsRefused, FileIsRefused}
 use Rattle.seq_inputs.specs.Stops.{Tells}
 use Rattle.seq_inputs.specs.Refusals.{line_of}
 use Rattle.seq_commands.specs.Commands.{IsAssembled, SourceIsRefused, IsAssembledFor, AssembleForRefuses, IsDisassembled, IsUpgraded, IsAccepted, VerifyRefuses, VerifyLeaves}
-use Rattle.seq_commands.specs.Checks.{ReadingRefuses, IsLegalTrace, CheckRefuses, CheckLeaves}
-use Rattle.seq_commands.specs.Draws.{IsDrawn}
-use Rattle.seq_commands.specs.Captures.{IsCaptured, CaptureRefuses}
+use Rattle.trace_commands.specs.declared.recording_fault.RecordingFault.{RecordingFault}
+use Rattle.trace_commands.specs.Recordings.{fault_line}
+use Rattle.trace_commands.specs.Checks.{TraceIsRefused, IsLegalTrace, CheckRefuses, CheckLeaves}
+use Rattle.trace_commands.specs.Draws.{IsDrawn}
+use Rattle.trace_commands.specs.Captures.{IsCaptured, CaptureIsRefused}
 use Rattle.seq_run.specs.Runs.{IsRunDone, RunIsRefused, RunMayLeave}
 use Rattle.run_once.specs.Once.{IsProgramRun, ProgramMayBeRefused}
 use Rattle.seq_cli.specs.declared.command.Command.{Command}
@@ -29,7 +31,7 @@ IsDone (Draw request) input files later printed = IsDrawn files later request ×
 IsDone (Disassemble file) input files later printed = IsDisassembled files file.now printed × (later ≡ files)
 IsDone (Upgrade file target) input files later printed = IsUpgraded files later file.now target.now × (printed ≡ codes "ok\n")
 
--- what a command may refuse, and what it leaves and prints then: one line, but for all faults of a trace
+-- what a command may refuse, and what it leaves and prints then: one line
 abbrev pub MayRefuse : Command → (input : Option (List ℕ)) → (files later : Option Store) → Refusal → (printed : List ℕ) → Type 0
 MayRefuse (Assemble text target) input files later refusal printed = Tells (SourceIsRefused files text.now) refusal × (later ≡ files) × (printed ≡ line_of refusal)
 MayRefuse (AssembleFor page text target) input files later refusal printed =
@@ -40,12 +42,19 @@ MayRefuse (Lint page text output) input files later refusal printed =
     Tells (VerifyRefuses files files page.now text.now no_outputs) refusal × (later ≡ files) × (printed ≡ line_of refusal)
 MayRefuse (Once base) input files later refusal printed = IfSome input (λ bytes. Tells (ProgramMayBeRefused base bytes) refusal) × (later ≡ files) × (printed ≡ line_of refusal)
 MayRefuse (Run request) input files later refusal printed = RunIsRefused files request refusal × (later ≡ files) × (printed ≡ line_of refusal)
-MayRefuse (Capture request) input files later refusal printed = Tells (CaptureRefuses files request) refusal × (later ≡ files) × (printed ≡ line_of refusal)
-MayRefuse (Check request) input files later refusal printed = CheckRefuses files later request refusal printed
-MayRefuse (Draw request) input files later refusal printed =
-    Tells (ReadingRefuses files request.lines request.page.now request.input.now) refusal × (later ≡ files) × (printed ≡ line_of refusal)
+MayRefuse (Capture request) input files later refusal printed = Tells (PageIsRefused files request.page.now) refusal × (later ≡ files) × (printed ≡ line_of refusal)
+MayRefuse (Check request) input files later refusal printed = Tells (PageIsRefused files request.page.now) refusal × (later ≡ files) × (printed ≡ line_of refusal)
+MayRefuse (Draw request) input files later refusal printed = Tells (PageIsRefused files request.page.now) refusal × (later ≡ files) × (printed ≡ line_of refusal)
 MayRefuse (Disassemble file) input files later refusal printed = Tells (FileIsRefused files file.now) refusal × (later ≡ files) × (printed ≡ line_of refusal)
 MayRefuse (Upgrade file target) input files later refusal printed = Tells (FileIsRefused files file.now) refusal × (later ≡ files) × (printed ≡ line_of refusal)
+
+-- what a command may find wrong with a trace or a capture, and what it leaves and prints then: one line, but for all faults of a trace
+abbrev pub MayTell : Command → (files later : Option Store) → RecordingFault → (printed : List ℕ) → Type 0
+MayTell (Capture request) files later fault printed = CaptureIsRefused files request fault × (later ≡ files) × (printed ≡ fault_line fault)
+MayTell (Check request) files later fault printed = CheckRefuses files later request fault printed
+MayTell (Draw request) files later fault printed =
+    TraceIsRefused files request.lines request.page.now request.input.now fault × (later ≡ files) × (printed ≡ fault_line fault)
+MayTell _ files later fault printed = ⊥
 
 -- what a command may leave, however it ends: the files as they were, or what it writes when it is done
 abbrev pub MayLeave : Command → (files later : Option Store) → Type 0

@@ -14,6 +14,7 @@ use std::io::{self, Read, Write};
 use std::sync::Wait;
 use std::thread::Threads;
 use std::time::Clock;
+use trace_commands::Ending;
 use trace_text::CheckProgress;
 
 // Shows the parser's text: help on the output, or a mistake on the errors.
@@ -71,11 +72,13 @@ fn end_without_words<W: Write, E: Write, P>(
 }
 
 // How two commands end, one after the other: as the first of them that isn't done.
-fn end_of_both(first: Exit, second: Exit) -> Exit {
+fn end_of_both(first: Ending, second: Ending) -> Ending {
     match first {
-        Exit::Done => second,
-        Exit::Refused(_) | Exit::FileFault | Exit::ReaderGone | Exit::Usage | Exit::OutOfMemory =>
-            first,
+        Ending::Exit(Exit::Done) => second,
+        Ending::Exit(
+            Exit::Refused(_) | Exit::FileFault | Exit::ReaderGone | Exit::Usage | Exit::OutOfMemory,
+        )
+        | Ending::Faulty(_) => first,
     }
 }
 
@@ -96,13 +99,13 @@ fn do_all<
     input: &mut R,
     console: &mut Console<W, E, P>,
     commands: &[Command<'_>],
-) -> Exit {
-    let mut exit = Exit::Done;
+) -> Ending {
+    let mut ending = Ending::Exit(Exit::Done);
     for command in commands {
-        let end = command_on(rt, clock, alloc, files, input, console, *command);
-        exit = end_of_both(exit, end);
+        let next = command_on(rt, clock, alloc, files, input, console, *command);
+        ending = end_of_both(ending, next);
     }
-    exit
+    ending
 }
 
 /// Does what the words ask for, the first of which is the name of the program. A run starts threads by the handle and takes the time by the clock.
@@ -122,14 +125,14 @@ pub fn answer_watched<
     files: &mut F,
     input: &mut R,
     console: &mut Console<W, E, P>,
-) -> Exit {
+) -> Ending {
     let words = match words {
         Ok(words) => words,
-        Err(error) => return end_without_words(console, &error),
+        Err(error) => return Ending::Exit(end_without_words(console, &error)),
     };
     match command_line::parse_all(alloc, words.as_slice()) {
         Ok(commands) => do_all(rt, clock, alloc, files, input, console, commands.as_slice()),
-        Err(mistake) => say_mistake(alloc, console, mistake),
+        Err(mistake) => Ending::Exit(say_mistake(alloc, console, mistake)),
     }
 }
 
@@ -148,6 +151,6 @@ pub fn answer<
     files: &mut F,
     input: &mut R,
     console: &mut Console<W, E, P>,
-) -> Exit {
+) -> Ending {
     answer_watched(rt, &NoClock, alloc, words, files, input, console)
 }

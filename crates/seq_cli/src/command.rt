@@ -2,12 +2,13 @@
 ghost use Rattle.std.specs.Prelude.{◌≡◌, List, ℕ};
 ghost use Rattle.std.specs.Io.KnownBytes.{Appends};
 ghost use Rattle.seq_inputs.specs.declared.refusal.Refusal.{Refusal};
-ghost use Rattle.seq_cli.specs.Commands.{IsDone, MayRefuse, MayLeave};
+ghost use Rattle.trace_commands.specs.declared.recording_fault.RecordingFault.{RecordingFault};
+ghost use Rattle.seq_cli.specs.Commands.{IsDone, MayRefuse, MayTell, MayLeave};
 
 use run_once::run_program;
 use seq_commands::{
-    CaptureRequest, CheckRequest, DrawRequest, LintOutput, assemble_file, assemble_file_for,
-    capture_trace, check_trace, disassemble_file, draw_trace, lint_file, upgrade_file, verify_file,
+    LintOutput, assemble_file, assemble_file_for, disassemble_file, lint_file, upgrade_file,
+    verify_file,
 };
 use seq_files::Files;
 use seq_inputs::{Console, Exit, Style};
@@ -17,6 +18,9 @@ use std::io::{Read, Write};
 use std::sync::Wait;
 use std::thread::Threads;
 use std::time::Clock;
+use trace_commands::{
+    CaptureRequest, CheckRequest, DrawRequest, Ending, capture_trace, check_trace, draw_trace,
+};
 use trace_files::TraceOutputs;
 use trace_text::CheckProgress;
 
@@ -138,7 +142,7 @@ impl<'a> Command<'a> {
     }
 }
 
-/// Does a command, as its own function says: [`run_program`] of the input, [`run_watched`] or one of `seq_commands`. What is wrong with a file is said in
+/// Does a command, as its own function says: [`run_program`] of the input, [`run_watched`], or one of `seq_commands` or `trace_commands`. What is wrong with a file is said in
 /// words on the console's errors, and so is a fault of a file or a stream, or that there is no memory; its progress is told how far a check or a run has
 /// come. A run starts threads by the handle and takes the time by the clock.
 pub fn command_on<
@@ -157,40 +161,53 @@ pub fn command_on<
     input: &mut R,
     console: &mut Console<W, E, P>,
     command: Command<'_>,
-) -> Exit
-    ensures done { result ≡ Exit.Done → (printed : List ℕ)
+) -> Ending
+    ensures done { result ≡ Ending.Exit Exit.Done → (printed : List ℕ)
         × IsDone command.entry (R.remaining input.old) (F.store files.old) (F.store files.new) printed
         × Appends (W.contents console.old.output) (W.contents console.new.output) printed }
-    ensures refused { (refusal : Refusal) → result ≡ Exit.Refused refusal → (printed : List ℕ)
+    ensures refused { (refusal : Refusal) → result ≡ Ending.Exit (Exit.Refused refusal) → (printed : List ℕ)
         × MayRefuse command.entry (R.remaining input.old) (F.store files.old) (F.store files.new) refusal printed
+        × Appends (W.contents console.old.output) (W.contents console.new.output) printed }
+    ensures faulty { (fault : RecordingFault) → result ≡ Ending.Faulty fault → (printed : List ℕ)
+        × MayTell command.entry (F.store files.old) (F.store files.new) fault printed
         × Appends (W.contents console.old.output) (W.contents console.new.output) printed }
     ensures files { MayLeave command.entry (F.store files.old) (F.store files.new) }
 {
     match command {
-        Command::Assemble { input, target } => assemble_file(alloc, files, console, input, target),
+        Command::Assemble { input, target } => {
+            Ending::Exit(assemble_file(alloc, files, console, input, target))
+        }
         Command::AssembleFor {
             page,
             input,
             target,
-        } => assemble_file_for(alloc, files, console, page, input, target),
+        } => Ending::Exit(assemble_file_for(alloc, files, console, page, input, target)),
         Command::Verify {
             page,
             input,
             counter,
             is_quiet,
             style,
-        } => verify_file(alloc, files, console, page, input, counter, is_quiet, style),
+        } => Ending::Exit(verify_file(
+            alloc, files, console, page, input, counter, is_quiet, style,
+        )),
         Command::Lint {
             page,
             input,
             output,
-        } => lint_file(alloc, files, console, page, input, output),
-        Command::Once { base } => run_program(&alloc, input, console, base),
-        Command::Run(request) => run_watched(rt, clock, alloc, files, console, request),
+        } => Ending::Exit(lint_file(alloc, files, console, page, input, output)),
+        Command::Once { base } => Ending::Exit(run_program(&alloc, input, console, base)),
+        Command::Run(request) => {
+            Ending::Exit(run_watched(rt, clock, alloc, files, console, request))
+        }
         Command::Capture(request) => capture_trace(alloc, files, console, request),
         Command::Check(request) => check_trace(alloc, files, console, request),
         Command::Draw(request) => draw_trace(alloc, files, console, request),
-        Command::Disassemble { input } => disassemble_file(alloc, files, console, input),
-        Command::Upgrade { input, target } => upgrade_file(alloc, files, console, input, target),
+        Command::Disassemble { input } => {
+            Ending::Exit(disassemble_file(alloc, files, console, input))
+        }
+        Command::Upgrade { input, target } => {
+            Ending::Exit(upgrade_file(alloc, files, console, input, target))
+        }
     }
 }

@@ -1,11 +1,12 @@
--- What is refused is what a stop says.
+-- What `verify` leaves where it refuses.
 use Rattle.std.proofs.Common.{◌≡◌, inl, inr, ℕ, List, Option, Some, None, subst}
 use Rattle.seq_files.specs.Store.{Store, with_all}
 use Rattle.seq_inputs.specs.declared.fault.Fault.{Fault}
 use Rattle.seq_inputs.specs.declared.refusal.Refusal.{Refusal}
 use Rattle.seq_inputs.specs.declared.stop.Stop.{Stop}
 use Rattle.seq_inputs.specs.declared.stop.Stop.TheVariants.{Refused, FileFault, ReaderGone, BuffersTooLarge, OutOfMemory}
-use Rattle.seq_inputs.specs.Stops.{refusal_in, Says, SaysElse, Tells}
+use Rattle.seq_inputs.specs.Stops.{refusal_in, SaysElse, Tells}
+use Rattle.seq_inputs.proofs.Said.{said_else}
 use Rattle.micro_word.specs.Text.{Microprogram}
 use Rattle.nand_geometry.specs.declared.parts.Parts.{Parts}
 use Rattle.seq_inputs.specs.declared.fault.Fault.TheVariants.{Text}
@@ -14,37 +15,6 @@ use Rattle.micro_verify.specs.Calm.{counter_of}
 use Rattle.trace_files.specs.declared.outputs.TraceOutputs.{TraceOutputs}
 use Rattle.trace_files.specs.Files.{no_outputs}
 use Rattle.seq_commands.specs.Commands.{VerifyRefuses, VerifyLeaves, RefusesText, LeavesRun}
-
-some_same : (r s : Refusal) → Some r ≡ Some s → r ≡ s
-some_same r s h = cc
-
-no_refusal : (r : Refusal) → None ≡ Some r → ⊥
-no_refusal r h = cc
-
-pub said : {A : Type 0} (May : Fault → Type 0) (stop : Stop A) (r : Refusal) → Says May stop → refusal_in stop ≡ Some r → Tells May r
-said May (Refused s words) r h is = subst (Tells May) (some_same s r is) h
-said May (FileFault path fault line) r h is = absurd (no_refusal r is)
-said May ReaderGone r h is = absurd (no_refusal r is)
-said May (BuffersTooLarge bytes line) r h is = absurd (no_refusal r is)
-said May OutOfMemory r h is = absurd (no_refusal r is)
-
-pub said_else : {A : Type 0} (May : Fault → Type 0) (Other : Type 0) (stop : Stop A) (r : Refusal) → SaysElse May Other stop → refusal_in stop ≡ Some r → Tells May r
-said_else May Other (Refused s words) r h is = subst (Tells May) (some_same s r is) h
-said_else May Other (FileFault path fault line) r h is = absurd (no_refusal r is)
-said_else May Other ReaderGone r h is = absurd (no_refusal r is)
-said_else May Other (BuffersTooLarge bytes line) r h is = absurd (no_refusal r is)
-said_else May Other OutOfMemory r h is = absurd (no_refusal r is)
-
--- what may be refused for one reason may be refused for a wider one
-tells_more : (May Must : Fault → Type 0) (r : Refusal) → ((f : Fault) → May f → Must f) → Tells May r → Tells Must r
-tells_more May Must r wider h = (wider r.fault h.0, h.1)
-
-pub says_more : {A : Type 0} (May Must : Fault → Type 0) (stop : Stop A) → ((f : Fault) → May f → Must f) → Says May stop → Says Must stop
-says_more May Must (Refused s words) wider h = tells_more May Must s wider h
-says_more May Must (FileFault path fault line) wider h = tt
-says_more May Must ReaderGone wider h = tt
-says_more May Must (BuffersTooLarge bytes line) wider h = h
-says_more May Must OutOfMemory wider h = tt
 
 -- what `verify` leaves, however it fails
 left_by : (files later : Option Store) (page input : List ℕ) (counter : TraceOutputs) (f : Fault) → VerifyRefuses files later page input counter f → VerifyLeaves files later page input counter

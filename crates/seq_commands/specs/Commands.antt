@@ -18,16 +18,8 @@ use Rattle.trace_files.specs.declared.outputs.TraceOutputs.{TraceOutputs}
 use Rattle.trace_files.specs.Files.{files_of}
 use Rattle.seq_inputs.specs.Inputs.{HasPage, PageIsRefused, HasFile, HasProgram, ProgramIsRefused, RefusesSource, RefusesReason}
 use Rattle.seq_inputs.specs.Headed.{with_header, RefusesHeaded}
-use Rattle.seq_commands.specs.declared.targets.Targets.{Targets}
-use Rattle.seq_commands.specs.declared.targets.Targets.TheVariants.{One, Two, Three, Four}
 use Rattle.seq_inputs.specs.declared.fault.Fault.{Fault}
 use Rattle.seq_inputs.specs.declared.fault.Fault.TheVariants.{Text}
-
-abbrev pub count_of : Targets → ℕ
-count_of One = 1
-count_of Two = 2
-count_of Three = 3
-count_of Four = 4
 
 -- ---- asm
 

@@ -1,4 +1,1 @@
 pub mod Commands
-pub mod Checks
-pub mod Draws
-pub mod Captures

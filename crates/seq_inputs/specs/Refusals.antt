@@ -1,16 +1,13 @@
 -- What is wrong with a file, and the line that says it.
 use Rattle.std.specs.Prelude.{ℕ, List, Option, Some, None}
 use Rattle.seq_inputs.specs.declared.fault.Fault.{Fault}
-use Rattle.seq_inputs.specs.declared.fault.Fault.TheVariants.{Page, Source, File, Text, Job, Trace, Item, Capture, Image, Statement}
+use Rattle.seq_inputs.specs.declared.fault.Fault.TheVariants.{Page, Source, File, Text, Job, Image, Statement}
 use Rattle.seq_inputs.specs.declared.refusal.Refusal.{Refusal}
 use Rattle.nand_geometry.specs.Codes.{page_fault_code}
 use Rattle.micro_asm.specs.Codes.{asm_fault_code}
 use Rattle.micro_word.specs.Codes.{word_fault_code}
 use Rattle.micro_claims.specs.Codes.{reason_code}
 use Rattle.seq_core.specs.Codes.{job_fault_code}
-use Rattle.trace_text.specs.Codes.{trace_fault_code}
-use Rattle.onfi_cycle.specs.Codes.{forbidden_code}
-use Rattle.bus_capture.specs.Codes.{capture_code, capture_number}
 use Rattle.die_model.specs.Loading.{code as image_fault_code}
 use Rattle.run_file.specs.Line.{code as line_fault_code}
 use Rattle.seq_inputs.specs.Lines.{refusal_line}
@@ -22,22 +19,16 @@ code_of (Source fault line) = asm_fault_code fault
 code_of (File fault word) = word_fault_code fault
 code_of (Text reason word) = reason_code reason
 code_of (Job fault) = job_fault_code fault
-code_of (Trace fault line) = trace_fault_code fault
-code_of (Item rule item) = forbidden_code rule
-code_of (Capture fault) = capture_code fault
 code_of (Image fault) = image_fault_code fault
 code_of (Statement fault) = line_fault_code fault
 
--- the line, the word or the item in the file, or the time of a capture; 0 where there is none
+-- the line or the word in the file; 0 where there is none
 abbrev pub number_in : Fault → ℕ
 number_in (Page fault) = 0
 number_in (Source fault line) = line
 number_in (File fault word) = word
 number_in (Text reason word) = word
 number_in (Job fault) = 0
-number_in (Trace fault line) = line
-number_in (Item rule item) = item
-number_in (Capture fault) = capture_number fault
 number_in (Image fault) = 0
 number_in (Statement fault) = 0
 

@@ -256,28 +256,6 @@ pub fn finish<W: Write, E: Write, P>(console: &mut Console<W, E, P>, text: &str)
     }
 }
 
-/// Ends a command that is refused, where it has more to print than the line of the refusal: it prints these lines. What there is to say in words is
-/// said after it, by [`say_words`].
-pub fn finish_refused<W: Write, E: Write, P>(
-    console: &mut Console<W, E, P>,
-    refusal: Refusal,
-    lines: &str,
-) -> Exit
-    ensures done { result ≡ Exit.Done → ⊥ }
-    ensures refused { (told : Refusal) → result ≡ Exit.Refused told → (told ≡ refusal)
-        × Appends (W.contents console.old.output) (W.contents console.new.output) lines.now }
-    ensures unwritten { (result ≡ Exit.Refused refusal) ⊎ IsUnwritten result }
-{
-    match write_text(&mut console.output, lines) {
-        Ok(()) => Exit::Refused(refusal),
-        Err(error) => tell(
-            &mut console.errors,
-            PLAIN,
-            Stop::<Global>::of_file("-", error),
-        ),
-    }
-}
-
 /// Says something in words. Where standard error takes nothing, nothing is said.
 pub fn say_words<E: Write>(errors: &mut E, words: &str) {
     let _ = errors.write_all(words.as_bytes());

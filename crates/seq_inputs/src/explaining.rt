@@ -4,18 +4,15 @@ use crate::fault::Fault;
 use crate::headed::Headed;
 use crate::reading::is_source;
 use crate::words::Words;
-use bus_capture::CaptureFault;
 use micro_asm::{AsmFault, AsmMessage, AsmRefusal, disassemble};
 use micro_claims::{Fault as TextFault, Reason};
 use micro_explain::{Cause, explain};
 use micro_word::{Text, WordFault};
 use nand_geometry::Geometry;
-use onfi_cycle::Forbidden;
 use seq_core::JobFault;
-use shown_text::{Shown, line_at};
+use shown_text::Shown;
 use std::alloc::{AllocError, Allocator};
 use std::fmt;
-use trace_text::{TraceFault, TraceForm, TraceMessage, TraceRefusal, find_item};
 
 impl fmt::Display for Fault {
     fn fmt<W: fmt::Write>(&self, f: &mut fmt::Formatter<W>) -> fmt::Result {
@@ -25,9 +22,6 @@ impl fmt::Display for Fault {
             Fault::File { fault, .. } => write!(f, "{fault}"),
             Fault::Text { reason, .. } => write!(f, "{reason}"),
             Fault::Job { fault } => write!(f, "{fault}"),
-            Fault::Trace { fault, .. } => write!(f, "{fault}"),
-            Fault::Item { rule, .. } => write!(f, "{rule}"),
-            Fault::Capture { fault } => write!(f, "{fault}"),
             Fault::Image { fault } => write!(f, "{fault}"),
             Fault::Statement { fault } => write!(f, "{fault}"),
         }
@@ -110,92 +104,6 @@ pub(crate) fn words_of_headed<'p, A: Allocator, B: Allocator>(
         }
     };
     Some(words?.at_line(shown))
-}
-
-/// What is wrong with a line of the text of a trace.
-pub fn words_of_trace<'p, A: Allocator>(
-    alloc: A,
-    path: &'p str,
-    text: &str,
-    form: TraceForm,
-    fault: TraceFault,
-    line: usize,
-) -> Option<Words<'p, A>> {
-    let message = TraceMessage::new(TraceRefusal::Fault { fault, line }, text, form);
-    Words::at(path, Some(line), format!(in alloc; "{message}"))
-}
-
-/// What is wrong with a capture: of a line with the text of that line, where that is given and is UTF-8.
-pub fn words_of_capture<'p, A: Allocator>(
-    alloc: A,
-    path: &'p str,
-    line: Option<&[u8]>,
-    fault: CaptureFault,
-) -> Option<Words<'p, A>> {
-    let CaptureFault::File(at) = fault else {
-        return words_of(alloc, path, Fault::Capture { fault });
-    };
-    let code = fault.code();
-    let text = match line.map(str::from_utf8) {
-        Some(Ok(text)) => {
-            let shown = Shown::line(text);
-            format!(in alloc; "`{shown}`: {} ({code})", at.fault)
-        }
-        Some(Err(_)) | None => format!(in alloc; "{} ({code})", at.fault),
-    };
-    Words::at(path, Some(at.line), text)
-}
-
-// The line of an item, counted from 1, and its time, if it has one.
-fn find_line(text: &str, form: TraceForm, item: usize) -> (usize, Option<u64>) {
-    let found = match form {
-        TraceForm::Strict => None,
-        TraceForm::Recorded => find_item(text, item),
-    };
-    match found {
-        Some(found) => (found.line, found.time),
-        None => (item.saturating_add(1), None),
-    }
-}
-
-/// What is said of an item of a trace.
-pub fn words_at_item<'p, A: Allocator, M: fmt::Display + Drop>(
-    alloc: A,
-    path: &'p str,
-    text: &str,
-    form: TraceForm,
-    item: usize,
-    message: M,
-) -> Option<Words<'p, A>> {
-    let (line, time) = find_line(text, form, item);
-    let shown = Shown::line(line_at(text, line).trim_end());
-    let words = match time {
-        Some(time) => format!(in alloc; "item {item} at {time}, `{shown}`: {message}"),
-        None => format!(in alloc; "item {item}, `{shown}`: {message}"),
-    };
-    Words::at(path, Some(line), words)
-}
-
-// A rule with its code.
-#[derive(Clone, Copy)]
-struct Coded(Forbidden);
-
-impl fmt::Display for Coded {
-    fn fmt<W: fmt::Write>(&self, f: &mut fmt::Formatter<W>) -> fmt::Result {
-        write!(f, "{} ({})", self.0, self.0.code())
-    }
-}
-
-/// Which rule an item of a trace breaks.
-pub fn words_of_item<'p, A: Allocator>(
-    alloc: A,
-    path: &'p str,
-    text: &str,
-    form: TraceForm,
-    rule: Forbidden,
-    item: usize,
-) -> Option<Words<'p, A>> {
-    words_at_item(alloc, path, text, form, item, Coded(rule))
 }
 
 // What a line of an assembly text says, its comment left out.

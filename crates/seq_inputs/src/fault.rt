@@ -2,16 +2,13 @@
 ghost use Rattle.std.specs.Prelude.{◌≡◌};
 ghost use Rattle.seq_inputs.specs.Refusals.{code_of, number_in};
 
-use bus_capture::CaptureFault;
 use die_model::ImageFault;
 use micro_asm::AsmFault;
 use micro_claims::Reason;
 use micro_word::WordFault;
 use nand_geometry::PageFault;
-use onfi_cycle::Forbidden;
 use run_file::RunFault;
 use seq_core::JobFault;
-use trace_text::TraceFault;
 
 /// What is wrong with a file, and where in it.
 #[derive(Clone, Copy, Debug, PartialEq, Eq)]
@@ -26,12 +23,6 @@ pub enum Fault {
     Text { reason: Reason, word: usize },
     /// Its job isn't one of the channel.
     Job { fault: JobFault },
-    /// It isn't the text of a trace, at this line, counted from 1.
-    Trace { fault: TraceFault, line: usize },
-    /// Its trace isn't legal, by this rule first, at this item, counted from 0.
-    Item { rule: Forbidden, item: usize },
-    /// It isn't the capture of a bus, in a line, counted from 1, or at a time.
-    Capture { fault: CaptureFault },
     /// It isn't the content of a die.
     Image { fault: ImageFault },
     /// It is a run file, with a line that doesn't stand.
@@ -49,15 +40,12 @@ impl Fault {
             Fault::File { fault, .. } => fault.code(),
             Fault::Text { reason, .. } => reason.code(),
             Fault::Job { fault } => fault.code(),
-            Fault::Trace { fault, .. } => fault.code(),
-            Fault::Item { rule, .. } => rule.code(),
-            Fault::Capture { fault } => fault.code(),
             Fault::Image { fault } => fault.code(),
             Fault::Statement { fault } => fault.code(),
         }
     }
 
-    /// The number of the line, the word or the item in the file, or the time of a capture; 0 where there is none.
+    /// The number of the line or the word in the file; 0 where there is none.
     pub fn number(self) -> usize
         ensures { result ≡ number_in self }
     {
@@ -66,10 +54,8 @@ impl Fault {
             | Fault::Job { .. }
             | Fault::Image { .. }
             | Fault::Statement { .. } => 0,
-            Fault::Source { line, .. } | Fault::Trace { line, .. } => line,
+            Fault::Source { line, .. } => line,
             Fault::File { word, .. } | Fault::Text { word, .. } => word,
-            Fault::Item { item, .. } => item,
-            Fault::Capture { fault } => fault.number(),
         }
     }
 }

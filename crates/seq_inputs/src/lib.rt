@@ -20,18 +20,15 @@ mod told;
 mod words;
 
 pub use console::Console;
-pub use ending::{end_without_memory, fail, fail_as, finish, finish_refused, say_words};
+pub use ending::{end_without_memory, fail, fail_as, finish, say_words};
 pub use exit::Exit;
-pub use explaining::{
-    words_at_item, words_of, words_of_capture, words_of_item, words_of_job, words_of_note,
-    words_of_reason, words_of_trace,
-};
+pub use explaining::{words_of, words_of_job, words_of_note, words_of_reason};
 pub use fault::Fault;
 pub use headed::{Headed, read_headed};
-pub use lines::push_end_line;
+pub use lines::{push_end_line, push_refusal_line};
 pub use reading::{
     geometry_at, is_source, read_file, read_program, read_source, read_words, text_of, verified_at,
-    words_at, write_file, write_files,
+    verify_program, words_at, write_file, write_files,
 };
 pub use refusal::Refusal;
 pub use stop::{MOST_BUFFER_BYTES, Stop};

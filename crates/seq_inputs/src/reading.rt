@@ -227,8 +227,8 @@ pub fn read_program<'p, A: Allocator + Clone>(
     }
 }
 
-// Verifies the microprogram of a file for a geometry.
-fn verify_program<'p, A: Allocator + Clone>(
+/// Verifies the microprogram that was read from these bytes for a geometry.
+pub fn verify_program<'p, A: Allocator + Clone>(
     alloc: A,
     path: &'p str,
     bytes: &[u8],

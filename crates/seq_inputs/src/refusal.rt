@@ -15,7 +15,7 @@ pub struct Refusal {
 }
 
 impl Refusal {
-    /// The number that is told: the line of the run file, or else that of the line, the word or the item in the file.
+    /// The number that is told: the line of the run file, or else that of the line or the word in the file.
     pub fn number(self) -> usize
         ensures { result ≡ number_of self }
     {

@@ -2,7 +2,6 @@
 
 use crate::fault::Fault;
 use crate::words::Words;
-use bus_capture::CaptureFault;
 use std::alloc::Allocator;
 use std::fmt::{self, Write};
 
@@ -61,17 +60,9 @@ impl Place {
     pub(crate) fn of(fault: Fault) -> Option<Place> {
         match fault {
             Fault::File { word, .. } | Fault::Text { word, .. } => Some(Place::Word(word)),
-            Fault::Item { item, .. } => Some(Place::Item(item)),
-            Fault::Capture {
-                fault: CaptureFault::Bus { time, .. },
-            } => Some(Place::Time(time)),
-            Fault::Capture {
-                fault: CaptureFault::File(_) | CaptureFault::Role(_),
-            }
-            | Fault::Page { .. }
+            Fault::Page { .. }
             | Fault::Source { .. }
             | Fault::Job { .. }
-            | Fault::Trace { .. }
             | Fault::Image { .. }
             | Fault::Statement { .. } => None,
         }

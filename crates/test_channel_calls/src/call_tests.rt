@@ -7,12 +7,11 @@ use channel_work::{ChannelState, Finished, Gathered, Readied, Started, Turn, Tur
 use lun_lease::{Lease, Loaded};
 use onfi_cycle::{Cycle, Item, Kind, Lun};
 use std::marker::Brand;
-use std::process::Abort;
 use std::sync::Wait;
 use std::sync::ledger::Blank;
 use std::test::*;
 use test_channel_scenes::{
-    ON_ONE, ON_ZERO, ONE, TWO_LUNS, ZERO, gather, make_erasing, read_trace, tell_done,
+    ON_ONE, ON_ZERO, ONE, TWO_LUNS, Told, ZERO, gather, make_erasing, read_trace, tell_done,
 };
 
 // A call of a worker, on the lease that it holds where the call takes one.
@@ -244,6 +243,53 @@ fn act<L: Turns, R: Wait + AllocGlobal>(
     }
 }
 
+// Calls, and what must have come of them in the end.
+struct Script {
+    lines: &'static [Line],
+    // What stands on the bus.
+    trace: &'static str,
+    // The jobs that are done, in their order.
+    done: [Told; 2],
+    // How many turns there are, and one more for each call that answered out of memory.
+    turns: u64,
+}
+
+// What came of a script is what must: both jobs are done and all is given back.
+fn has_ended_as(
+    gathered: &Gathered,
+    script: &Script,
+    trace: &[Item],
+    refused: u64,
+) -> Result<(), Fail> {
+    let done = gathered.done.as_slice();
+    let [first, second] = script.done;
+    if gathered.core.trace() != trace {
+        return Err(Fail::from("the trace is another one"));
+    }
+    if tell_done(done, 0) != Some(first) || tell_done(done, 1) != Some(second) {
+        return Err(Fail::from("other jobs are done"));
+    }
+    if is_whole(gathered, script.turns, refused) {
+        Ok(())
+    } else {
+        Err(Fail::from("something isn't given back"))
+    }
+}
+
+// Plays a script, and looks at what came of it.
+fn play_script<L: Turns, R: Wait + AllocGlobal>(
+    rt: &R,
+    blank: Blank,
+    script: &Script,
+) -> Result<(), Fail>
+    requires name { blank.name ≡ L.name }
+    requires parts { (blank.parts ≡ L.parts) × (L.all ≡ L.parts) × (L.parts ≡ 9) × (L.origin ≡ None) }
+{
+    let trace = read_trace(rt.alloc(), script.trace)?;
+    let (gathered, refused) = act::<L, R>(rt, blank, script.lines)?;
+    has_ended_as(&gathered, script, trace.as_slice(), refused)
+}
+
 const READY_ZERO: Call = Call::Ready {
     lun: ZERO,
     fail: false,
@@ -390,38 +436,38 @@ fn is_whole(gathered: &Gathered, turns: u64, refused: u64) -> bool {
         && gathered.turns <= turns.saturating_add(refused)
 }
 
+const WORKED_SCRIPT: Script = Script {
+    lines: &WORKED,
+    trace: TWO_ERASES,
+    done: [(0, 0, ZERO, 0), (0, 1, ONE, 0)],
+    turns: 4,
+};
+
+const UNTIMELY_SCRIPT: Script = Script {
+    lines: &UNTIMELY,
+    trace: UNTIMELY_TRACE,
+    done: [(0, 1, ONE, 0), (0, 0, ZERO, 0)],
+    turns: 8,
+};
+
+const REFUSED_SCRIPT: Script = Script {
+    lines: &REFUSED,
+    trace: REFUSED_TRACE,
+    done: [(0, 1, ONE, 0), (0, 0, ZERO, 0)],
+    turns: 9,
+};
+
 #[test]
 fn two_jobs_call_by_call(rt: HostRuntime) -> Result<(), Fail> {
-    let trace = read_trace(rt.alloc(), TWO_ERASES)?;
-    let (gathered, refused) = act::<Brand, _>(&rt, Blank::new(9), &WORKED)?;
-    assert!(rt; gathered.core.trace() == trace.as_slice());
-    let done = gathered.done.as_slice();
-    assert_eq!(rt; tell_done(done, 0), Some((0, 0, ZERO, 0)));
-    assert_eq!(rt; tell_done(done, 1), Some((0, 1, ONE, 0)));
-    assert!(rt; is_whole(&gathered, 4, refused));
-    Ok(())
+    play_script::<Brand, _>(&rt, Blank::new(9), &WORKED_SCRIPT)
 }
 
 #[test]
 fn untimely_calls(rt: HostRuntime) -> Result<(), Fail> {
-    let trace = read_trace(rt.alloc(), UNTIMELY_TRACE)?;
-    let (gathered, refused) = act::<Brand, _>(&rt, Blank::new(9), &UNTIMELY)?;
-    assert!(rt; gathered.core.trace() == trace.as_slice());
-    let done = gathered.done.as_slice();
-    assert_eq!(rt; tell_done(done, 0), Some((0, 1, ONE, 0)));
-    assert_eq!(rt; tell_done(done, 1), Some((0, 0, ZERO, 0)));
-    assert!(rt; is_whole(&gathered, 8, refused));
-    Ok(())
+    play_script::<Brand, _>(&rt, Blank::new(9), &UNTIMELY_SCRIPT)
 }
 
 #[test]
 fn refusals_come_before_memory(rt: HostRuntime) -> Result<(), Fail> {
-    let trace = read_trace(rt.alloc(), REFUSED_TRACE)?;
-    let (gathered, refused) = act::<Brand, _>(&rt, Blank::new(9), &REFUSED)?;
-    assert!(rt; gathered.core.trace() == trace.as_slice());
-    let done = gathered.done.as_slice();
-    assert_eq!(rt; tell_done(done, 0), Some((0, 1, ONE, 0)));
-    assert_eq!(rt; tell_done(done, 1), Some((0, 0, ZERO, 0)));
-    assert!(rt; is_whole(&gathered, 9, refused));
-    Ok(())
+    play_script::<Brand, _>(&rt, Blank::new(9), &REFUSED_SCRIPT)
 }

@@ -14,7 +14,7 @@ use std::sync::ledger::Blank;
 use std::test::*;
 use std::thread::Threads;
 use test_channel_scenes::{
-    Erase, ON_ONE, ON_ZERO, TWO_LUNS, ZERO, ended, gather, make_erasing, make_two_passes,
+    Erase, ON_ONE, ON_ZERO, TWO_LUNS, Told, ZERO, ended, gather, make_erasing, make_two_passes,
     tell_done, work_by_two,
 };
 use trace_text::check;
@@ -60,23 +60,38 @@ fn erase_alone<L: Turns, R: Wait + AllocGlobal>(rt: &R, blank: Blank) -> Result<
 }
 
 // All jobs are done and all is given back, after a legal trace.
-fn is_whole(gathered: &Gathered, geometry: &Geometry) -> bool {
-    gathered.done.len() == 2
-        && gathered.backlog.is_empty()
-        && gathered.seats.len() == 16
-        && gathered.parked.len() == 0
-        && gathered.turns >= 4
-        && check(geometry, 1, gathered.core.trace()).is_ok()
+fn is_whole(gathered: &Gathered) -> Result<bool, Fail> {
+    let geometry = Geometry::of(TWO_LUNS)?;
+    Ok(
+        gathered.done.len() == 2
+            && gathered.backlog.is_empty()
+            && gathered.seats.len() == 16
+            && gathered.parked.len() == 0
+            && gathered.turns >= 4
+            && check(&geometry, 1, gathered.core.trace()).is_ok(),
+    )
+}
+
+// Both are done in their order, and all is whole. What is done first and second.
+fn tell_both<L: Turns, R: Wait + AllocGlobal>(
+    rt: &R,
+    blank: Blank,
+) -> Result<(Option<Told>, Option<Told>), Fail>
+    requires name { blank.name ≡ L.name }
+    requires parts { (blank.parts ≡ L.parts) × (L.all ≡ L.parts) × (L.parts ≡ 9) × (L.origin ≡ None) }
+{
+    let gathered = erase_alone::<L, R>(rt, blank)?;
+    if !is_whole(&gathered)? {
+        return Err(Fail::from("something isn't given back"));
+    }
+    let done = gathered.done.as_slice();
+    Ok((tell_done(done, 0), tell_done(done, 1)))
 }
 
 #[test]
 fn each_refusal_loses_nothing(rt: HostRuntime) -> Result<(), Fail> {
-    let geometry = Geometry::of(TWO_LUNS)?;
-    let gathered = erase_alone::<Brand, _>(&rt, Blank::new(9))?;
-    assert!(rt; is_whole(&gathered, &geometry));
-    let done = gathered.done.as_slice();
-    assert_eq!(rt; tell_done(done, 0), Some((0, 0, ZERO, 0)));
-    assert_eq!(rt; tell_done(done, 1), Some((0, 1, ZERO, 0)));
+    let told = tell_both::<Brand, _>(&rt, Blank::new(9))?;
+    assert_eq!(rt; told, (Some((0, 0, ZERO, 0)), Some((0, 1, ZERO, 0))));
     Ok(())
 }
 
@@ -102,12 +117,23 @@ fn erase_by_two<L: Turns + Sync, R: Threads + Wait + Sync + AllocGlobal>(
     Ok((gather(channel.into_state(), ended_passes)?, is_short))
 }
 
+// Whether all is whole then, and whether one of the two ended for want of memory.
+fn look_at_two<L: Turns + Sync, R: Threads + Wait + Sync + AllocGlobal>(
+    rt: &R,
+    blank: Blank,
+) -> Result<(bool, bool), Fail>
+    requires name { blank.name ≡ L.name }
+    requires parts { (blank.parts ≡ L.parts) × (L.all ≡ L.parts) × (L.parts ≡ 9) × (L.origin ≡ None) }
+{
+    let (gathered, is_short) = erase_by_two::<L, R>(rt, blank)?;
+    Ok((is_whole(&gathered)?, is_short))
+}
+
 // `tools/fail_allocs.py` looks for what is printed.
 #[test]
 fn another_goes_on_after_a_refusal(rt: HostRuntime) -> Result<(), Fail> {
-    let geometry = Geometry::of(TWO_LUNS)?;
-    let (gathered, is_short) = erase_by_two::<Brand, _>(&rt, Blank::new(9))?;
-    assert!(rt; is_whole(&gathered, &geometry));
+    let (is_whole, is_short) = look_at_two::<Brand, _>(&rt, Blank::new(9))?;
+    assert!(rt; is_whole);
     if is_short {
         println!(rt; "one of two workers was out of memory")?;
     }

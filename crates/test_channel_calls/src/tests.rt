@@ -1,7 +1,7 @@
 //! One worker on a channel, leases, and passes.
 ghost use Rattle.std.specs.Prelude.{◌≡◌, None};
 
-use channel_work::{ChannelState, Gate, GatherRefused, Gathered, Turns, WorkerPass};
+use channel_work::{ChannelState, Gate, GatherRefused, Gathered, NamedJob, Turns, WorkerPass};
 use onfi_cycle::Lun;
 use std::alloc::Global;
 use std::marker::Brand;
@@ -10,7 +10,7 @@ use std::sync::Wait;
 use std::sync::ledger::Blank;
 use std::test::*;
 use test_channel_scenes::{
-    Erase, FOUR_LUNS, ON_ONE, ON_ZERO, ONE, ONE_LUN, TWO_LUNS, ZERO, gather, make_erasing,
+    Erase, FOUR_LUNS, ON_ONE, ON_ZERO, ONE, ONE_LUN, TWO_LUNS, Told, ZERO, gather, make_erasing,
     make_two_passes, read_trace, run_alone, start, tell_done,
 };
 
@@ -67,27 +67,66 @@ fn erase_alone<L: Turns, R: Wait + AllocGlobal>(
     run_alone(rt, state, &Open)
 }
 
+// Erases of one worker, and what must come of them.
+struct Work {
+    erases: &'static [Erase],
+    // What stands on the bus.
+    trace: &'static str,
+    // The jobs that are done, and how many aren't.
+    done: &'static [Told],
+    left: usize,
+}
+
+// These jobs are done, in this order, and no others.
+fn are_done(done: &[NamedJob], wanted: &[Told]) -> bool {
+    for (place, told) in wanted.iter().enumerate() {
+        if tell_done(done, place) != Some(*told) {
+            return false;
+        }
+    }
+    done.len() == wanted.len()
+}
+
+// The work is done as it must be. How many turns it took.
+fn do_work<L: Turns, R: Wait + AllocGlobal>(rt: &R, blank: Blank, work: &Work) -> Result<u64, Fail>
+    requires name { blank.name ≡ L.name }
+    requires parts { (blank.parts ≡ L.parts) × (L.all ≡ L.parts) × (L.parts ≡ 9) × (L.origin ≡ None) }
+{
+    let trace = read_trace(rt.alloc(), work.trace)?;
+    let gathered = erase_alone::<L, R>(rt, blank, work.erases)?;
+    if gathered.core.trace() != trace.as_slice() {
+        return Err(Fail::from("the trace is another one"));
+    }
+    if are_done(gathered.done.as_slice(), work.done) && gathered.backlog.len() == work.left {
+        Ok(gathered.turns)
+    } else {
+        Err(Fail::from("other jobs are done"))
+    }
+}
+
+const TWO_JOBS: Work = Work {
+    erases: &[ON_ZERO, ON_ONE],
+    trace: TWO_ERASES,
+    done: &[(0, 0, ZERO, 0), (0, 1, ONE, 0)],
+    left: 0,
+};
+
+const ONE_ELSEWHERE: Work = Work {
+    erases: &[ELSEWHERE, ON_ONE],
+    trace: ERASE_OF_ONE,
+    done: &[(0, 1, ONE, 0)],
+    left: 1,
+};
+
 #[test]
 fn two_jobs_of_one_worker(rt: HostRuntime) -> Result<(), Fail> {
-    let gathered = erase_alone::<Brand, _>(&rt, Blank::new(9), &[ON_ZERO, ON_ONE])?;
-    assert!(rt; read_trace(rt.alloc(), TWO_ERASES)?.as_slice() == gathered.core.trace());
-    let done = gathered.done.as_slice();
-    assert_eq!(rt; tell_done(done, 0), Some((0, 0, ZERO, 0)));
-    assert_eq!(rt; tell_done(done, 1), Some((0, 1, ONE, 0)));
-    assert_eq!(rt;
-        (done.len(), gathered.backlog.len(), gathered.turns),
-        (2, 0, 4)
-    );
+    assert_eq!(rt; do_work::<Brand, _>(&rt, Blank::new(9), &TWO_JOBS)?, 4);
     Ok(())
 }
 
 #[test]
 fn a_job_of_another_geometry_stays(rt: HostRuntime) -> Result<(), Fail> {
-    let gathered = erase_alone::<Brand, _>(&rt, Blank::new(9), &[ELSEWHERE, ON_ONE])?;
-    assert!(rt; read_trace(rt.alloc(), ERASE_OF_ONE)?.as_slice() == gathered.core.trace());
-    let done = gathered.done.as_slice();
-    assert_eq!(rt; tell_done(done, 0), Some((0, 1, ONE, 0)));
-    assert_eq!(rt; (done.len(), gathered.backlog.len()), (1, 1));
+    do_work::<Brand, _>(&rt, Blank::new(9), &ONE_ELSEWHERE)?;
     Ok(())
 }
 

@@ -225,16 +225,30 @@ fn is_done(gathered: &Gathered, count: u64) -> Result<bool, Fail> {
     )
 }
 
+// They store and do them so. Whether all was done, in order, on a legal trace.
+fn has_erased<L: Turns + Sync, R: Threads + Wait + Sync + AllocGlobal>(
+    rt: &R,
+    blank: Blank,
+    gate: &Chance,
+    count: u64,
+) -> Result<bool, Fail>
+    requires name { blank.name ≡ L.name }
+    requires parts { (blank.parts ≡ L.parts) × (L.all ≡ L.parts) × (L.parts ≡ 9) × (L.origin ≡ None) }
+{
+    let gathered = erase_many::<L, R>(rt, blank, gate, count)?;
+    is_done(&gathered, count)
+}
+
 #[test]
 fn four_workers_and_four_hosts(rt: HostRuntime) -> Result<(), Fail> {
-    let gathered = erase_many::<Brand, _>(&rt, Blank::new(9), &Chance::new(0, 0), 200)?;
-    assert!(rt; is_done(&gathered, 200)?);
+    let gate = Chance::new(0, 0);
+    assert!(rt; has_erased::<Brand, _>(&rt, Blank::new(9), &gate, 200)?);
     Ok(())
 }
 
 #[test]
 fn four_workers_by_chance(rt: HostRuntime) -> Result<(), Fail> {
-    let gathered = erase_many::<Brand, _>(&rt, Blank::new(9), &Chance::new(5, 3), 50)?;
-    assert!(rt; is_done(&gathered, 50)?);
+    let gate = Chance::new(5, 3);
+    assert!(rt; has_erased::<Brand, _>(&rt, Blank::new(9), &gate, 50)?);
     Ok(())
 }

@@ -1,11 +1,11 @@
 use bus_capture::CaptureForm;
 use nand_geometry::{Geometry, SMALL_CHIP};
-use seq_commands::{CaptureRequest, Targets, capture_trace};
 use seq_files::MapFiles;
 use seq_inputs::Console;
 use std::alloc::Global;
 use std::process::Abort;
 use std::test::Fail;
+use trace_commands::{CaptureRequest, Targets, capture_trace};
 use trace_text::NoProgress;
 
 // A status command and its output, as an analyzer records them whose channels have names of their own.

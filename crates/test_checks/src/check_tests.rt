@@ -1,10 +1,10 @@
 use nand_geometry::{Geometry, SMALL_CHIP};
-use seq_commands::{CheckRequest, Targets, check_trace};
 use seq_files::MapFiles;
-use seq_inputs::{Console, Exit, Style};
+use seq_inputs::{Console, Style};
 use std::alloc::Global;
 use std::process::Abort;
 use std::test::Fail;
+use trace_commands::{CheckRequest, Ending, Targets, check_trace};
 use trace_faults::{Beginning, Readies};
 use trace_text::{NoProgress, TraceForm};
 
@@ -31,7 +31,7 @@ const REQUEST: CheckRequest<'static> = CheckRequest {
 // What comes of a check: how it ends, what it prints and says, and the file that it writes.
 #[derive(Drop)]
 struct Seen {
-    exit: Exit,
+    exit: Ending,
     output: Vec<u8>,
     errors: Vec<u8>,
     files: MapFiles,

@@ -1,10 +1,10 @@
 use nand_geometry::{Geometry, SMALL_CHIP};
-use seq_commands::{DrawRequest, Targets, draw_trace};
 use seq_files::MapFiles;
 use seq_inputs::Console;
 use std::alloc::Global;
 use std::process::Abort;
 use std::test::Fail;
+use trace_commands::{DrawRequest, Targets, draw_trace};
 use trace_files::DrawForm;
 use trace_text::{NoProgress, TraceForm};
 

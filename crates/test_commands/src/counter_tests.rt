@@ -1,14 +1,14 @@
 // The runs that `verify` leaves of its refusals.
+use crate::command::Command;
 use crate::tests::{ASSEMBLE, ONE_LUN, TWO_LUNS, do_command, files_of, refused};
 use micro_claims::Reason;
 use nand_geometry::Parts;
 use onfi_cycle::Forbidden;
-use seq_cli::Command;
-use seq_commands::{CheckRequest, DrawRequest, Targets};
 use seq_files::{FileError, FileFault, MapFiles};
 use seq_inputs::{Exit, Fault, Style};
 use std::process::Abort;
 use std::test::Fail;
+use trace_commands::{CheckRequest, DrawRequest, Ending, RecordingFault, Targets};
 use trace_faults::{Beginning, Readies};
 use trace_files::{DrawForm, Drawing, TraceOutputs};
 use trace_text::TraceForm;
@@ -93,7 +93,7 @@ fn assemble(rt: &(impl Abort + AllocGlobal), parts: Parts, text: &str) -> Result
     let mut files = files_of(rt.alloc(), parts, text.as_bytes())?;
     assert_eq!(rt;
         do_command(rt.alloc(), &mut files, ASSEMBLE).exit,
-        Exit::Done
+        Ending::Exit(Exit::Done)
     );
     Ok(files)
 }
@@ -116,7 +116,10 @@ fn expect_run(
     let line = format!(in rt.alloc(); "refused V7 at {word}\n")?;
     assert_eq!(rt; str::from_utf8(seen.output.as_slice())?, line.as_str());
     let checked = do_command(rt.alloc(), &mut files, CHECK);
-    assert_eq!(rt; checked.exit, refused(Fault::Item { rule, item }));
+    assert_eq!(rt;
+        checked.exit,
+        Ending::Faulty(RecordingFault::Item { rule, item })
+    );
     Ok(files)
 }
 
@@ -165,7 +168,7 @@ fn a_run_with_its_drawings(rt: HostRuntime) -> Result<(), Fail> {
     );
     assert_eq!(rt; files.get("run"), Some(BUSY.as_bytes()));
     let drawn = do_command(rt.alloc(), &mut files, WAVE);
-    assert_eq!(rt; drawn.exit, Exit::Done);
+    assert_eq!(rt; drawn.exit, Ending::Exit(Exit::Done));
     assert_eq!(rt; files.get("wave"), files.get("again"));
     expect_parts(&rt, &files, "wave", &["#46\n", "#56\n", "#60\n"])?;
     expect_parts(
@@ -246,10 +249,14 @@ fn runs_that_cannot_be_written(rt: HostRuntime) -> Result<(), Fail> {
     for (error, exit, said) in [
         (
             FileError::Fault(FileFault::StorageFull),
-            Exit::FileFault,
+            Ending::Exit(Exit::FileFault),
             "file fault run\nrun: no space left on the device\n",
         ),
-        (FileError::OutOfMemory, Exit::OutOfMemory, "out of memory\n"),
+        (
+            FileError::OutOfMemory,
+            Ending::Exit(Exit::OutOfMemory),
+            "out of memory\n",
+        ),
     ] {
         let mut files = assemble(&rt, ONE_LUN, ERASE_TWICE)?;
         files.fail_at(2, error);

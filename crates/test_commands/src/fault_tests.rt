@@ -1,15 +1,16 @@
+use crate::command::Command;
 use crate::tests::{
-    ASSEMBLE, CHECK, DISASSEMBLE, ERASE, ERASE_FILE, ONE_LUN, TRACE, UPGRADE, VERIFY, carry_out,
-    do_command, files_of,
+    ASSEMBLE, CHECK, DISASSEMBLE, ERASE, ERASE_FILE, ONE_LUN, TRACE, UPGRADE, VERIFY, do_command,
+    files_of,
 };
 use linked_list_allocator::LocalHeap;
-use seq_cli::Command;
 use seq_files::{FileError, FileFault, FullWriter, MapFiles};
 use seq_inputs::{Console, Exit};
 use std::alloc::Global;
 use std::io::{self, sink};
 use std::process::Abort;
 use std::test::Fail;
+use trace_commands::Ending;
 use trace_text::NoProgress;
 
 // Each command with the text that it reads, none for a word file, and how many files it reads and writes.
@@ -50,10 +51,14 @@ fn expect_fault(
     for (error, exit, said) in [
         (
             FileError::Fault(FileFault::PermissionDenied),
-            Exit::FileFault,
+            Ending::Exit(Exit::FileFault),
             fault.as_str(),
         ),
-        (FileError::OutOfMemory, Exit::OutOfMemory, "out of memory\n"),
+        (
+            FileError::OutOfMemory,
+            Ending::Exit(Exit::OutOfMemory),
+            "out of memory\n",
+        ),
     ] {
         let mut files = files_with(rt.alloc(), text)?;
         files.fail_at(call, error);
@@ -77,7 +82,7 @@ fn each_call_fails(rt: HostRuntime) -> Result<(), Fail> {
         files.fail_at(calls, FileError::Fault(FileFault::Unknown));
         assert_eq!(rt;
             do_command(rt.alloc(), &mut files, command).exit,
-            Exit::Done
+            Ending::Exit(Exit::Done)
         );
         assert_eq!(rt; files.calls(), calls);
     }
@@ -91,7 +96,7 @@ fn files_that_are_not_there(rt: HostRuntime) -> Result<(), Fail> {
         let seen = do_command(rt.alloc(), &mut files, command);
         let path = path_of(command, 0);
         let said = format!(in rt.alloc(); "file fault {path}\n{path}: there is no such file\n")?;
-        assert_eq!(rt; seen.exit, Exit::FileFault);
+        assert_eq!(rt; seen.exit, Ending::Exit(Exit::FileFault));
         assert!(rt; seen.output.is_empty());
         assert_eq!(rt; str::from_utf8(seen.errors.as_slice())?, said.as_str());
     }
@@ -114,7 +119,7 @@ fn texts_of_other_bytes(rt: HostRuntime) -> Result<(), Fail> {
         ] {
             let mut files = files_of(rt.alloc(), ONE_LUN, bytes)?;
             let seen = do_command(rt.alloc(), &mut files, command);
-            assert_eq!(rt; seen.exit, Exit::FileFault);
+            assert_eq!(rt; seen.exit, Ending::Exit(Exit::FileFault));
             assert!(rt; seen.output.is_empty());
             assert_eq!(rt; str::from_utf8(seen.errors.as_slice())?, said);
             assert_eq!(rt; files.get("out"), None);
@@ -129,13 +134,17 @@ fn outputs_that_fail(rt: HostRuntime) -> Result<(), Fail> {
     for (kind, exit, said) in [
         (
             io::ErrorKind::StorageFull,
-            Exit::FileFault,
+            Ending::Exit(Exit::FileFault),
             "file fault -\n-: no space left on the device\n",
         ),
-        (io::ErrorKind::BrokenPipe, Exit::ReaderGone, ""),
+        (
+            io::ErrorKind::BrokenPipe,
+            Ending::Exit(Exit::ReaderGone),
+            "",
+        ),
         (
             io::ErrorKind::OutOfMemory,
-            Exit::OutOfMemory,
+            Ending::Exit(Exit::OutOfMemory),
             "out of memory\n",
         ),
     ] {
@@ -146,7 +155,7 @@ fn outputs_that_fail(rt: HostRuntime) -> Result<(), Fail> {
                 errors: Vec::new(rt.alloc()),
                 progress: NoProgress,
             };
-            let got = carry_out(rt.alloc(), &mut files, &mut console, command);
+            let got = command.carry_out(rt.alloc(), &mut files, &mut console);
             assert_eq!(rt; got, exit);
             assert_eq!(rt; files.calls(), calls);
             assert_eq!(rt; str::from_utf8(console.errors.as_slice())?, said);
@@ -158,7 +167,7 @@ fn outputs_that_fail(rt: HostRuntime) -> Result<(), Fail> {
             errors: Vec::new(rt.alloc()),
             progress: NoProgress,
         };
-        let got = carry_out(rt.alloc(), &mut files, &mut console, VERIFY);
+        let got = VERIFY.carry_out(rt.alloc(), &mut files, &mut console);
         assert_eq!(rt; got, exit);
         assert_eq!(rt; str::from_utf8(console.errors.as_slice())?, said);
     }
@@ -177,7 +186,7 @@ fn errors_that_fail(rt: HostRuntime) -> Result<(), Fail> {
         },
         progress: NoProgress,
     };
-    let exit = carry_out(rt.alloc(), &mut files, &mut console, VERIFY);
+    let exit = VERIFY.carry_out(rt.alloc(), &mut files, &mut console);
     assert_eq!(rt; exit.status(), 1);
     assert_eq!(rt; console.output.as_slice(), b"refused M1 at 0\n".as_slice());
     Ok(())
@@ -197,14 +206,14 @@ fn fits_heap(
         errors: sink(),
         progress: NoProgress,
     };
-    let exit = carry_out(&heap, &mut files, &mut console, command);
+    let exit = command.carry_out(&heap, &mut files, &mut console);
     let output = console.output;
-    if exit == Exit::OutOfMemory {
+    if exit == Ending::Exit(Exit::OutOfMemory) {
         assert!(rt; output.is_empty());
         assert_eq!(rt; files.get("out"), None);
         return Ok(false);
     }
-    assert_eq!(rt; exit, Exit::Done);
+    assert_eq!(rt; exit, Ending::Exit(Exit::Done));
     assert!(rt; !output.is_empty());
     Ok(true)
 }

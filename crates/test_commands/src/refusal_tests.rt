@@ -1,18 +1,17 @@
-ghost use Rattle.std.specs.Prelude.{◌<◌};
-
+use crate::command::Command;
 use crate::tests::{
     ASSEMBLE, CHECK, DISASSEMBLE, ERASE_FILE, ONE_LUN, TWO_LUNS, UPGRADE, VERIFY, do_command,
     expect, files_of, refused,
 };
 use micro_claims::Reason;
 use nand_geometry::{Geometry, Parts};
-use seq_cli::Command;
 use seq_core::JobFault;
 use seq_files::MapFiles;
 use seq_inputs::{Exit, Fault, Refusal, Style, words_of};
-use std::alloc::Global;
+use std::alloc::{AllocError, Global};
 use std::process::Abort;
 use std::test::Fail;
+use trace_commands::Ending;
 use trace_files::TraceOutputs;
 
 // The smallest texts that are refused, with the code and the line.
@@ -42,14 +41,16 @@ fn expect_line(
     let told = format!(in rt.alloc(); "refused {code} at {line}\n")?;
     let begin = format!(in rt.alloc(); "in:{line}: ")?;
     let end = format!(in rt.alloc(); " ({code})\n")?;
-    assert_eq!(rt; str::from_utf8(seen.output.as_slice())?, told.as_str());
-    let words = str::from_utf8(seen.errors.as_slice())?;
+    let (output, words) = seen.texts()?;
+    assert!(rt;
+        output == told.as_str() && seen.exit.status() == 1,
+        "{output}"
+    );
     assert!(rt;
         words.starts_with(begin.as_str()) && words.ends_with(end.as_str()),
         "{words}"
     );
     assert!(rt; !words.contains('\u{1b}'), "{words}");
-    assert_eq!(rt; seen.exit.status(), 1);
     Ok(files)
 }
 
@@ -120,96 +121,97 @@ fn sources_in_place_of_word_files(rt: HostRuntime) -> Result<(), Fail> {
     Ok(())
 }
 
-// A file with one byte turned into another.
-fn changed(place: usize, byte: u8) -> [u8; 36]
-    requires { place < 36 }
-{
-    let mut file = ERASE_FILE;
-    file[place] = byte;
-    file
+// How the file of the erase is damaged.
+#[derive(Clone, Copy)]
+enum Damage {
+    // It is cut to so many bytes.
+    Cut(usize),
+    // It has one byte more.
+    Longer,
+    // One byte is another one.
+    Byte(usize, u8),
 }
 
-// Both commands that only read a word file refuse it alike, and nothing is written.
-fn expect_file(
-    rt: &(impl Abort + AllocGlobal),
-    file: &[u8],
-    line: &str,
-    words: &str,
-) -> Result<(), Fail> {
-    expect(rt, ONE_LUN, file, DISASSEMBLE, line, words)?;
-    expect(rt, ONE_LUN, file, VERIFY, line, words)?;
-    let files = expect(rt, ONE_LUN, file, UPGRADE, line, words)?;
-    assert_eq!(rt; files.get("out"), None);
-    Ok(())
+fn damaged(alloc: Global, damage: Damage) -> Result<Vec<u8>, AllocError> {
+    let mut file = ERASE_FILE.to_vec(alloc)?;
+    match damage {
+        Damage::Cut(len) => file.truncate(len),
+        Damage::Longer => file.push(0)?,
+        Damage::Byte(place, byte) => {
+            if let Some(old) = file.get_mut(place) {
+                *old = byte;
+            }
+        }
+    }
+    Ok(file)
 }
 
-#[test]
-fn word_files(rt: HostRuntime) -> Result<(), Fail> {
-    let mut longer = ERASE_FILE.to_vec(rt.alloc())?;
-    longer.push(0)?;
-    expect_file(
-        &rt,
-        &[],
+// Damaged files, the line that is printed of each, and the words.
+const WORD_FILES: &[(Damage, &str, &str)] = &[
+    (
+        Damage::Cut(0),
         "refused M1 at 0\n",
         "in: the file is shorter than its header of 16 bytes (M1)\n",
-    )?;
-    expect_file(
-        &rt,
-        &ERASE_FILE[..15],
+    ),
+    (
+        Damage::Cut(15),
         "refused M1 at 0\n",
         "in: the file is shorter than its header of 16 bytes (M1)\n",
-    )?;
-    expect_file(
-        &rt,
-        &changed(3, 0x33),
+    ),
+    (
+        Damage::Byte(3, 0x33),
         "refused M2 at 0\n",
         "in: the file begins with neither NMP1 nor NMP2 (M2)\n",
-    )?;
-    expect_file(
-        &rt,
-        &ERASE_FILE[..35],
+    ),
+    (
+        Damage::Cut(35),
         "refused M3 at 0\n",
         "in: the header names more than 1024 words, or more than the file has (M3)\n",
-    )?;
-    expect_file(
-        &rt,
-        &changed(24, 0x11),
+    ),
+    (
+        Damage::Byte(24, 0x11),
         "refused M4 at 2\n",
         "in: word 2: no word has this code (M4)\n",
-    )?;
-    expect_file(
-        &rt,
-        &changed(29, 1),
+    ),
+    (
+        Damage::Byte(29, 1),
         "refused M5 at 3\n",
         "in: word 3: a byte that this word doesn't use isn't 0 (M5)\n",
-    )?;
-    expect_file(
-        &rt,
-        &changed(22, 0),
+    ),
+    (
+        Damage::Byte(22, 0),
         "refused M6 at 1\n",
         "in: word 1: a number is out of its range (M6)\n",
-    )?;
-    expect_file(
-        &rt,
-        &changed(6, 0),
+    ),
+    (
+        Damage::Byte(6, 0),
         "refused M6 at 0\n",
         "in: the header or word 0: a number is out of its range (M6)\n",
-    )?;
-    expect_file(
-        &rt,
-        longer.as_slice(),
+    ),
+    (
+        Damage::Longer,
         "refused M7 at 0\n",
         "in: the file goes on after its last word (M7)\n",
-    )?;
+    ),
+];
+
+// Both commands that only read a word file refuse it alike, and nothing is written.
+#[test]
+fn word_files(rt: HostRuntime) -> Result<(), Fail> {
+    for (damage, line, words) in WORD_FILES {
+        let file = damaged(rt.alloc(), *damage)?;
+        for command in [DISASSEMBLE, VERIFY, UPGRADE] {
+            let files = expect(&rt, ONE_LUN, file.as_slice(), command, line, words)?;
+            assert!(rt; files.get("out").is_none(), "{line}");
+        }
+    }
     Ok(())
 }
 
 // A page of one LUN with one byte turned into another, and with its checksum.
-fn page_with(place: usize, byte: u8, sum: [u8; 2]) -> Result<[u8; 256], Fail>
-    requires { place < 256 }
-{
+fn page_with(place: u8, byte: u8, sum: [u8; 2]) -> Result<[u8; 256], Fail> {
     let mut page = Geometry::of(ONE_LUN)?.page();
-    page[place] = byte;
+    page[usize::from(place)] = byte;
     page[254] = sum[0];
     page[255] = sum[1];
     Ok(page)
@@ -222,77 +224,80 @@ fn expect_page(
     code: &str,
     meaning: &str,
 ) -> Result<(), Fail> {
+    let line = format!(in rt.alloc(); "refused {code} at 0\n")?;
+    let words = format!(in rt.alloc(); "die.page: {meaning} ({code})\n")?;
     for command in [VERIFY, CHECK] {
         let mut files = MapFiles::new(rt.alloc());
         files.put("die.page", page)?;
         let seen = do_command(rt.alloc(), &mut files, command);
-        let line = format!(in rt.alloc(); "refused {code} at 0\n")?;
-        let words = format!(in rt.alloc(); "die.page: {meaning} ({code})\n")?;
-        assert_eq!(rt; str::from_utf8(seen.output.as_slice())?, line.as_str());
-        assert_eq!(rt; str::from_utf8(seen.errors.as_slice())?, words.as_str());
-        assert_eq!(rt; seen.exit.status(), 1);
-        assert_eq!(rt; files.calls(), 1);
+        assert_eq!(rt; seen.texts()?, (line.as_str(), words.as_str()));
+        assert!(rt; seen.exit.status() == 1 && files.calls() == 1, "{line}");
+    }
+    Ok(())
+}
+
+// Pages with one byte turned into another and with their checksum, the code, and its meaning.
+const PAGES: &[(u8, u8, [u8; 2], &str, &str)] = &[
+    (
+        0,
+        0,
+        [0x11, 0x56],
+        "P2",
+        "no copy of the parameter page has the signature",
+    ),
+    (
+        80,
+        1,
+        [0x11, 0x56],
+        "P3",
+        "no copy of the parameter page with the signature has the right checksum",
+    ),
+    (6, 1, [0x63, 0x20], "P4", "a 16-bit bus is declared"),
+    (
+        101,
+        0x22,
+        [0xbe, 0xbc],
+        "P5",
+        "address cycles other than two for the column and three for the row are declared",
+    ),
+    (
+        100,
+        0,
+        [0x6e, 0x7b],
+        "P7",
+        "the LUNs aren't 1 to 4, or a row needs more than 24 bits",
+    ),
+    (
+        113,
+        3,
+        [0x28, 0xdd],
+        "P8",
+        "more than two plane bits, or fewer blocks than planes",
+    ),
+    (
+        100,
+        2,
+        [0x90, 0x21],
+        "P9",
+        "several LUNs, but the commands that several LUNs need aren't declared",
+    ),
+];
+
+#[test]
+fn pages(rt: HostRuntime) -> Result<(), Fail> {
+    for (place, byte, sum, code, meaning) in PAGES {
+        let page = page_with(*place, *byte, *sum)?;
+        expect_page(&rt, &page, code, meaning)?;
     }
     Ok(())
 }
 
 #[test]
-fn pages(rt: HostRuntime) -> Result<(), Fail> {
+fn short_pages_and_small_sizes(rt: HostRuntime) -> Result<(), Fail> {
     let page = Geometry::of(ONE_LUN)?.page();
-    expect_page(
-        &rt,
-        &[],
-        "P1",
-        "fewer than the 256 bytes of a parameter page",
-    )?;
-    expect_page(
-        &rt,
-        &page[..255],
-        "P1",
-        "fewer than the 256 bytes of a parameter page",
-    )?;
-    expect_page(
-        &rt,
-        &page_with(0, 0, [0x11, 0x56])?,
-        "P2",
-        "no copy of the parameter page has the signature",
-    )?;
-    expect_page(
-        &rt,
-        &page_with(80, 1, [0x11, 0x56])?,
-        "P3",
-        "no copy of the parameter page with the signature has the right checksum",
-    )?;
-    expect_page(
-        &rt,
-        &page_with(6, 1, [0x63, 0x20])?,
-        "P4",
-        "a 16-bit bus is declared",
-    )?;
-    expect_page(
-        &rt,
-        &page_with(101, 0x22, [0xbe, 0xbc])?,
-        "P5",
-        "address cycles other than two for the column and three for the row are declared",
-    )?;
-    expect_page(
-        &rt,
-        &page_with(100, 0, [0x6e, 0x7b])?,
-        "P7",
-        "the LUNs aren't 1 to 4, or a row needs more than 24 bits",
-    )?;
-    expect_page(
-        &rt,
-        &page_with(113, 3, [0x28, 0xdd])?,
-        "P8",
-        "more than two plane bits, or fewer blocks than planes",
-    )?;
-    expect_page(
-        &rt,
-        &page_with(100, 2, [0x90, 0x21])?,
-        "P9",
-        "several LUNs, but the commands that several LUNs need aren't declared",
-    )?;
+    let short = "fewer than the 256 bytes of a parameter page";
+    expect_page(&rt, &[], "P1", short)?;
+    expect_page(&rt, &page[..255], "P1", short)?;
     let mut small = page_with(80, 0xff, [0x9a, 0x71])?;
     small[81] = 1;
     expect_page(
@@ -300,8 +305,7 @@ fn pages(rt: HostRuntime) -> Result<(), Fail> {
         &small,
         "P6",
         "a size is out of range: data bytes, spare bytes, pages or blocks",
-    )?;
-    Ok(())
+    )
 }
 
 // A page that is changed and one after it that isn't: the second is read.
@@ -311,7 +315,10 @@ fn a_second_copy(rt: HostRuntime) -> Result<(), Fail> {
     let mut pages = page_with(80, 1, [0x11, 0x56])?.to_vec(rt.alloc())?;
     pages.extend_from_slice(&Geometry::of(ONE_LUN)?.page())?;
     files.put("die.page", pages.as_slice())?;
-    assert_eq!(rt; do_command(rt.alloc(), &mut files, VERIFY).exit, Exit::Done);
+    assert_eq!(rt;
+        do_command(rt.alloc(), &mut files, VERIFY).exit,
+        Ending::Exit(Exit::Done)
+    );
     Ok(())
 }
 
@@ -360,13 +367,13 @@ fn verified(
     parts: Parts,
     header: &str,
     words: &str,
-) -> Result<(Exit, Vec<u8>, Vec<u8>), Fail> {
+) -> Result<(Ending, Vec<u8>, Vec<u8>), Fail> {
     let mut text = String::from_str(rt.alloc(), header)?;
     text.push_str(words)?;
     let mut files = files_of(rt.alloc(), parts, text.as_bytes())?;
     assert_eq!(rt;
         do_command(rt.alloc(), &mut files, ASSEMBLE).exit,
-        Exit::Done,
+        Ending::Exit(Exit::Done),
         "{text}"
     );
     let command = Command::Verify {

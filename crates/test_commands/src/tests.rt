@@ -1,16 +1,12 @@
+use crate::command::Command;
 use micro_claims::Reason;
 use nand_geometry::{Geometry, Parts, SMALL_CHIP};
-use seq_cli::Command;
-use seq_commands::{
-    CheckRequest, Targets, assemble_file, assemble_file_for, capture_trace, check_trace,
-    disassemble_file, draw_trace, lint_file, upgrade_file, verify_file,
-};
 use seq_files::MapFiles;
 use seq_inputs::{Console, Exit, Fault, Refusal, Style};
-use std::alloc::{AllocError, Allocator, Global};
-use std::io::Write;
+use std::alloc::{AllocError, Global};
 use std::process::Abort;
 use std::test::Fail;
+use trace_commands::{CheckRequest, Ending, Targets};
 use trace_faults::{Beginning, Readies};
 use trace_files::TraceOutputs;
 use trace_text::{NoProgress, TraceForm};
@@ -90,51 +86,25 @@ pub(crate) fn files_of(alloc: Global, parts: Parts, input: &[u8]) -> Result<MapF
 }
 
 // A refusal of a file that no run file names.
-pub(crate) fn refused(fault: Fault) -> Exit {
-    Exit::Refused(Refusal { fault, line: None })
-}
-
-// Does a command on files by its own function, whatever the allocator is.
-pub(crate) fn carry_out<A: Allocator + Clone, W: Write, E: Write>(
-    alloc: A,
-    files: &mut MapFiles,
-    console: &mut Console<W, E, NoProgress>,
-    command: Command<'_>,
-) -> Exit {
-    match command {
-        Command::Assemble { input, target } => assemble_file(alloc, files, console, input, target),
-        Command::AssembleFor {
-            page,
-            input,
-            target,
-        } => assemble_file_for(alloc, files, console, page, input, target),
-        Command::Verify {
-            page,
-            input,
-            counter,
-            is_quiet,
-            style,
-        } => verify_file(alloc, files, console, page, input, counter, is_quiet, style),
-        Command::Lint {
-            page,
-            input,
-            output,
-        } => lint_file(alloc, files, console, page, input, output),
-        Command::Capture(request) => capture_trace(alloc, files, console, request),
-        Command::Check(request) => check_trace(alloc, files, console, request),
-        Command::Draw(request) => draw_trace(alloc, files, console, request),
-        Command::Disassemble { input } => disassemble_file(alloc, files, console, input),
-        Command::Upgrade { input, target } => upgrade_file(alloc, files, console, input, target),
-        Command::Once { .. } | Command::Run(_) => Exit::Usage,
-    }
+pub(crate) fn refused(fault: Fault) -> Ending {
+    Ending::Exit(Exit::Refused(Refusal { fault, line: None }))
 }
 
 // What a command comes to: its end, its output, and what it says to a person.
 #[derive(Drop)]
 pub(crate) struct Seen {
-    pub(crate) exit: Exit,
+    pub(crate) exit: Ending,
     pub(crate) output: Vec<u8>,
     pub(crate) errors: Vec<u8>,
+}
+
+impl Seen {
+    /// What is printed, and what is said to a person.
+    pub(crate) fn texts(&self) -> Result<(&str, &str), Fail> {
+        let output = str::from_utf8(self.output.as_slice())?;
+        let errors = str::from_utf8(self.errors.as_slice())?;
+        Ok((output, errors))
+    }
 }
 
 pub(crate) fn do_command(alloc: Global, files: &mut MapFiles, command: Command<'_>) -> Seen {
@@ -143,7 +113,7 @@ pub(crate) fn do_command(alloc: Global, files: &mut MapFiles, command: Command<'
         errors: Vec::new(alloc),
         progress: NoProgress,
     };
-    let exit = carry_out(alloc, files, &mut console, command);
+    let exit = command.carry_out(alloc, files, &mut console);
     let Console { output, errors, .. } = console;
     Seen {
         exit,
@@ -163,10 +133,16 @@ pub(crate) fn expect(
 ) -> Result<MapFiles, Fail> {
     let mut files = files_of(rt.alloc(), parts, input)?;
     let seen = do_command(rt.alloc(), &mut files, command);
-    assert_eq!(rt; str::from_utf8(seen.output.as_slice())?, printed);
-    assert_eq!(rt; str::from_utf8(seen.errors.as_slice())?, words);
-    assert_eq!(rt; seen.exit == Exit::Done, words.is_empty(), "{printed}");
-    assert_eq!(rt; seen.exit.status(), if words.is_empty() { 0 } else { 1 });
+    let is_done = words.is_empty();
+    assert_eq!(rt; seen.texts()?, (printed, words));
+    assert!(rt;
+        (seen.exit == Ending::Exit(Exit::Done)) == is_done,
+        "{printed}"
+    );
+    assert!(rt;
+        seen.exit.status() == if is_done { 0 } else { 1 },
+        "{printed}"
+    );
     Ok(files)
 }
 
@@ -179,24 +155,45 @@ const OR_FAIL_FILE: [u8; 44] = [
     0x0d, 0x01, 0x06, 0x00, 0x00, 0x00, 0x00, 0x00, 0x00, 0x01, 0x00, 0x00,
 ];
 
-#[test]
-fn assembles_and_back(rt: HostRuntime) -> Result<(), Fail> {
-    let files = expect(&rt, ONE_LUN, OR_FAIL.as_bytes(), ASSEMBLE, "ok\n", "")?;
-    assert_eq!(rt; files.get("out"), Some(OR_FAIL_FILE.as_slice()));
-    expect(&rt, ONE_LUN, &OR_FAIL_FILE, DISASSEMBLE, OR_FAIL, "")?;
-    expect(&rt, ONE_LUN, &ERASE_FILE, DISASSEMBLE, ERASE, "")?;
-    Ok(())
+// Format 2 has another fourth byte, and nothing else.
+const UPGRADED: [u8; 36] = [
+    0x4e, 0x4d, 0x50, 0x32, 0x05, 0x00, 0x01, 0x00, 0x00, 0x00, 0x00, 0x00, 0x05, 0x00, 0x00, 0x00,
+    0x01, 0x60, 0x00, 0x00, 0x02, 0x02, 0x03, 0x00, 0x01, 0xd0, 0x00, 0x00, 0x0a, 0x00, 0x00, 0x00,
+    0x00, 0x00, 0x00, 0x00,
+];
+
+// What a command reads.
+#[derive(Clone, Copy)]
+enum Input {
+    Text(&'static str),
+    File(&'static [u8]),
 }
 
-// Format 2 has another fourth byte, and nothing else.
+impl Input {
+    fn bytes(self) -> &'static [u8] {
+        match self {
+            Input::Text(text) => text.as_bytes(),
+            Input::File(bytes) => bytes,
+        }
+    }
+}
+
+// A command on an input, what it prints, and the bytes of its output, if it has one.
+const DONE: &[(Command<'static>, Input, &str, Option<&[u8]>)] = &[
+    (ASSEMBLE, Input::Text(OR_FAIL), "ok\n", Some(&OR_FAIL_FILE)),
+    (DISASSEMBLE, Input::File(&OR_FAIL_FILE), OR_FAIL, None),
+    (DISASSEMBLE, Input::File(&ERASE_FILE), ERASE, None),
+    (UPGRADE, Input::File(&ERASE_FILE), "ok\n", Some(&UPGRADED)),
+    (UPGRADE, Input::File(&UPGRADED), "ok\n", Some(&UPGRADED)),
+];
+
 #[test]
-fn upgrades(rt: HostRuntime) -> Result<(), Fail> {
-    let mut second = ERASE_FILE;
-    second[3] = 0x32;
-    for file in [ERASE_FILE, second] {
-        let files = expect(&rt, ONE_LUN, &file, UPGRADE, "ok\n", "")?;
-        assert_eq!(rt; files.get("out"), Some(second.as_slice()));
-        assert_eq!(rt; files.get("in"), Some(file.as_slice()));
+fn assembles_and_back(rt: HostRuntime) -> Result<(), Fail> {
+    for (command, input, printed, output) in DONE {
+        let input = input.bytes();
+        let files = expect(&rt, ONE_LUN, input, *command, printed, "")?;
+        let same = files.get("in") == Some(input);
+        assert!(rt; same && files.get("out") == *output, "{printed}");
     }
     Ok(())
 }
@@ -221,35 +218,35 @@ fn upgrades_in_place(rt: HostRuntime) -> Result<(), Fail> {
 #[test]
 fn verifies(rt: HostRuntime) -> Result<(), Fail> {
     for parts in [ONE_LUN, TWO_LUNS, WITH_CACHE] {
-        expect(&rt, parts, &ERASE_FILE, VERIFY, "accepted\n", "")?;
-        expect(&rt, parts, ERASE.as_bytes(), VERIFY, "accepted\n", "")?;
+        for input in [ERASE_FILE.as_slice(), ERASE.as_bytes()] {
+            expect(&rt, parts, input, VERIFY, "accepted\n", "")?;
+        }
     }
     Ok(())
 }
 
+// To check a trace of so many targets.
+fn check_of(targets: Targets) -> Command<'static> {
+    Command::Check(CheckRequest {
+        page: "die.page",
+        targets,
+        input: "in",
+        tells_all: false,
+        readies: Readies::Written,
+        beginning: Beginning::Start,
+        judges_bytes: false,
+        form: TraceForm::Strict,
+        style: Style::Plain,
+        copy: None,
+    })
+}
+
 #[test]
 fn checks(rt: HostRuntime) -> Result<(), Fail> {
-    expect(&rt, ONE_LUN, TRACE.as_bytes(), CHECK, "legal\n", "")?;
-    expect(&rt, ONE_LUN, &[], CHECK, "legal\n", "")?;
-    for (targets, exit) in [
-        (Targets::Two, Exit::Done),
-        (Targets::Three, Exit::Done),
-        (Targets::Four, Exit::Done),
-    ] {
-        let command = Command::Check(CheckRequest {
-            page: "die.page",
-            targets,
-            input: "in",
-            tells_all: false,
-            readies: Readies::Written,
-            beginning: Beginning::Start,
-            judges_bytes: false,
-            form: TraceForm::Strict,
-            style: Style::Plain,
-            copy: None,
-        });
+    for targets in [Targets::Two, Targets::Three, Targets::Four] {
         let mut files = files_of(rt.alloc(), ONE_LUN, b"1 C 60\n")?;
-        assert_eq!(rt; do_command(rt.alloc(), &mut files, command).exit, exit);
+        let seen = do_command(rt.alloc(), &mut files, check_of(targets));
+        assert!(rt; seen.exit == Ending::Exit(Exit::Done));
     }
     Ok(())
 }
@@ -258,28 +255,37 @@ fn checks(rt: HostRuntime) -> Result<(), Fail> {
 const TWO_ERASES: &str =
     "0 C 60\n0 A 00\n0 A 00\n0 A 00\n0 C d0\n0 C 78\n0 A 00\n0 A 00\n0 A 00\n0 O 80\n0 C 60\n0 A 20\n0 A 00\n0 A 00\n0 C d0\n0 C 78\n0 A 20\n0 A 00\n0 A 00\n0 O 80\n0 R 0 0\n0 R 1 0\n0 C 78\n0 A 00\n0 A 00\n0 A 00\n0 O e0\n0 C 78\n0 A 20\n0 A 00\n0 A 00\n0 O e0\n";
 
-// An opener while a LUN is busy is refused on one LUN, and on two LUNs its row is.
-#[test]
-fn traces_of_two_luns(rt: HostRuntime) -> Result<(), Fail> {
-    let opener = b"0 C 60\n0 A 00\n0 A 00\n0 A 00\n0 C d0\n0 C 60\n";
-    let row = b"0 C 60\n0 A 00\n0 A 00\n0 A 00\n0 C d0\n0 C 60\n0 A 00\n0 A 00\n0 A 00\n";
-    expect(&rt, TWO_LUNS, TWO_ERASES.as_bytes(), CHECK, "legal\n", "")?;
-    expect(&rt, TWO_LUNS, opener, CHECK, "legal\n", "")?;
-    expect(
-        &rt,
+// An opener while a LUN is busy.
+const OPENER: &str = "0 C 60\n0 A 00\n0 A 00\n0 A 00\n0 C d0\n0 C 60\n";
+
+// Its row, too.
+const ROW: &str = "0 C 60\n0 A 00\n0 A 00\n0 A 00\n0 C d0\n0 C 60\n0 A 00\n0 A 00\n0 A 00\n";
+
+// Traces of a geometry, what is printed of them, and what is said.
+const TRACES: &[(Parts, Input, &str, &str)] = &[
+    (ONE_LUN, Input::Text(TRACE), "legal\n", ""),
+    (ONE_LUN, Input::Text(""), "legal\n", ""),
+    (TWO_LUNS, Input::Text(TWO_ERASES), "legal\n", ""),
+    // An opener while a LUN is busy is refused on one LUN, and on two LUNs its row is.
+    (TWO_LUNS, Input::Text(OPENER), "legal\n", ""),
+    (
         ONE_LUN,
-        opener,
-        CHECK,
+        Input::Text(OPENER),
         "refused F9 at 5\n",
         "in:6: item 5, `0 C 60`: the LUN is busy (F9)\n",
-    )?;
-    expect(
-        &rt,
+    ),
+    (
         TWO_LUNS,
-        row,
-        CHECK,
+        Input::Text(ROW),
         "refused F9 at 8\n",
         "in:9: item 8, `0 A 00`: the LUN is busy (F9)\n",
-    )?;
+    ),
+];
+
+#[test]
+fn traces_are_checked(rt: HostRuntime) -> Result<(), Fail> {
+    for (parts, input, printed, words) in TRACES {
+        expect(&rt, *parts, input.bytes(), CHECK, printed, words)?;
+    }
     Ok(())
 }

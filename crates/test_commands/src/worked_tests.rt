@@ -1,9 +1,10 @@
+use crate::command::Command;
 use crate::tests::{ASSEMBLE, ONE_LUN, TWO_LUNS, do_command, files_of};
 use nand_geometry::Parts;
-use seq_cli::Command;
 use seq_inputs::{Exit, Style};
 use std::process::Abort;
 use std::test::Fail;
+use trace_commands::Ending;
 use trace_files::TraceOutputs;
 
 const WITH_CACHE: Parts = Parts {
@@ -27,7 +28,7 @@ fn expect(
     let mut files = files_of(rt.alloc(), parts, text.as_bytes())?;
     assert_eq!(rt;
         do_command(rt.alloc(), &mut files, ASSEMBLE).exit,
-        Exit::Done,
+        Ending::Exit(Exit::Done),
         "{text}"
     );
     let command = Command::Verify {

@@ -344,344 +344,351 @@ fn play_rows(rt: &impl Abort, alloc: Global, rows: &[Row]) -> Result<(), Fail> {
     Ok(())
 }
 
+const PROGRAMS_AND_ERASES: &[Row] = &[
+    (
+        ONE_LUN,
+        1,
+        "C80 A00x5 Ia5 I3c C10 C70 O80 R0 C70 Oe0 C00 A00x5 C30 C70 O80 R0 C70 Oe0 C00 Oa5 O3c",
+        &[(0, 0, &[0xa5, 0x3c])],
+    ),
+    // 1010 0101 and 0000 1111; 0011 1100 and 0000 1111.
+    (
+        ONE_LUN,
+        1,
+        "C80 A00x5 Ia5 I3c C10 R0 C80 A00x5 I0fx2 C10 R0 C00 A00x5 C30 R0 O05 O0c",
+        &[(0, 0, &[0x05, 0x0c])],
+    ),
+    (
+        ONE_LUN,
+        1,
+        "C80 A03 A00 A05 A00x2 Ia5 I3c C10 R0 C00 A03 A00 A05 A00x2 C30 R0 Oa5 O3c Off",
+        &[(0, 5, &[0xff, 0xff, 0xff, 0xa5, 0x3c])],
+    ),
+    (
+        ONE_LUN,
+        1,
+        "C80 A03 A00 A05 A00x2 Ia5 I3c C10 F0 C70 Oe1 C00 A03 A00 A05 A00x2 C30 R0 Offx3",
+        &[],
+    ),
+    (
+        ONE_LUN,
+        1,
+        "C80 A00x5 Ia5 I3c C85 A00x2 I0f C10 R0",
+        &[(0, 0, &[0x0f, 0x3c])],
+    ),
+    // No input, and inputs up to the end of the page.
+    (ONE_LUN, 1, "C80 A00x5 C10 R0", &[]),
+    (
+        ONE_LUN,
+        1,
+        "C80 A0f A02 A1f A00x2 Iff Ia5!e C85 A10 A02!e A00 Ia5 C10 R0",
+        &[(
+            0,
+            31,
+            &[
+                0xff, 0xff, 0xff, 0xff, 0xff, 0xff, 0xff, 0xff, 0xff, 0xff, 0xff, 0xff, 0xff, 0xff,
+                0xff, 0xff, 0xa5,
+            ],
+        )],
+    ),
+    (
+        ONE_LUN,
+        1,
+        "C80 A00x5 Ia5 C10 R0 C80 A00x2 A04 A00x2 I3c C10 R0 C60 A07 A00x2 Cd0 C70 O80 R0 C70 Oe0",
+        &[(0, 0, &[0xa5])],
+    ),
+    (
+        ONE_LUN,
+        1,
+        "C80 A00x2 A04 A00x2 I3c C10 R0 C60 A04 A00x2 Cd0 C70 O80 F0 C70 Oe1",
+        &[(0, 4, &[0x3c])],
+    ),
+    (
+        ONE_LUN,
+        1,
+        "C60 A04 A00x2 Cd0 C70 O80 R0 C70 Oe0 C60 A08 A00x2 Cd0 F0 C70 Oe1",
+        &[],
+    ),
+    (
+        TWO_LUNS,
+        2,
+        "C80 A00x2 A20 A00x2 Ia5 C10 R1 C00 A00x2 A20 A00x2 C30 R1 Oa5 Off",
+        &[(1, 0, &[0xa5])],
+    ),
+    (
+        ONE_LUN,
+        2,
+        "@1 C80 A00x5 Ia5 C10 @0 C80 A00x5 I3c C10 R0 @1 R0 C00 A00x5 C30 R0 Oa5 @0 O00!c",
+        &[(0, 0, &[0x3c]), (1, 0, &[0xa5])],
+    ),
+];
+
 #[test]
 fn pages_are_programmed_and_erased(rt: HostRuntime) -> Result<(), Fail> {
-    let rows: [Row; 12] = [
-        (
-            ONE_LUN,
-            1,
-            "C80 A00x5 Ia5 I3c C10 C70 O80 R0 C70 Oe0 C00 A00x5 C30 C70 O80 R0 C70 Oe0 C00 Oa5 O3c",
-            &[(0, 0, &[0xa5, 0x3c])],
-        ),
-        // 1010 0101 and 0000 1111; 0011 1100 and 0000 1111.
-        (
-            ONE_LUN,
-            1,
-            "C80 A00x5 Ia5 I3c C10 R0 C80 A00x5 I0fx2 C10 R0 C00 A00x5 C30 R0 O05 O0c",
-            &[(0, 0, &[0x05, 0x0c])],
-        ),
-        (
-            ONE_LUN,
-            1,
-            "C80 A03 A00 A05 A00x2 Ia5 I3c C10 R0 C00 A03 A00 A05 A00x2 C30 R0 Oa5 O3c Off",
-            &[(0, 5, &[0xff, 0xff, 0xff, 0xa5, 0x3c])],
-        ),
-        (
-            ONE_LUN,
-            1,
-            "C80 A03 A00 A05 A00x2 Ia5 I3c C10 F0 C70 Oe1 C00 A03 A00 A05 A00x2 C30 R0 Offx3",
-            &[],
-        ),
-        (
-            ONE_LUN,
-            1,
-            "C80 A00x5 Ia5 I3c C85 A00x2 I0f C10 R0",
-            &[(0, 0, &[0x0f, 0x3c])],
-        ),
-        // No input, and inputs up to the end of the page.
-        (ONE_LUN, 1, "C80 A00x5 C10 R0", &[]),
-        (
-            ONE_LUN,
-            1,
-            "C80 A0f A02 A1f A00x2 Iff Ia5!e C85 A10 A02!e A00 Ia5 C10 R0",
-            &[(
-                0,
-                31,
-                &[
-                    0xff, 0xff, 0xff, 0xff, 0xff, 0xff, 0xff, 0xff, 0xff, 0xff, 0xff, 0xff, 0xff,
-                    0xff, 0xff, 0xff, 0xa5,
-                ],
-            )],
-        ),
-        (
-            ONE_LUN,
-            1,
-            "C80 A00x5 Ia5 C10 R0 C80 A00x2 A04 A00x2 I3c C10 R0 C60 A07 A00x2 Cd0 C70 O80 R0 C70 Oe0",
-            &[(0, 0, &[0xa5])],
-        ),
-        (
-            ONE_LUN,
-            1,
-            "C80 A00x2 A04 A00x2 I3c C10 R0 C60 A04 A00x2 Cd0 C70 O80 F0 C70 Oe1",
-            &[(0, 4, &[0x3c])],
-        ),
-        (
-            ONE_LUN,
-            1,
-            "C60 A04 A00x2 Cd0 C70 O80 R0 C70 Oe0 C60 A08 A00x2 Cd0 F0 C70 Oe1",
-            &[],
-        ),
-        (
-            TWO_LUNS,
-            2,
-            "C80 A00x2 A20 A00x2 Ia5 C10 R1 C00 A00x2 A20 A00x2 C30 R1 Oa5 Off",
-            &[(1, 0, &[0xa5])],
-        ),
-        (
-            ONE_LUN,
-            2,
-            "@1 C80 A00x5 Ia5 C10 @0 C80 A00x5 I3c C10 R0 @1 R0 C00 A00x5 C30 R0 Oa5 @0 O00!c",
-            &[(0, 0, &[0x3c]), (1, 0, &[0xa5])],
-        ),
-    ];
-    play_rows(&rt, rt.alloc(), &rows)
+    play_rows(&rt, rt.alloc(), PROGRAMS_AND_ERASES)
 }
+
+const TOGETHER: &[Row] = &[
+    (
+        TWO_LUNS,
+        2,
+        "C80 A00x5 Ia5 C11 C78 A00x3 O80 R0 C78 A00x3 Oe0 C80 A00x2 A04 A00x2 I3c C10 C78 A00x3 O80 R0 C78 \
+         A00x3 Oe0",
+        &[(0, 0, &[0xa5]), (0, 4, &[0x3c])],
+    ),
+    (
+        TWO_LUNS,
+        2,
+        "C80 A00x5 Ia5 C11 C78 A00x3 O80 R0 C78 A00x3 Oe0 C80 A00x2 A04 A00x2 I3c C10 C78 A00x3 O80 F0 C78 \
+         A00x3 Oe1",
+        &[],
+    ),
+    (
+        TWO_PLANES,
+        1,
+        "C80 A00x5 Ia5 C11 R0 C80 A00x2 A04 A00x2 I3c C10 R0 C60 A00x3 Cd1 R0 C60 A04 A00x2 Cd0 R0 C70 Oe0",
+        &[],
+    ),
+    (
+        TWO_PLANES,
+        1,
+        "C80 A00x5 Ia5 C11 R0 C80 A00x2 A04 A00x2 I3c C10 R0 C60 A00x3 Cd1 R0 C60 A04 A00x2 Cd0 F0 C70 Oe1",
+        &[(0, 0, &[0xa5]), (0, 4, &[0x3c])],
+    ),
+    // What doesn't go together with a queue: the identifier, the parameter page, a row of the same plane, one of another page,
+    // an erase, a read, and a block with other bits above the plane.
+    (
+        TWO_PLANES,
+        1,
+        "C80 A00x5 Ia5 C11 R0 C90!a Cec!a C80 A00x4 A00!a",
+        &[],
+    ),
+    (
+        TWO_PLANES,
+        1,
+        "C80 A00x5 Ia5 C11 R0 C80 A00x2 A05 A00 A00!a",
+        &[],
+    ),
+    (TWO_PLANES, 1, "C80 A00x5 Ia5 C11 R0 C60 A04 A00 A00!a", &[]),
+    (
+        TWO_PLANES,
+        1,
+        "C80 A00x5 Ia5 C11 R0 C00 A00x2 A08 A00 A00!a",
+        &[],
+    ),
+    (TWO_PLANES, 1, "C60 A00x3 Cd1 R0 C60 A0c A00 A00!a", &[]),
+];
 
 #[test]
 fn planes_work_together(rt: HostRuntime) -> Result<(), Fail> {
-    let rows: [Row; 9] = [
-        (
-            TWO_LUNS,
-            2,
-            "C80 A00x5 Ia5 C11 C78 A00x3 O80 R0 C78 A00x3 Oe0 C80 A00x2 A04 A00x2 I3c C10 C78 A00x3 O80 R0 C78 \
-             A00x3 Oe0",
-            &[(0, 0, &[0xa5]), (0, 4, &[0x3c])],
-        ),
-        (
-            TWO_LUNS,
-            2,
-            "C80 A00x5 Ia5 C11 C78 A00x3 O80 R0 C78 A00x3 Oe0 C80 A00x2 A04 A00x2 I3c C10 C78 A00x3 O80 F0 C78 \
-             A00x3 Oe1",
-            &[],
-        ),
-        (
-            TWO_PLANES,
-            1,
-            "C80 A00x5 Ia5 C11 R0 C80 A00x2 A04 A00x2 I3c C10 R0 C60 A00x3 Cd1 R0 C60 A04 A00x2 Cd0 R0 C70 Oe0",
-            &[],
-        ),
-        (
-            TWO_PLANES,
-            1,
-            "C80 A00x5 Ia5 C11 R0 C80 A00x2 A04 A00x2 I3c C10 R0 C60 A00x3 Cd1 R0 C60 A04 A00x2 Cd0 F0 C70 Oe1",
-            &[(0, 0, &[0xa5]), (0, 4, &[0x3c])],
-        ),
-        // What doesn't go together with a queue: the identifier, the parameter page, a row of the same plane, one of another page,
-        // an erase, a read, and a block with other bits above the plane.
-        (
-            TWO_PLANES,
-            1,
-            "C80 A00x5 Ia5 C11 R0 C90!a Cec!a C80 A00x4 A00!a",
-            &[],
-        ),
-        (
-            TWO_PLANES,
-            1,
-            "C80 A00x5 Ia5 C11 R0 C80 A00x2 A05 A00 A00!a",
-            &[],
-        ),
-        (TWO_PLANES, 1, "C80 A00x5 Ia5 C11 R0 C60 A04 A00 A00!a", &[]),
-        (
-            TWO_PLANES,
-            1,
-            "C80 A00x5 Ia5 C11 R0 C00 A00x2 A08 A00 A00!a",
-            &[],
-        ),
-        (TWO_PLANES, 1, "C60 A00x3 Cd1 R0 C60 A0c A00 A00!a", &[]),
-    ];
-    play_rows(&rt, rt.alloc(), &rows)
+    play_rows(&rt, rt.alloc(), TOGETHER)
 }
+
+const SHOWN: &[Row] = &[
+    (
+        ONE_LUN,
+        1,
+        "C00 A00x5 C30 C70 O80 R0 C70 Oe0 C00 Offx528 O00!e",
+        &[],
+    ),
+    // A status behind outputs loses the column, and a change of column gives one.
+    (
+        ONE_LUN,
+        1,
+        "C00 A03 A00 A05 A00x2 C30 R0 Off C70 Oe0 C00 O00!d",
+        &[],
+    ),
+    (
+        ONE_LUN,
+        1,
+        "C00 A00x5 C30 R0 C00 Offx4 C70 Oe0 C00 O00!d",
+        &[],
+    ),
+    (
+        ONE_LUN,
+        1,
+        "C00 A00x5 C30 R0 C00 Offx4 C70 Oe0 C00 C05 A04 A00 Ce0 Offx4",
+        &[],
+    ),
+    (ONE_LUN, 1, "C90 A21!7 A20 O4f O4e O46 O49 O00!e", &[]),
+    (
+        ONE_LUN,
+        1,
+        "Cec A01!7 A00 O00!d C70 O80 R0 C70 Oe0 C00 O4f O4e O46 O49",
+        &[],
+    ),
+];
 
 #[test]
 fn registers_are_shown(rt: HostRuntime) -> Result<(), Fail> {
-    let rows: [Row; 6] = [
-        (
-            ONE_LUN,
-            1,
-            "C00 A00x5 C30 C70 O80 R0 C70 Oe0 C00 Offx528 O00!e",
-            &[],
-        ),
-        // A status behind outputs loses the column, and a change of column gives one.
-        (
-            ONE_LUN,
-            1,
-            "C00 A03 A00 A05 A00x2 C30 R0 Off C70 Oe0 C00 O00!d",
-            &[],
-        ),
-        (
-            ONE_LUN,
-            1,
-            "C00 A00x5 C30 R0 C00 Offx4 C70 Oe0 C00 O00!d",
-            &[],
-        ),
-        (
-            ONE_LUN,
-            1,
-            "C00 A00x5 C30 R0 C00 Offx4 C70 Oe0 C00 C05 A04 A00 Ce0 Offx4",
-            &[],
-        ),
-        (ONE_LUN, 1, "C90 A21!7 A20 O4f O4e O46 O49 O00!e", &[]),
-        (
-            ONE_LUN,
-            1,
-            "Cec A01!7 A00 O00!d C70 O80 R0 C70 Oe0 C00 O4f O4e O46 O49",
-            &[],
-        ),
-    ];
-    play_rows(&rt, rt.alloc(), &rows)
+    play_rows(&rt, rt.alloc(), SHOWN)
 }
+
+const REFUSED: &[Row] = &[
+    (ONE_LUN, 1, "C60 A00x3 Cd0 C60!9", &[]),
+    (TWO_LUNS, 2, "C60 A00x3 Cd0 C60 A00x2 A00!9", &[]),
+    (
+        ONE_LUN,
+        1,
+        "C60 A04 A00x2 Cd0 C60!9 C15!2 C00!9 C80!9 C90!9 Cec!9 C05!5 @1 C60!1 @0 Cd0!6 A00!7 I00!b O00!c R1!1 \
+         Y0!1",
+        &[],
+    ),
+    (
+        ONE_LUN,
+        1,
+        "O00!c I00!b C60 C60!3 Cff!3 O00!c A20 A00 A00!8",
+        &[],
+    ),
+    (ONE_LUN, 1, "C78!2 Cd1!2 C11!2 C31!2 C3f!2", &[]),
+    (TWO_LUNS, 2, "C70!4 C90!4 Cec!4 Cff!4", &[]),
+    (
+        TWO_LUNS,
+        2,
+        "C78 A00x3 C00 A00x2 A20 A00x2 C30 R1 O00!c",
+        &[],
+    ),
+    (ONE_LUN, 2, "C60 @1 C60 C60!3 @0 C60!3", &[]),
+    (
+        TWO_LUNS,
+        4,
+        "@1 C60 A04 A00x2 Cd0 @0 R0!1 F1!1 @1 F1!1 R2!1 @2 R0!1 @1 Y0!1 R0 R0!1",
+        &[],
+    ),
+];
 
 #[test]
 fn what_is_forbidden_changes_nothing(rt: HostRuntime) -> Result<(), Fail> {
-    let rows: [Row; 9] = [
-        (ONE_LUN, 1, "C60 A00x3 Cd0 C60!9", &[]),
-        (TWO_LUNS, 2, "C60 A00x3 Cd0 C60 A00x2 A00!9", &[]),
-        (
-            ONE_LUN,
-            1,
-            "C60 A04 A00x2 Cd0 C60!9 C15!2 C00!9 C80!9 C90!9 Cec!9 C05!5 @1 C60!1 @0 Cd0!6 A00!7 I00!b O00!c R1!1 \
-             Y0!1",
-            &[],
-        ),
-        (
-            ONE_LUN,
-            1,
-            "O00!c I00!b C60 C60!3 Cff!3 O00!c A20 A00 A00!8",
-            &[],
-        ),
-        (ONE_LUN, 1, "C78!2 Cd1!2 C11!2 C31!2 C3f!2", &[]),
-        (TWO_LUNS, 2, "C70!4 C90!4 Cec!4 Cff!4", &[]),
-        (
-            TWO_LUNS,
-            2,
-            "C78 A00x3 C00 A00x2 A20 A00x2 C30 R1 O00!c",
-            &[],
-        ),
-        (ONE_LUN, 2, "C60 @1 C60 C60!3 @0 C60!3", &[]),
-        (
-            TWO_LUNS,
-            4,
-            "@1 C60 A04 A00x2 Cd0 @0 R0!1 F1!1 @1 F1!1 R2!1 @2 R0!1 @1 Y0!1 R0 R0!1",
-            &[],
-        ),
-    ];
-    play_rows(&rt, rt.alloc(), &rows)
+    play_rows(&rt, rt.alloc(), REFUSED)
 }
+
+const IN_TURN: &[Row] = &[
+    // Rows: one bit of the LUN, three of the block, two of the page.
+    (
+        TWO_LUNS,
+        2,
+        "C60 A28 A00x2 Cd0 C70!4 C78 A28 A00x2 O80 C78 A04 A00x2 Oe0 C60 A04 A00x2 Cd0 F1 C78 A20 A00x2 Oe1 \
+         C78 A00x3 O80 R0 C78 A00x3 Oe0 C78 A20 A00x2 Oe1",
+        &[],
+    ),
+    (
+        TWO_LUNS,
+        2,
+        "C60 A00x3 Cd0 C78 A00x3 O80 R0 C60 A20 A00x2 Cd0 C78 A20 A00x2 O80 R1 C78 A00x3 Oe0 C78 A20 A00x2 \
+         Oe0",
+        &[],
+    ),
+    (
+        ONE_LUN,
+        2,
+        "C60 @1 C60 @0 A04 A00x2 Cd0 @1 A08 A00x2 Cd0 C70 O80 @0 C70 O80 R0 Oe0 @1 O80 F0 Oe1 @0 Oe0",
+        &[],
+    ),
+];
 
 #[test]
 fn luns_and_targets_in_turn(rt: HostRuntime) -> Result<(), Fail> {
-    let rows: [Row; 3] = [
-        // Rows: one bit of the LUN, three of the block, two of the page.
-        (
-            TWO_LUNS,
-            2,
-            "C60 A28 A00x2 Cd0 C70!4 C78 A28 A00x2 O80 C78 A04 A00x2 Oe0 C60 A04 A00x2 Cd0 F1 C78 A20 A00x2 Oe1 \
-             C78 A00x3 O80 R0 C78 A00x3 Oe0 C78 A20 A00x2 Oe1",
-            &[],
-        ),
-        (
-            TWO_LUNS,
-            2,
-            "C60 A00x3 Cd0 C78 A00x3 O80 R0 C60 A20 A00x2 Cd0 C78 A20 A00x2 O80 R1 C78 A00x3 Oe0 C78 A20 A00x2 \
-             Oe0",
-            &[],
-        ),
-        (
-            ONE_LUN,
-            2,
-            "C60 @1 C60 @0 A04 A00x2 Cd0 @1 A08 A00x2 Cd0 C70 O80 @0 C70 O80 R0 Oe0 @1 O80 F0 Oe1 @0 Oe0",
-            &[],
-        ),
-    ];
-    play_rows(&rt, rt.alloc(), &rows)
+    play_rows(&rt, rt.alloc(), IN_TURN)
 }
+
+const CACHE_READS: &[Row] = &[
+    (
+        CACHED,
+        1,
+        "C80 A00x5 Ia5 C10 R0 C80 A00x2 A01 A00x2 I3c C10 R0 C00 A00x5 C30 R0 C31 C70 O80 R0 C70 Oc0 C00 Oa5 \
+         Off Y0 C70 Oe0 C00 O00!d C3f C70 O80 R0 C70 Oe0 C00 O3c Off",
+        &[(0, 0, &[0xa5]), (0, 1, &[0x3c])],
+    ),
+    (
+        CACHED,
+        1,
+        "C80 A00x5 Ia5 C10 R0 C80 A00x2 A01 A00x2 I3c C10 R0 C80 A00x2 A02 A00x2 I7e C10 R0 C00 A00x5 C30 R0 \
+         C31 R0 Oa5 C31 R0 O3c Y0 C3f R0 O7e Y0!1",
+        &[(0, 0, &[0xa5]), (0, 1, &[0x3c]), (0, 2, &[0x7e])],
+    ),
+    // It stays in its block, and comes behind a read alone.
+    (
+        CACHED,
+        1,
+        "C00 A00x5 C30 R0 C31 R0 C31 R0 C31 R0 C31!f C3f R0 Off",
+        &[],
+    ),
+    (
+        CACHED,
+        1,
+        "C31!f C3f!f C00 A00x5 C30 C31!f R0 C3f!f Off",
+        &[],
+    ),
+    (
+        CACHED,
+        1,
+        "C00 A00x5 C30 R0 C31 R0 C90!f Cec!f C00 A00x4 A00!f",
+        &[],
+    ),
+    (
+        CACHED,
+        1,
+        "C00 A00x5 C30 R0 C31 O00!d F0 C70 Oc0 Y0 Y0!1 C70 Oe0",
+        &[],
+    ),
+];
 
 #[test]
 fn cache_reads(rt: HostRuntime) -> Result<(), Fail> {
-    let rows: [Row; 6] = [
-        (
-            CACHED,
-            1,
-            "C80 A00x5 Ia5 C10 R0 C80 A00x2 A01 A00x2 I3c C10 R0 C00 A00x5 C30 R0 C31 C70 O80 R0 C70 Oc0 C00 Oa5 \
-             Off Y0 C70 Oe0 C00 O00!d C3f C70 O80 R0 C70 Oe0 C00 O3c Off",
-            &[(0, 0, &[0xa5]), (0, 1, &[0x3c])],
-        ),
-        (
-            CACHED,
-            1,
-            "C80 A00x5 Ia5 C10 R0 C80 A00x2 A01 A00x2 I3c C10 R0 C80 A00x2 A02 A00x2 I7e C10 R0 C00 A00x5 C30 R0 \
-             C31 R0 Oa5 C31 R0 O3c Y0 C3f R0 O7e Y0!1",
-            &[(0, 0, &[0xa5]), (0, 1, &[0x3c]), (0, 2, &[0x7e])],
-        ),
-        // It stays in its block, and comes behind a read alone.
-        (
-            CACHED,
-            1,
-            "C00 A00x5 C30 R0 C31 R0 C31 R0 C31 R0 C31!f C3f R0 Off",
-            &[],
-        ),
-        (
-            CACHED,
-            1,
-            "C31!f C3f!f C00 A00x5 C30 C31!f R0 C3f!f Off",
-            &[],
-        ),
-        (
-            CACHED,
-            1,
-            "C00 A00x5 C30 R0 C31 R0 C90!f Cec!f C00 A00x4 A00!f",
-            &[],
-        ),
-        (
-            CACHED,
-            1,
-            "C00 A00x5 C30 R0 C31 O00!d F0 C70 Oc0 Y0 Y0!1 C70 Oe0",
-            &[],
-        ),
-    ];
-    play_rows(&rt, rt.alloc(), &rows)
+    play_rows(&rt, rt.alloc(), CACHE_READS)
 }
+
+const RESETS: &[Row] = &[
+    (
+        ONE_LUN,
+        1,
+        "C80 A00x5 Ia5 C10 R0 C00 A00x5 C30 Cff O00!c R0 R0!1 O00!c C70 Oe0 C00 O00!d",
+        &[(0, 0, &[0xa5])],
+    ),
+    (
+        ONE_LUN,
+        1,
+        "C80 A00x5 Ia5 I3c C10 Cff C70 O80 R0 R0!1 C70 Oe0",
+        &[],
+    ),
+    (ONE_LUN, 1, "C80 A00x5 Ia5 C10 Cff F0 C70 Oe0", &[]),
+    (
+        ONE_LUN,
+        1,
+        "C80 A00x5 Ia5 C10 R0 C60 A00x3 Cd0 Cff R0 C70 Oe0",
+        &[(0, 0, &[0xa5])],
+    ),
+    (
+        TWO_PLANES,
+        1,
+        "C80 A00x5 Ia5 C11 R0 Cff R0 C80 A00x2 A04 A00x2 I3c C10 R0 C70 Oe0",
+        &[(0, 4, &[0x3c])],
+    ),
+    (
+        TWO_PLANES,
+        1,
+        "C80 A00x5 Ia5 C11 Cff R0 C80 A00x2 A04 A00x2 I3c C10 R0",
+        &[(0, 4, &[0x3c])],
+    ),
+    (
+        TWO_PLANES,
+        1,
+        "C80 A00x5 Ia5 C10 R0 C60 A00x3 Cd1 R0 Cff R0 C60 A04 A00x2 Cd0 R0",
+        &[(0, 0, &[0xa5])],
+    ),
+    (
+        CACHED,
+        1,
+        "C80 A00x5 Ia5 C10 R0 C00 A00x5 C30 R0 C31 R0 Cff Y0!1 R0 Y0!1 C70 Oe0 C31!f C3f!f",
+        &[(0, 0, &[0xa5])],
+    ),
+];
 
 // Each kind of work, abandoned by a reset: a read, a program, an erase, a queued program while it is worked and behind it, a queued
 // erase, and a cache read.
 #[test]
 fn resets_abandon(rt: HostRuntime) -> Result<(), Fail> {
-    let rows: [Row; 8] = [
-        (
-            ONE_LUN,
-            1,
-            "C80 A00x5 Ia5 C10 R0 C00 A00x5 C30 Cff O00!c R0 R0!1 O00!c C70 Oe0 C00 O00!d",
-            &[(0, 0, &[0xa5])],
-        ),
-        (
-            ONE_LUN,
-            1,
-            "C80 A00x5 Ia5 I3c C10 Cff C70 O80 R0 R0!1 C70 Oe0",
-            &[],
-        ),
-        (ONE_LUN, 1, "C80 A00x5 Ia5 C10 Cff F0 C70 Oe0", &[]),
-        (
-            ONE_LUN,
-            1,
-            "C80 A00x5 Ia5 C10 R0 C60 A00x3 Cd0 Cff R0 C70 Oe0",
-            &[(0, 0, &[0xa5])],
-        ),
-        (
-            TWO_PLANES,
-            1,
-            "C80 A00x5 Ia5 C11 R0 Cff R0 C80 A00x2 A04 A00x2 I3c C10 R0 C70 Oe0",
-            &[(0, 4, &[0x3c])],
-        ),
-        (
-            TWO_PLANES,
-            1,
-            "C80 A00x5 Ia5 C11 Cff R0 C80 A00x2 A04 A00x2 I3c C10 R0",
-            &[(0, 4, &[0x3c])],
-        ),
-        (
-            TWO_PLANES,
-            1,
-            "C80 A00x5 Ia5 C10 R0 C60 A00x3 Cd1 R0 Cff R0 C60 A04 A00x2 Cd0 R0",
-            &[(0, 0, &[0xa5])],
-        ),
-        (
-            CACHED,
-            1,
-            "C80 A00x5 Ia5 C10 R0 C00 A00x5 C30 R0 C31 R0 Cff Y0!1 R0 Y0!1 C70 Oe0 C31!f C3f!f",
-            &[(0, 0, &[0xa5])],
-        ),
-    ];
-    play_rows(&rt, rt.alloc(), &rows)
+    play_rows(&rt, rt.alloc(), RESETS)
 }
 
 #[test]

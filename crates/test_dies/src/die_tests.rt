@@ -442,17 +442,18 @@ const BLANK_ENTRY: [Try; 4] = [
     Try::Read(ROW_4, 0, Some(0x34)),
 ];
 
+const WORKS: &[&[Try]] = &[
+    &READ_AGAIN,
+    &FAILED_PROGRAM,
+    &ERASED_BLOCK,
+    &FAILED_ERASE,
+    &RESET_PROGRAM,
+    &RESET_ERASE,
+];
+
 #[test]
 fn works_take_effect(rt: HostRuntime) -> Result<(), Fail> {
-    let tables: [&[Try]; 6] = [
-        &READ_AGAIN,
-        &FAILED_PROGRAM,
-        &ERASED_BLOCK,
-        &FAILED_ERASE,
-        &RESET_PROGRAM,
-        &RESET_ERASE,
-    ];
-    for tries in tables {
+    for tries in WORKS {
         try_all(&rt, rt.alloc(), ONE_PLANE, tries)?;
     }
     Ok(())
@@ -467,16 +468,17 @@ fn queues_take_effect(rt: HostRuntime) -> Result<(), Fail> {
     Ok(())
 }
 
+const IMAGES: &[&[Try]] = &[
+    &WRITTEN_IMAGE,
+    &ERASED_IMAGE,
+    &LOADED_IMAGE,
+    &WHOLE_CONTENT,
+    &BLANK_ENTRY,
+];
+
 #[test]
 fn images_are_the_content(rt: HostRuntime) -> Result<(), Fail> {
-    let tables: [&[Try]; 5] = [
-        &WRITTEN_IMAGE,
-        &ERASED_IMAGE,
-        &LOADED_IMAGE,
-        &WHOLE_CONTENT,
-        &BLANK_ENTRY,
-    ];
-    for tries in tables {
+    for tries in IMAGES {
         try_all(&rt, rt.alloc(), ONE_PLANE, tries)?;
     }
     assert_eq!(rt; rows_0_and_4(rt.alloc())?.len(), 1088);

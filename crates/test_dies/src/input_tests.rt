@@ -84,45 +84,49 @@ fn is_one_by_one(alloc: Global, program: &Program, len: usize) -> Result<bool, F
     Ok(same && alike && page.as_slice() == wanted.as_slice())
 }
 
+// Closes a program of row 0 and reads its page.
+const CLOSING: &str = "C10 R0 C00 A00x5 C30 R0 C00";
+
+// Programs, and how many inputs are put behind each.
+const RUNS: &[(Program, [usize; 5])] = &[
+    ((ONE_LUN, "C80 A00x5", 0, CLOSING), [0, 1, 527, 528, 529]),
+    // From column 0203h on.
+    (
+        (ONE_LUN, "C80 A03 A02 A00x3", 515, CLOSING),
+        [0, 12, 13, 14, 600],
+    ),
+    // From another column of the same program.
+    (
+        (ONE_LUN, "C80 A00x5 C85 A04 A00", 4, CLOSING),
+        [1, 2, 523, 524, 525],
+    ),
+    // The second plane.
+    (
+        (
+            TWO_PLANES,
+            "C80 A00x2 A04 A00x2",
+            0,
+            "C10 R0 C00 A00x2 A04 A00x2 C30 R0 C00",
+        ),
+        [0, 1, 527, 528, 529],
+    ),
+    // The second LUN.
+    (
+        (
+            TWO_LUNS,
+            "C80 A00x2 A20 A00x2",
+            0,
+            "C10 R1 C00 A00x2 A20 A00x2 C30 R1 C78 A20 A00x2 C00",
+        ),
+        [0, 1, 527, 528, 529],
+    ),
+    // Where a program doesn't take data, each is refused.
+    ((ONE_LUN, "C60 A00x3", 0, CLOSING), [1, 2, 3, 4, 5]),
+];
+
 #[test]
 fn runs_are_inputs_one_by_one(rt: HostRuntime) -> Result<(), Fail> {
-    let one = "C10 R0 C00 A00x5 C30 R0 C00";
-    let rows: [(Program, [usize; 5]); 6] = [
-        ((ONE_LUN, "C80 A00x5", 0, one), [0, 1, 527, 528, 529]),
-        // From column 0203h on.
-        (
-            (ONE_LUN, "C80 A03 A02 A00x3", 515, one),
-            [0, 12, 13, 14, 600],
-        ),
-        // From another column of the same program.
-        (
-            (ONE_LUN, "C80 A00x5 C85 A04 A00", 4, one),
-            [1, 2, 523, 524, 525],
-        ),
-        // The second plane.
-        (
-            (
-                TWO_PLANES,
-                "C80 A00x2 A04 A00x2",
-                0,
-                "C10 R0 C00 A00x2 A04 A00x2 C30 R0 C00",
-            ),
-            [0, 1, 527, 528, 529],
-        ),
-        // The second LUN.
-        (
-            (
-                TWO_LUNS,
-                "C80 A00x2 A20 A00x2",
-                0,
-                "C10 R1 C00 A00x2 A20 A00x2 C30 R1 C78 A20 A00x2 C00",
-            ),
-            [0, 1, 527, 528, 529],
-        ),
-        // Where a program doesn't take data, each is refused.
-        ((ONE_LUN, "C60 A00x3", 0, one), [1, 2, 3, 4, 5]),
-    ];
-    for (program, lens) in &rows {
+    for (program, lens) in RUNS {
         for len in lens {
             assert!(rt;
                 is_one_by_one(rt.alloc(), program, *len)?,
@@ -138,16 +142,10 @@ fn runs_are_inputs_one_by_one(rt: HostRuntime) -> Result<(), Fail> {
 fn a_run_past_the_page_tells_its_rule(rt: HostRuntime) -> Result<(), Fail> {
     let mut bus = bus_after(rt.alloc(), rt.alloc(), ONE_LUN, "C80 A00x5")?;
     let bytes = [0x5au8; PAGE + 1];
-    assert_eq!(rt;
-        bus.put_all(0, &bytes),
-        Err(BusRefusal::Forbidden(Forbidden::ColumnOutside))
-    );
-    assert_eq!(rt;
-        bus.put_all(1, &bytes),
-        Err(BusRefusal::Forbidden(Forbidden::NotThere))
-    );
-    assert_eq!(rt; bus.put_all(0, &bytes[1..]), Ok(()));
-    let page = page_after(rt.alloc(), &mut bus, "C10 R0 C00 A00x5 C30 R0 C00")?;
+    assert!(rt; bus.put_all(0, &bytes) == Err(BusRefusal::Forbidden(Forbidden::ColumnOutside)));
+    assert!(rt; bus.put_all(1, &bytes) == Err(BusRefusal::Forbidden(Forbidden::NotThere)));
+    assert!(rt; bus.put_all(0, &bytes[1..]).is_ok());
+    let page = page_after(rt.alloc(), &mut bus, CLOSING)?;
     assert!(rt; page.as_slice() == &bytes[1..]);
     Ok(())
 }

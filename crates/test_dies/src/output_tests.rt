@@ -53,29 +53,31 @@ fn is_one_by_one(alloc: Global, parts: Parts, text: &str, len: usize) -> Result<
     Ok(alike && run.as_slice() == bytes.as_slice() && at_once.trace() == each.trace())
 }
 
+// What comes before, and how many outputs are taken behind it.
+const RUNS: &[(Parts, &str, [usize; 5])] = &[
+    (ONE_LUN, "C00 A00x5 C30 R0 C00", [0, 1, 527, 528, 529]),
+    // From column 0203h on.
+    (
+        ONE_LUN,
+        "C00 A03 A02 A00x3 C30 R0 C00",
+        [0, 12, 13, 14, 600],
+    ),
+    (
+        ONE_LUN,
+        "C80 A00x5 Ia5 I0f C10 R0 C00 A00x5 C30 R0 C00 Oa5",
+        [1, 2, 526, 527, 528],
+    ),
+    (ONE_LUN, "Cec A00 R0", [1, 256, 767, 768, 769]),
+    (ONE_LUN, "C90 A20", [0, 3, 4, 5, 6]),
+    // A status has no end; where nothing drives, and where a command is open, none is given.
+    (ONE_LUN, "C60 A00x3 Cd0 C70", [0, 1, 2, 3, 100]),
+    (ONE_LUN, "C00", [0, 1, 2, 3, 4]),
+    (CACHED, "C00 A00x5 C30 R0 C31 R0", [1, 2, 527, 528, 529]),
+];
+
 #[test]
 fn runs_are_outputs_one_by_one(rt: HostRuntime) -> Result<(), Fail> {
-    let rows: [(Parts, &str, [usize; 5]); 8] = [
-        (ONE_LUN, "C00 A00x5 C30 R0 C00", [0, 1, 527, 528, 529]),
-        // From column 0203h on.
-        (
-            ONE_LUN,
-            "C00 A03 A02 A00x3 C30 R0 C00",
-            [0, 12, 13, 14, 600],
-        ),
-        (
-            ONE_LUN,
-            "C80 A00x5 Ia5 I0f C10 R0 C00 A00x5 C30 R0 C00 Oa5",
-            [1, 2, 526, 527, 528],
-        ),
-        (ONE_LUN, "Cec A00 R0", [1, 256, 767, 768, 769]),
-        (ONE_LUN, "C90 A20", [0, 3, 4, 5, 6]),
-        // A status has no end; where nothing drives, and where a command is open, none is given.
-        (ONE_LUN, "C60 A00x3 Cd0 C70", [0, 1, 2, 3, 100]),
-        (ONE_LUN, "C00", [0, 1, 2, 3, 4]),
-        (CACHED, "C00 A00x5 C30 R0 C31 R0", [1, 2, 527, 528, 529]),
-    ];
-    for (parts, text, lens) in &rows {
+    for (parts, text, lens) in RUNS {
         for len in lens {
             assert!(rt;
                 is_one_by_one(rt.alloc(), *parts, text, *len)?,

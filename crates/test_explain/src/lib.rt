@@ -1,4 +1,4 @@
-//! What is told of refused microprograms. Only tests stand here.
+//! What is told of refused microprograms, and what is noted of accepted ones. Only tests stand here.
 #![tactic(auto)]
 
 #[cfg(test)]
@@ -9,6 +9,8 @@ mod command_tests;
 mod data_tests;
 #[cfg(test)]
 mod loop_tests;
+#[cfg(test)]
+mod notes;
 #[cfg(test)]
 mod number_tests;
 #[cfg(test)]

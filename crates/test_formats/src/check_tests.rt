@@ -40,99 +40,76 @@ fn refusal(
     Ok(check(&geometry, targets, &parse(alloc, text)?).err())
 }
 
-fn at(place: usize, rule: Forbidden) -> Option<CheckRefusal> {
-    Some(CheckRefusal::At(place, rule))
-}
+const NONE_DRIVES: &str = "0 O e0\n";
 
-#[test]
-fn a_busy_lun_begins_nothing(rt: HostRuntime) -> Result<(), Fail> {
-    assert_eq!(rt;
-        refusal(rt.alloc(), ONE_LUN, 1, SECOND_OPENER)?,
-        at(5, Forbidden::LunBusy)
-    );
-    assert_eq!(rt; refusal(rt.alloc(), TWO_LUNS, 1, SECOND_OPENER)?, None);
-    assert_eq!(rt;
-        refusal(rt.alloc(), TWO_LUNS, 1, SECOND_ROW)?,
-        at(8, Forbidden::LunBusy)
-    );
+const ASKED: &str = "0 C 70\n0 O e0\n0 O e0\n";
+
+const ASKED_BY_ROW: &str = "0 C 78\n0 A 20\n0 A 00\n0 A 00\n0 O e0\n0 C 70\n";
+
+const ON_THE_OTHER_LUN: &str =
+    "0 C 60\n0 A 00\n0 A 00\n0 A 00\n0 C d0\n0 C 60\n0 A 20\n0 A 00\n0 A 00\n0 C d0\n";
+
+const ON_TARGET_1: &str = "1 C 60\n1 A 00\n1 A 00\n1 A 00\n1 C d0\n0 R 0 0\n";
+
+// Traces on so many targets of a geometry, and the place and the rule of their first fault.
+const TRACES: &[(Parts, u8, &str, Option<(usize, Forbidden)>)] = &[
+    // A busy LUN begins nothing.
+    (ONE_LUN, 1, SECOND_OPENER, Some((5, Forbidden::LunBusy))),
+    (TWO_LUNS, 1, SECOND_OPENER, None),
+    (TWO_LUNS, 1, SECOND_ROW, Some((8, Forbidden::LunBusy))),
+    // Legal traces.
+    (ONE_LUN, 1, "", None),
+    (ONE_LUN, 1, ERASE, None),
+    (TWO_LUNS, 4, ON_THE_OTHER_LUN, None),
+    // The byte of an output isn't judged.
+    (
+        ONE_LUN,
+        1,
+        "0 C 60\n0 A 00\n0 A 00\n0 A 00\n0 C d0\n0 C 70\n0 O 3c\n",
+        None,
+    ),
+    // A chip enable that isn't there, a ready of a LUN that isn't busy or isn't there, and an array ready.
+    (ONE_LUN, 1, ON_TARGET_1, Some((0, Forbidden::NotThere))),
+    (ONE_LUN, 2, ON_TARGET_1, Some((5, Forbidden::NotThere))),
+    (ONE_LUN, 0, ERASE, Some((0, Forbidden::NotThere))),
+    (TWO_LUNS, 1, "0 R 2 0\n", Some((0, Forbidden::NotThere))),
+    (ONE_LUN, 1, "0 Y 0\n", Some((0, Forbidden::NotThere))),
+    // A status command gives the bus to one LUN: 70 to the only one, 78 to the one that its row names.
+    (ONE_LUN, 1, NONE_DRIVES, Some((0, Forbidden::NoSoleDriver))),
+    (ONE_LUN, 1, ASKED, None),
+    (TWO_LUNS, 1, ASKED_BY_ROW, Some((5, Forbidden::SeveralLuns))),
+    (
+        ONE_LUN,
+        1,
+        ASKED_BY_ROW,
+        Some((0, Forbidden::CommandUnknown)),
+    ),
+    // A trace is told by its first fault, also where later items would be permitted.
+    (
+        ONE_LUN,
+        1,
+        "0 C 60\n0 A 00\n0 C d0\n0 A 00\n0 A 00\n0 C d0\n0 C 31\n",
+        Some((2, Forbidden::CommandMisplaced)),
+    ),
+];
+
+// The trace has this first fault.
+fn is_judged(
+    rt: &impl Abort,
+    alloc: Global,
+    (parts, targets, text, wanted): (Parts, u8, &str, Option<(usize, Forbidden)>),
+) -> Result<(), Fail> {
+    let told = refusal(alloc, parts, targets, text)?;
+    let wanted = wanted.map(|(place, rule)| CheckRefusal::At(place, rule));
+    assert_eq!(rt; told, wanted, "{text}");
     Ok(())
 }
 
 #[test]
-fn legal_traces(rt: HostRuntime) -> Result<(), Fail> {
-    let other_lun =
-        "0 C 60\n0 A 00\n0 A 00\n0 A 00\n0 C d0\n0 C 60\n0 A 20\n0 A 00\n0 A 00\n0 C d0\n";
-    assert_eq!(rt; refusal(rt.alloc(), ONE_LUN, 1, "")?, None);
-    assert_eq!(rt; refusal(rt.alloc(), ONE_LUN, 1, ERASE)?, None);
-    assert_eq!(rt; refusal(rt.alloc(), TWO_LUNS, 4, other_lun)?, None);
-    Ok(())
-}
-
-// The byte of an output isn't judged.
-#[test]
-fn output_bytes(rt: HostRuntime) -> Result<(), Fail> {
-    let text = "0 C 60\n0 A 00\n0 A 00\n0 A 00\n0 C d0\n0 C 70\n0 O 3c\n";
-    assert_eq!(rt; refusal(rt.alloc(), ONE_LUN, 1, text)?, None);
-    Ok(())
-}
-
-// A chip enable that isn't there, a ready of a LUN that isn't busy or isn't there, and an array ready.
-#[test]
-fn what_is_not_there(rt: HostRuntime) -> Result<(), Fail> {
-    let other_target = "1 C 60\n1 A 00\n1 A 00\n1 A 00\n1 C d0\n0 R 0 0\n";
-    assert_eq!(rt;
-        refusal(rt.alloc(), ONE_LUN, 1, other_target)?,
-        at(0, Forbidden::NotThere)
-    );
-    assert_eq!(rt;
-        refusal(rt.alloc(), ONE_LUN, 2, other_target)?,
-        at(5, Forbidden::NotThere)
-    );
-    assert_eq!(rt;
-        refusal(rt.alloc(), ONE_LUN, 0, ERASE)?,
-        at(0, Forbidden::NotThere)
-    );
-    assert_eq!(rt;
-        refusal(rt.alloc(), TWO_LUNS, 1, "0 R 2 0\n")?,
-        at(0, Forbidden::NotThere)
-    );
-    assert_eq!(rt;
-        refusal(rt.alloc(), ONE_LUN, 1, "0 Y 0\n")?,
-        at(0, Forbidden::NotThere)
-    );
-    Ok(())
-}
-
-// A status command gives the bus to one LUN: 70 to the only one, 78 to the one that its row names.
-#[test]
-fn who_drives(rt: HostRuntime) -> Result<(), Fail> {
-    let nobody = "0 O e0\n";
-    let by_70 = "0 C 70\n0 O e0\n0 O e0\n";
-    let by_78 = "0 C 78\n0 A 20\n0 A 00\n0 A 00\n0 O e0\n0 C 70\n";
-    assert_eq!(rt;
-        refusal(rt.alloc(), ONE_LUN, 1, nobody)?,
-        at(0, Forbidden::NoSoleDriver)
-    );
-    assert_eq!(rt; refusal(rt.alloc(), ONE_LUN, 1, by_70)?, None);
-    assert_eq!(rt;
-        refusal(rt.alloc(), TWO_LUNS, 1, by_78)?,
-        at(5, Forbidden::SeveralLuns)
-    );
-    assert_eq!(rt;
-        refusal(rt.alloc(), ONE_LUN, 1, by_78)?,
-        at(0, Forbidden::CommandUnknown)
-    );
-    Ok(())
-}
-
-// A trace is told by its first fault, also where later items would be permitted.
-#[test]
-fn first_of_several_faults(rt: HostRuntime) -> Result<(), Fail> {
-    let text = "0 C 60\n0 A 00\n0 C d0\n0 A 00\n0 A 00\n0 C d0\n0 C 31\n";
-    assert_eq!(rt;
-        refusal(rt.alloc(), ONE_LUN, 1, text)?,
-        at(2, Forbidden::CommandMisplaced)
-    );
+fn first_faults_of_traces(rt: HostRuntime) -> Result<(), Fail> {
+    for row in TRACES {
+        is_judged(&rt, rt.alloc(), *row)?;
+    }
     Ok(())
 }
 
@@ -145,22 +122,29 @@ fn a_long_trace(rt: HostRuntime) -> Result<(), Fail> {
     for _ in 0..500 {
         items.extend_from_slice(&erase)?;
     }
-    assert_eq!(rt; check(&geometry, 1, &items), Ok(()));
+    assert!(rt; check(&geometry, 1, &items).is_ok());
     items.extend_from_slice(&erase[..7])?;
     items.extend_from_slice(&erase)?;
     assert_eq!(rt;
         check(&geometry, 1, &items).err(),
-        at(5007, Forbidden::LunBusy)
+        Some(CheckRefusal::At(5007, Forbidden::LunBusy))
     );
     Ok(())
 }
 
+const MESSAGES: &[(CheckRefusal, &str)] = &[
+    (
+        CheckRefusal::At(5, Forbidden::LunBusy),
+        "F9 at item 5: the LUN is busy",
+    ),
+    (CheckRefusal::OutOfMemory, "out of memory"),
+];
+
 #[test]
 fn refusals_are_told(rt: HostRuntime) -> Result<(), Fail> {
-    let told = format!(in rt.alloc(); "{}", CheckRefusal::At(5, Forbidden::LunBusy))?;
-    assert_eq!(rt; told.as_str(), "F9 at item 5: the LUN is busy");
-    let memory = format!(in rt.alloc(); "{}", CheckRefusal::OutOfMemory)?;
-    assert_eq!(rt; memory.as_str(), "out of memory");
+    for (refusal, message) in MESSAGES {
+        assert_eq!(rt; format!(in rt.alloc(); "{refusal}")?.as_str(), *message);
+    }
     Ok(())
 }
 
@@ -176,38 +160,48 @@ impl CheckProgress for Kept {
     }
 }
 
+// How far a check of the items tells that it has come, each time that it passes so many; None where it finds a fault.
+fn told_every(alloc: Global, items: &[Item], every: usize) -> Result<Option<Vec<usize>>, Fail> {
+    let geometry = Geometry::of(ONE_LUN)?;
+    let mut kept = Kept {
+        told: Vec::new(alloc),
+    };
+    match first_broken(&geometry, 1, items, &mut kept, every.max(1)) {
+        None => Ok(Some(kept.told)),
+        Some(_) => Ok(None),
+    }
+}
+
+// How often, and what is told of the ten items of an erase.
+const PROGRESS: &[(usize, &[usize])] = &[(4, &[4, 8]), (5, &[5]), (10, &[])];
+
 #[test]
 fn how_far_it_has_come_is_told(rt: HostRuntime) -> Result<(), Fail> {
-    let geometry = Geometry::of(ONE_LUN)?;
     let erase = parse(rt.alloc(), ERASE)?;
-    // The ten items of an erase.
-    for (every, told) in [
-        (4usize, [4, 8].as_slice()),
-        (5, [5].as_slice()),
-        (10, [].as_slice()),
-    ] {
-        let mut kept = Kept {
-            told: Vec::new(rt.alloc()),
-        };
-        assert_eq!(rt; first_broken(&geometry, 1, &erase, &mut kept, every), None);
-        assert_eq!(rt; kept.told.as_slice(), told);
+    for (every, told) in PROGRESS {
+        let found = told_every(rt.alloc(), &erase, *every)?.ok_or("a legal trace")?;
+        assert_eq!(rt; found.as_slice(), *told);
     }
-    // Nothing is told of fewer than a million.
-    let mut kept = Kept {
-        told: Vec::new(rt.alloc()),
-    };
-    assert_eq!(rt; check_watched(&geometry, 1, &erase, &mut kept), Ok(()));
-    assert!(rt; kept.told.is_empty());
     Ok(())
 }
 
-// A page read up to its outputs, and a program up to its inputs.
+#[test]
+fn nothing_is_told_of_few_items(rt: HostRuntime) -> Result<(), Fail> {
+    let geometry = Geometry::of(ONE_LUN)?;
+    let erase = parse(rt.alloc(), ERASE)?;
+    let mut kept = Kept {
+        told: Vec::new(rt.alloc()),
+    };
+    // Nothing is told of fewer than a million.
+    let is_legal = check_watched(&geometry, 1, &erase, &mut kept).is_ok();
+    assert!(rt; is_legal && kept.told.is_empty());
+    Ok(())
+}
+
+// A page of 528 bytes read up to its outputs, and a program up to its inputs.
 const READ: &str = "0 C 00\n0 A 00\n0 A 00\n0 A 00\n0 A 00\n0 A 00\n0 C 30\n0 R 0 0\n0 C 00\n";
 
 const PROGRAM: &str = "0 C 80\n0 A 00\n0 A 00\n0 A 00\n0 A 00\n0 A 00\n";
-
-// How many bytes a page has.
-const PAGE: usize = 528;
 
 // The items of a text, and so many cycles of this kind after them.
 fn with_data(alloc: Global, text: &str, kind: Kind, count: usize) -> Result<Vec<Item>, Fail> {
@@ -238,39 +232,59 @@ fn tells(
         let mut kept = Kept {
             told: Vec::new(alloc),
         };
-        assert_eq!(rt; first_broken(&geometry, 1, items, &mut kept, every), wanted);
-        assert_eq!(rt; kept.told.len(), last / every);
+        let found = first_broken(&geometry, 1, items, &mut kept, every);
+        assert_eq!(rt; (found, kept.told.len()), (wanted, last / every));
     }
     Ok(())
 }
 
+// The cycles in front, the kind of so many cycles of data behind them, and the first fault.
+type Run = (&'static str, Kind, usize, Option<(usize, Forbidden)>);
+
+// The first item behind a page.
+const BEHIND_READ: Option<(usize, Forbidden)> = Some((9 + 528, Forbidden::ColumnOutside));
+
+const BEHIND_PROGRAM: Option<(usize, Forbidden)> = Some((6 + 528, Forbidden::ColumnOutside));
+
+const RUNS: &[Run] = &[
+    (READ, Kind::Dout, 0, None),
+    (READ, Kind::Dout, 1, None),
+    (READ, Kind::Dout, 2, None),
+    (READ, Kind::Dout, 527, None),
+    (READ, Kind::Dout, 528, None),
+    (READ, Kind::Dout, 529, BEHIND_READ),
+    (READ, Kind::Dout, 530, BEHIND_READ),
+    (READ, Kind::Dout, 1_056, BEHIND_READ),
+    (READ, Kind::Dout, 2_000, BEHIND_READ),
+    (PROGRAM, Kind::Din, 0, None),
+    (PROGRAM, Kind::Din, 1, None),
+    (PROGRAM, Kind::Din, 2, None),
+    (PROGRAM, Kind::Din, 527, None),
+    (PROGRAM, Kind::Din, 528, None),
+    (PROGRAM, Kind::Din, 529, BEHIND_PROGRAM),
+    (PROGRAM, Kind::Din, 530, BEHIND_PROGRAM),
+    (PROGRAM, Kind::Din, 1_056, BEHIND_PROGRAM),
+    (PROGRAM, Kind::Din, 2_000, BEHIND_PROGRAM),
+    // Data that comes where none may.
+    (
+        "0 C 60\n",
+        Kind::Din,
+        9,
+        Some((1, Forbidden::InputMisplaced)),
+    ),
+    (
+        "0 C 60\n",
+        Kind::Dout,
+        9,
+        Some((1, Forbidden::NoSoleDriver)),
+    ),
+];
+
 #[test]
 fn runs_of_data_are_checked(rt: HostRuntime) -> Result<(), Fail> {
-    for (text, kind) in [(READ, Kind::Dout), (PROGRAM, Kind::Din)] {
-        let before = parse(rt.alloc(), text)?.len();
-        for count in [0usize, 1, 2, 527, 528, 529, 530, 1_056, 2_000] {
-            let items = with_data(rt.alloc(), text, kind, count)?;
-            let wanted = if count > PAGE {
-                Some((before.saturating_add(PAGE), Forbidden::ColumnOutside))
-            } else {
-                None
-            };
-            tells(&rt, rt.alloc(), items.as_slice(), wanted)?;
-        }
+    for (text, kind, count, wanted) in RUNS {
+        let items = with_data(rt.alloc(), text, *kind, *count)?;
+        tells(&rt, rt.alloc(), items.as_slice(), *wanted)?;
     }
-    // Data that comes where none may.
-    let items = with_data(rt.alloc(), "0 C 60\n", Kind::Din, 9)?;
-    tells(
-        &rt,
-        rt.alloc(),
-        items.as_slice(),
-        Some((1, Forbidden::InputMisplaced)),
-    )?;
-    let items = with_data(rt.alloc(), "0 C 60\n", Kind::Dout, 9)?;
-    tells(
-        &rt,
-        rt.alloc(),
-        items.as_slice(),
-        Some((1, Forbidden::NoSoleDriver)),
-    )
+    Ok(())
 }

@@ -49,47 +49,53 @@ fn an_erase_is_written(rt: HostRuntime) -> Result<(), Fail> {
     Ok(())
 }
 
-#[test]
-fn each_word_has_its_line(rt: HostRuntime) -> Result<(), Fail> {
-    let words = [
-        Word::Command { byte: 0xec },
-        Word::Address { from: 0, count: 5 },
-        Word::Get { len: 16_777_215 },
-        Word::Put { len: 1 },
-        Word::Seek { place: 100_000 },
-        Word::Column { column: 65_535 },
-        Word::RowAdd { rows: 65_535 },
-        Word::Row { row: 4_095 },
-        Word::Plane { plane: 3 },
-        Word::Wait,
-        Word::Yield,
-        Word::ReadStatus,
-        Word::Loop { turns: 4_096 },
-        Word::Next,
-        Word::End { code: 255 },
-    ];
-    let lines =
-        "cmd ec\naddr 0 5\nget 16777215\nput 1\nseek 100000\ncol 65535\nrowadd 65535\nrow 4095\nplane 3\nwait\nyield\nstat\nloop 4096\nnext\nend 255\n";
-    is_written(&rt, rt.alloc(), &words, lines)
-}
+// Words, and the lines that they are written as.
+const LINES: &[(&[Word], &str)] = &[
+    (
+        &[
+            Word::Command { byte: 0xec },
+            Word::Address { from: 0, count: 5 },
+            Word::Get { len: 16_777_215 },
+            Word::Put { len: 1 },
+            Word::Seek { place: 100_000 },
+            Word::Column { column: 65_535 },
+            Word::RowAdd { rows: 65_535 },
+            Word::Row { row: 4_095 },
+            Word::Plane { plane: 3 },
+            Word::Wait,
+            Word::Yield,
+            Word::ReadStatus,
+            Word::Loop { turns: 4_096 },
+            Word::Next,
+            Word::End { code: 255 },
+        ],
+        "cmd ec\naddr 0 5\nget 16777215\nput 1\nseek 100000\ncol 65535\nrowadd 65535\nrow 4095\nplane 3\nwait\nyield\nstat\nloop 4096\nnext\nend 255\n",
+    ),
+    // Labels stand before their words.
+    (
+        &[
+            Word::Jump { target: 2 },
+            Word::BranchOnStatus {
+                mask: 0x0a,
+                target: 0,
+            },
+            Word::BranchOnStatus {
+                mask: 0xff,
+                target: 2,
+            },
+            Word::End { code: 0 },
+        ],
+        "L0:\njmp L2\nbrs 0a L0\nL2:\nbrs ff L2\nend 0\n",
+    ),
+    (&[], ""),
+];
 
 #[test]
-fn labels_stand_before_their_words(rt: HostRuntime) -> Result<(), Fail> {
-    let words = [
-        Word::Jump { target: 2 },
-        Word::BranchOnStatus {
-            mask: 0x0a,
-            target: 0,
-        },
-        Word::BranchOnStatus {
-            mask: 0xff,
-            target: 2,
-        },
-        Word::End { code: 0 },
-    ];
-    let lines = "L0:\njmp L2\nbrs 0a L0\nL2:\nbrs ff L2\nend 0\n";
-    is_written(&rt, rt.alloc(), &words, lines)?;
-    is_written(&rt, rt.alloc(), &[], "")
+fn each_word_has_its_line(rt: HostRuntime) -> Result<(), Fail> {
+    for (words, lines) in LINES {
+        is_written(&rt, rt.alloc(), words, lines)?;
+    }
+    Ok(())
 }
 
 // The text of an erase on a heap of so many bytes, None where they don't suffice.

@@ -1,6 +1,7 @@
 //! Worked examples: which numbers are a geometry, and what its rows are.
 
 use nand_geometry::{Geometry, PageFault, Parts, RowParts, SMALL_CHIP};
+use std::process::Abort;
 use std::test::Fail;
 
 /// One LUN of 8 blocks of 4 pages of 512 + 16 bytes, in one plane.
@@ -24,256 +25,342 @@ pub(crate) const LARGEST: Parts = Parts {
     ..TWO_LUNS
 };
 
+// 5 blocks and 3 pages leave numbers in their fields of 3 and 2 bits that name nothing.
+const UNEVEN: Parts = Parts {
+    pages: 3,
+    blocks: 5,
+    ..ONE_LUN
+};
+
+// 7 blocks in 2 planes are 3 groups, and block 6 is left over.
+const ODD: Parts = Parts {
+    blocks: 7,
+    ..TWO_LUNS
+};
+
 #[test]
 fn shows_its_numbers(rt: HostRuntime) -> Result<(), Fail> {
-    let one = Geometry::of(ONE_LUN)?;
-    assert_eq!(rt; one.parts(), ONE_LUN);
-    assert_eq!(rt; (one.page_len(), one.planes(), one.indices()), (528, 1, 32));
-    let two = Geometry::of(TWO_LUNS)?;
-    assert_eq!(rt; (two.page_len(), two.planes(), two.indices()), (528, 2, 16));
-    assert!(rt; one == Geometry::of(ONE_LUN)?);
-    assert!(rt; one != two);
+    for (parts, page_len, planes, indices) in [
+        (ONE_LUN, 528, 1, 32),
+        (TWO_LUNS, 528, 2, 16),
+        (LARGEST, 528, 1, 4_194_304),
+        (ODD, 528, 2, 12),
+    ] {
+        let geometry = Geometry::of(parts)?;
+        assert_eq!(rt; geometry.parts(), parts);
+        assert_eq!(rt;
+            (geometry.page_len(), geometry.planes(), geometry.indices()),
+            (page_len, planes, indices)
+        );
+        assert_eq!(rt; geometry == Geometry::of(ONE_LUN)?, parts == ONE_LUN);
+    }
     Ok(())
 }
 
-#[test]
-fn rows_of_an_index(rt: HostRuntime) -> Result<(), Fail> {
-    let one = Geometry::of(ONE_LUN)?;
-    assert_eq!(rt; one.row_bytes(0, 4, 0), Some([0x04, 0x00, 0x00]));
-    let two = Geometry::of(TWO_LUNS)?;
-    assert_eq!(rt; two.row_bytes(0, 15, 0), Some([0x1b, 0x00, 0x00]));
-    assert_eq!(rt; two.row_bytes(1, 15, 1), Some([0x3f, 0x00, 0x00]));
-    assert_eq!(rt; two.row_bytes(1, 0, 0), Some([0x20, 0x00, 0x00]));
-    assert_eq!(rt; two.row_bytes(0, 16, 0), None);
-    assert_eq!(rt; two.row_bytes(2, 0, 0), None);
-    assert_eq!(rt; two.row_bytes(0, 0, 2), None);
-    assert_eq!(rt; two.row_bytes(u8::MAX, u32::MAX, u8::MAX), None);
-    let largest = Geometry::of(LARGEST)?;
-    assert_eq!(rt; largest.indices(), 4_194_304);
+// The row of a LUN, an index and a plane; None where there is none.
+#[derive(Clone, Copy)]
+struct IndexRow {
+    parts: Parts,
+    of: (u8, u32, u8),
+    row: Option<[u8; 3]>,
+}
+
+const INDEX_ROWS: &[IndexRow] = &[
+    IndexRow {
+        parts: ONE_LUN,
+        of: (0, 4, 0),
+        row: Some([0x04, 0x00, 0x00]),
+    },
+    IndexRow {
+        parts: TWO_LUNS,
+        of: (0, 15, 0),
+        row: Some([0x1b, 0x00, 0x00]),
+    },
+    IndexRow {
+        parts: TWO_LUNS,
+        of: (1, 15, 1),
+        row: Some([0x3f, 0x00, 0x00]),
+    },
+    IndexRow {
+        parts: TWO_LUNS,
+        of: (1, 0, 0),
+        row: Some([0x20, 0x00, 0x00]),
+    },
+    IndexRow {
+        parts: TWO_LUNS,
+        of: (0, 16, 0),
+        row: None,
+    },
+    IndexRow {
+        parts: TWO_LUNS,
+        of: (2, 0, 0),
+        row: None,
+    },
+    IndexRow {
+        parts: TWO_LUNS,
+        of: (0, 0, 2),
+        row: None,
+    },
+    IndexRow {
+        parts: TWO_LUNS,
+        of: (u8::MAX, u32::MAX, u8::MAX),
+        row: None,
+    },
+    IndexRow {
+        parts: LARGEST,
+        of: (3, 4_194_303, 0),
+        row: Some([0xff, 0xff, 0xff]),
+    },
+    IndexRow {
+        parts: ODD,
+        of: (0, 11, 1),
+        row: Some([0x17, 0x00, 0x00]),
+    },
+    IndexRow {
+        parts: ODD,
+        of: (0, 12, 0),
+        row: None,
+    },
+];
+
+fn has_row(rt: &impl Abort, row: &IndexRow) -> Result<(), Fail> {
+    let geometry = Geometry::of(row.parts)?;
+    let (lun, index, plane) = row.of;
     assert_eq!(rt;
-        largest.row_bytes(3, 4_194_303, 0),
-        Some([0xff, 0xff, 0xff])
+        geometry.row_bytes(lun, index, plane),
+        row.row,
+        "index {index}"
     );
     Ok(())
 }
 
 #[test]
+fn rows_of_an_index(rt: HostRuntime) -> Result<(), Fail> {
+    for row in INDEX_ROWS {
+        has_row(&rt, row)?;
+    }
+    Ok(())
+}
+
+// What the bytes of a row name, None where that isn't there.
+type NamedRow = (Parts, [u8; 3], Option<RowParts>);
+
+const NAMED: &[NamedRow] = &[
+    (
+        TWO_LUNS,
+        [0x3f, 0x00, 0x00],
+        Some(RowParts {
+            lun: 1,
+            block: 7,
+            page: 3,
+        }),
+    ),
+    // The LUN has all upper bits: 24 bits give far more LUNs than there are.
+    (TWO_LUNS, [0x40, 0x00, 0x00], None),
+    (TWO_LUNS, [0xff, 0xff, 0xff], None),
+    (
+        UNEVEN,
+        [0b0_100_10, 0, 0],
+        Some(RowParts {
+            lun: 0,
+            block: 4,
+            page: 2,
+        }),
+    ),
+    // Page 3, block 5, LUN 1, and a LUN above 255.
+    (UNEVEN, [0b0_100_11, 0, 0], None),
+    (UNEVEN, [0b0_101_00, 0, 0], None),
+    (UNEVEN, [0b1_000_00, 0, 0], None),
+    (UNEVEN, [0, 0, 0x80], None),
+    (
+        ODD,
+        [0x18, 0x00, 0x00],
+        Some(RowParts {
+            lun: 0,
+            block: 6,
+            page: 0,
+        }),
+    ),
+    // Block 7.
+    (ODD, [0x1c, 0x00, 0x00], None),
+];
+
+fn names(rt: &impl Abort, (parts, row, named): NamedRow) -> Result<(), Fail> {
+    let geometry = Geometry::of(parts)?;
+    assert_eq!(rt; geometry.row_parts(row), named, "{row:?}");
+    Ok(())
+}
+
+#[test]
 fn rows_read_back(rt: HostRuntime) -> Result<(), Fail> {
+    for row in NAMED {
+        names(&rt, *row)?;
+    }
+    Ok(())
+}
+
+#[test]
+fn rows_as_numbers(rt: HostRuntime) -> Result<(), Fail> {
     let two = Geometry::of(TWO_LUNS)?;
     let last = RowParts {
         lun: 1,
         block: 7,
         page: 3,
     };
-    assert_eq!(rt; two.row_parts([0x3f, 0x00, 0x00]), Some(last));
     assert_eq!(rt; two.parts_of(0x3f), last);
-    assert!(rt; two.is_inside(last));
     assert_eq!(rt; two.row_number(last), 0x3f);
-    // The LUN has all upper bits: 24 bits give far more LUNs than there are.
-    assert_eq!(rt; two.row_parts([0x40, 0x00, 0x00]), None);
-    assert_eq!(rt; two.row_parts([0xff, 0xff, 0xff]), None);
-    assert_eq!(rt; two.parts_of(0xff_ffff).lun, 0x7_ffff);
+    assert!(rt; two.is_inside(last) && two.parts_of(0xff_ffff).lun == 0x7_ffff);
     Ok(())
 }
 
-#[test]
-fn rows_outside_are_none(rt: HostRuntime) -> Result<(), Fail> {
-    // 5 blocks and 3 pages leave numbers in their fields of 3 and 2 bits that name nothing.
-    let uneven = Geometry::of(Parts {
-        pages: 3,
-        blocks: 5,
-        ..ONE_LUN
-    })?;
-    assert!(rt; uneven.row_parts([0b0_100_10, 0, 0]).is_some());
-    assert_eq!(rt; uneven.row_parts([0b0_100_11, 0, 0]), None, "page 3");
-    assert_eq!(rt; uneven.row_parts([0b0_101_00, 0, 0]), None, "block 5");
-    assert_eq!(rt; uneven.row_parts([0b1_000_00, 0, 0]), None, "LUN 1");
-    assert_eq!(rt; uneven.row_parts([0, 0, 0x80]), None, "a LUN above 255");
-    Ok(())
+const OUT_OF_SIZE: Option<PageFault> = Some(PageFault::SizeOutOfRange);
+
+const OUT_OF_LUNS: Option<PageFault> = Some(PageFault::LunsOutOfRange);
+
+const OUT_OF_PLANES: Option<PageFault> = Some(PageFault::PlanesOutOfRange);
+
+// Numbers of a geometry, the others as in one of those above.
+#[derive(Clone, Copy, Debug)]
+enum Numbers {
+    PageBytes(u32),
+    SpareBytes(u32),
+    Pages(u32),
+    Blocks(u32),
+    LunsAndPages(u8, u32),
+    PlaneBitsAndBlocks(u8, u32),
 }
 
-#[test]
-fn blocks_that_no_index_reaches(rt: HostRuntime) -> Result<(), Fail> {
-    // 7 blocks in 2 planes are 3 groups, and block 6 is left over.
-    let odd = Geometry::of(Parts {
-        blocks: 7,
-        ..TWO_LUNS
-    })?;
-    assert_eq!(rt; odd.indices(), 12);
-    assert_eq!(rt; odd.row_bytes(0, 11, 1), Some([0x17, 0x00, 0x00]));
-    assert_eq!(rt; odd.row_bytes(0, 12, 0), None);
-    let left_over = RowParts {
-        lun: 0,
-        block: 6,
-        page: 0,
-    };
-    assert_eq!(rt; odd.row_parts([0x18, 0x00, 0x00]), Some(left_over));
-    assert_eq!(rt; odd.row_parts([0x1c, 0x00, 0x00]), None, "block 7");
-    Ok(())
-}
-
-#[test]
-fn sizes_out_of_range(rt: HostRuntime) {
-    for (page_bytes, fault) in [
-        (511, Some(PageFault::SizeOutOfRange)),
-        (512, None),
-        (16384, None),
-        (16385, Some(PageFault::SizeOutOfRange)),
-        (u32::MAX, Some(PageFault::SizeOutOfRange)),
-    ] {
-        assert_eq!(rt;
-            Geometry::of(Parts {
-                page_bytes,
-                ..ONE_LUN
-            })
-            .err(),
-            fault,
-            "{page_bytes}"
-        );
-    }
-    for (spare_bytes, fault) in [
-        (0, None),
-        (4096, None),
-        (4097, Some(PageFault::SizeOutOfRange)),
-        (u32::MAX, Some(PageFault::SizeOutOfRange)),
-    ] {
-        assert_eq!(rt;
-            Geometry::of(Parts {
-                spare_bytes,
-                ..ONE_LUN
-            })
-            .err(),
-            fault,
-            "{spare_bytes}"
-        );
-    }
-    for (pages, fault) in [
-        (0, Some(PageFault::SizeOutOfRange)),
-        (1, None),
-        (4096, None),
-        (4097, Some(PageFault::SizeOutOfRange)),
-        (u32::MAX, Some(PageFault::SizeOutOfRange)),
-    ] {
-        assert_eq!(rt;
-            Geometry::of(Parts { pages, ..ONE_LUN }).err(),
-            fault,
-            "{pages}"
-        );
-    }
-    for (blocks, fault) in [
-        (0, Some(PageFault::SizeOutOfRange)),
-        (1, None),
-        (65536, None),
-        (65537, Some(PageFault::SizeOutOfRange)),
-        (u32::MAX, Some(PageFault::SizeOutOfRange)),
-    ] {
-        assert_eq!(rt;
-            Geometry::of(Parts { blocks, ..ONE_LUN }).err(),
-            fault,
-            "{blocks}"
-        );
-    }
-}
-
-#[test]
-fn luns_and_rows_out_of_range(rt: HostRuntime) {
-    for (luns, pages, fault) in [
-        (0, 64, Some(PageFault::LunsOutOfRange)),
-        (1, 64, None),
-        (4, 64, None),
-        (5, 64, Some(PageFault::LunsOutOfRange)),
-        (u8::MAX, 64, Some(PageFault::LunsOutOfRange)),
-        (4, 65, Some(PageFault::LunsOutOfRange)),
-        (4, 4096, Some(PageFault::LunsOutOfRange)),
-        (1, 256, None),
-        (1, 257, Some(PageFault::LunsOutOfRange)),
-    ] {
-        let parts = Parts {
+fn parts_with(numbers: Numbers) -> Parts {
+    match numbers {
+        Numbers::PageBytes(page_bytes) => Parts {
+            page_bytes,
+            ..ONE_LUN
+        },
+        Numbers::SpareBytes(spare_bytes) => Parts {
+            spare_bytes,
+            ..ONE_LUN
+        },
+        Numbers::Pages(pages) => Parts { pages, ..ONE_LUN },
+        Numbers::Blocks(blocks) => Parts { blocks, ..ONE_LUN },
+        Numbers::LunsAndPages(luns, pages) => Parts {
             luns,
             pages,
             ..LARGEST
-        };
-        assert_eq!(rt;
-            Geometry::of(parts).err(),
-            fault,
-            "{luns} LUNs, {pages} pages"
-        );
-    }
-}
-
-#[test]
-fn planes_out_of_range(rt: HostRuntime) {
-    for (plane_bits, blocks, fault) in [
-        (1, 1, Some(PageFault::PlanesOutOfRange)),
-        (1, 2, None),
-        (2, 3, Some(PageFault::PlanesOutOfRange)),
-        (2, 4, None),
-        (3, 8, Some(PageFault::PlanesOutOfRange)),
-        (32, 65536, Some(PageFault::PlanesOutOfRange)),
-        (u8::MAX, 65536, Some(PageFault::PlanesOutOfRange)),
-    ] {
-        let parts = Parts {
+        },
+        Numbers::PlaneBitsAndBlocks(plane_bits, blocks) => Parts {
             plane_bits,
             blocks,
             ..TWO_LUNS
-        };
-        assert_eq!(rt;
-            Geometry::of(parts).err(),
-            fault,
-            "{plane_bits} bits, {blocks} blocks"
-        );
+        },
     }
 }
 
+// Numbers, and their fault.
+const JUDGED: &[(Numbers, Option<PageFault>)] = &[
+    (Numbers::PageBytes(511), OUT_OF_SIZE),
+    (Numbers::PageBytes(512), None),
+    (Numbers::PageBytes(16384), None),
+    (Numbers::PageBytes(16385), OUT_OF_SIZE),
+    (Numbers::PageBytes(u32::MAX), OUT_OF_SIZE),
+    (Numbers::SpareBytes(0), None),
+    (Numbers::SpareBytes(4096), None),
+    (Numbers::SpareBytes(4097), OUT_OF_SIZE),
+    (Numbers::SpareBytes(u32::MAX), OUT_OF_SIZE),
+    (Numbers::Pages(0), OUT_OF_SIZE),
+    (Numbers::Pages(1), None),
+    (Numbers::Pages(4096), None),
+    (Numbers::Pages(4097), OUT_OF_SIZE),
+    (Numbers::Pages(u32::MAX), OUT_OF_SIZE),
+    (Numbers::Blocks(0), OUT_OF_SIZE),
+    (Numbers::Blocks(1), None),
+    (Numbers::Blocks(65536), None),
+    (Numbers::Blocks(65537), OUT_OF_SIZE),
+    (Numbers::Blocks(u32::MAX), OUT_OF_SIZE),
+    (Numbers::LunsAndPages(0, 64), OUT_OF_LUNS),
+    (Numbers::LunsAndPages(1, 64), None),
+    (Numbers::LunsAndPages(4, 64), None),
+    (Numbers::LunsAndPages(5, 64), OUT_OF_LUNS),
+    (Numbers::LunsAndPages(u8::MAX, 64), OUT_OF_LUNS),
+    (Numbers::LunsAndPages(4, 65), OUT_OF_LUNS),
+    (Numbers::LunsAndPages(4, 4096), OUT_OF_LUNS),
+    (Numbers::LunsAndPages(1, 256), None),
+    (Numbers::LunsAndPages(1, 257), OUT_OF_LUNS),
+    (Numbers::PlaneBitsAndBlocks(1, 1), OUT_OF_PLANES),
+    (Numbers::PlaneBitsAndBlocks(1, 2), None),
+    (Numbers::PlaneBitsAndBlocks(2, 3), OUT_OF_PLANES),
+    (Numbers::PlaneBitsAndBlocks(2, 4), None),
+    (Numbers::PlaneBitsAndBlocks(3, 8), OUT_OF_PLANES),
+    (Numbers::PlaneBitsAndBlocks(32, 65536), OUT_OF_PLANES),
+    (Numbers::PlaneBitsAndBlocks(u8::MAX, 65536), OUT_OF_PLANES),
+];
+
+#[test]
+fn numbers_out_of_range(rt: HostRuntime) {
+    for (numbers, fault) in JUDGED {
+        let judged = Geometry::of(parts_with(*numbers)).err();
+        assert_eq!(rt; judged, *fault, "{numbers:?}");
+    }
+}
+
+// Two LUNs without 78h, then with too many planes too, then with too many LUNs, then with no size in its range.
+const NO_LUN_COMMANDS: Parts = Parts {
+    enhanced: false,
+    ..TWO_LUNS
+};
+
+const ALSO_PLANES: Parts = Parts {
+    plane_bits: u8::MAX,
+    ..NO_LUN_COMMANDS
+};
+
+const ALSO_LUNS: Parts = Parts {
+    luns: 5,
+    ..ALSO_PLANES
+};
+
+const ALSO_SIZES: Parts = Parts {
+    page_bytes: u32::MAX,
+    spare_bytes: u32::MAX,
+    pages: u32::MAX,
+    blocks: u32::MAX,
+    luns: u8::MAX,
+    ..ALSO_LUNS
+};
+
+const FIRST_FAULTS: &[(Parts, Option<PageFault>)] = &[
+    (NO_LUN_COMMANDS, Some(PageFault::LunCommandsMissing)),
+    (ALSO_PLANES, OUT_OF_PLANES),
+    (ALSO_LUNS, OUT_OF_LUNS),
+    (ALSO_SIZES, OUT_OF_SIZE),
+];
+
 #[test]
 fn the_first_fault_is_told(rt: HostRuntime) {
-    let several = Parts {
-        enhanced: false,
-        ..TWO_LUNS
-    };
-    assert_eq!(rt;
-        Geometry::of(several).err(),
-        Some(PageFault::LunCommandsMissing)
-    );
-    let planes = Parts {
-        plane_bits: u8::MAX,
-        ..several
-    };
-    assert_eq!(rt;
-        Geometry::of(planes).err(),
-        Some(PageFault::PlanesOutOfRange)
-    );
-    let luns = Parts { luns: 5, ..planes };
-    assert_eq!(rt; Geometry::of(luns).err(), Some(PageFault::LunsOutOfRange));
-    let sizes = Parts {
-        page_bytes: u32::MAX,
-        spare_bytes: u32::MAX,
-        pages: u32::MAX,
-        blocks: u32::MAX,
-        luns: u8::MAX,
-        ..luns
-    };
-    assert_eq!(rt; Geometry::of(sizes).err(), Some(PageFault::SizeOutOfRange));
+    for (parts, fault) in FIRST_FAULTS {
+        assert_eq!(rt; Geometry::of(*parts).err(), *fault);
+    }
 }
+
+const MESSAGES: &[(PageFault, &str)] = &[
+    (
+        PageFault::TooShort,
+        "fewer than the 256 bytes of a parameter page",
+    ),
+    (
+        PageFault::SizeOutOfRange,
+        "a size is out of range: data bytes, spare bytes, pages or blocks",
+    ),
+    (
+        PageFault::PlanesOutOfRange,
+        "more than two plane bits, or fewer blocks than planes",
+    ),
+];
 
 #[test]
 fn faults_have_messages(rt: HostRuntime) -> Result<(), Fail> {
-    for (fault, message) in [
-        (
-            PageFault::TooShort,
-            "fewer than the 256 bytes of a parameter page",
-        ),
-        (
-            PageFault::SizeOutOfRange,
-            "a size is out of range: data bytes, spare bytes, pages or blocks",
-        ),
-        (
-            PageFault::PlanesOutOfRange,
-            "more than two plane bits, or fewer blocks than planes",
-        ),
-    ] {
+    for (fault, message) in MESSAGES {
         let shown = format!(in rt.alloc(); "{fault}")?;
-        assert_eq!(rt; shown.as_str(), message);
+        assert_eq!(rt; shown.as_str(), *message);
     }
     Ok(())
 }

@@ -5,6 +5,7 @@ ghost use Rattle.std.specs.Prelude.{◌<◌, ◌≤◌, ◌+◌, length};
 use crate::geometry_tests::{LARGEST, ONE_LUN, TWO_LUNS};
 use nand_geometry::checksum::checksum;
 use nand_geometry::{Geometry, PageFault, Parts};
+use std::process::Abort;
 use std::test::Fail;
 
 /// The checksum, bit by bit.
@@ -62,6 +63,8 @@ fn two_luns_by_hand() -> [u8; 256] {
     sealed(copy)
 }
 
+const CHECKSUMS: &[(&str, u16)] = &[("", 0x4f4e), ("ON", 0x0000), ("ONFI", 0x15b3)];
+
 fn read_parts(bytes: &[u8]) -> Result<Parts, PageFault> {
     let geometry = Geometry::read(bytes)?;
     Ok(geometry.parts())
@@ -69,25 +72,45 @@ fn read_parts(bytes: &[u8]) -> Result<Parts, PageFault> {
 
 #[test]
 fn checksums_known_by_hand(rt: HostRuntime) {
-    assert_eq!(rt; checksum(b""), 0x4f4e);
-    assert_eq!(rt; checksum(b"ON"), 0x0000);
-    assert_eq!(rt; checksum(b"ONFI"), 0x15b3);
+    for (text, sum) in CHECKSUMS {
+        assert_eq!(rt; checksum(text.as_bytes()), *sum, "{text}");
+    }
+}
+
+const CACHED: Parts = Parts {
+    cache: true,
+    ..LARGEST
+};
+
+// Single bytes of written pages, by their places.
+const WRITTEN: &[(Parts, u8, u8)] = &[
+    // One LUN declares no operations of several LUNs, and this one no other feature.
+    (ONE_LUN, 6, 0),
+    (ONE_LUN, 7, 0),
+    (ONE_LUN, 8, 0),
+    (ONE_LUN, 9, 0),
+    (CACHED, 6, 0x0a),
+    (CACHED, 8, 0x0a),
+    // The number of blocks.
+    (CACHED, 96, 0),
+    (CACHED, 97, 0),
+    (CACHED, 98, 1),
+    (CACHED, 99, 0),
+];
+
+fn has_byte(rt: &impl Abort, (parts, place, byte): (Parts, u8, u8)) -> Result<(), Fail> {
+    let page = Geometry::of(parts)?.page();
+    assert_eq!(rt; page[usize::from(place)], byte, "byte {place}");
+    Ok(())
 }
 
 #[test]
 fn pages_are_written(rt: HostRuntime) -> Result<(), Fail> {
     let page = Geometry::of(TWO_LUNS)?.page();
     assert_eq!(rt; page.as_slice(), two_luns_by_hand().as_slice());
-    // One LUN declares no operations of several LUNs, and this one no other feature.
-    let one = Geometry::of(ONE_LUN)?.page();
-    assert_eq!(rt; (one[6], one[7], one[8], one[9]), (0, 0, 0, 0));
-    let cached = Parts {
-        cache: true,
-        ..LARGEST
-    };
-    let many = Geometry::of(cached)?.page();
-    assert_eq!(rt; (many[6], many[8]), (0x0a, 0x0a));
-    assert_eq!(rt; (many[96], many[97], many[98], many[99]), (0, 0, 1, 0));
+    for row in WRITTEN {
+        has_byte(&rt, *row)?;
+    }
     Ok(())
 }
 
@@ -138,60 +161,59 @@ fn the_first_good_copy_is_used(rt: HostRuntime) -> Result<(), Fail> {
     Ok(())
 }
 
+// A byte of a page with a good checksum, and the only fault that the page has with it.
+const BROKEN: &[(u8, u8, PageFault)] = &[
+    (0, 0x4e, PageFault::NoSignature),
+    (6, 0x0b, PageFault::WideBus),
+    (101, 0x32, PageFault::AddressCycles),
+    (81, 0x01, PageFault::SizeOutOfRange),
+    (85, 0x11, PageFault::SizeOutOfRange),
+    (93, 0x10, PageFault::SizeOutOfRange),
+    (98, 0x01, PageFault::SizeOutOfRange),
+    (100, 0x00, PageFault::LunsOutOfRange),
+    (100, 0x05, PageFault::LunsOutOfRange),
+    (113, 0x03, PageFault::PlanesOutOfRange),
+    (96, 0x01, PageFault::PlanesOutOfRange),
+    (8, 0x00, PageFault::LunCommandsMissing),
+    (6, 0x08, PageFault::LunCommandsMissing),
+];
+
 #[test]
 fn each_fault_alone(rt: HostRuntime) {
     let good = two_luns_by_hand();
     assert_eq!(rt; read_parts(&good), Ok(TWO_LUNS));
-    for (place, byte, fault) in [
-        (0, 0x4e, PageFault::NoSignature),
-        (6, 0x0b, PageFault::WideBus),
-        (101, 0x32, PageFault::AddressCycles),
-        (81, 0x01, PageFault::SizeOutOfRange),
-        (85, 0x11, PageFault::SizeOutOfRange),
-        (93, 0x10, PageFault::SizeOutOfRange),
-        (98, 0x01, PageFault::SizeOutOfRange),
-        (100, 0x00, PageFault::LunsOutOfRange),
-        (100, 0x05, PageFault::LunsOutOfRange),
-        (113, 0x03, PageFault::PlanesOutOfRange),
-        (96, 0x01, PageFault::PlanesOutOfRange),
-        (8, 0x00, PageFault::LunCommandsMissing),
-        (6, 0x08, PageFault::LunCommandsMissing),
-    ] {
-        let broken = sealed(with_byte(good, place, byte));
-        assert_eq!(rt; read_parts(&broken), Err(fault), "byte {place} is {byte}");
+    for (place, byte, fault) in BROKEN {
+        let broken = sealed(with_byte(good, *place, *byte));
+        assert_eq!(rt; read_parts(&broken), Err(*fault), "byte {place} is {byte}");
     }
 }
+
+// Bytes that may be so in a page of the same numbers.
+const FREE: &[(u8, u8)] = &[
+    (4, 0xff),
+    (5, 0x01),
+    (6, 0xfa),
+    (7, 0xff),
+    (8, 0xf8),
+    (9, 0xff),
+    (10, 0xff),
+    (79, 0xff),
+    (86, 0xff),
+    (91, 0xff),
+    (102, 0xff),
+    (113, 0xf1),
+    (114, 0xff),
+    (253, 0xff),
+];
 
 #[test]
 fn other_bytes_and_bits_are_free(rt: HostRuntime) {
     let good = two_luns_by_hand();
-    for (place, byte) in [
-        (4, 0xff),
-        (5, 0x01),
-        (6, 0xfa),
-        (7, 0xff),
-        (8, 0xf8),
-        (9, 0xff),
-        (10, 0xff),
-        (79, 0xff),
-        (86, 0xff),
-        (91, 0xff),
-        (102, 0xff),
-        (113, 0xf1),
-        (114, 0xff),
-        (253, 0xff),
-    ] {
-        let other = with_byte(good, place, byte);
-        assert_eq!(rt;
-            read_parts(&other),
-            Err(PageFault::WrongChecksum),
-            "byte {place}"
-        );
-        assert_eq!(rt;
-            read_parts(&sealed(other)),
-            Ok(TWO_LUNS),
-            "byte {place} is {byte}"
-        );
+    for (place, byte) in FREE {
+        let other = with_byte(good, *place, *byte);
+        let read = (read_parts(&other), read_parts(&sealed(other)));
+        let wanted = (Err(PageFault::WrongChecksum), Ok(TWO_LUNS));
+        assert_eq!(rt; read, wanted, "byte {place} is {byte}");
     }
 }
 

@@ -1,6 +1,7 @@
 use linked_list_allocator::LocalHeap;
 use onfi_cycle::{Cycle, Item, Kind};
 use std::alloc::{AllocError, Global};
+use std::process::Abort;
 use std::test::Fail;
 use trace_text::{TraceFault, TraceRefusal, is_printable, parse, print};
 
@@ -14,9 +15,66 @@ const UNENDED: &str =
 
 const REST: &str = "\n0 A 00\n0 A 00\n0 A 00\n0 C d0\n0 C 70\n0 O 80\n0 R 0 0\n0 C 70\n0 O e0\n";
 
-fn cycle(ce: u8, kind: Kind, byte: u8) -> Item {
-    Item::Cyc(Cycle { ce, kind, byte })
-}
+// Cycles.
+const CE_0_COMMAND: Item = Item::Cyc(Cycle {
+    ce: 0,
+    kind: Kind::Cmd,
+    byte: 0x80,
+});
+
+const CE_3_ADDRESS: Item = Item::Cyc(Cycle {
+    ce: 3,
+    kind: Kind::Adr,
+    byte: 0x0a,
+});
+
+const CE_1_INPUT: Item = Item::Cyc(Cycle {
+    ce: 1,
+    kind: Kind::Din,
+    byte: 0xff,
+});
+
+const CE_2_OUTPUT: Item = Item::Cyc(Cycle {
+    ce: 2,
+    kind: Kind::Dout,
+    byte: 0x09,
+});
+
+const OPENS: Item = Item::Cyc(Cycle {
+    ce: 0,
+    kind: Kind::Cmd,
+    byte: 0x60,
+});
+
+const ZEROS: Item = Item::Cyc(Cycle {
+    ce: 0,
+    kind: Kind::Adr,
+    byte: 0x00,
+});
+
+const STARTS: Item = Item::Cyc(Cycle {
+    ce: 0,
+    kind: Kind::Cmd,
+    byte: 0xd0,
+});
+
+const ASKS: Item = Item::Cyc(Cycle {
+    ce: 0,
+    kind: Kind::Cmd,
+    byte: 0x70,
+});
+
+const IS_BUSY: Item = Item::Cyc(Cycle {
+    ce: 0,
+    kind: Kind::Dout,
+    byte: 0x80,
+});
+
+const IS_READY: Item = Item::Cyc(Cycle {
+    ce: 0,
+    kind: Kind::Dout,
+    byte: 0xe0,
+});
 
 fn fault(fault: TraceFault, line: usize) -> Option<TraceRefusal> {
     Some(TraceRefusal::Fault { fault, line })
@@ -34,276 +92,257 @@ fn printed(alloc: Global, items: &[Item]) -> Result<String, Fail> {
     Ok(print(alloc, items)?)
 }
 
-#[test]
-fn each_kind_of_item(rt: HostRuntime) -> Result<(), Fail> {
-    let items = [
-        cycle(0, Kind::Cmd, 0x80),
-        cycle(3, Kind::Adr, 0x0a),
-        cycle(1, Kind::Din, 0xff),
-        Item::Rdy {
-            ce: 2,
-            lun: 3,
-            fail: true,
-        },
-        Item::Rdy {
-            ce: 0,
-            lun: 1,
-            fail: false,
-        },
-        Item::Ard { ce: 3, lun: 2 },
-        cycle(2, Kind::Dout, 0x09),
-    ];
-    let text = printed(rt.alloc(), &items)?;
-    assert_eq!(rt;
-        text.as_str(),
-        "0 C 80\n3 A 0a\n1 I ff\n2 R 3 1\n0 R 1 0\n3 Y 2\n2 O 09\n"
-    );
-    assert_eq!(rt; parse(rt.alloc(), &text)?.as_slice(), items.as_slice());
+// Items, and the text that has them.
+const WRITTEN: &[(&[Item], &str)] = &[
+    (
+        &[
+            CE_0_COMMAND,
+            CE_3_ADDRESS,
+            CE_1_INPUT,
+            Item::Rdy {
+                ce: 2,
+                lun: 3,
+                fail: true,
+            },
+            Item::Rdy {
+                ce: 0,
+                lun: 1,
+                fail: false,
+            },
+            Item::Ard { ce: 3, lun: 2 },
+            CE_2_OUTPUT,
+        ],
+        "0 C 80\n3 A 0a\n1 I ff\n2 R 3 1\n0 R 1 0\n3 Y 2\n2 O 09\n",
+    ),
+    (
+        &[
+            OPENS,
+            ZEROS,
+            ZEROS,
+            ZEROS,
+            STARTS,
+            ASKS,
+            IS_BUSY,
+            Item::Rdy {
+                ce: 0,
+                lun: 0,
+                fail: false,
+            },
+            ASKS,
+            IS_READY,
+        ],
+        ERASE,
+    ),
+    (&[], ""),
+    (&[Item::Ard { ce: 0, lun: 1 }], "0 Y 1\n"),
+];
+
+fn is_written(rt: &impl Abort, alloc: Global, items: &[Item], text: &str) -> Result<(), Fail> {
+    assert_eq!(rt; parse(alloc, text)?.as_slice(), items, "{text}");
+    assert_eq!(rt; printed(alloc, items)?.as_str(), text);
     Ok(())
 }
 
 #[test]
-fn erase_is_read(rt: HostRuntime) -> Result<(), Fail> {
-    let items = [
-        cycle(0, Kind::Cmd, 0x60),
-        cycle(0, Kind::Adr, 0x00),
-        cycle(0, Kind::Adr, 0x00),
-        cycle(0, Kind::Adr, 0x00),
-        cycle(0, Kind::Cmd, 0xd0),
-        cycle(0, Kind::Cmd, 0x70),
-        cycle(0, Kind::Dout, 0x80),
-        Item::Rdy {
-            ce: 0,
-            lun: 0,
-            fail: false,
-        },
-        cycle(0, Kind::Cmd, 0x70),
-        cycle(0, Kind::Dout, 0xe0),
-    ];
-    assert_eq!(rt; parse(rt.alloc(), ERASE)?.as_slice(), items.as_slice());
-    assert_eq!(rt; printed(rt.alloc(), &items)?.as_str(), ERASE);
+fn items_are_read_and_written(rt: HostRuntime) -> Result<(), Fail> {
+    for (items, text) in WRITTEN {
+        is_written(&rt, rt.alloc(), items, text)?;
+    }
     Ok(())
 }
 
-#[test]
-fn empty_text(rt: HostRuntime) -> Result<(), Fail> {
-    assert_eq!(rt; parse(rt.alloc(), "")?.len(), 0);
-    assert_eq!(rt; printed(rt.alloc(), &[])?.as_str(), "");
-    Ok(())
-}
+const CE_3_COMMAND: Item = Item::Cyc(Cycle {
+    ce: 3,
+    kind: Kind::Cmd,
+    byte: 0x60,
+});
+
+// Items with a chip enable or a LUN above 3.
+const FAR: &[Item] = &[
+    Item::Cyc(Cycle {
+        ce: 4,
+        kind: Kind::Cmd,
+        byte: 0x60,
+    }),
+    Item::Rdy {
+        ce: 4,
+        lun: 0,
+        fail: false,
+    },
+    Item::Rdy {
+        ce: 0,
+        lun: 4,
+        fail: false,
+    },
+    Item::Ard { ce: 255, lun: 0 },
+    Item::Ard { ce: 0, lun: 4 },
+];
 
 #[test]
 fn what_can_be_printed(rt: HostRuntime) {
-    let far = [
-        cycle(4, Kind::Cmd, 0x60),
-        Item::Rdy {
-            ce: 4,
-            lun: 0,
-            fail: false,
-        },
-        Item::Rdy {
-            ce: 0,
-            lun: 4,
-            fail: false,
-        },
-        Item::Ard { ce: 255, lun: 0 },
-        Item::Ard { ce: 0, lun: 4 },
-    ];
-    for item in far {
-        assert!(rt; !is_printable(&[cycle(3, Kind::Cmd, 0x60), item]));
+    for item in FAR {
+        assert!(rt; !is_printable(&[CE_3_COMMAND, *item]));
     }
     assert!(rt; is_printable(&[Item::Ard { ce: 3, lun: 3 }]));
 }
 
-#[test]
-fn lines_of_the_wrong_shape(rt: HostRuntime) -> Result<(), Fail> {
-    let lines = [
-        "",
-        " ",
-        "0",
-        "0 C",
-        "0 C 60 ",
-        " 0 C 60",
-        "0  C 60",
-        "0 C  60",
-        "0 X 60",
-        "0 c 60",
-        "0 CC 60",
-        "0 C 60 0",
-        "0 R 0",
-        "0 R 0 0 0",
-        "0 Y",
-        "0 Y 1 0",
-        "0 C\r 60",
-        "0\tC 60",
-        "C 60",
-        "0 60",
-        "0 \u{0} 60",
-        "0 \u{e9} 60",
-        "7 X zz",
-        "0 C 60 0 0",
-        "0 R 0 0 ",
-        "0 Y 0 \r",
-        "\r",
-        // Six bytes that are all but those of a cycle.
-        "0 R 60",
-        "0 o 60",
-        "0xO 60",
-        "0 Ox60",
-    ];
-    for line in lines {
-        let mut text = String::from_str(rt.alloc(), line)?;
-        text.push('\n')?;
-        assert_eq!(rt;
-            refusal(rt.alloc(), &text),
-            fault(TraceFault::BadShape, 1),
-            "{line:?}"
-        );
-    }
-    Ok(())
-}
+// Texts that are refused, by which fault, in which line.
+const REFUSED: &[(&str, TraceFault, usize)] = &[
+    // Lines of the wrong shape.
+    ("\n", TraceFault::BadShape, 1),
+    (" \n", TraceFault::BadShape, 1),
+    ("0\n", TraceFault::BadShape, 1),
+    ("0 C\n", TraceFault::BadShape, 1),
+    ("0 C 60 \n", TraceFault::BadShape, 1),
+    (" 0 C 60\n", TraceFault::BadShape, 1),
+    ("0  C 60\n", TraceFault::BadShape, 1),
+    ("0 C  60\n", TraceFault::BadShape, 1),
+    ("0 X 60\n", TraceFault::BadShape, 1),
+    ("0 c 60\n", TraceFault::BadShape, 1),
+    ("0 CC 60\n", TraceFault::BadShape, 1),
+    ("0 C 60 0\n", TraceFault::BadShape, 1),
+    ("0 R 0\n", TraceFault::BadShape, 1),
+    ("0 R 0 0 0\n", TraceFault::BadShape, 1),
+    ("0 Y\n", TraceFault::BadShape, 1),
+    ("0 Y 1 0\n", TraceFault::BadShape, 1),
+    ("0 C\r 60\n", TraceFault::BadShape, 1),
+    ("0\tC 60\n", TraceFault::BadShape, 1),
+    ("C 60\n", TraceFault::BadShape, 1),
+    ("0 60\n", TraceFault::BadShape, 1),
+    ("0 \u{0} 60\n", TraceFault::BadShape, 1),
+    ("0 \u{e9} 60\n", TraceFault::BadShape, 1),
+    ("7 X zz\n", TraceFault::BadShape, 1),
+    ("0 C 60 0 0\n", TraceFault::BadShape, 1),
+    ("0 R 0 0 \n", TraceFault::BadShape, 1),
+    ("0 Y 0 \r\n", TraceFault::BadShape, 1),
+    ("\r\n", TraceFault::BadShape, 1),
+    // Six bytes that are all but those of a cycle.
+    ("0 R 60\n", TraceFault::BadShape, 1),
+    ("0 o 60\n", TraceFault::BadShape, 1),
+    ("0xO 60\n", TraceFault::BadShape, 1),
+    ("0 Ox60\n", TraceFault::BadShape, 1),
+    // Numbers of the wrong form.
+    ("4 C 60\n", TraceFault::BadNumber, 1),
+    ("00 C 60\n", TraceFault::BadNumber, 1),
+    ("x C 60\n", TraceFault::BadNumber, 1),
+    ("- C 60\n", TraceFault::BadNumber, 1),
+    ("0 C D0\n", TraceFault::BadNumber, 1),
+    ("0 C 6g\n", TraceFault::BadNumber, 1),
+    ("0 C 600\n", TraceFault::BadNumber, 1),
+    ("0 C 6\n", TraceFault::BadNumber, 1),
+    ("0 C +6\n", TraceFault::BadNumber, 1),
+    ("0 A 6G\n", TraceFault::BadNumber, 1),
+    ("0 I :0\n", TraceFault::BadNumber, 1),
+    ("0 O `0\n", TraceFault::BadNumber, 1),
+    ("0 R 4 0\n", TraceFault::BadNumber, 1),
+    ("0 R 00 0\n", TraceFault::BadNumber, 1),
+    ("0 R 1 2\n", TraceFault::BadNumber, 1),
+    ("0 R 1 00\n", TraceFault::BadNumber, 1),
+    ("0 R 1 -\n", TraceFault::BadNumber, 1),
+    ("4 R 0 0\n", TraceFault::BadNumber, 1),
+    ("0 Y 4\n", TraceFault::BadNumber, 1),
+    ("0 Y 01\n", TraceFault::BadNumber, 1),
+    ("/ Y 0\n", TraceFault::BadNumber, 1),
+    // Whatever characters the field has: a carriage return, a tab, a control character, one of two bytes, or none.
+    ("0 C 60\r\n", TraceFault::BadNumber, 1),
+    ("0 R 0 0\r\n", TraceFault::BadNumber, 1),
+    ("0 Y 0\r\n", TraceFault::BadNumber, 1),
+    ("0 C 6\t\n", TraceFault::BadNumber, 1),
+    ("\t0 C 60\n", TraceFault::BadNumber, 1),
+    ("0 C 6\u{7f}\n", TraceFault::BadNumber, 1),
+    ("0 C 6\u{e9}\n", TraceFault::BadNumber, 1),
+    ("0 C \u{e9}\n", TraceFault::BadNumber, 1),
+    ("0 C \n", TraceFault::BadNumber, 1),
+    (" C 60\n", TraceFault::BadNumber, 1),
+    ("0 Y \n", TraceFault::BadNumber, 1),
+    ("0 R  0\n", TraceFault::BadNumber, 1),
+    ("0 R 0 \n", TraceFault::BadNumber, 1),
+    (" R  \n", TraceFault::BadNumber, 1),
+    // Seven bytes that are all but those of a cycle.
+    ("4 O e0\n", TraceFault::BadNumber, 1),
+    ("/ O e0\n", TraceFault::BadNumber, 1),
+    ("0 O E0\n", TraceFault::BadNumber, 1),
+    ("0 O eF\n", TraceFault::BadNumber, 1),
+    ("0 O g0\n", TraceFault::BadNumber, 1),
+    ("0 O e:\n", TraceFault::BadNumber, 1),
+    ("0 O e/\n", TraceFault::BadNumber, 1),
+    ("0 O e`\n", TraceFault::BadNumber, 1),
+    ("0 O e\r\n", TraceFault::BadNumber, 1),
+    ("0 O \u{e9}\n", TraceFault::BadNumber, 1),
+    ("\u{e9} O 0\n", TraceFault::BadNumber, 1),
+    ("0 Y 60\n", TraceFault::BadNumber, 1),
+    // The lowest fault is told: without its last line feed the trace has one in its last line.
+    (UNENDED, TraceFault::BadShape, 10),
+    ("0 C D0\n0 X 60\n", TraceFault::BadNumber, 1),
+    ("0 C d0\n0 X 60\n0 C D0\n", TraceFault::BadShape, 2),
+    ("0 C d0\n0 C D0\n0 X 60", TraceFault::BadNumber, 2),
+    ("0 C d0\n\n", TraceFault::BadShape, 2),
+    ("0 C d0\n0 Y 1", TraceFault::BadShape, 2),
+    ("0 Y 1", TraceFault::BadShape, 1),
+    // X1 comes before X2 on one line.
+    ("9 X D0\n", TraceFault::BadShape, 1),
+    ("9 C D0 7\n", TraceFault::BadShape, 1),
+    ("9 C D0", TraceFault::BadShape, 1),
+    ("9 C  D0\n", TraceFault::BadShape, 1),
+    ("0 C 60\r\n0 X 60\n", TraceFault::BadNumber, 1),
+    ("0 C 60\r", TraceFault::BadShape, 1),
+    // Behind lines of cycles, one that is all but such a line.
+    ("0 C 60\n3 O e0", TraceFault::BadShape, 2),
+    ("0 C 60\n3 O e0x", TraceFault::BadShape, 2),
+    ("0 C 60\n3 O e0x\n", TraceFault::BadNumber, 2),
+    ("0 C 60\n3 O e0\r\n", TraceFault::BadNumber, 2),
+    ("0 C 60\n0 R 60\n4 O e0\n", TraceFault::BadShape, 2),
+    ("0 C 60\n3 O e0\n4 O e0\n3 O E0\n", TraceFault::BadNumber, 3),
+];
 
 #[test]
-fn numbers_of_the_wrong_form(rt: HostRuntime) {
-    let texts = [
-        "4 C 60\n",
-        "00 C 60\n",
-        "x C 60\n",
-        "- C 60\n",
-        "0 C D0\n",
-        "0 C 6g\n",
-        "0 C 600\n",
-        "0 C 6\n",
-        "0 C +6\n",
-        "0 A 6G\n",
-        "0 I :0\n",
-        "0 O `0\n",
-        "0 R 4 0\n",
-        "0 R 00 0\n",
-        "0 R 1 2\n",
-        "0 R 1 00\n",
-        "0 R 1 -\n",
-        "4 R 0 0\n",
-        "0 Y 4\n",
-        "0 Y 01\n",
-        "/ Y 0\n",
-        // Whatever characters the field has: a carriage return, a tab, a control character, one of two bytes, or none.
-        "0 C 60\r\n",
-        "0 R 0 0\r\n",
-        "0 Y 0\r\n",
-        "0 C 6\t\n",
-        "\t0 C 60\n",
-        "0 C 6\u{7f}\n",
-        "0 C 6\u{e9}\n",
-        "0 C \u{e9}\n",
-        "0 C \n",
-        " C 60\n",
-        "0 Y \n",
-        "0 R  0\n",
-        "0 R 0 \n",
-        " R  \n",
-        // Seven bytes that are all but those of a cycle.
-        "4 O e0\n",
-        "/ O e0\n",
-        "0 O E0\n",
-        "0 O eF\n",
-        "0 O g0\n",
-        "0 O e:\n",
-        "0 O e/\n",
-        "0 O e`\n",
-        "0 O e\r\n",
-        "0 O \u{e9}\n",
-        "\u{e9} O 0\n",
-        "0 Y 60\n",
-    ];
-    for text in texts {
-        assert_eq!(rt;
-            refusal(rt.alloc(), text),
-            fault(TraceFault::BadNumber, 1),
-            "{text:?}"
-        );
+fn what_is_refused(rt: HostRuntime) {
+    for (text, code, line) in REFUSED {
+        assert_eq!(rt; refusal(rt.alloc(), text), fault(*code, *line), "{text:?}");
     }
 }
+
+// Other first lines of the erase.
+const FIRST_LINES: &[(&str, TraceFault)] = &[
+    ("0 X 60", TraceFault::BadShape),
+    ("0 C D0", TraceFault::BadNumber),
+    ("0 C 6g", TraceFault::BadNumber),
+    ("4 C 60", TraceFault::BadNumber),
+];
 
 #[test]
 fn first_line_of_the_erase(rt: HostRuntime) -> Result<(), Fail> {
-    let changes = [
-        ("0 X 60", TraceFault::BadShape),
-        ("0 C D0", TraceFault::BadNumber),
-        ("0 C 6g", TraceFault::BadNumber),
-        ("4 C 60", TraceFault::BadNumber),
-    ];
-    for (line, code) in changes {
+    for (line, code) in FIRST_LINES {
         let mut text = String::from_str(rt.alloc(), line)?;
         text.push_str(REST)?;
-        assert_eq!(rt; refusal(rt.alloc(), &text), fault(code, 1), "{line}");
+        assert_eq!(rt; refusal(rt.alloc(), &text), fault(*code, 1), "{line}");
     }
     Ok(())
 }
 
-#[test]
-fn lowest_fault_is_told(rt: HostRuntime) {
-    // Without its last line feed the trace has a fault in its last line.
-    assert_eq!(rt;
-        refusal(rt.alloc(), UNENDED),
-        fault(TraceFault::BadShape, 10)
-    );
-    let texts = [
-        ("0 C D0\n0 X 60\n", TraceFault::BadNumber, 1),
-        ("0 C d0\n0 X 60\n0 C D0\n", TraceFault::BadShape, 2),
-        ("0 C d0\n0 C D0\n0 X 60", TraceFault::BadNumber, 2),
-        ("0 C d0\n\n", TraceFault::BadShape, 2),
-        ("0 C d0\n0 Y 1", TraceFault::BadShape, 2),
-        ("0 Y 1", TraceFault::BadShape, 1),
-        // X1 comes before X2 on one line.
-        ("9 X D0\n", TraceFault::BadShape, 1),
-        ("9 C D0 7\n", TraceFault::BadShape, 1),
-        ("9 C D0", TraceFault::BadShape, 1),
-        ("9 C  D0\n", TraceFault::BadShape, 1),
-        ("0 C 60\r\n0 X 60\n", TraceFault::BadNumber, 1),
-        ("0 C 60\r", TraceFault::BadShape, 1),
-        // Behind lines of cycles, one that is all but such a line.
-        ("0 C 60\n3 O e0", TraceFault::BadShape, 2),
-        ("0 C 60\n3 O e0x", TraceFault::BadShape, 2),
-        ("0 C 60\n3 O e0x\n", TraceFault::BadNumber, 2),
-        ("0 C 60\n3 O e0\r\n", TraceFault::BadNumber, 2),
-        ("0 C 60\n0 R 60\n4 O e0\n", TraceFault::BadShape, 2),
-        ("0 C 60\n3 O e0\n4 O e0\n3 O E0\n", TraceFault::BadNumber, 3),
-    ];
-    for (text, code, line) in texts {
-        assert_eq!(rt; refusal(rt.alloc(), text), fault(code, line), "{text:?}");
-    }
-}
-
-#[test]
-fn array_ready_is_read(rt: HostRuntime) -> Result<(), Fail> {
-    let items = parse(rt.alloc(), "0 Y 1\n")?;
-    assert_eq!(rt; items.as_slice(), [Item::Ard { ce: 0, lun: 1 }].as_slice());
-    Ok(())
-}
+const MESSAGES: &[(TraceRefusal, &str)] = &[
+    (
+        TraceRefusal::Fault {
+            fault: TraceFault::BadShape,
+            line: 10,
+        },
+        "X1 at line 10: the line isn't ended by a line feed, has no letter of an item, or has another number of fields than its letter wants",
+    ),
+    (
+        TraceRefusal::Fault {
+            fault: TraceFault::BadNumber,
+            line: 1,
+        },
+        "X2 at line 1: a field isn't a number of its form",
+    ),
+    (TraceRefusal::OutOfMemory, "out of memory"),
+];
 
 #[test]
 fn messages(rt: HostRuntime) -> Result<(), Fail> {
-    let shape = TraceRefusal::Fault {
-        fault: TraceFault::BadShape,
-        line: 10,
-    };
-    assert_eq!(rt;
-        shape.to_string(rt.alloc())?.as_str(),
-        "X1 at line 10: the line isn't ended by a line feed, has no letter of an item, or has another number of fields than its letter wants"
-    );
-    let number = TraceRefusal::Fault {
-        fault: TraceFault::BadNumber,
-        line: 1,
-    };
-    assert_eq!(rt;
-        number.to_string(rt.alloc())?.as_str(),
-        "X2 at line 1: a field isn't a number of its form"
-    );
-    assert_eq!(rt;
-        TraceRefusal::OutOfMemory.to_string(rt.alloc())?.as_str(),
-        "out of memory"
-    );
+    for (refusal, message) in MESSAGES {
+        assert_eq!(rt; refusal.to_string(rt.alloc())?.as_str(), *message);
+    }
     Ok(())
 }
 
@@ -324,27 +363,38 @@ fn character(state: &mut u32) -> u8 {
     }
 }
 
+// The lines of one item of each kind, of which one to three characters are changed.
+fn damaged(state: &mut u32) -> [u8; 35] {
+    let mut bytes = *b"0 C 60\n3 A 0f\n1 R 2 1\n0 Y 1\n2 O e0\n";
+    for _ in 0..1 + next(state) % 3 {
+        let place = next(state) % 35;
+        bytes[usize::from(place)] = character(state);
+    }
+    bytes
+}
+
+// Whether the items of a text are written as the same text, None where it is refused.
+fn is_kept(alloc: Global, text: &str) -> Result<Option<bool>, Fail> {
+    match parse(alloc, text) {
+        Ok(items) => Ok(Some(print(alloc, &items)?.as_str() == text)),
+        Err(TraceRefusal::Fault { .. }) => Ok(None),
+        Err(TraceRefusal::OutOfMemory) => Err(Fail::from("out of memory")),
+    }
+}
+
 #[test]
 fn ten_thousand_damaged_texts(rt: HostRuntime) -> Result<(), Fail> {
     let mut state = 1;
     let mut accepted: u32 = 0;
     let mut refused: u32 = 0;
     for _ in 0..10_000 {
-        let mut bytes = *b"0 C 60\n3 A 0f\n1 R 2 1\n0 Y 1\n2 O e0\n";
-        for _ in 0..1 + next(&mut state) % 3 {
-            let place = next(&mut state) % 35;
-            bytes[usize::from(place)] = character(&mut state);
-        }
-        let text = str::from_utf8(&bytes)?;
-        match parse(rt.alloc(), text) {
-            Ok(items) => {
-                assert_eq!(rt; print(rt.alloc(), &items)?.as_str(), text);
+        let bytes = damaged(&mut state);
+        match is_kept(rt.alloc(), str::from_utf8(&bytes)?)? {
+            Some(is_same) => {
+                assert!(rt; is_same);
                 accepted = accepted.saturating_add(1);
             }
-            Err(refusal) => {
-                assert_ne!(rt; refusal, TraceRefusal::OutOfMemory);
-                refused = refused.saturating_add(1);
-            }
+            None => refused = refused.saturating_add(1),
         }
     }
     assert!(rt;
@@ -354,6 +404,25 @@ fn ten_thousand_damaged_texts(rt: HostRuntime) -> Result<(), Fail> {
     Ok(())
 }
 
+// Whether the erase is read on a heap as these items, and why a text isn't.
+fn reads_on(heap: &LocalHeap, text: &str, items: &[Item]) -> Result<bool, TraceRefusal> {
+    match parse(heap, text) {
+        Ok(found) => Ok(found.as_slice() == items),
+        Err(refusal) => Err(refusal),
+    }
+}
+
+// Whether the text of these items on a heap is the erase, None where that has too little memory.
+fn prints_on(heap: &LocalHeap, items: &[Item]) -> Option<bool> {
+    if !is_printable(items) {
+        return Some(false);
+    }
+    match print(heap, items) {
+        Ok(text) => Some(text.as_str() == ERASE),
+        Err(AllocError) => None,
+    }
+}
+
 #[test]
 fn refused_memory(rt: HostRuntime) -> Result<(), Fail> {
     let items = parse(rt.alloc(), ERASE)?;
@@ -361,22 +430,19 @@ fn refused_memory(rt: HostRuntime) -> Result<(), Fail> {
     let mut printed_at: usize = 0;
     for size in 0..80usize {
         let heap = LocalHeap::new(rt.alloc(), 16 * size)?;
-        match parse(&heap, ERASE) {
-            Ok(found) => assert_eq!(rt; found.as_slice(), items.as_slice()),
-            Err(refusal) => {
-                assert_eq!(rt; refusal, TraceRefusal::OutOfMemory);
+        match reads_on(&heap, ERASE, &items) {
+            Ok(is_same) => assert!(rt; is_same),
+            told => {
+                assert!(rt; told == Err(TraceRefusal::OutOfMemory));
                 parsed_at = size + 1;
             }
         }
         // Every fault comes before want of memory.
-        assert_eq!(rt;
-            parse(&heap, UNENDED).err(),
-            fault(TraceFault::BadShape, 10)
-        );
-        assert_eq!(rt; parse(&heap, REST).err(), fault(TraceFault::BadShape, 1));
-        match print(&heap, &items) {
-            Ok(text) => assert_eq!(rt; text.as_str(), ERASE),
-            Err(AllocError) => printed_at = size + 1,
+        assert!(rt; reads_on(&heap, UNENDED, &items).err() == fault(TraceFault::BadShape, 10));
+        assert!(rt; reads_on(&heap, REST, &items).err() == fault(TraceFault::BadShape, 1));
+        match prints_on(&heap, &items) {
+            Some(is_same) => assert!(rt; is_same),
+            None => printed_at = size + 1,
         }
     }
     // Both calls were refused at first, and went on in the end.

@@ -1,5 +1,5 @@
 use linked_list_allocator::LocalHeap;
-use micro_word::{Text, Word, WordFault, WordRefusal, WordsRefused, read, write};
+use micro_word::{Text, Word, WordFault, WordRefusal, read, write};
 use std::alloc::{AllocError, Global};
 use std::process::Abort;
 use std::test::Fail;
@@ -33,95 +33,134 @@ fn second_word(format: u8, [code, a, low, high]: [u8; 4]) -> [u8; 24] {
     ]
 }
 
-#[test]
-fn erase_is_read_and_upgraded(rt: HostRuntime) -> Result<(), Fail> {
-    let text = read(rt.alloc(), &ERASE)?;
-    assert_eq!(rt; (text.rows(), text.buffer(), text.budget()), (1, 0, 5));
-    let words = [
-        Word::Command { byte: 0x60 },
-        Word::Address { from: 2, count: 3 },
-        Word::Command { byte: 0xd0 },
-        Word::Wait,
-        Word::End { code: 0 },
-    ];
-    assert_eq!(rt; text.words(), words.as_slice());
-    let written = write(rt.alloc(), &text)?;
-    let mut upgraded = ERASE;
-    upgraded[3] = 0x32;
-    assert_eq!(rt; written.as_slice(), upgraded.as_slice());
-    let again = read(rt.alloc(), &written)?;
-    assert_eq!(rt; again.words(), text.words());
+// The erase in format 2.
+const UPGRADED: [u8; 36] = [
+    0x4e, 0x4d, 0x50, 0x32, 0x05, 0x00, 0x01, 0x00, 0x00, 0x00, 0x00, 0x00, 0x05, 0x00, 0x00, 0x00,
+    0x01, 0x60, 0x00, 0x00, 0x02, 0x02, 0x03, 0x00, 0x01, 0xd0, 0x00, 0x00, 0x0a, 0x00, 0x00, 0x00,
+    0x00, 0x00, 0x00, 0x00,
+];
+
+const ERASE_WORDS: &[Word] = &[
+    Word::Command { byte: 0x60 },
+    Word::Address { from: 2, count: 3 },
+    Word::Command { byte: 0xd0 },
+    Word::Wait,
+    Word::End { code: 0 },
+];
+
+// A file, its rows, buffer and budget, its words, and the file that is written of them.
+struct File {
+    bytes: &'static [u8],
+    header: (u16, u32, u32),
+    words: &'static [Word],
+    written: &'static [u8],
+}
+
+const FILES: &[File] = &[
+    File {
+        bytes: &ERASE,
+        header: (1, 0, 5),
+        words: ERASE_WORDS,
+        written: &UPGRADED,
+    },
+    File {
+        bytes: &UPGRADED,
+        header: (1, 0, 5),
+        words: ERASE_WORDS,
+        written: &UPGRADED,
+    },
+    File {
+        bytes: &LONG_GET,
+        header: (1, 65_536, 65_538),
+        words: &[
+            Word::ReadStatus,
+            Word::Get { len: 65_536 },
+            Word::End { code: 0 },
+        ],
+        written: &LONG_GET,
+    },
+];
+
+// The file is read so.
+fn is_read(rt: &impl Abort, alloc: Global, file: &File) -> Result<(), Fail> {
+    let text = read(alloc, file.bytes)?;
+    let written = write(alloc, &text)?;
+    assert!(rt; (text.rows(), text.buffer(), text.budget()) == file.header);
+    assert!(rt; text.words() == file.words);
+    assert!(rt; written.as_slice() == file.written);
+    Ok(())
+}
+
+// A text of the header and the words is written so.
+fn is_made(rt: &impl Abort, alloc: Global, file: &File) -> Result<(), Fail> {
+    let (rows, buffer, budget) = file.header;
+    let Ok(made) = Text::of(rows, buffer, budget, file.words.to_vec(alloc)?) else {
+        return Err(Fail::from("the words are no text"));
+    };
+    assert!(rt; write(alloc, &made)?.as_slice() == file.written);
+    assert!(rt; made.into_words().as_slice() == file.words);
     Ok(())
 }
 
 #[test]
-fn long_get_is_read(rt: HostRuntime) -> Result<(), Fail> {
-    let text = read(rt.alloc(), &LONG_GET)?;
-    assert_eq!(rt;
-        (text.rows(), text.buffer(), text.budget()),
-        (1, 65_536, 65_538)
-    );
-    let words = [
-        Word::ReadStatus,
-        Word::Get { len: 65_536 },
-        Word::End { code: 0 },
-    ];
-    assert_eq!(rt; text.words(), words.as_slice());
-    let made = Text::of(1, 65_536, 65_538, words.to_vec(rt.alloc())?)
-        .ok()
-        .ok_or("the words are a text")?;
-    assert_eq!(rt; write(rt.alloc(), &made)?.as_slice(), LONG_GET.as_slice());
-    assert_eq!(rt; made.into_words().as_slice(), words.as_slice());
+fn files_are_read_and_written(rt: HostRuntime) -> Result<(), Fail> {
+    for file in FILES {
+        is_read(&rt, rt.alloc(), file)?;
+        is_made(&rt, rt.alloc(), file)?;
+    }
     Ok(())
 }
 
 #[test]
 fn cut_files(rt: HostRuntime) {
-    for len in 0..16 {
+    for len in 0..36 {
+        let told = if len < 16 {
+            WordFault::TooShort
+        } else {
+            WordFault::TooManyWords
+        };
         assert_eq!(rt;
             refusal(rt.alloc(), &ERASE[..len]),
-            fault(WordFault::TooShort, 0),
-            "cut to {len}"
-        );
-    }
-    for len in 16..36 {
-        assert_eq!(rt;
-            refusal(rt.alloc(), &ERASE[..len]),
-            fault(WordFault::TooManyWords, 0),
+            fault(told, 0),
             "cut to {len}"
         );
     }
 }
 
+// A byte of the erase, its value, the fault and its word.
+const CHANGES: &[(u8, u8, WordFault, usize)] = &[
+    (0, 0x00, WordFault::UnknownFormat, 0),
+    (1, 0x00, WordFault::UnknownFormat, 0),
+    (2, 0x00, WordFault::UnknownFormat, 0),
+    (3, 0x00, WordFault::UnknownFormat, 0),
+    (29, 0x01, WordFault::UnusedFieldSet, 3),
+    (6, 0x00, WordFault::OutOfRange, 0),
+    (10, 0x01, WordFault::OutOfRange, 0),
+    (4, 0x06, WordFault::TooManyWords, 0),
+    (4, 0x04, WordFault::TrailingBytes, 0),
+    (28, 0x11, WordFault::UnknownCode, 3),
+];
+
+// The erase with another byte.
+fn changed(place: u8, value: u8) -> [u8; 36] {
+    let mut bytes = ERASE;
+    bytes[usize::from(place % 36)] = value;
+    bytes
+}
+
 #[test]
-fn changed_files(rt: HostRuntime) -> Result<(), Fail> {
-    for place in 0..4 {
-        let mut bytes = ERASE;
-        bytes[place] = 0x00;
+fn changed_files(rt: HostRuntime) {
+    for (place, value, code, word) in CHANGES {
         assert_eq!(rt;
-            refusal(rt.alloc(), &bytes),
-            fault(WordFault::UnknownFormat, 0),
+            refusal(rt.alloc(), &changed(*place, *value)),
+            fault(*code, *word),
             "byte {place}"
         );
     }
-    // (byte, its value, the fault, the word)
-    let changes = [
-        (29, 0x01, WordFault::UnusedFieldSet, 3),
-        (6, 0x00, WordFault::OutOfRange, 0),
-        (10, 0x01, WordFault::OutOfRange, 0),
-        (4, 0x06, WordFault::TooManyWords, 0),
-        (4, 0x04, WordFault::TrailingBytes, 0),
-        (28, 0x11, WordFault::UnknownCode, 3),
-    ];
-    for (place, value, code, word) in changes {
-        let mut bytes = ERASE;
-        bytes[place % 36] = value;
-        assert_eq!(rt;
-            refusal(rt.alloc(), &bytes),
-            fault(code, word),
-            "byte {place}"
-        );
-    }
+}
+
+#[test]
+fn longer_files(rt: HostRuntime) -> Result<(), Fail> {
     let mut longer = ERASE.to_vec(rt.alloc())?;
     longer.push(0)?;
     assert_eq!(rt;
@@ -131,24 +170,25 @@ fn changed_files(rt: HostRuntime) -> Result<(), Fail> {
     Ok(())
 }
 
+// The format, the rows, the bytes of the buffer, and whether they are in range.
+const HEADERS: &[(u8, [u8; 2], [u8; 4], bool)] = &[
+    (0x31, [0x00, 0x00], [0x00, 0x00, 0x00, 0x00], false),
+    (0x31, [0x01, 0x10], [0x00, 0x00, 0x00, 0x00], false),
+    (0x31, [0x01, 0x00], [0x00, 0x00, 0x01, 0x00], false),
+    (0x31, [0x00, 0x10], [0xff, 0xff, 0x00, 0x00], true),
+    (0x32, [0x00, 0x00], [0x00, 0x00, 0x00, 0x00], false),
+    (0x32, [0x01, 0x10], [0x00, 0x00, 0x00, 0x00], false),
+    (0x32, [0x01, 0x00], [0x00, 0x00, 0x00, 0x01], false),
+    (0x32, [0x00, 0x10], [0xff, 0xff, 0xff, 0x00], true),
+];
+
 #[test]
 fn headers(rt: HostRuntime) {
-    // (format, rows, the bytes of the buffer, whether they are in range)
-    let headers = [
-        (0x31, [0x00, 0x00], [0x00, 0x00, 0x00, 0x00], false),
-        (0x31, [0x01, 0x10], [0x00, 0x00, 0x00, 0x00], false),
-        (0x31, [0x01, 0x00], [0x00, 0x00, 0x01, 0x00], false),
-        (0x31, [0x00, 0x10], [0xff, 0xff, 0x00, 0x00], true),
-        (0x32, [0x00, 0x00], [0x00, 0x00, 0x00, 0x00], false),
-        (0x32, [0x01, 0x10], [0x00, 0x00, 0x00, 0x00], false),
-        (0x32, [0x01, 0x00], [0x00, 0x00, 0x00, 0x01], false),
-        (0x32, [0x00, 0x10], [0xff, 0xff, 0xff, 0x00], true),
-    ];
-    for (format, [r0, r1], [b0, b1, b2, b3], fits) in headers {
+    for (format, [r0, r1], [b0, b1, b2, b3], fits) in HEADERS {
         let bytes = [
-            0x4e, 0x4d, 0x50, format, 0, 0, r0, r1, b0, b1, b2, b3, 0xff, 0xff, 0xff, 0xff,
+            0x4e, 0x4d, 0x50, *format, 0, 0, *r0, *r1, *b0, *b1, *b2, *b3, 0xff, 0xff, 0xff, 0xff,
         ];
-        let want = if fits {
+        let want = if *fits {
             None
         } else {
             fault(WordFault::OutOfRange, 0)
@@ -171,141 +211,125 @@ fn expect_word(
     }
 }
 
+// Words that are read in both formats.
+const INSIDE: &[[u8; 4]] = &[
+    [0x00, 0xff, 0x00, 0x00],
+    [0x01, 0x00, 0x00, 0x00],
+    [0x02, 0x00, 0x05, 0x00],
+    [0x02, 0x04, 0x01, 0x00],
+    [0x03, 0x00, 0x01, 0x00],
+    [0x03, 0x00, 0xff, 0xff],
+    [0x04, 0x00, 0x01, 0x00],
+    [0x04, 0x00, 0xff, 0xff],
+    [0x05, 0x00, 0x00, 0x00],
+    [0x05, 0x00, 0xff, 0xff],
+    [0x06, 0x00, 0xff, 0xff],
+    [0x07, 0x00, 0x01, 0x00],
+    [0x08, 0x00, 0xff, 0x0f],
+    [0x09, 0x03, 0x00, 0x00],
+    [0x0d, 0x01, 0x01, 0x00],
+    [0x0e, 0x00, 0x01, 0x00],
+    [0x0e, 0x00, 0x00, 0x10],
+    [0x0f, 0x00, 0x00, 0x00],
+    [0x10, 0x00, 0x01, 0x00],
+];
+
+// A word, and its faults in the two formats.
+const OUTSIDE: &[([u8; 4], Option<WordFault>, Option<WordFault>)] = &[
+    ([0x02, 0x00, 0x00, 0x00], RANGE, RANGE),
+    ([0x02, 0x00, 0x06, 0x00], RANGE, RANGE),
+    ([0x02, 0x05, 0x01, 0x00], RANGE, RANGE),
+    ([0x02, 0x04, 0x02, 0x00], RANGE, RANGE),
+    ([0x02, 0x00, 0x01, 0x01], RANGE, RANGE),
+    ([0x03, 0x00, 0x00, 0x00], RANGE, RANGE),
+    ([0x04, 0x00, 0x00, 0x00], RANGE, RANGE),
+    ([0x07, 0x00, 0x00, 0x00], RANGE, RANGE),
+    ([0x08, 0x00, 0x00, 0x10], RANGE, RANGE),
+    ([0x09, 0x04, 0x00, 0x00], RANGE, RANGE),
+    ([0x0d, 0x00, 0x00, 0x00], RANGE, RANGE),
+    ([0x0d, 0x01, 0x02, 0x00], RANGE, RANGE),
+    ([0x0e, 0x00, 0x00, 0x00], RANGE, RANGE),
+    ([0x0e, 0x00, 0x01, 0x10], RANGE, RANGE),
+    ([0x10, 0x00, 0x02, 0x00], RANGE, RANGE),
+    // An unknown code comes before the rest, and an unused field before a range.
+    ([0x11, 0xff, 0xff, 0xff], CODE, CODE),
+    ([0x08, 0x01, 0xff, 0xff], FIELD, FIELD),
+    ([0x09, 0xff, 0x01, 0x00], FIELD, FIELD),
+    // In format 2 the field a is part of the number.
+    ([0x03, 0x01, 0x00, 0x00], FIELD, None),
+    ([0x04, 0xff, 0xff, 0xff], FIELD, None),
+    ([0x05, 0xff, 0xff, 0xff], FIELD, None),
+];
+
+const RANGE: Option<WordFault> = Some(WordFault::OutOfRange);
+
+const CODE: Option<WordFault> = Some(WordFault::UnknownCode);
+
+const FIELD: Option<WordFault> = Some(WordFault::UnusedFieldSet);
+
 #[test]
 fn operands_at_their_limits(rt: HostRuntime) {
-    let inside = [
-        [0x00, 0xff, 0x00, 0x00],
-        [0x01, 0x00, 0x00, 0x00],
-        [0x02, 0x00, 0x05, 0x00],
-        [0x02, 0x04, 0x01, 0x00],
-        [0x03, 0x00, 0x01, 0x00],
-        [0x03, 0x00, 0xff, 0xff],
-        [0x04, 0x00, 0x01, 0x00],
-        [0x04, 0x00, 0xff, 0xff],
-        [0x05, 0x00, 0x00, 0x00],
-        [0x05, 0x00, 0xff, 0xff],
-        [0x06, 0x00, 0xff, 0xff],
-        [0x07, 0x00, 0x01, 0x00],
-        [0x08, 0x00, 0xff, 0x0f],
-        [0x09, 0x03, 0x00, 0x00],
-        [0x0d, 0x01, 0x01, 0x00],
-        [0x0e, 0x00, 0x01, 0x00],
-        [0x0e, 0x00, 0x00, 0x10],
-        [0x0f, 0x00, 0x00, 0x00],
-        [0x10, 0x00, 0x01, 0x00],
-    ];
-    for word in inside {
-        expect_word(&rt, word, None, None);
+    for word in INSIDE {
+        expect_word(&rt, *word, None, None);
     }
-    let outside = [
-        [0x02, 0x00, 0x00, 0x00],
-        [0x02, 0x00, 0x06, 0x00],
-        [0x02, 0x05, 0x01, 0x00],
-        [0x02, 0x04, 0x02, 0x00],
-        [0x02, 0x00, 0x01, 0x01],
-        [0x03, 0x00, 0x00, 0x00],
-        [0x04, 0x00, 0x00, 0x00],
-        [0x07, 0x00, 0x00, 0x00],
-        [0x08, 0x00, 0x00, 0x10],
-        [0x09, 0x04, 0x00, 0x00],
-        [0x0d, 0x00, 0x00, 0x00],
-        [0x0d, 0x01, 0x02, 0x00],
-        [0x0e, 0x00, 0x00, 0x00],
-        [0x0e, 0x00, 0x01, 0x10],
-        [0x10, 0x00, 0x02, 0x00],
-    ];
-    for word in outside {
-        expect_word(
-            &rt,
-            word,
-            Some(WordFault::OutOfRange),
-            Some(WordFault::OutOfRange),
-        );
+    for (word, one, two) in OUTSIDE {
+        expect_word(&rt, *word, *one, *two);
     }
 }
 
-#[test]
-fn order_of_the_faults_of_a_word(rt: HostRuntime) {
-    // An unknown code comes before the rest, and an unused field before a range.
-    expect_word(
-        &rt,
-        [0x11, 0xff, 0xff, 0xff],
-        Some(WordFault::UnknownCode),
-        Some(WordFault::UnknownCode),
-    );
-    expect_word(
-        &rt,
-        [0x08, 0x01, 0xff, 0xff],
-        Some(WordFault::UnusedFieldSet),
-        Some(WordFault::UnusedFieldSet),
-    );
-    expect_word(
-        &rt,
-        [0x09, 0xff, 0x01, 0x00],
-        Some(WordFault::UnusedFieldSet),
-        Some(WordFault::UnusedFieldSet),
-    );
-    // In format 2 the field a is part of the number.
-    expect_word(
-        &rt,
-        [0x03, 0x01, 0x00, 0x00],
-        Some(WordFault::UnusedFieldSet),
-        None,
-    );
-    expect_word(
-        &rt,
-        [0x04, 0xff, 0xff, 0xff],
-        Some(WordFault::UnusedFieldSet),
-        None,
-    );
-    expect_word(
-        &rt,
-        [0x05, 0xff, 0xff, 0xff],
-        Some(WordFault::UnusedFieldSet),
-        None,
-    );
+// Rows, buffer and words that are no text, why, and at which word.
+const NO_TEXTS: &[(u16, u32, &[Word], WordFault, usize)] = &[
+    (0, 0, &[Word::Next; 1025], WordFault::TooManyWords, 0),
+    (0, 0, &[], WordFault::OutOfRange, 0),
+    (4097, 0, &[], WordFault::OutOfRange, 0),
+    (1, 16_777_216, &[], WordFault::OutOfRange, 0),
+    (
+        1,
+        0,
+        &[Word::Wait, Word::Jump { target: 2 }],
+        WordFault::OutOfRange,
+        1,
+    ),
+];
+
+// Why these words are no text, and whether they come back.
+fn refused_with(
+    alloc: Global,
+    rows: u16,
+    buffer: u32,
+    words: &[Word],
+) -> Result<(Option<WordRefusal>, bool), Fail> {
+    match Text::of(rows, buffer, 0, words.to_vec(alloc)?) {
+        Ok(_) => Ok((None, false)),
+        Err(refused) => Ok((Some(refused.refusal), refused.words.as_slice() == words)),
+    }
 }
 
 #[test]
 fn texts_that_are_refused(rt: HostRuntime) -> Result<(), Fail> {
-    let many = vec![in rt.alloc(); Word::Next; 1025]?;
-    let WordsRefused { refusal, words } = Text::of(0, 0, 0, many).err().ok_or("too many words")?;
-    assert_eq!(rt;
-        (Some(refusal), words.len()),
-        (fault(WordFault::TooManyWords, 0), 1025)
-    );
-    for (rows, buffer) in [(0, 0), (4097, 0), (1, 16_777_216)] {
-        let refused = Text::of(rows, buffer, 0, Vec::new(rt.alloc()))
-            .err()
-            .ok_or("a header out of range")?;
-        assert_eq!(rt; Some(refused.refusal), fault(WordFault::OutOfRange, 0));
+    for (rows, buffer, words, code, word) in NO_TEXTS {
+        let refused = refused_with(rt.alloc(), *rows, *buffer, words)?;
+        assert_eq!(rt; refused, (fault(*code, *word), true));
     }
-    let words = vec![in rt.alloc(); Word::Wait, Word::Jump { target: 2 }]?;
-    let WordsRefused { refusal, words } = Text::of(1, 0, 0, words)
-        .err()
-        .ok_or("a target out of range")?;
-    assert_eq!(rt; Some(refusal), fault(WordFault::OutOfRange, 1));
-    assert_eq!(rt;
-        words.as_slice(),
-        [Word::Wait, Word::Jump { target: 2 }].as_slice()
-    );
     Ok(())
 }
 
+const MESSAGES: &[(WordRefusal, &str)] = &[
+    (
+        WordRefusal::Fault {
+            fault: WordFault::UnusedFieldSet,
+            word: 3,
+        },
+        "M5 at word 3: a byte that this word doesn't use isn't 0",
+    ),
+    (WordRefusal::OutOfMemory, "out of memory"),
+];
+
 #[test]
 fn messages(rt: HostRuntime) -> Result<(), Fail> {
-    let refusal = WordRefusal::Fault {
-        fault: WordFault::UnusedFieldSet,
-        word: 3,
-    };
-    assert_eq!(rt;
-        refusal.to_string(rt.alloc())?.as_str(),
-        "M5 at word 3: a byte that this word doesn't use isn't 0"
-    );
-    assert_eq!(rt;
-        WordRefusal::OutOfMemory.to_string(rt.alloc())?.as_str(),
-        "out of memory"
-    );
+    for (refusal, message) in MESSAGES {
+        assert_eq!(rt; refusal.to_string(rt.alloc())?.as_str(), *message);
+    }
     Ok(())
 }
 
@@ -330,24 +354,31 @@ fn made(state: &mut u32) -> [u8; 24] {
     bytes
 }
 
+// Whether what is read of a file is written as the same file in format 2; None where it is refused.
+fn is_kept(alloc: Global, file: &[u8; 24]) -> Result<Option<bool>, Fail> {
+    match read(alloc, file) {
+        Ok(text) => {
+            let mut upgraded = *file;
+            upgraded[3] = 0x32;
+            Ok(Some(write(alloc, &text)?.as_slice() == upgraded.as_slice()))
+        }
+        Err(WordRefusal::Fault { .. }) => Ok(None),
+        Err(WordRefusal::OutOfMemory) => Err(Fail::from("out of memory")),
+    }
+}
+
 #[test]
 fn ten_thousand_made_files(rt: HostRuntime) -> Result<(), Fail> {
     let mut state = 1;
     let mut accepted: u32 = 0;
     let mut refused: u32 = 0;
     for _ in 0..10_000 {
-        let bytes = made(&mut state);
-        match read(rt.alloc(), &bytes) {
-            Ok(text) => {
-                let mut upgraded = bytes;
-                upgraded[3] = 0x32;
-                assert_eq!(rt; write(rt.alloc(), &text)?.as_slice(), upgraded.as_slice());
+        match is_kept(rt.alloc(), &made(&mut state))? {
+            Some(is_same) => {
+                assert!(rt; is_same);
                 accepted = accepted.saturating_add(1);
             }
-            Err(refusal) => {
-                assert_ne!(rt; refusal, WordRefusal::OutOfMemory);
-                refused = refused.saturating_add(1);
-            }
+            None => refused = refused.saturating_add(1),
         }
     }
     assert!(rt;
@@ -357,37 +388,55 @@ fn ten_thousand_made_files(rt: HostRuntime) -> Result<(), Fail> {
     Ok(())
 }
 
+// How long the file of a text is on a heap, None where that has too little memory.
+fn written_on(heap: &LocalHeap, text: &Text) -> Option<usize> {
+    match write(heap, text) {
+        Ok(bytes) => Some(bytes.len()),
+        Err(AllocError) => None,
+    }
+}
+
+// Whether a file is read on a heap as the words of the erase.
+fn read_on(heap: &LocalHeap, bytes: &[u8]) -> Result<bool, WordRefusal> {
+    match read(heap, bytes) {
+        Ok(text) => Ok(text.words() == ERASE_WORDS),
+        Err(refusal) => Err(refusal),
+    }
+}
+
 #[test]
 fn refused_memory(rt: HostRuntime) -> Result<(), Fail> {
     let text = read(rt.alloc(), &ERASE)?;
-    let mut stray = ERASE;
-    stray[29] = 0x01;
-    let mut read_at: usize = 0;
-    let mut written_at: usize = 0;
+    let stray = changed(29, 0x01);
+    let mut refused = (false, false);
+    let mut sufficed = (false, false);
     for size in 0..40usize {
         let heap = LocalHeap::new(rt.alloc(), 16 * size)?;
-        match read(&heap, &ERASE) {
-            Ok(found) => assert_eq!(rt; found.words(), text.words()),
-            Err(refusal) => {
-                assert_eq!(rt; refusal, WordRefusal::OutOfMemory);
-                read_at = size + 1;
+        match read_on(&heap, &ERASE) {
+            Ok(true) => sufficed.0 = true,
+            told => {
+                assert_eq!(rt; told, Err(WordRefusal::OutOfMemory));
+                refused.0 = true;
             }
         }
         // Every fault comes before want of memory.
-        assert_eq!(rt;
-            read(&heap, &stray).err(),
-            fault(WordFault::UnusedFieldSet, 3)
+        let faults = (
+            read_on(&heap, &stray).err(),
+            read_on(&heap, &ERASE[..35]).err(),
         );
-        assert_eq!(rt;
-            read(&heap, &ERASE[..35]).err(),
-            fault(WordFault::TooManyWords, 0)
+        let wanted = (
+            fault(WordFault::UnusedFieldSet, 3),
+            fault(WordFault::TooManyWords, 0),
         );
-        match write(&heap, &text) {
-            Ok(bytes) => assert_eq!(rt; bytes.len(), 36),
-            Err(AllocError) => written_at = size + 1,
+        assert_eq!(rt; faults, wanted);
+        match written_on(&heap, &text) {
+            Some(len) => {
+                assert_eq!(rt; len, 36);
+                sufficed.1 = true;
+            }
+            None => refused.1 = true,
         }
     }
-    // Both calls were refused at first, and went on in the end.
-    assert!(rt; read_at > 0 && read_at < 40 && written_at > 0 && written_at < 40);
+    assert_eq!(rt; (refused, sufficed), ((true, true), (true, true)));
     Ok(())
 }

@@ -10,7 +10,7 @@ use std::sync::Wait;
 use std::sync::ledger::Blank;
 use std::test::*;
 use test_channel_scenes::{
-    Erase, ON_ONE, ON_ZERO, ONE, ONE_LUN, TWO_LUNS, make_queue, make_state, run_alone,
+    Erase, ON_ONE, ON_ZERO, ONE, ONE_LUN, TWO_LUNS, Told, make_queue, make_state, run_alone,
     submit_erases, tell_done,
 };
 
@@ -20,11 +20,21 @@ const WAITING: [Erase; 64] = [Erase {
     ..ON_ZERO
 }; 64];
 
+// What is left of a channel: the job that was done first, how many were done and how many weren't, and whether the queue has none.
+type Left = (Option<Told>, usize, usize, bool);
+
+fn left_of<R: Wait>(rt: &R, mut gathered: Gathered) -> Left {
+    let done = gathered.done.as_slice();
+    (
+        tell_done(done, 0),
+        done.len(),
+        gathered.backlog.len(),
+        gathered.taker.take(rt).is_none(),
+    )
+}
+
 // These, and behind them an erase of LUN 1, by one worker whose channel is closed.
-fn work_past_waiting<L: Turns, R: Wait + AllocGlobal>(
-    rt: &R,
-    blank: Blank,
-) -> Result<Gathered, Fail>
+fn work_past_waiting<L: Turns, R: Wait + AllocGlobal>(rt: &R, blank: Blank) -> Result<Left, Fail>
     requires name { blank.name ≡ L.name }
     requires parts { (blank.parts ≡ L.parts) × (L.all ≡ L.parts) × (L.parts ≡ 9) × (L.origin ≡ None) }
 {
@@ -32,15 +42,13 @@ fn work_past_waiting<L: Turns, R: Wait + AllocGlobal>(
     let host = submit_erases(rt, &queue, host, &WAITING)?;
     let _host = submit_erases(rt, &queue, host, &[ON_ONE])?;
     let state = make_state::<L>(rt.alloc(), blank, TWO_LUNS, 1, taker)?;
-    run_alone(rt, state, &Recorder::new(1))
+    let gathered = run_alone(rt, state, &Recorder::new(1))?;
+    Ok(left_of(rt, gathered))
 }
 
 #[test]
 fn waiting_jobs_keep_none_in_the_queue(rt: HostRuntime) -> Result<(), Fail> {
-    let mut gathered = work_past_waiting::<Brand, _>(&rt, Blank::new(9))?;
-    let done = gathered.done.as_slice();
-    assert_eq!(rt; tell_done(done, 0), Some((0, 64, ONE, 0)));
-    assert_eq!(rt; (done.len(), gathered.backlog.len()), (1, 64));
-    assert!(rt; gathered.taker.take(&rt).is_none());
+    let left = work_past_waiting::<Brand, _>(&rt, Blank::new(9))?;
+    assert_eq!(rt; left, (Some((0, 64, ONE, 0)), 1, 64, true));
     Ok(())
 }

@@ -2,7 +2,7 @@
 //! with none, fails here.
 ghost use Rattle.std.specs.Prelude.{◌≡◌, None};
 
-use channel_work::{Gate, Gathered, Turns};
+use channel_work::{Gate, Turns};
 use onfi_cycle::Lun;
 use std::cell::Cell;
 use std::marker::Brand;
@@ -96,25 +96,25 @@ const ASKED: [Option<Asked>; 16] = [
     None,
 ];
 
-// The three erases, by one worker on a target of two LUNs.
+// The three erases, by one worker on a target of two LUNs. How many are done.
 fn play<L: Turns, R: Wait + AllocGlobal>(
     rt: &R,
     blank: Blank,
     gate: &Recorder,
-) -> Result<Gathered, Fail>
+) -> Result<usize, Fail>
     requires name { blank.name ≡ L.name }
     requires parts { (blank.parts ≡ L.parts) × (L.all ≡ L.parts) × (L.parts ≡ 9) × (L.origin ≡ None) }
 {
     let state = make_erasing::<L, R>(rt, blank, TWO_LUNS, 1, &ERASES)?;
-    run_alone(rt, state, gate)
+    let gathered = run_alone(rt, state, gate)?;
+    Ok(gathered.done.len())
 }
 
 #[test]
 fn a_gate_is_asked_of_each_poll(rt: HostRuntime) -> Result<(), Fail> {
     let gate = Recorder::new(2);
-    let gathered = play::<Brand, _>(&rt, Blank::new(9), &gate)?;
-    assert_eq!(rt; gathered.done.len(), 3);
-    assert_eq!(rt; gate.count.get(), 12);
+    let count = play::<Brand, _>(&rt, Blank::new(9), &gate)?;
+    assert_eq!(rt; (count, gate.count.get()), (3, 12));
     assert!(rt; gate.asked.get() == ASKED);
     Ok(())
 }

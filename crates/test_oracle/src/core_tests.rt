@@ -1,9 +1,9 @@
+use crate::state_agrees::lun_agrees;
 use die_model::LunDie;
 use micro_verify::verify;
 use micro_word::{Text, Word};
 use nand_geometry::{Geometry, Parts, SMALL_CHIP};
-use onfi_cycle::{Item, Lun, WorkQueue};
-use oracle_onfi::past::{is_caching, lun_facts};
+use onfi_cycle::Lun;
 use seq_core::{Core, Event, Job, run_events};
 use std::alloc::Global;
 use std::process::Abort;
@@ -84,29 +84,6 @@ fn events_in_turn(alloc: Global, parts: Parts, one: Lun, other: Lun) -> Result<V
     Ok(events)
 }
 
-// The running state of a LUN is what the look back at the trace tells of it.
-fn lun_agrees(
-    rt: &impl Abort,
-    alloc: Global,
-    bus: &Bus,
-    past: &[Item],
-    lun: Lun,
-) -> Result<(), Fail> {
-    let Some(told) = bus.lun_state(lun) else {
-        return Err(Fail::from("a LUN is missing"));
-    };
-    let geometry = bus.geometry();
-    let facts = lun_facts(alloc, &geometry, past, lun)?;
-    assert_eq!(rt; told.busy, facts.busy);
-    assert_eq!(rt; told.latch, facts.latch);
-    assert_eq!(rt; told.register, facts.register);
-    assert_eq!(rt; told.column.map(u64::from), facts.column.output_column());
-    assert_eq!(rt; told.queued, facts.queue.works().len());
-    assert_eq!(rt; told.caching, is_caching(alloc, &geometry, past, lun)?);
-    assert_eq!(rt; told.array_busy, facts.array_busy);
-    Ok(())
-}
-
 // Does the first so many events of two LUNs, and looks at both. How many items they leave.
 fn agrees_after(
     rt: &impl Abort,
@@ -123,19 +100,27 @@ fn agrees_after(
     let bus = core.into_bus();
     let mut past = bus.trace().to_vec(alloc)?;
     past.reverse();
-    lun_agrees(rt, alloc, &bus, &past, ZERO)?;
-    lun_agrees(rt, alloc, &bus, &past, other)?;
+    for lun in [ZERO, other] {
+        let told = bus.lun_state(lun).ok_or("a LUN is missing")?;
+        assert!(rt;
+            lun_agrees(alloc, &bus.geometry(), &past, lun, told)?,
+            "{lun:?} {told:?}"
+        );
+    }
     Ok(past.len())
 }
 
+// The geometry, the other LUN, and how many items all events leave.
+const CHANNELS: &[(Parts, Lun, usize)] = &[(TWO_LUNS, ONE, 32), (ONE_LUN, NEXT, 20)];
+
 #[test]
 fn the_state_agrees_with_a_look_back(rt: HostRuntime) -> Result<(), Fail> {
-    for (parts, other, items) in [(TWO_LUNS, ONE, 32), (ONE_LUN, NEXT, 20)] {
+    for (parts, other, items) in CHANNELS {
         let mut last = 0;
         for count in 0..=26 {
-            last = agrees_after(&rt, rt.alloc(), parts, other, count)?;
+            last = agrees_after(&rt, rt.alloc(), *parts, *other, count)?;
         }
-        assert_eq!(rt; last, items);
+        assert_eq!(rt; last, *items);
     }
     Ok(())
 }

@@ -1,7 +1,7 @@
 //! The running state beside the look-back twin, item by item, on made traces of the commands that the bus takes.
 use crate::worked::{ONE_LUN, TWO_LUNS, trace};
 use nand_geometry::Geometry;
-use onfi_cycle::{BusState, Item, Lun, WorkQueue};
+use onfi_cycle::{BusState, Item, Lun, LunState, WorkQueue};
 use oracle_onfi::past::{is_caching, lun_facts};
 use oracle_onfi::trace::broken;
 use std::alloc::Global;
@@ -70,6 +70,27 @@ fn made(alloc: Global, seed: &mut u32) -> Result<Vec<Item>, Fail> {
     Ok(items)
 }
 
+/// What is told of a LUN is what the look-back tells of it.
+pub(crate) fn lun_agrees(
+    alloc: Global,
+    geometry: &Geometry,
+    past: &[Item],
+    lun: Lun,
+    told: LunState,
+) -> Result<bool, Fail> {
+    let caching = is_caching(alloc, geometry, past, lun)?;
+    let facts = lun_facts(alloc, geometry, past, lun)?;
+    Ok(
+        told.busy == facts.busy
+            && told.latch == facts.latch
+            && told.register == facts.register
+            && told.column.map(u64::from) == facts.column.output_column()
+            && told.queued == facts.queue.works().len()
+            && told.caching == caching
+            && told.array_busy == facts.array_busy,
+    )
+}
+
 // The state of each LUN is what the look-back tells of it.
 pub(crate) fn luns_agree(
     rt: &impl Abort,
@@ -80,18 +101,12 @@ pub(crate) fn luns_agree(
 ) -> Result<(), Fail> {
     for ce in 0..TARGETS {
         for lun in 0..geometry.parts().luns {
-            let l = Lun { ce, lun };
-            let Some(told) = state.lun_state(l) else {
-                return Err(Fail::from("a LUN is missing"));
-            };
-            let facts = lun_facts(alloc, geometry, past, l)?;
-            assert_eq!(rt; told.busy, facts.busy);
-            assert_eq!(rt; told.latch, facts.latch);
-            assert_eq!(rt; told.register, facts.register);
-            assert_eq!(rt; told.column.map(u64::from), facts.column.output_column());
-            assert_eq!(rt; told.queued, facts.queue.works().len());
-            assert_eq!(rt; told.caching, is_caching(alloc, geometry, past, l)?);
-            assert_eq!(rt; told.array_busy, facts.array_busy);
+            let lun = Lun { ce, lun };
+            let told = state.lun_state(lun).ok_or("a LUN is missing")?;
+            assert!(rt;
+                lun_agrees(alloc, geometry, past, lun, told)?,
+                "{lun:?} {told:?}"
+            );
         }
     }
     Ok(())

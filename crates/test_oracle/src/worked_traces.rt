@@ -28,12 +28,10 @@ fn expect_broken(
     Ok(())
 }
 
-/// F1: what becomes ready is a LUN that is busy, or whose array is.
-#[test]
-fn a_ready_wants_a_busy_lun(rt: HostRuntime) -> Result<(), Fail> {
-    expect_broken(
-        &rt,
-        rt.alloc(),
+/// Traces by the rule that their last items break first.
+const BROKEN: &[(Forbidden, &[(Parts, &str, usize)])] = &[
+    // F1: what becomes ready is a LUN that is busy, or whose array is.
+    (
         Forbidden::NotThere,
         &[
             (ONE_LUN, "R0", 0),
@@ -50,15 +48,9 @@ fn a_ready_wants_a_busy_lun(rt: HostRuntime) -> Result<(), Fail> {
             (CACHED, "C00 A00x5 C30 R0 C31 R0 Y0 Y0", 11),
             (CACHED, "C00 A00x5 C30 R0 C31 R0 Y1", 10),
         ],
-    )
-}
-
-/// F3: no sequence begins while one is open.
-#[test]
-fn no_opener_in_an_open_sequence(rt: HostRuntime) -> Result<(), Fail> {
-    expect_broken(
-        &rt,
-        rt.alloc(),
+    ),
+    // F3: no sequence begins while one is open.
+    (
         Forbidden::SequenceOpen,
         &[
             (ONE_LUN, "C60 C60", 1),
@@ -74,15 +66,9 @@ fn no_opener_in_an_open_sequence(rt: HostRuntime) -> Result<(), Fail> {
             (ONE_LUN, "Cec C60", 1),
             (TWO_LUNS, "C78 A20 C78", 2),
         ],
-    )
-}
-
-/// F4: these commands want a target with one LUN.
-#[test]
-fn one_lun_alone(rt: HostRuntime) -> Result<(), Fail> {
-    expect_broken(
-        &rt,
-        rt.alloc(),
+    ),
+    // F4: these commands want a target with one LUN.
+    (
         Forbidden::SeveralLuns,
         &[
             (TWO_LUNS, "C70", 0),
@@ -91,15 +77,9 @@ fn one_lun_alone(rt: HostRuntime) -> Result<(), Fail> {
             (TWO_LUNS, "Cff", 0),
             (TWO_LUNS, "C60 A00x3 Cd0 C70", 5),
         ],
-    )
-}
-
-/// F5: a change of the read column wants one driver that shows data, is ready and has a page or the parameter page.
-#[test]
-fn a_change_of_column_wants_a_page(rt: HostRuntime) -> Result<(), Fail> {
-    expect_broken(
-        &rt,
-        rt.alloc(),
+    ),
+    // F5: a change of the read column wants one driver that shows data, is ready and has a page or the parameter page.
+    (
         Forbidden::NoColumnToChange,
         &[
             (ONE_LUN, "C05", 0),
@@ -110,15 +90,9 @@ fn a_change_of_column_wants_a_page(rt: HostRuntime) -> Result<(), Fail> {
             (ONE_LUN, "Cec A00 C05", 2),
             (TWO_LUNS, "C78 A20 A00x2 C00 A00x5 C30 R0 C05", 12),
         ],
-    )
-}
-
-/// F6: no other command comes than the one that the sequence wants.
-#[test]
-fn a_closer_wants_its_opener(rt: HostRuntime) -> Result<(), Fail> {
-    expect_broken(
-        &rt,
-        rt.alloc(),
+    ),
+    // F6: no other command comes than the one that the sequence wants.
+    (
         Forbidden::CommandMisplaced,
         &[
             (ONE_LUN, "Cd0", 0),
@@ -134,15 +108,9 @@ fn a_closer_wants_its_opener(rt: HostRuntime) -> Result<(), Fail> {
             (ONE_LUN, "C00 A00x5 C30 R0 C05 A00 Ce0", 10),
             (ONE_LUN, "Ce0", 0),
         ],
-    )
-}
-
-/// F7: no address comes where none is wanted, and Read ID and Read Parameter Page take one address each.
-#[test]
-fn an_address_wants_its_opener(rt: HostRuntime) -> Result<(), Fail> {
-    expect_broken(
-        &rt,
-        rt.alloc(),
+    ),
+    // F7: no address comes where none is wanted, and Read ID and Read Parameter Page take one address each.
+    (
         Forbidden::AddressMisplaced,
         &[
             (ONE_LUN, "A00", 0),
@@ -161,15 +129,9 @@ fn an_address_wants_its_opener(rt: HostRuntime) -> Result<(), Fail> {
             (ONE_LUN, "Cec A20", 1),
             (ONE_LUN, "Cec A01", 1),
         ],
-    )
-}
-
-/// F8: a row names a LUN, a block and a page that are there.
-#[test]
-fn rows_stay_inside(rt: HostRuntime) -> Result<(), Fail> {
-    expect_broken(
-        &rt,
-        rt.alloc(),
+    ),
+    // F8: a row names a LUN, a block and a page that are there.
+    (
         Forbidden::RowOutside,
         &[
             (ONE_LUN, "C60 A20 A00x2", 3),
@@ -186,15 +148,9 @@ fn rows_stay_inside(rt: HostRuntime) -> Result<(), Fail> {
             (UNEVEN, "C00 A00x2 A03 A00x2", 5),
             (UNEVEN, "C80 A00x2 A1c A00x2", 5),
         ],
-    )
-}
-
-/// F9: no work begins where no LUN is ready, and none on a busy LUN.
-#[test]
-fn a_busy_lun_takes_no_work(rt: HostRuntime) -> Result<(), Fail> {
-    expect_broken(
-        &rt,
-        rt.alloc(),
+    ),
+    // F9: no work begins where no LUN is ready, and none on a busy LUN.
+    (
         Forbidden::LunBusy,
         &[
             (ONE_LUN, "C60 A00x3 Cd0 C60", 5),
@@ -210,15 +166,9 @@ fn a_busy_lun_takes_no_work(rt: HostRuntime) -> Result<(), Fail> {
             (TWO_LUNS, "C60 A00x3 Cd0 C80 A00x5", 10),
             (TWO_LUNS, "C60 A20 A00x2 Cd0 C60 A20 A00x2", 8),
         ],
-    )
-}
-
-/// F10: what is queued goes with another block of the same work, in another plane, with the same page and the same block bits above the plane.
-#[test]
-fn queued_planes_go_together(rt: HostRuntime) -> Result<(), Fail> {
-    expect_broken(
-        &rt,
-        rt.alloc(),
+    ),
+    // F10: what is queued goes with another block of the same work, in another plane, with the same page and the same block bits above the plane.
+    (
         Forbidden::QueueClash,
         &[
             (TWO_LUNS, "C60 A00x3 Cd1 R0 C00 A00x5", 11),
@@ -234,16 +184,16 @@ fn queued_planes_go_together(rt: HostRuntime) -> Result<(), Fail> {
             (TWO_LUNS, "C80 A00x5 C11 R0 C80 A00x2 A05 A00x2", 13),
             (TWO_LUNS, "C80 A00x5 C11 R0 C80 A00x2 A0c A00x2", 13),
             (TWO_LUNS, "C80 A00x5 C11 R0 C00 A00x5", 13),
+            // Behind an erase of the same plane.
+            (
+                TWO_LUNS,
+                "C60 A00x3 Cd1 C78 A00x3 O80 R0 C78 A00x3 Oe0 C60 A00x3",
+                19,
+            ),
         ],
-    )
-}
-
-/// F11: inputs come in the data of a program alone.
-#[test]
-fn inputs_want_a_program(rt: HostRuntime) -> Result<(), Fail> {
-    expect_broken(
-        &rt,
-        rt.alloc(),
+    ),
+    // F11: inputs come in the data of a program alone.
+    (
         Forbidden::InputMisplaced,
         &[
             (ONE_LUN, "Ia5", 0),
@@ -253,15 +203,9 @@ fn inputs_want_a_program(rt: HostRuntime) -> Result<(), Fail> {
             (ONE_LUN, "C80 A00x5 C85 A00 Ia5", 8),
             (ONE_LUN, "C80 A00x5 Ia5 C10 Ia5", 8),
         ],
-    )
-}
-
-/// F12: outputs come outside sequences, and from one driver.
-#[test]
-fn outputs_want_one_driver(rt: HostRuntime) -> Result<(), Fail> {
-    expect_broken(
-        &rt,
-        rt.alloc(),
+    ),
+    // F12: outputs come outside sequences, and from one driver.
+    (
         Forbidden::NoSoleDriver,
         &[
             (ONE_LUN, "Off", 0),
@@ -273,15 +217,9 @@ fn outputs_want_one_driver(rt: HostRuntime) -> Result<(), Fail> {
             (TWO_LUNS, "C78 A20 A00x2 Oe0 C00 A00x5 C30 R0 Off", 13),
             (ONE_LUN, "C80 A00x5 Off", 6),
         ],
-    )
-}
-
-/// F13: a LUN that shows data gives a byte only if it is ready, has a register and keeps its column.
-#[test]
-fn data_wants_a_column(rt: HostRuntime) -> Result<(), Fail> {
-    expect_broken(
-        &rt,
-        rt.alloc(),
+    ),
+    // F13: a LUN that shows data gives a byte only if it is ready, has a register and keeps its column.
+    (
         Forbidden::DataNotReady,
         &[
             (ONE_LUN, "C00 A00x5 C30 Off", 7),
@@ -289,16 +227,16 @@ fn data_wants_a_column(rt: HostRuntime) -> Result<(), Fail> {
             (ONE_LUN, "C00 A00x5 C30 R0 C60 A00x3 Cd0 R0 Off", 14),
             (ONE_LUN, "C00 A00x5 C30 R0 Off C70 C00 Off", 11),
             (ONE_LUN, "C90 A20 O4f C70 C00 O4e", 5),
+            // The read of a page, a status poll between two of its bytes, and the column that this loses.
+            (
+                ONE_LUN,
+                "C00 A00x5 C30 C70 O80 R0 C70 Oe0 C00 Offx4 C70 Oe0 C00 Off",
+                20,
+            ),
         ],
-    )
-}
-
-/// F14: columns, inputs and outputs stay inside the page or the register.
-#[test]
-fn columns_stay_inside(rt: HostRuntime) -> Result<(), Fail> {
-    expect_broken(
-        &rt,
-        rt.alloc(),
+    ),
+    // F14: columns, inputs and outputs stay inside the page or the register.
+    (
         Forbidden::ColumnOutside,
         &[
             (ONE_LUN, "C00 A10 A02", 2),
@@ -312,15 +250,9 @@ fn columns_stay_inside(rt: HostRuntime) -> Result<(), Fail> {
             (ONE_LUN, "C90 A20 O4f O4e O46 O49 O00", 6),
             (ONE_LUN, "Cec A00 R0 C05 Aff A02 Ce0 O00 O00", 8),
         ],
-    )
-}
-
-/// F15: a cache read goes on from a page read, inside its block, and nothing else comes between.
-#[test]
-fn a_cache_read_goes_on(rt: HostRuntime) -> Result<(), Fail> {
-    expect_broken(
-        &rt,
-        rt.alloc(),
+    ),
+    // F15: a cache read goes on from a page read, inside its block, and nothing else comes between.
+    (
         Forbidden::CacheReadMisplaced,
         &[
             (CACHED, "C31", 0),
@@ -341,187 +273,153 @@ fn a_cache_read_goes_on(rt: HostRuntime) -> Result<(), Fail> {
             (CACHED, "C00 A00x5 C30 R0 C31 R0 C90", 10),
             (CACHED, "C00 A00x5 C30 R0 C31 R0 Cec", 10),
         ],
-    )
-}
+    ),
+];
 
-/// No rule is broken, whatever commands the bus takes.
-fn expect_permitted(rt: &impl Abort, alloc: Global, cases: &[(Parts, &str)]) -> Result<(), Fail> {
-    for (parts, text) in cases {
-        let geometry = Geometry::of(*parts)?;
-        let items = trace(alloc, text)?;
-        assert_eq!(rt; first_broken(alloc, &geometry, &items)?, None, "{text}");
+#[test]
+fn rules_are_broken(rt: HostRuntime) -> Result<(), Fail> {
+    for (rule, cases) in BROKEN {
+        expect_broken(&rt, rt.alloc(), *rule, cases)?;
     }
     Ok(())
 }
 
-/// Traces that go as far as the rules let them.
+/// Traces that go as far as the rules let them, whatever commands the bus takes.
+const PERMITTED: &[(Parts, &str)] = &[
+    (ONE_LUN, "C70 C70 C00 C60 A00x3 Cd0 Cff"),
+    (ONE_LUN, "C00 A0f A02 A00x3 C30 R0 Off"),
+    (ONE_LUN, "Cec A00 R0 C05 Aff A02 Ce0 O00"),
+    (ONE_LUN, "C80 A0f A02 A00x3 Ia5 C85 A00x2 I3c I3c C10"),
+    (ONE_LUN, "C80 A00x5 C10 C70 O80 R0"),
+    (ONE_LUN, "C90 A20 O4f O4e O46 O49"),
+    (UNEVEN, "C60 A16 A00x2 Cd0 C78 A2c A00x2 Oe0"),
+    (TWO_LUNS, "C60 A00x3 Cd1 R0 C60 A04 A00x2 Cd0 R0 C60 A00x3"),
+    (TWO_LUNS, "C80 A00x5 C11 R0 C80 A00x2 A04 A00x2 C10"),
+    (TWO_PLANES, "C60 A00x3 Cd1 R0 Cff R0 C90 A20"),
+    (CACHED, "C00 A00x5 C30 R0 C31 R0 C31 R0 C31 R0 C3f R0 Off"),
+    // The read of a page, a status poll between two of its bytes, and its column set again.
+    (
+        ONE_LUN,
+        "C00 A00x5 C30 C70 O80 R0 C70 Oe0 C00 Offx4 C70 Oe0 C00 C05 A04 A00 Ce0 Offx4",
+    ),
+    // Two pages by a cache read, with the polls of its works.
+    (
+        CACHED,
+        "C00 A00x5 C30 C70 O80 R0 C70 Oe0 C31 C70 O80 R0 C70 Oc0 Y0 C70 Oe0 C00 Offx4 C3f C70 O80 R0 C70 Oe0 C00 Offx4",
+    ),
+    // Two blocks in two planes, the second of them in the other plane.
+    (
+        TWO_LUNS,
+        "C60 A00x3 Cd1 C78 A00x3 O80 R0 C78 A00x3 Oe0 C60 A04 A00x2 Cd0 C78 A00x3 O80 R0 C78 A00x3 Oe0",
+    ),
+];
+
 #[test]
 fn what_stays_permitted(rt: HostRuntime) -> Result<(), Fail> {
-    expect_permitted(
-        &rt,
-        rt.alloc(),
-        &[
-            (ONE_LUN, "C70 C70 C00 C60 A00x3 Cd0 Cff"),
-            (ONE_LUN, "C00 A0f A02 A00x3 C30 R0 Off"),
-            (ONE_LUN, "Cec A00 R0 C05 Aff A02 Ce0 O00"),
-            (ONE_LUN, "C80 A0f A02 A00x3 Ia5 C85 A00x2 I3c I3c C10"),
-            (ONE_LUN, "C80 A00x5 C10 C70 O80 R0"),
-            (ONE_LUN, "C90 A20 O4f O4e O46 O49"),
-            (UNEVEN, "C60 A16 A00x2 Cd0 C78 A2c A00x2 Oe0"),
-            (TWO_LUNS, "C60 A00x3 Cd1 R0 C60 A04 A00x2 Cd0 R0 C60 A00x3"),
-            (TWO_LUNS, "C80 A00x5 C11 R0 C80 A00x2 A04 A00x2 C10"),
-            (TWO_PLANES, "C60 A00x3 Cd1 R0 Cff R0 C90 A20"),
-            (CACHED, "C00 A00x5 C30 R0 C31 R0 C31 R0 C31 R0 C3f R0 Off"),
-        ],
-    )
-}
-
-/// The read of a page, a status poll between two of its bytes, and the column that this loses.
-#[test]
-fn column_lost_by_a_status(rt: HostRuntime) -> Result<(), Fail> {
-    expect_broken(
-        &rt,
-        rt.alloc(),
-        Forbidden::DataNotReady,
-        &[(
-            ONE_LUN,
-            "C00 A00x5 C30 C70 O80 R0 C70 Oe0 C00 Offx4 C70 Oe0 C00 Off",
-            20,
-        )],
-    )?;
-    expect_permitted(
-        &rt,
-        rt.alloc(),
-        &[(
-            ONE_LUN,
-            "C00 A00x5 C30 C70 O80 R0 C70 Oe0 C00 Offx4 C70 Oe0 C00 C05 A04 A00 Ce0 Offx4",
-        )],
-    )
-}
-
-/// Two pages by a cache read, with the polls of its works.
-#[test]
-fn cache_read_of_two_pages(rt: HostRuntime) -> Result<(), Fail> {
-    expect_permitted(
-        &rt,
-        rt.alloc(),
-        &[(
-            CACHED,
-            "C00 A00x5 C30 C70 O80 R0 C70 Oe0 C31 C70 O80 R0 C70 Oc0 Y0 C70 Oe0 C00 Offx4 C3f C70 O80 R0 C70 Oe0 C00 Offx4",
-        )],
-    )
-}
-
-/// Two blocks in two planes, the second of them in the other plane; with the same plane again it doesn't go together.
-#[test]
-fn erase_two_planes(rt: HostRuntime) -> Result<(), Fail> {
-    expect_permitted(
-        &rt,
-        rt.alloc(),
-        &[(
-            TWO_LUNS,
-            "C60 A00x3 Cd1 C78 A00x3 O80 R0 C78 A00x3 Oe0 C60 A04 A00x2 Cd0 C78 A00x3 O80 R0 C78 A00x3 Oe0",
-        )],
-    )?;
-    expect_broken(
-        &rt,
-        rt.alloc(),
-        Forbidden::QueueClash,
-        &[(
-            TWO_LUNS,
-            "C60 A00x3 Cd1 C78 A00x3 O80 R0 C78 A00x3 Oe0 C60 A00x3",
-            19,
-        )],
-    )
-}
-
-/// Whole traces of erases and status polls; `None` where the trace is legal.
-#[test]
-fn traces_of_erases(rt: HostRuntime) -> Result<(), Fail> {
-    let two_by_turns =
-        "C60 A00x3 Cd0 C78 A00x3 O80 C60 A20 A00x2 Cd0 C78 A20 A00x2 O80 R0 R1 C78 A00x3 Oe0 C78 A20 A00x2 Oe0";
-    let two_of_one_worker =
-        "C60 A00x3 Cd0 C78 A00x3 O80 R0 C60 A20 A00x2 Cd0 C78 A20 A00x2 O80 R1 C78 A00x3 Oe0 C78 A20 A00x2 Oe0";
-    let cases: [(Parts, &str, Option<(usize, Forbidden)>); 16] = [
-        (ONE_LUN, "", None),
-        (ONE_LUN, "C60 A04 A00x2 Cd0 C70 O80 R0 C70 Oe0", None),
-        (ONE_LUN, "C60 A04 A00x2 Cd0 C70 O80 F0 C70 Oe1", None),
-        (
-            TWO_LUNS,
-            "C60 A20 A00x2 Cd0 C78 A20 A00x2 O80 R1 C78 A20 A00x2 Oe0",
-            None,
-        ),
-        (TWO_LUNS, two_by_turns, None),
-        (TWO_LUNS, two_of_one_worker, None),
-        (ONE_LUN, "C60 A00x3 Cd0 C60", Some((5, Forbidden::LunBusy))),
-        (TWO_LUNS, "C60 A00x3 Cd0 C60", None),
-        (
-            TWO_LUNS,
-            "C60 A00x3 Cd0 C60 A00x3",
-            Some((8, Forbidden::LunBusy)),
-        ),
-        (
-            TWO_LUNS,
-            "C60 A00x3 Cd0 C70 C15",
-            Some((5, Forbidden::SeveralLuns)),
-        ),
-        (ONE_LUN, "C15", Some((0, Forbidden::CommandUnknown))),
-        (
-            ONE_LUN,
-            "C60 A00x3 C15",
-            Some((4, Forbidden::CommandUnknown)),
-        ),
-        (ONE_LUN, "C70 Oe0 C78", Some((2, Forbidden::CommandUnknown))),
-        (ONE_LUN, "C31", Some((0, Forbidden::CommandUnknown))),
-        (ONE_LUN, "C70 C60 C60", Some((2, Forbidden::SequenceOpen))),
-        (ONE_LUN, "C70 R0 C60", Some((1, Forbidden::NotThere))),
-    ];
-    for (parts, text, expected) in cases {
-        let geometry = Geometry::of(parts)?;
+    for (parts, text) in PERMITTED {
+        let geometry = Geometry::of(*parts)?;
         let items = trace(rt.alloc(), text)?;
         assert_eq!(rt;
-            check(rt.alloc(), &geometry, 1, &items)?,
-            expected,
+            first_broken(rt.alloc(), &geometry, &items)?,
+            None,
             "{text}"
         );
     }
     Ok(())
 }
 
+const TWO_BY_TURNS: &str =
+    "C60 A00x3 Cd0 C78 A00x3 O80 C60 A20 A00x2 Cd0 C78 A20 A00x2 O80 R0 R1 C78 A00x3 Oe0 C78 A20 A00x2 Oe0";
+
+const TWO_OF_ONE_WORKER: &str =
+    "C60 A00x3 Cd0 C78 A00x3 O80 R0 C60 A20 A00x2 Cd0 C78 A20 A00x2 O80 R1 C78 A00x3 Oe0 C78 A20 A00x2 Oe0";
+
+/// Whole traces of erases and status polls; `None` where the trace is legal.
+const ERASES: &[(Parts, &str, Option<(usize, Forbidden)>)] = &[
+    (ONE_LUN, "", None),
+    (ONE_LUN, "C60 A04 A00x2 Cd0 C70 O80 R0 C70 Oe0", None),
+    (ONE_LUN, "C60 A04 A00x2 Cd0 C70 O80 F0 C70 Oe1", None),
+    (
+        TWO_LUNS,
+        "C60 A20 A00x2 Cd0 C78 A20 A00x2 O80 R1 C78 A20 A00x2 Oe0",
+        None,
+    ),
+    (TWO_LUNS, TWO_BY_TURNS, None),
+    (TWO_LUNS, TWO_OF_ONE_WORKER, None),
+    (ONE_LUN, "C60 A00x3 Cd0 C60", Some((5, Forbidden::LunBusy))),
+    (TWO_LUNS, "C60 A00x3 Cd0 C60", None),
+    (
+        TWO_LUNS,
+        "C60 A00x3 Cd0 C60 A00x3",
+        Some((8, Forbidden::LunBusy)),
+    ),
+    (
+        TWO_LUNS,
+        "C60 A00x3 Cd0 C70 C15",
+        Some((5, Forbidden::SeveralLuns)),
+    ),
+    (ONE_LUN, "C15", Some((0, Forbidden::CommandUnknown))),
+    (
+        ONE_LUN,
+        "C60 A00x3 C15",
+        Some((4, Forbidden::CommandUnknown)),
+    ),
+    (ONE_LUN, "C70 Oe0 C78", Some((2, Forbidden::CommandUnknown))),
+    (ONE_LUN, "C31", Some((0, Forbidden::CommandUnknown))),
+    (ONE_LUN, "C70 C60 C60", Some((2, Forbidden::SequenceOpen))),
+    (ONE_LUN, "C70 R0 C60", Some((1, Forbidden::NotThere))),
+];
+
+#[test]
+fn traces_of_erases(rt: HostRuntime) -> Result<(), Fail> {
+    for (parts, text, expected) in ERASES {
+        let geometry = Geometry::of(*parts)?;
+        let items = trace(rt.alloc(), text)?;
+        assert_eq!(rt;
+            check(rt.alloc(), &geometry, 1, &items)?,
+            *expected,
+            "{text}"
+        );
+    }
+    Ok(())
+}
+
+const HERE: Item = Item::Cyc(Cycle {
+    ce: 0,
+    kind: Kind::Cmd,
+    byte: 0x60,
+});
+
+const THERE: Item = Item::Cyc(Cycle {
+    ce: 1,
+    kind: Kind::Cmd,
+    byte: 0x60,
+});
+
+const BECOMES_READY: Item = Item::Rdy {
+    ce: 1,
+    lun: 0,
+    fail: false,
+};
+
+/// How many targets there are, and what is told of an item behind a 60h for target 0.
+const BEHIND_60: &[(u8, Item, Option<Forbidden>)] = &[
+    (2, THERE, None),
+    (2, HERE, Some(Forbidden::SequenceOpen)),
+    (1, THERE, Some(Forbidden::NotThere)),
+    (1, BECOMES_READY, Some(Forbidden::NotThere)),
+    (1, Item::Ard { ce: 1, lun: 0 }, Some(Forbidden::NotThere)),
+    (2, BECOMES_READY, Some(Forbidden::NotThere)),
+];
+
 /// Chip enables are those of the channel's targets, and each target has a sequence of its own.
 #[test]
 fn targets_stand_apart(rt: HostRuntime) -> Result<(), Fail> {
     let one = Geometry::of(ONE_LUN)?;
     let items = trace(rt.alloc(), "C60")?;
-    let here = Item::Cyc(Cycle {
-        ce: 0,
-        kind: Kind::Cmd,
-        byte: 0x60,
-    });
-    let there = Item::Cyc(Cycle {
-        ce: 1,
-        kind: Kind::Cmd,
-        byte: 0x60,
-    });
-    let becomes_ready = Item::Rdy {
-        ce: 1,
-        lun: 0,
-        fail: false,
-    };
-    let array_becomes_ready = Item::Ard { ce: 1, lun: 0 };
-    for (targets, item, expected) in [
-        (2, there, None),
-        (2, here, Some(Forbidden::SequenceOpen)),
-        (1, there, Some(Forbidden::NotThere)),
-        (1, becomes_ready, Some(Forbidden::NotThere)),
-        (1, array_becomes_ready, Some(Forbidden::NotThere)),
-        (2, becomes_ready, Some(Forbidden::NotThere)),
-    ] {
-        assert_eq!(rt;
-            broken(rt.alloc(), &one, targets, &items, item)?,
-            expected,
-            "{item:?}"
-        );
+    for (targets, item, expected) in BEHIND_60 {
+        let told = broken(rt.alloc(), &one, *targets, &items, *item)?;
+        assert_eq!(rt; told, *expected, "{item:?}");
     }
     Ok(())
 }

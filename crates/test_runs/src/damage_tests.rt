@@ -214,12 +214,8 @@ fn refuse_all<R: Threads + Wait + Sync + Abort + AllocGlobal>(
         let mut files = make_damaged(rt.alloc(), run, damage)?;
         let played = play(rt, &mut files, ask(1));
         let want = format!(in rt.alloc(); "refused {code} at {line}\n")?;
-        assert_eq!(rt;
-            played.output.as_slice(),
-            want.as_str().as_bytes(),
-            "of {code}"
-        );
-        assert_eq!(rt; played.end.status(), 1, "of {code}");
+        let (end, output, _) = played.seen()?;
+        assert_eq!(rt; (end.status(), output), (1, want.as_str()), "of {code}");
     }
     Ok(())
 }

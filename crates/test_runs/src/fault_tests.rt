@@ -127,8 +127,11 @@ fn play_failing<R: Threads + Wait + Sync + Abort + AllocGlobal>(
     let mut files = make_old(rt.alloc())?;
     files.fail_at(call, error);
     let played = play(rt, &mut files, ask_trace());
-    assert!(rt; played.output.is_empty(), "call {call}");
-    assert_eq!(rt; files.calls(), call.saturating_add(1));
+    let calls = files.calls();
+    assert!(rt;
+        played.output.is_empty() && calls == call.saturating_add(1),
+        "call {call}"
+    );
     expect_written(rt, &files, false);
     Ok(played)
 }
@@ -137,10 +140,9 @@ fn play_failing<R: Threads + Wait + Sync + Abort + AllocGlobal>(
 fn each_call_fails(rt: HostRuntime) -> Result<(), Fail> {
     for call in 0..CALLS.len() {
         let played = play_failing(&rt, call, FileError::Fault(FileFault::PermissionDenied))?;
-        assert_eq!(rt; played.end, Exit::FileFault, "call {call}");
         let (path, line) = CALLS[call];
         let want = format!(in rt.alloc(); "file fault {path}\n{line}{path}: permission denied\n")?;
-        assert_eq!(rt; str::from_utf8(played.errors.as_slice())?, want.as_str());
+        assert_eq!(rt; played.seen()?, (Exit::FileFault, "", want.as_str()));
     }
     Ok(())
 }
@@ -149,8 +151,7 @@ fn each_call_fails(rt: HostRuntime) -> Result<(), Fail> {
 fn each_call_is_refused_memory(rt: HostRuntime) -> Result<(), Fail> {
     for call in 0..CALLS.len() {
         let played = play_failing(&rt, call, FileError::OutOfMemory)?;
-        assert_eq!(rt; played.end, Exit::OutOfMemory, "call {call}");
-        assert_eq!(rt; played.errors.as_slice(), b"out of memory\n".as_slice());
+        assert_eq!(rt; played.seen()?, (Exit::OutOfMemory, "", "out of memory\n"));
     }
     Ok(())
 }
@@ -160,10 +161,9 @@ fn no_call_fails(rt: HostRuntime) -> Result<(), Fail> {
     let mut files = make_old(rt.alloc())?;
     files.fail_at(CALLS.len(), FileError::Fault(FileFault::PermissionDenied));
     let played = play(&rt, &mut files, ask_trace());
-    assert_eq!(rt; played.end, Exit::Done);
-    assert_eq!(rt; files.calls(), CALLS.len());
+    assert!(rt; played.end == Exit::Done && files.calls() == CALLS.len());
     expect_written(&rt, &files, true);
-    assert_eq!(rt; played.output.len(), 226 + 24);
+    assert!(rt; played.output.len() == 226 + 24);
     Ok(())
 }
 
@@ -204,8 +204,7 @@ fn outputs_that_are_full(rt: HostRuntime) -> Result<(), Fail> {
     ] {
         let mut files = make_old(rt.alloc())?;
         let played = play_full(&rt, &mut files, kind);
-        assert_eq!(rt; played.end, end);
-        assert_eq!(rt; played.errors.as_slice(), errors.as_bytes());
+        assert_eq!(rt; played.seen()?, (end, "", errors));
         expect_written(&rt, &files, true);
     }
     Ok(())
@@ -217,13 +216,10 @@ fn refusals_that_are_not_printed(rt: HostRuntime) -> Result<(), Fail> {
     let mut files = make_files(rt.alloc())?;
     files.put("run", b"bad\n")?;
     let played = play_full(&rt, &mut files, io::ErrorKind::Other);
-    assert_eq!(rt; played.end, Exit::FileFault);
-    assert_eq!(rt;
-        played.errors.as_slice(),
-        b"file fault -\n-: it can't be read or written\n".as_slice()
-    );
+    let words = "file fault -\n-: it can't be read or written\n";
+    assert_eq!(rt; played.seen()?, (Exit::FileFault, "", words));
     let played = play_full(&rt, &mut files, io::ErrorKind::BrokenPipe);
-    assert_eq!(rt; (played.end, played.end.status()), (Exit::ReaderGone, 2));
+    assert!(rt; played.end == Exit::ReaderGone && played.end.status() == 2);
     assert!(rt; played.errors.is_empty());
     Ok(())
 }

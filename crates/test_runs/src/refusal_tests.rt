@@ -287,9 +287,8 @@ fn run_files_that_cannot_be_read(rt: HostRuntime) -> Result<(), Fail> {
             files.put("run", bytes)?;
         }
         let played = play(&rt, &mut files, ask(1));
-        assert_eq!(rt; played.end.status(), 2);
-        assert!(rt; played.output.is_empty());
-        assert_eq!(rt; str::from_utf8(played.errors.as_slice())?, said);
+        let (end, output, errors) = played.seen()?;
+        assert_eq!(rt; (end.status(), output, errors), (2, "", said));
     }
     Ok(())
 }

@@ -37,22 +37,24 @@ fn count(alloc: Global, run: &str) -> Result<Option<u64>, Fail> {
     Ok(plan.ok().map(|plan| plan.jobs.steps))
 }
 
+// The jobs of a run file, and how many words they step at most.
+const COUNTED: &[(&str, u64)] = &[
+    ("", 0),
+    ("job 0 0 0 erase - -\n", 5),
+    ("job 0 0 0 loops - -\n", STEPS_OF_LOOPS),
+    ("job 0 0 0 telling - -\n", STEPS_OF_TELLING),
+    ("job 0 0 0 deep - -\n", STEPS_OF_DEEP),
+    (
+        "job 0 0 0 loops - -\njob 0 0 4 erase - -\n",
+        STEPS_OF_LOOPS + 5,
+    ),
+];
+
 #[test]
 fn steps_are_counted(rt: HostRuntime) -> Result<(), Fail> {
-    let counted = [
-        ("", 0),
-        ("job 0 0 0 erase - -\n", 5),
-        ("job 0 0 0 loops - -\n", STEPS_OF_LOOPS),
-        ("job 0 0 0 telling - -\n", STEPS_OF_TELLING),
-        ("job 0 0 0 deep - -\n", STEPS_OF_DEEP),
-        (
-            "job 0 0 0 loops - -\njob 0 0 4 erase - -\n",
-            STEPS_OF_LOOPS + 5,
-        ),
-    ];
-    for (jobs, steps) in counted {
+    for (jobs, steps) in COUNTED {
         let run = format!(in rt.alloc(); "page one\ntargets 1\n{jobs}")?;
-        assert_eq!(rt; count(rt.alloc(), run.as_str())?, Some(steps), "{jobs}");
+        assert_eq!(rt; count(rt.alloc(), run.as_str())?, Some(*steps), "{jobs}");
     }
     Ok(())
 }
@@ -70,11 +72,8 @@ fn as_many_steps_as_a_run_may(rt: HostRuntime) -> Result<(), Fail> {
         ..ask(1)
     };
     let played = play(&rt, &mut files, request);
-    assert_eq!(rt; played.end, Exit::Done);
-    assert_eq!(rt;
-        str::from_utf8(played.output.as_slice())?,
-        "job 1 end 0\njob 2 end 0\n"
-    );
+    let (end, output, _) = played.seen()?;
+    assert_eq!(rt; (end, output), (Exit::Done, "job 1 end 0\njob 2 end 0\n"));
     Ok(())
 }
 
@@ -89,14 +88,10 @@ fn one_step_more(rt: HostRuntime) -> Result<(), Fail> {
         ..ask(1)
     };
     let played = play(&rt, &mut files, request);
-    assert_eq!(rt; played.end, Exit::OutOfMemory);
-    assert!(rt; played.output.is_empty());
-    assert_eq!(rt; (files.get("out"), files.get("trace")), (None, None));
-    let told = str::from_utf8(played.errors.as_slice())?;
-    assert_eq!(rt;
-        told,
-        "run:4: with this job the programs may take more than 9 steps\nall jobs together may take 10, and `--max-steps 10` runs them\n"
-    );
+    let told =
+        "run:4: with this job the programs may take more than 9 steps\nall jobs together may take 10, and `--max-steps 10` runs them\n";
+    assert_eq!(rt; played.seen()?, (Exit::OutOfMemory, "", told));
+    assert!(rt; files.get("out").is_none() && files.get("trace").is_none());
     Ok(())
 }
 
@@ -107,9 +102,8 @@ fn loops_of_loops(rt: HostRuntime) -> Result<(), Fail> {
     files.put("deep", DEEP.as_bytes())?;
     files.put("run", b"page one\ntargets 1\njob 0 0 0 deep - -\n")?;
     let played = play(&rt, &mut files, ask(1));
-    assert_eq!(rt; played.end, Exit::OutOfMemory);
-    assert!(rt; played.output.is_empty());
-    let told = str::from_utf8(played.errors.as_slice())?;
+    let (end, output, told) = played.seen()?;
+    assert!(rt; end == Exit::OutOfMemory && output.is_empty());
     assert!(rt; told.starts_with("run:3: with this job the programs may take more than "));
     assert!(rt; told.ends_with("`--max-steps 563087425937410` runs them\n"));
     Ok(())

@@ -58,6 +58,15 @@ pub(crate) struct Played {
     pub errors: Vec<u8>,
 }
 
+impl Played {
+    // How it ended, and both texts.
+    pub(crate) fn seen(&self) -> Result<(Exit, &str, &str), Fail> {
+        let output = str::from_utf8(self.output.as_slice())?;
+        let errors = str::from_utf8(self.errors.as_slice())?;
+        Ok((self.end, output, errors))
+    }
+}
+
 // Files with the pages `one`, `two` and `cache` of these LUNs, the word files `erase` and `both`, and the image `empty`.
 pub(crate) fn make_files(alloc: Global) -> Result<MapFiles, Fail> {
     let mut files = MapFiles::new(alloc);
@@ -127,8 +136,10 @@ pub(crate) fn expect_file(
     length: usize,
 ) -> Result<(), Fail> {
     let bytes = files.get(path).ok_or("the file is there")?;
-    assert!(rt; bytes.starts_with(first), "of {path}");
-    assert_eq!(rt; bytes.len(), length, "of {path}");
+    assert!(rt;
+        bytes.starts_with(first) && bytes.len() == length,
+        "of {path}"
+    );
     Ok(())
 }
 
@@ -148,9 +159,9 @@ pub(crate) fn try_all<R: Threads + Wait + Sync + Abort + AllocGlobal>(
         let mut files = make_files(rt.alloc())?;
         files.put("run", tried.run.as_bytes())?;
         let played = play(rt, &mut files, ask(1));
-        let output = str::from_utf8(played.output.as_slice()).unwrap_or("not UTF-8");
-        assert_eq!(rt; output, tried.output, "of {}", tried.run);
-        assert_eq!(rt; played.end.status(), tried.status, "of {}", tried.run);
+        let (end, output, _) = played.seen()?;
+        let wanted = (tried.status, tried.output);
+        assert_eq!(rt; (end.status(), output), wanted, "of {}", tried.run);
     }
     Ok(())
 }

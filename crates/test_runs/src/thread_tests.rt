@@ -111,11 +111,15 @@ fn hosts_keep_their_order(rt: HostRuntime) -> Result<(), Fail> {
         let played = play(&rt, &mut files, ask(workers));
         let text = str::from_utf8(played.output.as_slice())?;
         let first = join_ends(rt.alloc(), text, "0 A ")?;
-        assert_eq!(rt; first.as_str(), "000000080000100000");
         let second = join_ends(rt.alloc(), text, "1 A ")?;
-        assert_eq!(rt; second.as_str(), "0400000c0000140000");
         let ends = join_ends(rt.alloc(), text, "job ")?;
-        assert_eq!(rt; ends.as_str(), "1 end 02 end 03 end 04 end 05 end 06 end 0");
+        let told = (first.as_str(), second.as_str(), ends.as_str());
+        let wanted = (
+            "000000080000100000",
+            "0400000c0000140000",
+            "1 end 02 end 03 end 04 end 05 end 06 end 0",
+        );
+        assert_eq!(rt; told, wanted);
     }
     Ok(())
 }

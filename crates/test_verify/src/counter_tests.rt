@@ -28,6 +28,13 @@ const ERASE_TWICE: [Word; 8] = [
     Word::End { code: 0 },
 ];
 
+// The first of them alone.
+const CUT_ERASE: [Word; 3] = [
+    Word::Command { byte: 0x60 },
+    Word::Address { from: 2, count: 3 },
+    Word::Command { byte: 0xd0 },
+];
+
 // A read of which a part is taken, and another part after a status, which loses the column.
 const COLUMN_LOST: [Word; 10] = [
     Word::Command { byte: 0x00 },
@@ -71,19 +78,50 @@ const IDENTIFIER_OF_ROW: [Word; 3] = [
 // An address that no opener wants.
 const ADDRESS_ALONE: [Word; 2] = [Word::Address { from: 0, count: 1 }, Word::End { code: 0 }];
 
-fn item(kind: Kind, byte: u8) -> Item {
-    Item::Cyc(Cycle { ce: 0, kind, byte })
-}
+// Items of runs: the commands that open and start an erase and open an identifier, address bytes, a ready, and a byte of an erased page.
+const OPENS: Item = Item::Cyc(Cycle {
+    ce: 0,
+    kind: Kind::Cmd,
+    byte: 0x60,
+});
 
-fn erase_items() -> [Item; 5] {
-    [
-        item(Kind::Cmd, 0x60),
-        item(Kind::Adr, 0x00),
-        item(Kind::Adr, 0x00),
-        item(Kind::Adr, 0x00),
-        item(Kind::Cmd, 0xd0),
-    ]
-}
+const ZEROS: Item = Item::Cyc(Cycle {
+    ce: 0,
+    kind: Kind::Adr,
+    byte: 0x00,
+});
+
+const STARTS: Item = Item::Cyc(Cycle {
+    ce: 0,
+    kind: Kind::Cmd,
+    byte: 0xd0,
+});
+
+const IDENTIFIES: Item = Item::Cyc(Cycle {
+    ce: 0,
+    kind: Kind::Cmd,
+    byte: 0x90,
+});
+
+const COLUMN_20: Item = Item::Cyc(Cycle {
+    ce: 0,
+    kind: Kind::Adr,
+    byte: 0x20,
+});
+
+const ERASED: Item = Item::Cyc(Cycle {
+    ce: 0,
+    kind: Kind::Dout,
+    byte: 0xff,
+});
+
+const BECOMES_READY: Item = Item::Rdy {
+    ce: 0,
+    lun: 0,
+    fail: false,
+};
+
+const ERASE_ITEMS: [Item; 5] = [OPENS, ZEROS, ZEROS, ZEROS, STARTS];
 
 // What a refusal tells: its word, its reason, and its counter.
 fn refusal<A: Allocator + Copy>(
@@ -111,72 +149,129 @@ fn refusal<A: Allocator + Copy>(
     }
 }
 
-fn shown(alloc: Global, buffer: u32, words: &[Word]) -> Result<(usize, Counter), Fail> {
+fn find_counter(alloc: Global, buffer: u32, words: &[Word]) -> Result<(usize, Counter), Fail> {
     match refusal(alloc, ONE_LUN, buffer, words)? {
         Some((word, Reason::CycleForbidden, Some(counter))) => Ok((word, counter)),
         _ => Err(Fail::from("no V7 with a counter")),
     }
 }
 
+// A text with a buffer of this length, the word that V7 refuses, how many items lead to its cycle, those of them by places that are looked
+// at, and that cycle.
+struct Shown {
+    buffer: u32,
+    words: &'static [Word],
+    word: usize,
+    count: usize,
+    items: &'static [(usize, Item)],
+    cycle: Item,
+}
+
+const SHOWN: &[Shown] = &[
+    Shown {
+        buffer: 0,
+        words: &ERASE_TWICE,
+        word: 3,
+        count: 5,
+        items: &[(0, OPENS), (1, ZEROS), (2, ZEROS), (3, ZEROS), (4, STARTS)],
+        cycle: OPENS,
+    },
+    Shown {
+        buffer: 8,
+        words: &COLUMN_LOST,
+        word: 8,
+        count: 18,
+        items: &[(7, BECOMES_READY), (11, ERASED)],
+        cycle: Item::Cyc(Cycle {
+            ce: 0,
+            kind: Kind::Dout,
+            byte: 0x00,
+        }),
+    },
+    // The first word may be the one.
+    Shown {
+        buffer: 0,
+        words: &ADDRESS_ALONE,
+        word: 0,
+        count: 0,
+        items: &[],
+        cycle: ZEROS,
+    },
+    // The bytes of an address that begins with the column are there: the second one isn't wanted.
+    Shown {
+        buffer: 0,
+        words: &IDENTIFIER_WITH_ROW,
+        word: 2,
+        count: 2,
+        items: &[(0, IDENTIFIES), (1, COLUMN_20)],
+        cycle: ZEROS,
+    },
+];
+
+// These items stand at their places.
+fn have_items(items: &[Item], wanted: &[(usize, Item)]) -> bool {
+    for (place, item) in wanted {
+        if items.get(*place) != Some(item) {
+            return false;
+        }
+    }
+    true
+}
+
+// The text is refused so, with its run.
+fn is_shown(alloc: Global, row: &Shown) -> Result<bool, Fail> {
+    let (word, counter) = find_counter(alloc, row.buffer, row.words)?;
+    let items = counter.items.as_slice();
+    Ok(
+        word == row.word
+            && items.len() == row.count
+            && have_items(items, row.items)
+            && Item::Cyc(counter.cycle) == row.cycle,
+    )
+}
+
 #[test]
-fn erase_of_a_busy_lun(rt: HostRuntime) -> Result<(), Fail> {
-    let (word, counter) = shown(rt.alloc(), 0, &ERASE_TWICE)?;
-    assert_eq!(rt; word, 3);
-    assert_eq!(rt; counter.base, 0);
-    assert_eq!(rt; counter.items.as_slice(), erase_items().as_slice());
-    assert_eq!(rt; Item::Cyc(counter.cycle), item(Kind::Cmd, 0x60));
+fn counters_of_texts(rt: HostRuntime) -> Result<(), Fail> {
+    for (place, row) in SHOWN.iter().enumerate() {
+        assert!(rt; is_shown(rt.alloc(), row)?, "at {place}");
+    }
     Ok(())
 }
 
 #[test]
-fn column_lost_by_a_status(rt: HostRuntime) -> Result<(), Fail> {
-    let (word, counter) = shown(rt.alloc(), 8, &COLUMN_LOST)?;
-    assert_eq!(rt; word, 8);
-    assert_eq!(rt; Item::Cyc(counter.cycle), item(Kind::Dout, 0x00));
-    assert_eq!(rt; counter.items.len(), 18);
-    assert_eq!(rt;
-        counter.items[7],
-        Item::Rdy {
-            ce: 0,
-            lun: 0,
-            fail: false
-        }
-    );
-    assert_eq!(rt; counter.items[11], item(Kind::Dout, 0xff));
+fn an_erase_goes_wrong_from_the_first_row_on(rt: HostRuntime) -> Result<(), Fail> {
+    let (_, counter) = find_counter(rt.alloc(), 0, &ERASE_TWICE)?;
+    assert_eq!(rt; counter.base, 0);
     Ok(())
+}
+
+// Texts that have no counter, each with its word and its reason: of several LUNs, of another reason, and with an address that begins with the
+// row, whose bytes may not be there.
+const WITHOUT: &[(Parts, u32, &[Word], usize, Reason)] = &[
+    (TWO_LUNS, 4, &HANDOVER, 6, Reason::CycleForbidden),
+    (ONE_LUN, 0, &CUT_ERASE, 2, Reason::LastWordNotEnd),
+    (ONE_LUN, 0, &IDENTIFIER_OF_ROW, 1, Reason::CycleForbidden),
+];
+
+// The word and the reason of a text that is refused with no counter.
+fn refused_bare(
+    alloc: Global,
+    parts: Parts,
+    buffer: u32,
+    words: &[Word],
+) -> Result<Option<(usize, Reason)>, Fail> {
+    match refusal(alloc, parts, buffer, words)? {
+        Some((word, reason, None)) => Ok(Some((word, reason))),
+        _ => Ok(None),
+    }
 }
 
 #[test]
 fn no_counter_where_there_are_others(rt: HostRuntime) -> Result<(), Fail> {
-    let told = refusal(rt.alloc(), TWO_LUNS, 4, &HANDOVER)?;
-    assert!(rt; matches!(told, Some((6, Reason::CycleForbidden, None))));
-    let few = refusal(rt.alloc(), ONE_LUN, 0, &ERASE_TWICE[..3])?;
-    assert!(rt; matches!(few, Some((2, Reason::LastWordNotEnd, None))));
-    Ok(())
-}
-
-#[test]
-fn the_first_word_may_be_the_one(rt: HostRuntime) -> Result<(), Fail> {
-    let (word, counter) = shown(rt.alloc(), 0, &ADDRESS_ALONE)?;
-    assert_eq!(rt; word, 0);
-    assert!(rt; counter.items.is_empty());
-    assert_eq!(rt; Item::Cyc(counter.cycle), item(Kind::Adr, 0x00));
-    Ok(())
-}
-
-// The bytes of an address that begins with the column are there: the second one isn't wanted. Those of one that begins with the row may not
-// be, so it has no run.
-#[test]
-fn addresses_of_an_identifier(rt: HostRuntime) -> Result<(), Fail> {
-    let (word, counter) = shown(rt.alloc(), 0, &IDENTIFIER_WITH_ROW)?;
-    assert_eq!(rt; word, 2);
-    assert_eq!(rt;
-        counter.items.as_slice(),
-        [item(Kind::Cmd, 0x90), item(Kind::Adr, 0x20)].as_slice()
-    );
-    assert_eq!(rt; Item::Cyc(counter.cycle), item(Kind::Adr, 0x00));
-    let row = refusal(rt.alloc(), ONE_LUN, 0, &IDENTIFIER_OF_ROW)?;
-    assert!(rt; matches!(row, Some((1, Reason::CycleForbidden, None))));
+    for (parts, buffer, words, word, reason) in WITHOUT {
+        let told = refused_bare(rt.alloc(), *parts, *buffer, words)?;
+        assert_eq!(rt; told, Some((*word, *reason)));
+    }
     Ok(())
 }
 
@@ -191,7 +286,7 @@ fn want_of_memory(rt: HostRuntime) -> Result<(), Fail> {
             None => wanted = true,
             Some((3, Reason::CycleForbidden, Some(counter))) => {
                 whole = true;
-                assert_eq!(rt; counter.items.as_slice(), erase_items().as_slice());
+                assert!(rt; counter.items.as_slice() == ERASE_ITEMS.as_slice());
             }
             Some(_) => return Err(Fail::from("another refusal")),
         }

@@ -430,21 +430,37 @@ fn operands(rt: HostRuntime) -> Result<(), Fail> {
     Ok(())
 }
 
+const CODES: &[(PlainFault, &str)] = &[
+    (PlainFault::NoOperations, "L1"),
+    (PlainFault::TooManyWords, "L2"),
+    (PlainFault::OperandOutside { operation: 7 }, "L3"),
+];
+
+const MESSAGES: &[(PlainRefusal, &str)] = &[
+    (
+        PlainRefusal::Fault(PlainFault::OperandOutside { operation: 7 }),
+        "operation 7 reaches outside the page, the LUN or the greatest buffer",
+    ),
+    (PlainRefusal::OutOfMemory, "out of memory"),
+];
+
 #[test]
 fn told(rt: HostRuntime) -> Result<(), Fail> {
-    assert_eq!(rt; PlainFault::NoOperations.code(), "L1");
-    assert_eq!(rt; PlainFault::TooManyWords.code(), "L2");
-    let outside = PlainFault::OperandOutside { operation: 7 };
-    assert_eq!(rt; outside.code(), "L3");
-    assert_eq!(rt;
-        PlainRefusal::Fault(outside).to_string(rt.alloc())?.as_str(),
-        "operation 7 reaches outside the page, the LUN or the greatest buffer"
-    );
-    assert_eq!(rt;
-        PlainRefusal::OutOfMemory.to_string(rt.alloc())?.as_str(),
-        "out of memory"
-    );
+    for (fault, code) in CODES {
+        assert!(rt; fault.code() == *code, "{code}");
+    }
+    for (refusal, message) in MESSAGES {
+        assert_eq!(rt; refusal.to_string(rt.alloc())?.as_str(), *message);
+    }
     Ok(())
+}
+
+// The budget of the text on a heap.
+fn budget_on(heap: &LocalHeap, ops: &[PlainOp]) -> Result<Result<u32, PlainRefusal>, Fail> {
+    match plain(heap, ops, Geometry::of(ONE_LUN)?) {
+        Ok(verified) => Ok(Ok(verified.text().budget())),
+        Err(refusal) => Ok(Err(refusal)),
+    }
 }
 
 #[test]
@@ -452,16 +468,16 @@ fn refused_memory(rt: HostRuntime) -> Result<(), Fail> {
     let mut refused_at: usize = 0;
     for size in 0..40usize {
         let heap = LocalHeap::new(rt.alloc(), 16 * size)?;
-        match plain(&heap, &PROGRAM_THEN_READ, Geometry::of(ONE_LUN)?) {
-            Ok(verified) => assert_eq!(rt; verified.text().budget(), 19),
-            Err(refusal) => {
-                assert_eq!(rt; refusal, PlainRefusal::OutOfMemory);
+        match budget_on(&heap, &PROGRAM_THEN_READ)? {
+            Ok(budget) => assert!(rt; budget == 19),
+            told => {
+                assert!(rt; told == Err(PlainRefusal::OutOfMemory));
                 refused_at = size + 1;
             }
         }
         // Every fault comes before want of memory.
-        let fault = plain(&heap, &MORE_READS, Geometry::of(ONE_LUN)?).err();
-        assert_eq!(rt; fault, Some(PlainRefusal::Fault(PlainFault::TooManyWords)));
+        let told = budget_on(&heap, &MORE_READS)?;
+        assert_eq!(rt; told, Err(PlainRefusal::Fault(PlainFault::TooManyWords)));
     }
     // The call was refused at first, and went on in the end.
     assert!(rt; refused_at > 0 && refused_at < 40);

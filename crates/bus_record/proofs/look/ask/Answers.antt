@@ -1,27 +1,21 @@
-use Rattle.std.proofs.Common.{sym, ap, ◌∙◌, Option, subst, get_or}
-use Rattle.nand_geometry.specs.declared.parts.Parts.{Parts}
-use Rattle.onfi_cycle.specs.Bounds.{TargetFits}
+use Rattle.std.proofs.Common.{sym, ap, ◌∙◌, Option}
 use Rattle.onfi_cycle.specs.State.{judged}
 use Rattle.onfi_cycle.specs.declared.forbidden.Forbidden.{Forbidden}
 use Rattle.bus_record.specs.Rule.{by_option, rule_number}
-use Rattle.bus_record.specs.Record.{target_of}
 use Rattle.bus_record.specs.Kept.{Kept}
-use Rattle.bus_record.specs.Bus.{bus_view, answered_there}
-use Rattle.bus_record.proofs.Pushed.{of_ok, fits_there, judged_there}
+use Rattle.bus_record.specs.Bus.{bus_view}
+use Rattle.bus_record.proofs.Pushed.{fits_there, judged_there}
 use Rattle.bus_record.proofs.look.ask.Goals as goal
 
 pub ask_target-requires-clause-fits : goal.ask_target-requires-clause-fits
 ask_target-requires-clause-fits c =
-    let known = of_ok c.of.result c.parts.result c.unwrap-geometry.result c.of.ensures c.unwrap-geometry.ensures ∙ c.parts.ensures in
     let k : Kept = record { magic = c.bus.inside.magic; geometry = c.bus.inside.geometry; count = c.bus.inside.count; targets = c.bus.inside.targets } in
-    subst (λ (g : Parts). TargetFits g (target_of (get_or k.targets c.from-ce.result _))) (sym known) (fits_there k c.bus.invariant c.from-ce.result c.if-bus-ce.false _)
+    fits_there k c.bus.invariant c.from-ce.result c.if-bus-ce.false _
 
 pub returns : goal.returns
 returns c =
-    let known = of_ok c.of.result c.parts.result c.unwrap-geometry.result c.of.ensures c.unwrap-geometry.ensures ∙ c.parts.ensures in
     let k : Kept = record { magic = c.bus.inside.magic; geometry = c.bus.inside.geometry; count = c.bus.inside.count; targets = c.bus.inside.targets } in
     let there = judged_there k c.bus.invariant c.args.item c.from-ce.result (c.from-ce.ensures ∙ c.target.ensures) c.if-bus-ce.false _ in
     c.ask_target.ensures
-    ∙ ap (λ (g : Parts). answered_there g k.count (target_of (get_or k.targets c.from-ce.result _)) c.args.item) known
     ∙ ap (λ (o : Option Forbidden). by_option o 0 rule_number) (sym there)
     ∙ ap (λ (x : Kept). by_option (judged (bus_view x) c.args.item) 0 rule_number) c.bus.view_is

@@ -1,6 +1,4 @@
-use Rattle.std.proofs.Common.{ℕ, ◌<◌, get_or, sym, ap, ◌∙◌, subst, arith}
-use Rattle.nand_geometry.specs.declared.parts.Parts.{Parts}
-use Rattle.onfi_cycle.specs.Bounds.{TargetFits}
+use Rattle.std.proofs.Common.{ℕ, ◌<◌, get_or, sym, ap, ◌∙◌, arith}
 use Rattle.onfi_cycle.specs.declared.item.Kind.TheVariants.{Din}
 use Rattle.onfi_cycle.specs.Inputs.{judged_inputs}
 use Rattle.onfi_cycle.proofs.Inputs.{inputs_are_data}
@@ -9,50 +7,48 @@ use Rattle.bus_record.specs.Geometry.{parts_of}
 use Rattle.bus_record.specs.Kept.{Kept}
 use Rattle.bus_record.specs.Record.{target_of}
 use Rattle.bus_record.specs.Runs.{inputs_rule, inputs_pushed}
-use Rattle.bus_record.proofs.Pushed.{of_ok, fits_there}
+use Rattle.bus_record.proofs.Pushed.{fits_there, limits_there}
 use Rattle.bus_record.proofs.Runs.{inputs_judged, inputs_left, no_target, run_pushed, run_sound, run_state, with_target}
 use Rattle.bus_record.proofs.run.push_inputs.Goals as goal
 
 pub push_inputs_there-rule-requires-clause-fits : goal.push_inputs_there-rule-requires-clause-fits
 push_inputs_there-rule-requires-clause-fits c =
-    let known = of_ok c.of.result c.parts.result c.unwrap-geometry.result c.of.ensures c.unwrap-geometry.ensures ∙ c.parts.ensures in
     let k : Kept = record { magic = c.bus.inside.magic; geometry = c.bus.inside.geometry; count = c.bus.inside.count; targets = c.bus.inside.targets } in
-    subst (λ (g : Parts). TargetFits g (target_of (get_or k.targets c.from-place.result no_target))) (sym known) (fits_there k c.bus.invariant c.from-place.result c.if-bus-place.false no_target)
+    fits_there k c.bus.invariant c.from-place.result c.if-bus-place.false no_target
 
 pub returns-clause-rule : goal.returns-clause-rule
 returns-clause-rule c =
-    let known = of_ok c.of.result c.parts.result c.unwrap-geometry.result c.of.ensures c.unwrap-geometry.ensures ∙ c.parts.ensures in
     let k : Kept = record { magic = c.bus.inside.magic; geometry = c.bus.inside.geometry; count = c.bus.inside.count; targets = c.bus.inside.targets } in
     let some : 0 < c.args.count = omega (arith, c.if-count-eq0.false) in
     c.push_inputs_there-rule.ensures.rule
-    ∙ (ap (λ (g : Parts). inputs_rule g k.count c.args.ce c.args.count (target_of (get_or k.targets c.from-place.result no_target))) known
     ∙ (ap (λ (m : ℕ). inputs_rule (parts_of k.geometry) k.count m c.args.count (target_of (get_or k.targets c.from-place.result no_target))) (sym c.from-place.ensures)
     ∙ (inputs_judged k c.bus.invariant c.from-place.result c.args.count c.if-bus-place.false some no_target
     ∙ (ap (λ (m : ℕ). judged_inputs m c.args.count (bus_view k)) c.from-place.ensures
-    ∙ ap (λ (x : Kept). judged_inputs c.args.ce c.args.count (bus_view x)) c.bus.view_is))))
+    ∙ ap (λ (x : Kept). judged_inputs c.args.ce c.args.count (bus_view x)) c.bus.view_is)))
 
 pub invariant_of-bus : goal.invariant_of-bus
 invariant_of-bus c =
-    let known = of_ok c.of.result c.parts.result c.unwrap-geometry.result c.of.ensures c.unwrap-geometry.ensures ∙ c.parts.ensures in
     let k : Kept = record { magic = c.bus.inside.magic; geometry = c.bus.inside.geometry; count = c.bus.inside.count; targets = c.bus.inside.targets } in
     let some : 0 < c.args.count = omega (arith, c.if-count-eq0.false) in
     run_sound Din inputs_are_data k c.bus.invariant c.from-place.result c.args.count c.if-bus-place.false c.push_inputs_there-rule.new.kept c.push_inputs_there-rule.ensures.numbers
     (inputs_left k c.bus.invariant c.from-place.result c.args.count c.if-bus-place.false some no_target c.push_inputs_there-rule.new.kept
     (c.push_inputs_there-rule.ensures.state
-    ∙ (ap (λ (g : Parts). inputs_pushed g k.count c.args.ce c.args.count (target_of (get_or k.targets c.from-place.result no_target))) known
-    ∙ ap (λ (m : ℕ). inputs_pushed (parts_of k.geometry) k.count m c.args.count (target_of (get_or k.targets c.from-place.result no_target))) (sym c.from-place.ensures))))
+    ∙ ap (λ (m : ℕ). inputs_pushed (parts_of k.geometry) k.count m c.args.count (target_of (get_or k.targets c.from-place.result no_target))) (sym c.from-place.ensures)))
 
 pub returns-clause-state : goal.returns-clause-state
 returns-clause-state c none =
-    let known = of_ok c.of.result c.parts.result c.unwrap-geometry.result c.of.ensures c.unwrap-geometry.ensures ∙ c.parts.ensures in
     let k : Kept = record { magic = c.bus.inside.magic; geometry = c.bus.inside.geometry; count = c.bus.inside.count; targets = c.bus.inside.targets } in
     let some : 0 < c.args.count = omega (arith, c.if-count-eq0.false) in
     let left = inputs_left k c.bus.invariant c.from-place.result c.args.count c.if-bus-place.false some no_target c.push_inputs_there-rule.new.kept
     (c.push_inputs_there-rule.ensures.state
-    ∙ (ap (λ (g : Parts). inputs_pushed g k.count c.args.ce c.args.count (target_of (get_or k.targets c.from-place.result no_target))) known
-    ∙ ap (λ (m : ℕ). inputs_pushed (parts_of k.geometry) k.count m c.args.count (target_of (get_or k.targets c.from-place.result no_target))) (sym c.from-place.ensures))) in
+    ∙ ap (λ (m : ℕ). inputs_pushed (parts_of k.geometry) k.count m c.args.count (target_of (get_or k.targets c.from-place.result no_target))) (sym c.from-place.ensures)) in
     run_state Din c.args.ce c.args.count (bus_view c.args.bus.now) (with_target k c.from-place.result c.push_inputs_there-rule.new.kept)
     (left
     ∙ (ap (λ (m : ℕ). run_pushed Din m c.args.count (bus_view k)) c.from-place.ensures
     ∙ ap (λ (x : Kept). run_pushed Din c.args.ce c.args.count (bus_view x)) c.bus.view_is))
     (sym (returns-clause-rule c) ∙ none)
+
+pub push_inputs_there-rule-requires-clause-limits : goal.push_inputs_there-rule-requires-clause-limits
+push_inputs_there-rule-requires-clause-limits c =
+    let k : Kept = record { magic = c.bus.inside.magic; geometry = c.bus.inside.geometry; count = c.bus.inside.count; targets = c.bus.inside.targets } in
+    limits_there k c.bus.invariant c.from-place.result c.if-bus-place.false

@@ -1,6 +1,4 @@
-use Rattle.std.proofs.Common.{ℕ, ◌<◌, get_or, sym, ap, ◌∙◌, subst, arith}
-use Rattle.nand_geometry.specs.declared.parts.Parts.{Parts}
-use Rattle.onfi_cycle.specs.Bounds.{TargetFits}
+use Rattle.std.proofs.Common.{ℕ, ◌<◌, get_or, sym, ap, ◌∙◌, arith}
 use Rattle.onfi_cycle.specs.declared.item.Kind.TheVariants.{Dout}
 use Rattle.onfi_cycle.specs.Outputs.{judged_outputs}
 use Rattle.onfi_cycle.proofs.Outputs.{outputs_are_data}
@@ -9,60 +7,57 @@ use Rattle.bus_record.specs.Geometry.{parts_of}
 use Rattle.bus_record.specs.Kept.{Kept}
 use Rattle.bus_record.specs.Record.{target_of}
 use Rattle.bus_record.specs.Runs.{outputs_rule, outputs_pushed}
-use Rattle.bus_record.proofs.Pushed.{of_ok, fits_there}
+use Rattle.bus_record.proofs.Pushed.{fits_there, limits_there}
 use Rattle.bus_record.proofs.Runs.{outputs_judged, outputs_left, few_there, no_target, run_pushed, run_sound, run_state, with_target}
 use Rattle.bus_record.proofs.run.push_outputs.Goals as goal
 
 pub push_outputs_there-rule-requires-clause-fits : goal.push_outputs_there-rule-requires-clause-fits
 push_outputs_there-rule-requires-clause-fits c =
-    let known = of_ok c.of.result c.parts.result c.unwrap-geometry.result c.of.ensures c.unwrap-geometry.ensures ∙ c.parts.ensures in
     let k : Kept = record { magic = c.bus.inside.magic; geometry = c.bus.inside.geometry; count = c.bus.inside.count; targets = c.bus.inside.targets } in
-    subst (λ (g : Parts). TargetFits g (target_of (get_or k.targets c.from-place.result no_target))) (sym known) (fits_there k c.bus.invariant c.from-place.result c.if-bus-place.false no_target)
+    fits_there k c.bus.invariant c.from-place.result c.if-bus-place.false no_target
 
 pub push_outputs_there-rule-requires-clause-few : goal.push_outputs_there-rule-requires-clause-few
 push_outputs_there-rule-requires-clause-few c none =
-    let known = of_ok c.of.result c.parts.result c.unwrap-geometry.result c.of.ensures c.unwrap-geometry.ensures ∙ c.parts.ensures in
     let k : Kept = record { magic = c.bus.inside.magic; geometry = c.bus.inside.geometry; count = c.bus.inside.count; targets = c.bus.inside.targets } in
     let some : 0 < c.args.count = omega (arith, c.if-count-eq0.false) in
     few_there k c.bus.invariant c.from-place.result c.args.count c.if-bus-place.false some no_target
     (sym (outputs_judged k c.bus.invariant c.from-place.result c.args.count c.if-bus-place.false some no_target)
     ∙ (ap (λ (m : ℕ). outputs_rule (parts_of k.geometry) k.count m c.args.count (target_of (get_or k.targets c.from-place.result no_target))) c.from-place.ensures
-    ∙ (ap (λ (g : Parts). outputs_rule g k.count c.args.ce c.args.count (target_of (get_or k.targets c.from-place.result no_target))) (sym known) ∙ none)))
+    ∙ none))
 
 pub returns-clause-rule : goal.returns-clause-rule
 returns-clause-rule c =
-    let known = of_ok c.of.result c.parts.result c.unwrap-geometry.result c.of.ensures c.unwrap-geometry.ensures ∙ c.parts.ensures in
     let k : Kept = record { magic = c.bus.inside.magic; geometry = c.bus.inside.geometry; count = c.bus.inside.count; targets = c.bus.inside.targets } in
     let some : 0 < c.args.count = omega (arith, c.if-count-eq0.false) in
     c.push_outputs_there-rule.ensures.rule
-    ∙ (ap (λ (g : Parts). outputs_rule g k.count c.args.ce c.args.count (target_of (get_or k.targets c.from-place.result no_target))) known
     ∙ (ap (λ (m : ℕ). outputs_rule (parts_of k.geometry) k.count m c.args.count (target_of (get_or k.targets c.from-place.result no_target))) (sym c.from-place.ensures)
     ∙ (outputs_judged k c.bus.invariant c.from-place.result c.args.count c.if-bus-place.false some no_target
     ∙ (ap (λ (m : ℕ). judged_outputs m c.args.count (bus_view k)) c.from-place.ensures
-    ∙ ap (λ (x : Kept). judged_outputs c.args.ce c.args.count (bus_view x)) c.bus.view_is))))
+    ∙ ap (λ (x : Kept). judged_outputs c.args.ce c.args.count (bus_view x)) c.bus.view_is)))
 
 pub invariant_of-bus : goal.invariant_of-bus
 invariant_of-bus c =
-    let known = of_ok c.of.result c.parts.result c.unwrap-geometry.result c.of.ensures c.unwrap-geometry.ensures ∙ c.parts.ensures in
     let k : Kept = record { magic = c.bus.inside.magic; geometry = c.bus.inside.geometry; count = c.bus.inside.count; targets = c.bus.inside.targets } in
     let some : 0 < c.args.count = omega (arith, c.if-count-eq0.false) in
     run_sound Dout outputs_are_data k c.bus.invariant c.from-place.result c.args.count c.if-bus-place.false c.push_outputs_there-rule.new.kept c.push_outputs_there-rule.ensures.numbers
     (outputs_left k c.bus.invariant c.from-place.result c.args.count c.if-bus-place.false some no_target c.push_outputs_there-rule.new.kept
     (c.push_outputs_there-rule.ensures.state
-    ∙ (ap (λ (g : Parts). outputs_pushed g k.count c.args.ce c.args.count (target_of (get_or k.targets c.from-place.result no_target))) known
-    ∙ ap (λ (m : ℕ). outputs_pushed (parts_of k.geometry) k.count m c.args.count (target_of (get_or k.targets c.from-place.result no_target))) (sym c.from-place.ensures))))
+    ∙ ap (λ (m : ℕ). outputs_pushed (parts_of k.geometry) k.count m c.args.count (target_of (get_or k.targets c.from-place.result no_target))) (sym c.from-place.ensures)))
 
 pub returns-clause-state : goal.returns-clause-state
 returns-clause-state c none =
-    let known = of_ok c.of.result c.parts.result c.unwrap-geometry.result c.of.ensures c.unwrap-geometry.ensures ∙ c.parts.ensures in
     let k : Kept = record { magic = c.bus.inside.magic; geometry = c.bus.inside.geometry; count = c.bus.inside.count; targets = c.bus.inside.targets } in
     let some : 0 < c.args.count = omega (arith, c.if-count-eq0.false) in
     let left = outputs_left k c.bus.invariant c.from-place.result c.args.count c.if-bus-place.false some no_target c.push_outputs_there-rule.new.kept
     (c.push_outputs_there-rule.ensures.state
-    ∙ (ap (λ (g : Parts). outputs_pushed g k.count c.args.ce c.args.count (target_of (get_or k.targets c.from-place.result no_target))) known
-    ∙ ap (λ (m : ℕ). outputs_pushed (parts_of k.geometry) k.count m c.args.count (target_of (get_or k.targets c.from-place.result no_target))) (sym c.from-place.ensures))) in
+    ∙ ap (λ (m : ℕ). outputs_pushed (parts_of k.geometry) k.count m c.args.count (target_of (get_or k.targets c.from-place.result no_target))) (sym c.from-place.ensures)) in
     run_state Dout c.args.ce c.args.count (bus_view c.args.bus.now) (with_target k c.from-place.result c.push_outputs_there-rule.new.kept)
     (left
     ∙ (ap (λ (m : ℕ). run_pushed Dout m c.args.count (bus_view k)) c.from-place.ensures
     ∙ ap (λ (x : Kept). run_pushed Dout c.args.ce c.args.count (bus_view x)) c.bus.view_is))
     (sym (returns-clause-rule c) ∙ none)
+
+pub push_outputs_there-rule-requires-clause-limits : goal.push_outputs_there-rule-requires-clause-limits
+push_outputs_there-rule-requires-clause-limits c =
+    let k : Kept = record { magic = c.bus.inside.magic; geometry = c.bus.inside.geometry; count = c.bus.inside.count; targets = c.bus.inside.targets } in
+    limits_there k c.bus.invariant c.from-place.result c.if-bus-place.false

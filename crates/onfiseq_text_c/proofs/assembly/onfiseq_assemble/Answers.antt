@@ -1,5 +1,5 @@
 use Rattle.std.proofs.Common.{◌≡◌, ℕ, List, Ok, Err, refl, ap, ◌∙◌}
-use Rattle.onfiseq_text_c.specs.Placed.{placed, placed_in}
+use Rattle.placed_bytes.specs.Placed.{placed, placed_in}
 use Rattle.onfiseq_text_c.proofs.assembly.onfiseq_assemble.Goals as goal
 
 pub returns-in-Ok : goal.returns-in-Ok

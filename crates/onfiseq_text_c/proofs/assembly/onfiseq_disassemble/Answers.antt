@@ -1,6 +1,6 @@
 use Rattle.std.proofs.Common.{◌≡◌, ℕ, List, Ok, Err, refl, ap, ◌∙◌}
 use Rattle.std.specs.String.{string_bytes}
-use Rattle.onfiseq_text_c.specs.Placed.{placed, placed_in}
+use Rattle.placed_bytes.specs.Placed.{placed, placed_in}
 use Rattle.onfiseq_text_c.proofs.assembly.onfiseq_disassemble.Goals as goal
 
 pub returns-in-Ok : goal.returns-in-Ok

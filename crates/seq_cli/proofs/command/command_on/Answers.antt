@@ -1,12 +1,15 @@
 use Rattle.std.proofs.Common.{refl, subst, sym}
 use Rattle.seq_inputs.specs.Refusals.{line_of}
 use Rattle.seq_cli.specs.declared.command.Command.{Command}
-use Rattle.seq_cli.specs.Commands.{IsDone, MayRefuse}
+use Rattle.seq_inputs.specs.declared.exit.Exit.TheVariants as exit
+use Rattle.trace_commands.specs.Recordings.{fault_line}
+use Rattle.seq_cli.specs.Commands.{IsDone, MayRefuse, MayTell}
+use Rattle.seq_cli.proofs.Endings.{exit_is}
 use Rattle.seq_cli.proofs.command.command_on.Goals as goal
 
 pub returns-in-Assemble-clause-refused : goal.returns-in-Assemble-clause-refused
 returns-in-Assemble-clause-refused g c = λ refusal is.
-    let k = c.assemble_file.ensures.refused refusal is in (
+    let k = c.assemble_file.ensures.refused refusal (exit_is c.assemble_file.result (exit.Refused refusal) is) in (
       line_of refusal,
       subst (λ (m : Command). MayRefuse m (g.R.Read.remaining c.args.input.now) (g.F.Files.store c.args.files.now) (g.F.Files.store c.assemble_file.new.files) refusal (line_of refusal)) (sym c.in-Assemble.is) (k.0, k.1, refl),
       k.2,
@@ -14,7 +17,7 @@ returns-in-Assemble-clause-refused g c = λ refusal is.
 
 pub returns-in-AssembleFor-clause-refused : goal.returns-in-AssembleFor-clause-refused
 returns-in-AssembleFor-clause-refused g c = λ refusal is.
-    let k = c.assemble_file_for.ensures.refused refusal is in (
+    let k = c.assemble_file_for.ensures.refused refusal (exit_is c.assemble_file_for.result (exit.Refused refusal) is) in (
       line_of refusal,
       subst (λ (m : Command). MayRefuse m (g.R.Read.remaining c.args.input.now) (g.F.Files.store c.args.files.now) (g.F.Files.store c.assemble_file_for.new.files) refusal (line_of refusal)) (sym c.in-AssembleFor.is) (k.0, k.1, refl),
       k.2,
@@ -22,7 +25,7 @@ returns-in-AssembleFor-clause-refused g c = λ refusal is.
 
 pub returns-in-Verify-clause-refused : goal.returns-in-Verify-clause-refused
 returns-in-Verify-clause-refused g c = λ refusal is.
-    let k = c.verify_file.ensures.refused refusal is in (
+    let k = c.verify_file.ensures.refused refusal (exit_is c.verify_file.result (exit.Refused refusal) is) in (
       line_of refusal,
       subst (λ (m : Command). MayRefuse m (g.R.Read.remaining c.args.input.now) (g.F.Files.store c.args.files.now) (g.F.Files.store c.verify_file.new.files) refusal (line_of refusal)) (sym c.in-Verify.is) (k.0, refl),
       k.1,
@@ -30,7 +33,7 @@ returns-in-Verify-clause-refused g c = λ refusal is.
 
 pub returns-in-Lint-clause-refused : goal.returns-in-Lint-clause-refused
 returns-in-Lint-clause-refused g c = λ refusal is.
-    let k = c.lint_file.ensures.refused refusal is in (
+    let k = c.lint_file.ensures.refused refusal (exit_is c.lint_file.result (exit.Refused refusal) is) in (
       line_of refusal,
       subst (λ (m : Command). MayRefuse m (g.R.Read.remaining c.args.input.now) (g.F.Files.store c.args.files.now) (g.F.Files.store c.lint_file.new.files) refusal (line_of refusal)) (sym c.in-Lint.is) (k.0, c.lint_file.ensures.stays, refl),
       k.1,
@@ -38,12 +41,12 @@ returns-in-Lint-clause-refused g c = λ refusal is.
 
 pub returns-in-Once-clause-done : goal.returns-in-Once-clause-done
 returns-in-Once-clause-done g c = λ is.
-    let k = c.run_program.ensures.done is in
+    let k = c.run_program.ensures.done (exit_is c.run_program.result exit.Done is) in
     (k.0, subst (λ (m : Command). IsDone m (g.R.Read.remaining c.args.input.now) (g.F.Files.store c.args.files.now) (g.F.Files.store c.args.files.now) k.0) (sym c.in-Once.is) (k.1, refl), k.2)
 
 pub returns-in-Once-clause-refused : goal.returns-in-Once-clause-refused
 returns-in-Once-clause-refused g c = λ refusal is.
-    let k = c.run_program.ensures.refused refusal is in (
+    let k = c.run_program.ensures.refused refusal (exit_is c.run_program.result (exit.Refused refusal) is) in (
       line_of refusal,
       subst (λ (m : Command). MayRefuse m (g.R.Read.remaining c.args.input.now) (g.F.Files.store c.args.files.now) (g.F.Files.store c.args.files.now) refusal (line_of refusal)) (sym c.in-Once.is) (k.0, refl, refl),
       k.1,
@@ -51,7 +54,7 @@ returns-in-Once-clause-refused g c = λ refusal is.
 
 pub returns-in-Run-clause-refused : goal.returns-in-Run-clause-refused
 returns-in-Run-clause-refused g c = λ refusal is.
-    let k = c.run_watched.ensures.refused refusal is in (
+    let k = c.run_watched.ensures.refused refusal (exit_is c.run_watched.result (exit.Refused refusal) is) in (
       line_of refusal,
       subst (λ (m : Command). MayRefuse m (g.R.Read.remaining c.args.input.now) (g.F.Files.store c.args.files.now) (g.F.Files.store c.run_watched.new.files) refusal (line_of refusal)) (sym c.in-Run.is) (k.0, k.1, refl),
       k.2,
@@ -75,7 +78,7 @@ returns-in-Draw-clause-refused g c = λ refusal is.
 
 pub returns-in-Disassemble-clause-refused : goal.returns-in-Disassemble-clause-refused
 returns-in-Disassemble-clause-refused g c = λ refusal is.
-    let k = c.disassemble_file.ensures.refused refusal is in (
+    let k = c.disassemble_file.ensures.refused refusal (exit_is c.disassemble_file.result (exit.Refused refusal) is) in (
       line_of refusal,
       subst (λ (m : Command). MayRefuse m (g.R.Read.remaining c.args.input.now) (g.F.Files.store c.args.files.now) (g.F.Files.store c.disassemble_file.new.files) refusal (line_of refusal)) (sym c.in-Disassemble.is) (k.0, c.disassemble_file.ensures.stays, refl),
       k.1,
@@ -83,8 +86,32 @@ returns-in-Disassemble-clause-refused g c = λ refusal is.
 
 pub returns-in-Upgrade-clause-refused : goal.returns-in-Upgrade-clause-refused
 returns-in-Upgrade-clause-refused g c = λ refusal is.
-    let k = c.upgrade_file.ensures.refused refusal is in (
+    let k = c.upgrade_file.ensures.refused refusal (exit_is c.upgrade_file.result (exit.Refused refusal) is) in (
       line_of refusal,
       subst (λ (m : Command). MayRefuse m (g.R.Read.remaining c.args.input.now) (g.F.Files.store c.args.files.now) (g.F.Files.store c.upgrade_file.new.files) refusal (line_of refusal)) (sym c.in-Upgrade.is) (k.0, k.1, refl),
+      k.2,
+    )
+
+pub returns-in-Capture-clause-faulty : goal.returns-in-Capture-clause-faulty
+returns-in-Capture-clause-faulty g c = λ fault is.
+    let k = c.capture_trace.ensures.faulty fault is in (
+      fault_line fault,
+      subst (λ (m : Command). MayTell m (g.F.Files.store c.args.files.now) (g.F.Files.store c.capture_trace.new.files) fault (fault_line fault)) (sym c.in-Capture.is) (k.0, k.1, refl),
+      k.2,
+    )
+
+pub returns-in-Draw-clause-faulty : goal.returns-in-Draw-clause-faulty
+returns-in-Draw-clause-faulty g c = λ fault is.
+    let k = c.draw_trace.ensures.faulty fault is in (
+      fault_line fault,
+      subst (λ (m : Command). MayTell m (g.F.Files.store c.args.files.now) (g.F.Files.store c.draw_trace.new.files) fault (fault_line fault)) (sym c.in-Draw.is) (k.0, k.1, refl),
+      k.2,
+    )
+
+pub returns-in-Check-clause-refused : goal.returns-in-Check-clause-refused
+returns-in-Check-clause-refused g c = λ refusal is.
+    let k = c.check_trace.ensures.refused refusal is in (
+      line_of refusal,
+      subst (λ (m : Command). MayRefuse m (g.R.Read.remaining c.args.input.now) (g.F.Files.store c.args.files.now) (g.F.Files.store c.check_trace.new.files) refusal (line_of refusal)) (sym c.in-Check.is) (k.0, k.1, refl),
       k.2,
     )

@@ -1,5 +1,5 @@
 use Rattle.seq_commands.specs.Commands.{SourceIsRefused}
-use Rattle.seq_commands.proofs.Said.{said}
+use Rattle.seq_inputs.proofs.Said.{said}
 use Rattle.seq_commands.proofs.assembling.assemble_file.Goals as goal
 
 pub returns-in-Err-assemble_at-clause-refused : goal.returns-in-Err-assemble_at-clause-refused

@@ -1,5 +1,5 @@
 use Rattle.seq_inputs.specs.Inputs.{FileIsRefused}
-use Rattle.seq_commands.proofs.Said.{said}
+use Rattle.seq_inputs.proofs.Said.{said}
 use Rattle.seq_commands.proofs.upgrading.upgrade_file.Goals as goal
 
 pub returns-in-Err-upgrade_at-clause-refused : goal.returns-in-Err-upgrade_at-clause-refused

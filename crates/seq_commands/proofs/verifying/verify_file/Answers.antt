@@ -1,6 +1,7 @@
 use Rattle.std.proofs.Common.{◌≡◌}
 use Rattle.seq_commands.specs.Commands.{VerifyRefuses}
-use Rattle.seq_commands.proofs.Said.{said_else, left}
+use Rattle.seq_inputs.proofs.Said.{said_else}
+use Rattle.seq_commands.proofs.Said.{left}
 use Rattle.seq_commands.proofs.verifying.verify_file.Goals as goal
 
 pub returns-in-Err-verify_at-clause-refused : goal.returns-in-Err-verify_at-clause-refused

@@ -1,8 +1,8 @@
 use Rattle.std.proofs.Common.{None}
 use Rattle.test_channel_threads.proofs.many_tests.four_workers_and_four_hosts.Given as goal
 
-abbrev pub ghosts-erase_many-L-Ledger : goal.ghosts-erase_many-L-Ledger
-ghosts-erase_many-L-Ledger g a = record { name = a.blank.name; parts = a.blank.parts }
+abbrev pub ghosts-has_erased-L-Ledger : goal.ghosts-has_erased-L-Ledger
+ghosts-has_erased-L-Ledger g a = record { name = a.blank.name; parts = a.blank.parts }
 
-abbrev pub ghosts-erase_many-L-Turns : goal.ghosts-erase_many-L-Turns
-ghosts-erase_many-L-Turns g a = record { all = a.blank.parts; origin = None }
+abbrev pub ghosts-has_erased-L-Turns : goal.ghosts-has_erased-L-Turns
+ghosts-has_erased-L-Turns g a = record { all = a.blank.parts; origin = None }

@@ -1,0 +1,19 @@
+-- The last address of a row inside the geometry, on the LUN that the row names.
+use Rattle.std.specs.Prelude.{ℕ, Bool, ◌&&◌, if◌then◌else◌, Option, Some, None}
+use Rattle.nand_geometry.specs.declared.parts.Parts.{Parts}
+use Rattle.onfi_cycle.specs.declared.forbidden.Forbidden.{Forbidden}
+use Rattle.onfi_cycle.specs.declared.forbidden.Forbidden.TheVariants.{LunBusy, QueueClash, ColumnOutside, CacheReadMisplaced}
+use Rattle.onfi_cycle.specs.declared.tail_facts.TailFacts.{TailFacts}
+use Rattle.onfi_cycle.specs.Command.{addresses_the_array}
+use Rattle.onfi_cycle.specs.Effect.{page_address}
+use Rattle.onfi_cycle.specs.LunView.{LunView}
+use Rattle.onfi_cycle.specs.Rules.{caching, ends_row, is_refused_by}
+
+-- the first of F9 to F15 that it breaks, whose column is outside or not
+abbrev pub named_rule : Parts → TailFacts → ℕ → (outside : Bool) → LunView → Option Forbidden
+named_rule g t row outside v =
+    if ends_row addresses_the_array t && v.busy then Some LunBusy
+    else (if is_refused_by g t.opening (page_address g row) v.queue then Some QueueClash
+    else (if outside then Some ColumnOutside
+    else (if ends_row addresses_the_array t && caching v then Some CacheReadMisplaced
+    else None)))

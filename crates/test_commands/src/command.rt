@@ -1,0 +1,65 @@
+//! The commands that are tried, with what each is given.
+
+use seq_commands::{assemble_file, disassemble_file, upgrade_file, verify_file};
+use seq_files::MapFiles;
+use seq_inputs::{Console, Style};
+use std::alloc::Allocator;
+use std::io::Write;
+use trace_commands::{CheckRequest, DrawRequest, Ending, check_trace, draw_trace};
+use trace_files::TraceOutputs;
+use trace_text::NoProgress;
+
+/// A command on files.
+#[derive(Clone, Copy)]
+pub(crate) enum Command<'a> {
+    Assemble {
+        input: &'a str,
+        target: &'a str,
+    },
+    Verify {
+        page: &'a str,
+        input: &'a str,
+        counter: TraceOutputs<'a>,
+        is_quiet: bool,
+        style: Style,
+    },
+    Check(CheckRequest<'a>),
+    Draw(DrawRequest<'a>),
+    Disassemble {
+        input: &'a str,
+    },
+    Upgrade {
+        input: &'a str,
+        target: &'a str,
+    },
+}
+
+impl Command<'_> {
+    /// Does the command by its own function, whatever the allocator is.
+    pub(crate) fn carry_out<A: Allocator + Clone, W: Write, E: Write>(
+        self,
+        alloc: A,
+        files: &mut MapFiles,
+        console: &mut Console<W, E, NoProgress>,
+    ) -> Ending {
+        let exit = match self {
+            Command::Check(request) => return check_trace(alloc, files, console, request),
+            Command::Draw(request) => return draw_trace(alloc, files, console, request),
+            Command::Assemble { input, target } => {
+                assemble_file(alloc, files, console, input, target)
+            }
+            Command::Verify {
+                page,
+                input,
+                counter,
+                is_quiet,
+                style,
+            } => verify_file(alloc, files, console, page, input, counter, is_quiet, style),
+            Command::Disassemble { input } => disassemble_file(alloc, files, console, input),
+            Command::Upgrade { input, target } => {
+                upgrade_file(alloc, files, console, input, target)
+            }
+        };
+        Ending::Exit(exit)
+    }
+}

@@ -1,0 +1,5 @@
+pub mod Captured
+pub mod Checked
+pub mod Conversions
+pub mod Sayings
+pub mod Stopped

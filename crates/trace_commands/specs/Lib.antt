@@ -1,0 +1,6 @@
+pub mod Captures
+pub mod Checks
+pub mod Draws
+pub mod Endings
+pub mod Recordings
+pub mod Targets

@@ -1,0 +1,24 @@
+-- What is wrong with a recording, and the line that says it.
+use Rattle.std.specs.Prelude.{ℕ, List}
+use Rattle.trace_commands.specs.declared.recording_fault.RecordingFault.{RecordingFault}
+use Rattle.trace_commands.specs.declared.recording_fault.RecordingFault.TheVariants.{Trace, Item, Capture}
+use Rattle.trace_text.specs.Codes.{trace_fault_code}
+use Rattle.onfi_cycle.specs.Codes.{forbidden_code}
+use Rattle.bus_capture.specs.Codes.{capture_code, capture_number}
+use Rattle.seq_inputs.specs.Lines.{refusal_line}
+
+-- its code
+abbrev pub code_of : RecordingFault → List ℕ
+code_of (Trace fault line) = trace_fault_code fault
+code_of (Item rule item) = forbidden_code rule
+code_of (Capture fault) = capture_code fault
+
+-- the line or the item, or the time of a capture
+abbrev pub number_in : RecordingFault → ℕ
+number_in (Trace fault line) = line
+number_in (Item rule item) = item
+number_in (Capture fault) = capture_number fault
+
+-- the line that says it
+abbrev pub fault_line : RecordingFault → List ℕ
+fault_line fault = refusal_line (code_of fault) (number_in fault)

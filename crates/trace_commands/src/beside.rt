@@ -1,0 +1,261 @@
+//! What a check says beside the faults: what was judged, which readies nothing showed, what was taken for granted, and which status bytes contradict the
+//! trace.
+
+use crate::check_request::CheckRequest;
+use crate::explaining::words_at_item;
+use crate::line_cursor::LineCursor;
+use crate::tally::Tally;
+use crate::telling::push_message;
+use onfi_cycle::Forbidden;
+use seq_inputs::{Place, Style, Told, Words, say_words};
+use std::alloc::{AllocError, Allocator};
+use std::fmt;
+use std::io::Write;
+use trace_faults::{Beginning, BrokenRule, DoubtedByte, NotShown, UnshownReady};
+
+// How many of a kind are said at most.
+const MOST_SAID: usize = 20;
+
+/// What nobody knows of a trace whose recording begins in the middle.
+#[derive(Drop)]
+pub(crate) struct Unknown<A: Allocator> {
+    /// What was taken for granted.
+    pub(crate) granted: Vec<BrokenRule, A>,
+    /// How many cycles weren't judged.
+    pub(crate) passed_over: usize,
+}
+
+impl<A: Allocator> Unknown<A> {
+    /// Nothing was taken for granted.
+    pub(crate) fn nothing(alloc: A) -> Unknown<A> {
+        Unknown {
+            granted: Vec::new(alloc),
+            passed_over: 0,
+        }
+    }
+}
+
+/// What a check has found beside the faults.
+#[derive(Drop)]
+pub(crate) struct Beside<A: Allocator> {
+    pub(crate) tally: Tally,
+    /// What is permitted with a ready that nothing showed.
+    pub(crate) not_shown: Vec<NotShown, A>,
+    pub(crate) unknown: Unknown<A>,
+    pub(crate) doubts: Vec<DoubtedByte, A>,
+}
+
+// A rule that would be broken, and is taken for granted.
+#[derive(Clone, Copy)]
+struct Granted(Forbidden);
+
+impl fmt::Display for Granted {
+    fn fmt<W: fmt::Write>(&self, f: &mut fmt::Formatter<W>) -> fmt::Result {
+        let rule = self.0;
+        write!(
+            f,
+            "taken for granted, since what was before isn't known: {rule} ({})",
+            rule.code()
+        )
+    }
+}
+
+// A LUN that is taken for ready, since nothing showed it.
+#[derive(Clone, Copy)]
+struct Taken(UnshownReady);
+
+impl fmt::Display for Taken {
+    fn fmt<W: fmt::Write>(&self, f: &mut fmt::Formatter<W>) -> fmt::Result {
+        let UnshownReady { lun, rule } = self.0;
+        write!(
+            f,
+            "not shown ready: LUN {} of target {} is taken for ready here (else {}: {rule})",
+            lun.lun,
+            lun.ce,
+            rule.code()
+        )
+    }
+}
+
+// Adds what is said of an item that is no fault.
+fn push_said<A: Allocator>(
+    lines: &mut String<A>,
+    style: Style,
+    item: usize,
+    words: Option<Words<'_, A>>,
+) -> Result<(), AllocError> {
+    let Some(words) = words else {
+        return Err(AllocError);
+    };
+    match style {
+        Style::Plain => writeln!(lines, "{words}"),
+        Style::Json => {
+            let told = Told {
+                code: None,
+                path: words.path,
+                line: words.line,
+                place: Some(Place::Item(item)),
+                message: &words.text,
+            };
+            writeln!(lines, "{told}")
+        }
+    }
+}
+
+// Adds how many more there are of what is said.
+fn push_more<A: Allocator>(
+    lines: &mut String<A>,
+    alloc: A,
+    style: Style,
+    count: usize,
+) -> Result<(), AllocError> {
+    if MOST_SAID < count {
+        let words = format!(in alloc; "and {} more", count - MOST_SAID)?;
+        push_message(lines, style, words.as_str())?;
+    }
+    Ok(())
+}
+
+// Adds the status bytes that contradict the trace.
+fn push_doubts<A: Allocator + Clone>(
+    lines: &mut String<A>,
+    alloc: A,
+    request: CheckRequest<'_>,
+    text: &str,
+    doubts: &[DoubtedByte],
+) -> Result<(), AllocError> {
+    let CheckRequest { input, style, .. } = request;
+    let mut cursor = LineCursor::new(text, request.form);
+    for doubted in doubts.iter().take(MOST_SAID) {
+        let DoubtedByte { item, doubt } = *doubted;
+        let words = words_at_item(alloc.clone()?, input, cursor.find(item), item, doubt);
+        push_said(lines, style, item, words)?;
+    }
+    push_more(lines, alloc, style, doubts.len())
+}
+
+// Adds what was taken for granted.
+fn push_granted<A: Allocator + Clone>(
+    lines: &mut String<A>,
+    alloc: A,
+    request: CheckRequest<'_>,
+    text: &str,
+    granted: &[BrokenRule],
+) -> Result<(), AllocError> {
+    let CheckRequest { input, style, .. } = request;
+    let mut cursor = LineCursor::new(text, request.form);
+    for broken in granted.iter().take(MOST_SAID) {
+        let BrokenRule { item, rule } = *broken;
+        let words = words_at_item(
+            alloc.clone()?,
+            input,
+            cursor.find(item),
+            item,
+            Granted(rule),
+        );
+        push_said(lines, style, item, words)?;
+    }
+    push_more(lines, alloc, style, granted.len())
+}
+
+// Adds the items before which a LUN is taken for ready that nothing showed.
+fn push_taken<A: Allocator + Clone>(
+    lines: &mut String<A>,
+    alloc: A,
+    request: CheckRequest<'_>,
+    text: &str,
+    not_shown: &[NotShown],
+) -> Result<(), AllocError> {
+    let CheckRequest { input, style, .. } = request;
+    let mut cursor = LineCursor::new(text, request.form);
+    for told in not_shown.iter().take(MOST_SAID) {
+        let NotShown { item, ready } = *told;
+        let words = words_at_item(alloc.clone()?, input, cursor.find(item), item, Taken(ready));
+        push_said(lines, style, item, words)?;
+    }
+    push_more(lines, alloc, style, not_shown.len())
+}
+
+// Adds the readies that nothing showed, and how many they are, if there are some.
+fn push_not_shown<A: Allocator + Clone>(
+    lines: &mut String<A>,
+    alloc: A,
+    request: CheckRequest<'_>,
+    text: &str,
+    not_shown: &[NotShown],
+) -> Result<(), AllocError> {
+    if not_shown.is_empty() {
+        return Ok(());
+    }
+    push_taken(lines, alloc.clone()?, request, text, not_shown)?;
+    let words = format!(in alloc; "not shown ready: {} in all", not_shown.len())?;
+    push_message(lines, request.style, words.as_str())
+}
+
+// Adds how much of a trace whose recording begins in the middle wasn't judged.
+fn push_unknown<A: Allocator + Clone>(
+    lines: &mut String<A>,
+    alloc: A,
+    request: CheckRequest<'_>,
+    text: &str,
+    unknown: &Unknown<A>,
+) -> Result<(), AllocError> {
+    if request.beginning == Beginning::Start {
+        return Ok(());
+    }
+    let granted = unknown.granted.as_slice();
+    push_granted(lines, alloc.clone()?, request, text, granted)?;
+    let words = format!(in alloc;
+        "from the middle: cycles passed over {}, taken for granted {}",
+        unknown.passed_over,
+        granted.len()
+    )?;
+    push_message(lines, request.style, words.as_str())
+}
+
+// Adds what was judged, where all faults are told: how many they are.
+fn push_summary<A: Allocator>(
+    lines: &mut String<A>,
+    request: CheckRequest<'_>,
+    tally: Tally,
+    faults: usize,
+) -> Result<(), AllocError> {
+    if request.tells_all && request.style == Style::Plain {
+        writeln!(lines, "{tally}; {faults} faults")?;
+    }
+    Ok(())
+}
+
+// What is said beside so many faults.
+fn words_beside<A: Allocator + Clone>(
+    alloc: A,
+    request: CheckRequest<'_>,
+    text: &str,
+    beside: &Beside<A>,
+    faults: usize,
+) -> Result<String<A>, AllocError> {
+    let mut lines = String::new(alloc.clone()?);
+    let doubts = beside.doubts.as_slice();
+    push_doubts(&mut lines, alloc.clone()?, request, text, doubts)?;
+    let not_shown = beside.not_shown.as_slice();
+    push_not_shown(&mut lines, alloc.clone()?, request, text, not_shown)?;
+    push_unknown(&mut lines, alloc, request, text, &beside.unknown)?;
+    push_summary(&mut lines, request, beside.tally, faults)?;
+    Ok(lines)
+}
+
+/// Says what a check has found beside so many faults in the trace of this text, unless there is no memory for that.
+pub(crate) fn say_beside<A: Allocator + Clone, E: Write>(
+    alloc: A,
+    errors: &mut E,
+    request: CheckRequest<'_>,
+    text: &[u8],
+    beside: &Beside<A>,
+    faults: usize,
+) {
+    if let Ok(text) = str::from_utf8(text) {
+        if let Ok(words) = words_beside(alloc, request, text, beside, faults) {
+            say_words(errors, words.as_str());
+        }
+    }
+}

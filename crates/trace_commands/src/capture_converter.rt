@@ -1,0 +1,216 @@
+//! A capture that becomes the text of a trace, piece by piece.
+ghost use Rattle.std.specs.Prelude.{◌≡◌, ◌≤◌, ◌++◌, true, false, OnOk, IfOk, IfErr};
+ghost use Rattle.bus_capture.specs.Inside.{AreInside};
+ghost use Rattle.bus_capture.specs.declared.inferring.Stamped.{Stamped};
+ghost use Rattle.bus_capture.specs.Inferring.{captured_after};
+ghost use Rattle.trace_commands.specs.Captures.{items_in, timed_in, seen_text, IsConverter};
+
+use crate::latest_lines::LatestLines;
+use bus_capture::{CaptureFault, CaptureReader, CaptureRefusal, Setup, Stamped};
+use onfi_cycle::Item;
+use seq_files::Convert;
+use std::alloc::{AllocError, Allocator};
+use trace_text::{TimedItem, print_bytes, print_recorded};
+
+// The items of what is seen, without their times.
+fn items_of<A: Allocator>(alloc: A, stamped: &[Stamped]) -> Result<Vec<Item, A>, AllocError>
+    ensures { IfOk result (λ items. items.items ≡ items_in stamped.now) }
+{
+    let mut items = Vec::new(alloc);
+    for seen in stamped {
+        items.push(seen.item)?;
+    }
+    Ok(items)
+}
+
+// The same with their times.
+fn timed_of<A: Allocator>(alloc: A, stamped: &[Stamped]) -> Result<Vec<TimedItem, A>, AllocError>
+    ensures { IfOk result (λ items. items.items ≡ timed_in stamped.now) }
+{
+    let mut items = Vec::new(alloc);
+    for seen in stamped {
+        items.push(TimedItem {
+            time: seen.time,
+            item: seen.item,
+        })?;
+    }
+    Ok(items)
+}
+
+// Adds what is seen as the text of a trace.
+fn push_plain<A: Allocator + Clone, B: Allocator>(
+    alloc: A,
+    stamped: &[Stamped],
+    output: &mut Vec<u8, B>,
+) -> Result<(), AllocError>
+    requires { AreInside stamped.now }
+    ensures ok { OnOk result (output.new.items ≡ output.old.items ++ seen_text false stamped.now) }
+{
+    let items = items_of(alloc.clone()?, stamped)?;
+    let text = print_bytes(alloc, items.as_slice())?;
+    output.extend_from_slice(text.as_slice())
+}
+
+// Adds what is seen as a recorded text, with the times.
+fn push_timed<A: Allocator + Clone, B: Allocator>(
+    alloc: A,
+    stamped: &[Stamped],
+    output: &mut Vec<u8, B>,
+) -> Result<(), AllocError>
+    requires { AreInside stamped.now }
+    ensures ok { OnOk result (output.new.items ≡ output.old.items ++ seen_text true stamped.now) }
+{
+    let items = timed_of(alloc.clone()?, stamped)?;
+    let text = print_recorded(alloc, items.as_slice())?;
+    output.extend_from_slice(text.as_str().as_bytes())
+}
+
+// One more allocator.
+fn copy_of<A: Clone>(alloc: &A) -> Result<A, CaptureRefusal>
+    ensures err { IfErr result (λ e. e ≡ CaptureRefusal.OutOfMemory) }
+{
+    match alloc.clone() {
+        Ok(copy) => Ok(copy),
+        Err(_) => Err(CaptureRefusal::OutOfMemory),
+    }
+}
+
+/// How much a capture shows.
+#[derive(Clone, Copy)]
+pub(crate) struct CaptureTally {
+    pub(crate) items: usize,
+    pub(crate) unselected: u64,
+}
+
+/// Of a text that may go on no more bytes are kept than these: a header, a word or a row that is longer is out of memory, as an input without an end may be.
+const MOST_KEPT: usize = 512 << 20;
+
+/// A capture that becomes the text of a trace, with the times or without.
+#[derive(Drop)]
+pub(crate) struct CaptureConverter<'m, A: Allocator> {
+    alloc: A,
+    reader: CaptureReader<'m, A>,
+    has_times: bool,
+    latest: LatestLines<A>,
+    items: usize,
+    unselected: u64,
+}
+
+impl<'m, A: Allocator + Clone> CaptureConverter<'m, A> {
+    /// A capture of which nothing is read yet.
+    pub(crate) fn new(
+        alloc: A,
+        setup: &'m Setup<'m>,
+        has_times: bool,
+    ) -> Result<CaptureConverter<'m, A>, CaptureRefusal>
+        requires few { setup.now.targets ≤ 4 }
+        ensures new { IfOk result (λ c. IsConverter setup.entry.now has_times c) }
+        ensures err { IfErr result (λ e. e ≡ CaptureRefusal.OutOfMemory) }
+    {
+        let reader = CaptureReader::new(copy_of(&alloc)?, setup)?;
+        let latest = LatestLines::new(copy_of(&alloc)?);
+        Ok(CaptureConverter {
+            alloc,
+            reader,
+            has_times,
+            latest,
+            items: 0,
+            unselected: 0,
+        })
+    }
+}
+
+impl<'m, A: Allocator + Clone> CaptureConverter<'m, A> {
+    // Adds what is seen to the text.
+    fn push_seen<B: Allocator>(
+        &mut self,
+        stamped: &[Stamped],
+        output: &mut Vec<u8, B>,
+    ) -> Result<(), CaptureRefusal>
+        requires { AreInside stamped.now }
+        ensures ok { OnOk result (output.new.items ≡ output.old.items ++ seen_text self.old.has_times stamped.now) }
+        ensures same { (self.new.reader ≡ self.old.reader) × (self.new.has_times ≡ self.old.has_times) }
+        ensures err { IfErr result (λ e. e ≡ CaptureRefusal.OutOfMemory) }
+    {
+        self.items = self.items.saturating_add(stamped.len());
+        let pushed = if self.has_times {
+            push_timed(copy_of(&self.alloc)?, stamped, output)
+        } else {
+            push_plain(copy_of(&self.alloc)?, stamped, output)
+        };
+        match pushed {
+            Ok(()) => Ok(()),
+            Err(_) => Err(CaptureRefusal::OutOfMemory),
+        }
+    }
+
+    // Keeps the lines of a piece.
+    fn keep_lines(&mut self, piece: &[u8]) -> Result<(), CaptureRefusal>
+        ensures same { (self.new.reader ≡ self.old.reader) × (self.new.has_times ≡ self.old.has_times) }
+        ensures err { IfErr result (λ e. e ≡ CaptureRefusal.OutOfMemory) }
+    {
+        match self.latest.push(piece) {
+            Ok(()) => Ok(()),
+            Err(_) => Err(CaptureRefusal::OutOfMemory),
+        }
+    }
+
+    /// How much was shown so far.
+    pub(crate) fn tally(&self) -> CaptureTally {
+        CaptureTally {
+            items: self.items,
+            unselected: self.unselected,
+        }
+    }
+
+    /// The line of a fault, as far as it is there: of a long header or of a long word it may be gone.
+    pub(crate) fn line_of(&self, fault: CaptureFault) -> Option<&[u8]> {
+        match fault {
+            CaptureFault::File(at) => self.latest.line(at.line),
+            CaptureFault::Role(_) | CaptureFault::Bus { .. } => None,
+        }
+    }
+}
+
+impl<'m, A: Allocator + Clone> Convert for CaptureConverter<'m, A> {
+    ghost use Rattle.std.specs.Prelude.{[]};
+    ghost use Rattle.bus_capture.specs.Capturing.{IsRefusalOf};
+    ghost use Rattle.bus_capture.specs.Tracing.{comes, IsCapturing};
+    ghost use Rattle.trace_commands.specs.Captures.{Shows};
+
+    type Refusal = CaptureRefusal;
+
+    ghost is_ready = { λ c. IsCapturing c.reader };
+
+    ghost makes = { λ c rest made. Shows c.has_times (comes c.reader [] rest) made };
+
+    ghost refuses = { λ c rest why. IsRefusalOf why (comes c.reader [] rest) };
+
+    fn take<B: Allocator>(
+        &mut self,
+        piece: &[u8],
+        output: &mut Vec<u8, B>,
+    ) -> Result<(), CaptureRefusal> {
+        self.keep_lines(piece)?;
+        let mut stamped = Vec::new(copy_of(&self.alloc)?);
+        match self.reader.take(piece, &mut stamped) {
+            Ok(()) => {}
+            Err(refusal) => return Err(refusal),
+        }
+        if self.reader.kept() > MOST_KEPT {
+            return Err(CaptureRefusal::OutOfMemory);
+        }
+        self.push_seen(stamped.as_slice(), output)
+    }
+
+    fn finish<B: Allocator>(&mut self, output: &mut Vec<u8, B>) -> Result<(), CaptureRefusal> {
+        let mut stamped = Vec::new(copy_of(&self.alloc)?);
+        match self.reader.finish(&mut stamped) {
+            Ok(unselected) => {
+                self.unselected = unselected;
+                self.push_seen(stamped.as_slice(), output)
+            }
+            Err(refusal) => Err(refusal),
+        }
+    }
+}

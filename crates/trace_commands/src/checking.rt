@@ -1,0 +1,342 @@
+//! The command that checks a trace.
+ghost use Rattle.std.specs.Prelude.{◌≡◌, ℕ, List, [], take, IfOk, IfErr, OnOk, OnErr, codes};
+ghost use Rattle.std.specs.List.{All};
+ghost use Rattle.std.specs.Option.{option_map};
+ghost use Rattle.std.specs.Io.KnownBytes.{Appends};
+ghost use Rattle.trace_text.specs.Line.{IsPrintable};
+ghost use Rattle.trace_faults.specs.Faults.{faults_of, not_shown_of};
+ghost use Rattle.seq_inputs.specs.declared.refusal.Refusal.{Refusal};
+ghost use Rattle.seq_inputs.specs.Inputs.{PageIsRefused};
+ghost use Rattle.seq_inputs.specs.Refusals.{line_of};
+ghost use Rattle.seq_inputs.specs.Stops.{RefusesNothing, Tells};
+ghost use Rattle.trace_commands.specs.declared.recording_fault.RecordingFault.{RecordingFault};
+ghost use Rattle.trace_commands.specs.Endings.{SaysOf};
+ghost use Rattle.trace_commands.specs.Targets.{count_of};
+ghost use Rattle.trace_faults.specs.declared.beginning.Beginning.TheVariants.{Middle};
+ghost use Rattle.trace_commands.specs.Checks.{told_of, faults_as, not_shown_as, told_faults, judged_trace, with_copy, IsJudgedText, IsJudged, RefusesTrace, TraceIsRefused, IsLegalTrace, ArePrinted, fault_lines, CheckRefuses, CheckLeaves};
+
+use crate::beside::{Beside, Unknown, say_beside};
+use crate::check_request::CheckRequest;
+use crate::ending::Ending;
+use crate::recording_stop::{RecordingStop, end_stopped};
+use crate::tally::Tally;
+use crate::targets::Targets;
+use crate::telling::tell_faults;
+use crate::traces::{items_of, put_items};
+use nand_geometry::Geometry;
+use onfi_cycle::Item;
+use seq_files::Files;
+use seq_inputs::{
+    Console, Exit, Stop, end_without_memory, finish, geometry_at, read_file, text_of,
+};
+use std::alloc::{AllocError, Allocator};
+use std::io::Write;
+use trace_faults::{
+    Beginning, BrokenRule, DoubtedByte, MiddleFaults, NotShown, Readies, complete, find_faults,
+    find_faults_from_middle, find_not_shown, find_status_doubts,
+};
+use trace_text::{CheckProgress, CheckRefusal, check_watched};
+
+// The first fault of a trace, alone; none where it is legal.
+fn find_first<A: Allocator, P: CheckProgress>(
+    alloc: A,
+    progress: &mut P,
+    geometry: &Geometry,
+    targets: Targets,
+    items: &[Item],
+) -> Result<Vec<BrokenRule, A>, AllocError>
+    ensures { IfOk result (λ told. told.items ≡ take 1 (faults_of Readies.Written geometry.now (count_of targets) items.now)) }
+{
+    match check_watched(geometry, targets.count(), items, progress) {
+        Ok(()) => Ok(Vec::new(alloc)),
+        Err(CheckRefusal::At(item, rule)) => {
+            let mut told = Vec::new(alloc);
+            told.push(BrokenRule { item, rule })?;
+            Ok(told)
+        }
+        Err(CheckRefusal::OutOfMemory) => Err(AllocError),
+    }
+}
+
+// The faults of a trace from its start that are told.
+fn find_from_start<A: Allocator, P: CheckProgress>(
+    alloc: A,
+    progress: &mut P,
+    request: CheckRequest<'_>,
+    geometry: &Geometry,
+    items: &[Item],
+) -> Result<Vec<BrokenRule, A>, AllocError>
+    ensures { IfOk result (λ told. told.items ≡ told_of request.entry.tells_all (faults_of request.entry.readies geometry.now (count_of request.entry.targets) items.now)) }
+{
+    let targets = request.targets;
+    match (request.tells_all, request.readies) {
+        (false, Readies::Written) => find_first(alloc, progress, geometry, targets, items),
+        (false, Readies::Shown) => {
+            let mut faults = find_faults(alloc, geometry, targets.count(), items, Readies::Shown)?;
+            faults.truncate(1);
+            Ok(faults)
+        }
+        (true, readies) => find_faults(alloc, geometry, targets.count(), items, readies),
+    }
+}
+
+// The faults of a trace whose recording begins in the middle that are told, and what was taken for granted.
+fn find_from_middle<A: Allocator + Clone>(
+    alloc: A,
+    request: CheckRequest<'_>,
+    geometry: &Geometry,
+    items: &[Item],
+) -> Result<MiddleFaults<A>, AllocError>
+    ensures faults { IfOk result (λ found. found.faults.items ≡ told_of request.entry.tells_all
+        (faults_as Middle request.entry.readies geometry.now (count_of request.entry.targets) items.now)) }
+    ensures not_shown { IfOk result (λ found. found.not_shown.items ≡ not_shown_as Middle request.entry.readies geometry.now (count_of request.entry.targets) items.now) }
+{
+    let targets = request.targets.count();
+    let mut found = find_faults_from_middle(alloc, geometry, targets, items, request.readies)?;
+    if !request.tells_all {
+        found.faults.truncate(1);
+    }
+    Ok(found)
+}
+
+// What is found in a trace: the faults that are told, the readies that nothing showed, and what was taken for granted where its recording begins in
+// the middle.
+#[derive(Drop)]
+struct Told<A: Allocator> {
+    faults: Vec<BrokenRule, A>,
+    not_shown: Vec<NotShown, A>,
+    unknown: Unknown<A>,
+}
+
+// The items of a trace from its start that are permitted with a ready that nothing showed.
+fn find_not_shown_from_start<A: Allocator>(
+    alloc: A,
+    request: CheckRequest<'_>,
+    geometry: &Geometry,
+    items: &[Item],
+) -> Result<Vec<NotShown, A>, AllocError>
+    ensures { IfOk result (λ told. told.items ≡ not_shown_of request.entry.readies geometry.now (count_of request.entry.targets) items.now) }
+{
+    match request.readies {
+        Readies::Written => Ok(Vec::new(alloc)),
+        Readies::Shown => {
+            let targets = request.targets.count();
+            find_not_shown(alloc, geometry, targets, items, Readies::Shown)
+        }
+    }
+}
+
+// The faults of a trace that are told.
+fn find_told<A: Allocator + Clone, P: CheckProgress>(
+    alloc: A,
+    progress: &mut P,
+    request: CheckRequest<'_>,
+    geometry: &Geometry,
+    items: &[Item],
+) -> Result<Told<A>, AllocError>
+    ensures faults { IfOk result (λ told. told.faults.items ≡ told_faults request.entry geometry.now items.now) }
+    ensures not_shown { IfOk result (λ told. told.not_shown.items
+        ≡ not_shown_as request.entry.beginning request.entry.readies geometry.now (count_of request.entry.targets) items.now) }
+{
+    match request.beginning {
+        Beginning::Start => Ok(Told {
+            faults: find_from_start(alloc.clone()?, progress, request, geometry, items)?,
+            not_shown: find_not_shown_from_start(alloc.clone()?, request, geometry, items)?,
+            unknown: Unknown::nothing(alloc),
+        }),
+        Beginning::Middle => {
+            let MiddleFaults {
+                faults,
+                granted,
+                not_shown,
+                passed_over,
+            } = find_from_middle(alloc, request, geometry, items)?;
+            Ok(Told {
+                faults,
+                not_shown,
+                unknown: Unknown {
+                    granted,
+                    passed_over,
+                },
+            })
+        }
+    }
+}
+
+// The status bytes that contradict the trace, where they are asked for.
+fn find_doubts<A: Allocator>(
+    alloc: A,
+    request: CheckRequest<'_>,
+    geometry: &Geometry,
+    items: &[Item],
+) -> Result<Vec<DoubtedByte, A>, AllocError> {
+    if request.judges_bytes {
+        let targets = request.targets.count();
+        find_status_doubts(alloc, geometry, targets, items, request.readies)
+    } else {
+        Ok(Vec::new(alloc))
+    }
+}
+
+// Writes the trace that is judged, where a path is given for it.
+fn copy_trace<'p, A: Allocator + Clone, F: Files>(
+    alloc: A,
+    files: &mut F,
+    request: CheckRequest<'p>,
+    geometry: &Geometry,
+    items: &[Item],
+) -> Result<(), Stop<'p, A>>
+    requires { All IsPrintable items.now }
+    ensures ok { OnOk result (F.store files.new ≡ with_copy (option_map (λ path. path.now) request.entry.copy)
+        (judged_trace request.entry.readies geometry.now (count_of request.entry.targets) items.now) (F.store files.old)) }
+    ensures nothing { IfErr result (λ e. RefusesNothing e) }
+    ensures stays { OnErr result (F.store files.new ≡ F.store files.old) }
+{
+    let Some(path) = request.copy else {
+        return Ok(());
+    };
+    match request.readies {
+        Readies::Written => put_items(alloc, files, path, items),
+        Readies::Shown => {
+            let whole = complete(alloc.clone()?, geometry, request.targets.count(), items)?;
+            put_items(alloc, files, path, whole.as_slice())
+        }
+    }
+}
+
+// What a check has found in the trace of a text.
+#[derive(Drop)]
+struct Judged<A: Allocator> {
+    told: Vec<BrokenRule, A>,
+    beside: Beside<A>,
+}
+
+// Judges the trace of a text, and copies it.
+fn judge_text<'p, A: Allocator + Clone, F: Files, P: CheckProgress>(
+    alloc: A,
+    files: &mut F,
+    progress: &mut P,
+    request: CheckRequest<'p>,
+    geometry: &Geometry,
+    text: &str,
+) -> Result<Judged<A>, RecordingStop<'p, A>>
+    ensures ok { IfOk result (λ found. IsJudgedText (F.store files.old) (F.store files.new) request.entry geometry.now text.now found.told.items) }
+    ensures err { IfErr result (SaysOf (λ _. ⊥) (RefusesTrace request.entry.form text.now)) }
+    ensures stays { OnErr result (F.store files.new ≡ F.store files.old) }
+{
+    let items = items_of(alloc.clone()?, request.input, text, request.form)?;
+    let items = items.as_slice();
+    let Told {
+        faults,
+        not_shown,
+        unknown,
+    } = find_told(alloc.clone()?, progress, request, geometry, items)?;
+    let doubts = find_doubts(alloc.clone()?, request, geometry, items)?;
+    copy_trace(alloc, files, request, geometry, items)?;
+    Ok(Judged {
+        told: faults,
+        beside: Beside {
+            tally: Tally::of(items),
+            not_shown,
+            unknown,
+            doubts,
+        },
+    })
+}
+
+// What a check has found, and the text that it has read.
+#[derive(Drop)]
+struct Found<A: Allocator> {
+    text: Vec<u8, A>,
+    told: Vec<BrokenRule, A>,
+    beside: Beside<A>,
+}
+
+// Reads a page and the text of a trace, and judges that: what was read, and the faults that are told.
+fn check_at<'p, A: Allocator + Clone, F: Files, P: CheckProgress>(
+    alloc: A,
+    files: &mut F,
+    progress: &mut P,
+    request: CheckRequest<'p>,
+) -> Result<Found<A>, RecordingStop<'p, A>>
+    ensures ok { IfOk result (λ found. IsJudged (F.store files.old) (F.store files.new) request.entry found.told.items) }
+    ensures err { IfErr result (SaysOf (PageIsRefused (F.store files.old) request.entry.page.now)
+        (TraceIsRefused (F.store files.old) request.entry.form request.entry.page.now request.entry.input.now)) }
+    ensures stays { OnErr result (F.store files.new ≡ F.store files.old) }
+{
+    let geometry = geometry_at(alloc.clone()?, files, request.page)?;
+    let bytes = read_file(alloc.clone()?, files, request.input)?;
+    let text = text_of(request.input, bytes.as_slice())?;
+    let Judged { told, beside } = judge_text(alloc, files, progress, request, &geometry, text)?;
+    Ok(Found {
+        text: bytes,
+        told,
+        beside,
+    })
+}
+
+// Tells what a check has found.
+fn tell_found<A: Allocator + Clone, W: Write, E: Write, P>(
+    alloc: A,
+    console: &mut Console<W, E, P>,
+    request: CheckRequest<'_>,
+    found: &Found<A>,
+) -> Ending
+    ensures done { result ≡ Ending.Exit Exit.Done → (found.now.told.items ≡ [])
+        × Appends (W.contents console.old.output) (W.contents console.new.output) (codes "legal\n") }
+    ensures refused { (refusal : Refusal) → result ≡ Ending.Exit (Exit.Refused refusal) → ⊥ }
+    ensures faulty { (fault : RecordingFault) → result ≡ Ending.Faulty fault → ArePrinted found.now.told.items fault
+        × Appends (W.contents console.old.output) (W.contents console.new.output) (fault_lines found.now.told.items) }
+{
+    let text = found.text.as_slice();
+    match found.told.as_slice() {
+        [] => {
+            say_beside(alloc, &mut console.errors, request, text, &found.beside, 0);
+            Ending::Exit(finish(console, "legal\n"))
+        }
+        [first, ..] => tell_faults(
+            alloc,
+            console,
+            request,
+            text,
+            &found.beside,
+            *first,
+            found.told.as_slice(),
+        ),
+    }
+}
+
+/// Checks whether the trace of a text is legal on a channel of so many targets of the geometry of a parameter page.
+///
+/// `Done`: it is, and `legal` is printed. `Refused`: the line `refused NAME at N` is printed, a P fault of the page. `Faulty`: so is it: an X fault of the
+/// text with its line; or the first item that isn't permitted after those before it, with the first rule that it breaks, and where all faults are
+/// asked for the line of each other one after it. The text is read after the page, if that has no fault. `FileFault`: a file couldn't be read or
+/// written, the text isn't UTF-8, or the output couldn't be written. Where a path is given for it, the trace that is judged is written there before
+/// anything is printed, and no other file is. The console's progress is told at each million of items that are permitted, where the first fault
+/// ends the check of a trace that has its readies. On its errors stands what was taken for granted of a trace whose recording begins in the middle,
+/// where readies aren't written the LUNs that were taken for ready, and where they are asked for the status bytes that contradict the trace.
+pub fn check_trace<A: Allocator + Clone, F: Files, W: Write, E: Write, P: CheckProgress>(
+    alloc: A,
+    files: &mut F,
+    console: &mut Console<W, E, P>,
+    request: CheckRequest<'_>,
+) -> Ending
+    ensures done { result ≡ Ending.Exit Exit.Done → IsLegalTrace (F.store files.old) (F.store files.new) request.entry
+        × Appends (W.contents console.old.output) (W.contents console.new.output) (codes "legal\n") }
+    ensures refused { (refusal : Refusal) → result ≡ Ending.Exit (Exit.Refused refusal)
+        → Tells (PageIsRefused (F.store files.old) request.entry.page.now) refusal
+        × (F.store files.new ≡ F.store files.old) × Appends (W.contents console.old.output) (W.contents console.new.output) (line_of refusal) }
+    ensures faulty { (fault : RecordingFault) → result ≡ Ending.Faulty fault → (printed : List ℕ)
+        × CheckRefuses (F.store files.old) (F.store files.new) request.entry fault printed
+        × Appends (W.contents console.old.output) (W.contents console.new.output) printed }
+    ensures files { CheckLeaves (F.store files.old) (F.store files.new) request.entry }
+{
+    let copy = match alloc.clone() {
+        Ok(copy) => copy,
+        Err(_) => return Ending::Exit(end_without_memory(console)),
+    };
+    match check_at(copy, files, &mut console.progress, request) {
+        Ok(found) => tell_found(alloc, console, request, &found),
+        Err(stop) => end_stopped(alloc, console, request.style, stop),
+    }
+}

@@ -1,0 +1,81 @@
+//! What is wrong with a recording, in words for whoever made it.
+
+use crate::line_cursor::ItemLine;
+use bus_capture::CaptureFault;
+use onfi_cycle::Forbidden;
+use seq_inputs::Words;
+use shown_text::Shown;
+use std::alloc::Allocator;
+use std::fmt;
+use trace_text::{TraceFault, TraceForm, TraceMessage, TraceRefusal};
+
+/// What is wrong with a line of the text of a trace.
+pub(crate) fn words_of_trace<'p, A: Allocator>(
+    alloc: A,
+    path: &'p str,
+    text: &str,
+    form: TraceForm,
+    fault: TraceFault,
+    line: usize,
+) -> Option<Words<'p, A>> {
+    let message = TraceMessage::new(TraceRefusal::Fault { fault, line }, text, form);
+    Words::at(path, Some(line), format!(in alloc; "{message}"))
+}
+
+/// What is wrong with a capture: of a line with the text of that line, where that is given and is UTF-8.
+pub(crate) fn words_of_capture<'p, A: Allocator>(
+    alloc: A,
+    path: &'p str,
+    line: Option<&[u8]>,
+    fault: CaptureFault,
+) -> Option<Words<'p, A>> {
+    let code = fault.code();
+    let CaptureFault::File(at) = fault else {
+        return Words::at(path, None, format!(in alloc; "{fault} ({code})"));
+    };
+    let text = match line.map(str::from_utf8) {
+        Some(Ok(text)) => {
+            let shown = Shown::line(text);
+            format!(in alloc; "`{shown}`: {} ({code})", at.fault)
+        }
+        Some(Err(_)) | None => format!(in alloc; "{} ({code})", at.fault),
+    };
+    Words::at(path, Some(at.line), text)
+}
+
+/// What is said of an item of a trace, which stands in this line.
+pub(crate) fn words_at_item<'p, A: Allocator, M: fmt::Display + Drop>(
+    alloc: A,
+    path: &'p str,
+    line: ItemLine<'_>,
+    item: usize,
+    message: M,
+) -> Option<Words<'p, A>> {
+    let shown = Shown::line(line.text.trim_end());
+    let words = match line.time {
+        Some(time) => format!(in alloc; "item {item} at {time}, `{shown}`: {message}"),
+        None => format!(in alloc; "item {item}, `{shown}`: {message}"),
+    };
+    Words::at(path, Some(line.number), words)
+}
+
+// A rule with its code.
+#[derive(Clone, Copy)]
+struct Coded(Forbidden);
+
+impl fmt::Display for Coded {
+    fn fmt<W: fmt::Write>(&self, f: &mut fmt::Formatter<W>) -> fmt::Result {
+        write!(f, "{} ({})", self.0, self.0.code())
+    }
+}
+
+/// Which rule an item of a trace breaks, which stands in this line.
+pub(crate) fn words_of_item<'p, A: Allocator>(
+    alloc: A,
+    path: &'p str,
+    line: ItemLine<'_>,
+    rule: Forbidden,
+    item: usize,
+) -> Option<Words<'p, A>> {
+    words_at_item(alloc, path, line, item, Coded(rule))
+}

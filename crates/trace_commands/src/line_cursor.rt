@@ -1,0 +1,91 @@
+//! The lines of the items of a trace's text, found in one pass.
+
+use trace_text::{TraceForm, find_item};
+
+/// The line of an item.
+#[derive(Clone, Copy)]
+pub(crate) struct ItemLine<'t> {
+    /// Its number, from 1.
+    pub(crate) number: usize,
+    /// The time in front of the item, if there is one.
+    pub(crate) time: Option<u64>,
+    pub(crate) text: &'t str,
+}
+
+/// How far one has come in the text of a trace that was read in this form. Items that rise are found in one pass over the text.
+#[derive(Clone, Copy)]
+pub(crate) struct LineCursor<'t> {
+    form: TraceForm,
+    // The text from some line on, the number of that line, from 1, and how many items stand before it.
+    rest: &'t str,
+    line: usize,
+    items: usize,
+}
+
+// The first line of a text, and what is behind it.
+fn split_line(text: &str) -> (&str, &str) {
+    match text.split_once('\n') {
+        Some((line, rest)) => (line, rest),
+        None => (text, ""),
+    }
+}
+
+// Whether a line of a text in this form has an item: in a log, where it has anything but blanks and a comment.
+fn has_item(form: TraceForm, line: &str) -> bool {
+    match form {
+        TraceForm::Strict => true,
+        TraceForm::Recorded => {
+            let blanks = |byte: &u8| matches!(*byte, b' ' | b'\t' | b'\r');
+            let first = line.as_bytes().iter().find(|byte| !blanks(*byte));
+            !matches!(first, None | Some(b'#' | b';'))
+        }
+    }
+}
+
+impl<'t> LineCursor<'t> {
+    /// The beginning of a text.
+    pub(crate) fn new(text: &'t str, form: TraceForm) -> LineCursor<'t> {
+        LineCursor {
+            form,
+            rest: text,
+            line: 1,
+            items: 0,
+        }
+    }
+
+    // Goes on to the line of the item that comes after so many others.
+    fn skip_items(&mut self, count: usize) {
+        let mut left = count;
+        for _ in 0..self.rest.len() {
+            let (line, rest) = split_line(self.rest);
+            if has_item(self.form, line) {
+                if left == 0 {
+                    return;
+                }
+                left -= 1;
+            }
+            self.rest = rest;
+            self.line = self.line.saturating_add(1);
+        }
+    }
+
+    // The time in front of the next item, if there is one.
+    fn time(&self) -> Option<u64> {
+        match self.form {
+            TraceForm::Strict => None,
+            TraceForm::Recorded => find_item(self.rest, 0)?.time,
+        }
+    }
+
+    /// The line of an item, counted from 0, which isn't before one that was asked for earlier.
+    pub(crate) fn find(&mut self, item: usize) -> ItemLine<'t> {
+        self.skip_items(item.saturating_sub(self.items));
+        self.items = item;
+        let (text, _) = split_line(self.rest);
+        ItemLine {
+            number: self.line,
+            time: self.time(),
+            text,
+        }
+    }
+}

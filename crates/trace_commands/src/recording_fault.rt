@@ -1,0 +1,86 @@
+//! What is wrong with a recording.
+ghost use Rattle.std.specs.Prelude.{◌≡◌, ◌++◌, IfOk, OnOk};
+ghost use Rattle.std.specs.String.{string_bytes};
+ghost use Rattle.trace_commands.specs.Recordings.{code_of, number_in, fault_line};
+
+use bus_capture::CaptureFault;
+use onfi_cycle::Forbidden;
+use seq_inputs::{Place, Told, Words, push_refusal_line};
+use std::alloc::{AllocError, Allocator};
+use trace_text::TraceFault;
+
+/// What is wrong with a trace or a capture, and where in it.
+#[derive(Clone, Copy, Debug, PartialEq, Eq)]
+pub enum RecordingFault {
+    /// It isn't the text of a trace, at this line, counted from 1.
+    Trace { fault: TraceFault, line: usize },
+    /// Its trace isn't legal, by this rule first, at this item, counted from 0.
+    Item { rule: Forbidden, item: usize },
+    /// It isn't the capture of a bus, in a line, counted from 1, or at a time.
+    Capture { fault: CaptureFault },
+}
+
+impl RecordingFault {
+    /// The code that says what is wrong.
+    pub fn code(self) -> &'static str
+        ensures { result.now ≡ code_of self }
+    {
+        match self {
+            RecordingFault::Trace { fault, .. } => fault.code(),
+            RecordingFault::Item { rule, .. } => rule.code(),
+            RecordingFault::Capture { fault } => fault.code(),
+        }
+    }
+
+    /// The number of the line or of the item, or the time of a capture.
+    pub fn number(self) -> usize
+        ensures { result ≡ number_in self }
+    {
+        match self {
+            RecordingFault::Trace { line, .. } => line,
+            RecordingFault::Item { item, .. } => item,
+            RecordingFault::Capture { fault } => fault.number(),
+        }
+    }
+
+    // Where it stands, but for its line.
+    fn place(self) -> Option<Place> {
+        match self {
+            RecordingFault::Item { item, .. } => Some(Place::Item(item)),
+            RecordingFault::Capture {
+                fault: CaptureFault::Bus { time, .. },
+            } => Some(Place::Time(time)),
+            RecordingFault::Capture {
+                fault: CaptureFault::File(_) | CaptureFault::Role(_),
+            }
+            | RecordingFault::Trace { .. } => None,
+        }
+    }
+
+    /// Adds the line that says it.
+    pub(crate) fn push_line<A: Allocator>(self, lines: &mut String<A>) -> Result<(), AllocError>
+        ensures { OnOk result (string_bytes lines.new ≡ string_bytes lines.old ++ fault_line self) }
+    {
+        push_refusal_line(lines, self.code(), self.number())
+    }
+
+    /// The line that says it.
+    pub(crate) fn text<A: Allocator>(self, alloc: A) -> Result<String<A>, AllocError>
+        ensures { IfOk result (λ line. string_bytes line ≡ fault_line self) }
+    {
+        let mut line = String::new(alloc);
+        self.push_line(&mut line)?;
+        Ok(line)
+    }
+
+    /// What these words say of it, for a tool.
+    pub(crate) fn tell<'a, A: Allocator>(self, words: &'a Words<'a, A>) -> Told<'a, String<A>> {
+        Told {
+            code: Some(self.code()),
+            path: words.path,
+            line: words.line,
+            place: self.place(),
+            message: &words.text,
+        }
+    }
+}

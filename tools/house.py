@@ -1,0 +1,258 @@
+"""Makes what the pages say of the house out of the house itself, and compares it.
+
+    python3 tools/house.py            says what differs, and ends with 1
+    python3 tools/house.py --write    writes it
+
+at the root; it takes seconds and proves nothing. It looks at
+
+- the crates by layer: docs/develop/ARCHITECTURE.md's picture and counts, from crates.txt, whose lines stand under headings;
+- the way of the data, as a picture;
+- what a change of a crate proves again, in minutes: docs/develop/GATE.md, from docs/develop/minutes.tsv, which `gate_minutes.py --table` writes;
+- the wrong bodies of docs/model/PROVED.md, from the edits of the crates and docs/model/WRONG_BODIES.md;
+- each name in backticks of four pages, which must stand somewhere in the repository;
+- each crate that crates.txt names for another, which must stand in a file of that one.
+
+What is made stands in a page between a line `<!-- house: NAME -->` and a line `<!-- end -->`.
+"""
+import html
+import re
+import sys
+from pathlib import Path
+
+ROOT = Path(__file__).resolve().parent.parent
+LOOKED_UP = ("docs/model/PROVED.md", "docs/model/PROOF.md", "docs/develop/ARCHITECTURE.md", "docs/develop/GATE.md")
+SOURCES = ("crates", "tools", "examples", "bench", "include", "bin", "release")
+MADE = re.compile(r"(<!-- house: (\w+) -->\n).*?(<!-- end -->)", re.S)
+# Words in backticks that no file of ours has, as they are of the kit, of the system or of another tool.
+ELSEWHERE = set("rt rattle gcc clang main std core apt gtkwave vcd2fst iverilog vvp dac8208d650f15bf".split())
+
+
+class Crate:
+    """A crate: the heading above its line of crates.txt, and the crates of ours that it stands on."""
+
+    def __init__(self, name, layer, named):
+        self.name, self.layer, self.named = name, layer, named
+        self.folder = ROOT / "crates" / name
+
+    def files(self, *kinds):
+        parts = (self.folder / part for part in ("src", "specs", "proofs"))
+        return [file for part in parts if part.is_dir() for file in sorted(part.rglob("*")) if file.suffix in kinds]
+
+    def text(self):
+        return "".join(file.read_text(encoding="utf-8") for file in self.files(".rt", ".antt"))
+
+    def functions(self):
+        pattern = re.compile(r"^\s*(?:pub(?:\(crate\))? )?(?:const )?fn \w", re.M)
+        return sum(len(pattern.findall(file.read_text(encoding="utf-8"))) for file in self.files(".rt"))
+
+    def edits(self, folder):
+        return sorted((self.folder / folder).glob("*.edit"))
+
+
+def read_crates():
+    """The crates by name, in the order of crates.txt."""
+    crates, layer = {}, ""
+    for line in (ROOT / "crates.txt").read_text(encoding="utf-8").splitlines():
+        if line.startswith("## "):
+            layer = line[3:].strip()
+        head, colon, names = line.partition("#")[0].partition(":")
+        if colon:
+            crates[head.split()[0]] = Crate(head.split()[0], layer, names.split())
+    return crates
+
+
+def list_above(crates, name):
+    """The crates that stand on this one, and itself."""
+    above, grown = {name}, True
+    while grown:
+        grown = {crate.name for crate in crates.values() if above & set(crate.named)} - above
+        above |= grown
+    return above
+
+
+# ---- pictures
+
+def box(x, y, wide, text, note="", fill="#eef3fb"):
+    """A box with a word in it, and a note that a pointer shows."""
+    title = f"<title>{html.escape(note)}</title>" if note else ""
+    return (f'<g>{title}<rect x="{x}" y="{y}" width="{wide}" height="24" rx="4" fill="{fill}" stroke="#5b7bb0"/>'
+            f'<text x="{x + wide / 2:g}" y="{y + 16}" text-anchor="middle">{html.escape(text)}</text></g>\n')
+
+
+def sheet(wide, high, name, drawn):
+    return (f'<svg xmlns="http://www.w3.org/2000/svg" width="{wide}" height="{high}" viewBox="0 0 {wide} {high}" role="img" font-family="sans-serif" font-size="12">\n'
+            f'<title>{html.escape(name)}</title>\n<rect width="{wide}" height="{high}" fill="#ffffff"/>\n{drawn}</svg>\n')
+
+
+def draw_layer(crates, y, wide):
+    """The boxes of a layer's crates in rows, and where the next layer begins."""
+    drawn, x = "", 12
+    for crate in crates:
+        width = 16 + 7 * len(crate.name)
+        if x + width > wide:
+            x, y = 12, y + 30
+        note = f"{crate.name} stands on " + (", ".join(crate.named) or "nothing")
+        drawn, x = drawn + box(x, y, width, crate.name, note), x + width + 8
+    return drawn, y + 38
+
+
+def draw_layers(crates):
+    """The crates in their layers: what is higher stands on what is lower."""
+    layers = list(dict.fromkeys(crate.layer for crate in crates.values()))
+    drawn, y, wide = "", 8, 860
+    for layer in reversed(layers):
+        drawn += f'<text x="12" y="{y + 12}" font-weight="bold">{html.escape(layer)}</text>\n'
+        boxes, y = draw_layer([crate for crate in crates.values() if crate.layer == layer], y + 20, wide)
+        drawn += boxes
+    return sheet(wide, y, "The crates by layer; what is higher stands on what is lower", drawn)
+
+
+# Each step of the data, where it stands, and the crates that make it.
+STEPS = {
+    "assembly text": (20, 20, "micro_asm"), "words": (180, 20, "micro_word, word_file"), "verified program": (300, 20, "micro_verify"),
+    "job": (460, 20, "job_queue, run_plan"), "sequencer": (560, 20, "seq_core, channel_work"), "modelled dies": (700, 20, "target_bus, die_model"),
+    "real pins": (700, 80, "seq_live"), "trace": (560, 140, "trace_text"), "check": (420, 140, "trace_faults, trace_commands"),
+    "waveform": (700, 130, "trace_wave"), "picture": (700, 164, "trace_picture, trace_page"), "capture (VCD, CSV)": (500, 206, "vcd_text, csv_text, bus_capture"),
+    "refusal, and its run": (300, 80, "micro_explain, micro_verify"), "libraries for C": (120, 140, "onfiseq_c, onfiseq_verify_c, onfiseq_text_c, onfiseq_live_c"),
+}
+ARROWS = (("assembly text", "words"), ("words", "verified program"), ("verified program", "job"), ("job", "sequencer"), ("sequencer", "modelled dies"),
+          ("sequencer", "real pins"), ("verified program", "refusal, and its run"), ("sequencer", "trace"), ("trace", "check"), ("trace", "waveform"),
+          ("trace", "picture"), ("capture (VCD, CSV)", "trace"), ("refusal, and its run", "trace"), ("check", "libraries for C"), ("verified program", "libraries for C"))
+
+
+def wide_of(step):
+    return 16 + 7 * len(step)
+
+
+def draw_arrow(start, end):
+    """A line between two boxes, with a head: from side to side where one stands beside the other, and else from edge to edge."""
+    (x, y, _), (to_x, to_y, _) = STEPS[start], STEPS[end]
+    if x + wide_of(start) < to_x:
+        here, there = (x + wide_of(start), y + 12), (to_x, to_y + 12)
+    elif to_x + wide_of(end) < x:
+        here, there = (x, y + 12), (to_x + wide_of(end), to_y + 12)
+    else:
+        here = (x + wide_of(start) / 2, y + 24 if y < to_y else y)
+        there = (to_x + wide_of(end) / 2, to_y if y < to_y else to_y + 24)
+    return f'<line x1="{here[0]:g}" y1="{here[1]:g}" x2="{there[0]:g}" y2="{there[1]:g}" stroke="#333" marker-end="url(#head)"/>\n'
+
+
+def draw_data():
+    """The way of the data: from a text to cycles on a bus, and from a bus to a verdict."""
+    head = '<defs><marker id="head" markerWidth="8" markerHeight="8" refX="7" refY="4" orient="auto"><path d="M0 0 L8 4 L0 8 z" fill="#333"/></marker></defs>\n'
+    arrows = "".join(draw_arrow(start, end) for start, end in ARROWS)
+    boxes = "".join(box(x, y, wide_of(step), step, f"{step}: {made}") for step, (x, y, made) in STEPS.items())
+    return sheet(860, 240, "The way of the data", head + arrows + boxes)
+
+
+# ---- tables
+
+def count_house(crates):
+    tests = [crate for crate in crates.values() if crate.layer.startswith("Tests")]
+    others = [crate for crate in crates.values() if crate not in tests]
+    in_gate = sum(len(crate.edits("must-fail")) for crate in crates.values())
+    beside = sum(len(crate.edits("wrong")) for crate in crates.values())
+    return (f"{len(others)} crates with {sum(crate.functions() for crate in others)} functions, and {len(tests)} crates of tests with "
+            f"{sum(crate.functions() for crate in tests)}.\n{in_gate} wrong bodies are tried by the gate, {beside} beside it.\n")
+
+
+def read_minutes():
+    """The minutes of each crate: proof, tests, edits."""
+    rows = (ROOT / "docs/develop/minutes.tsv").read_text(encoding="utf-8").splitlines()
+    return {name: list(map(float, numbers)) for name, *numbers in (row.split("\t") for row in rows if row and not row.startswith("#"))}
+
+
+def table_costs(crates):
+    """What each crate costs, and what a change of it proves again."""
+    minutes = read_minutes()
+    own = {name: sum(minutes.get(name, [0, 0, 0])) for name in crates}
+    lines = ["| crate | proof | tests | edits | a change of it proves again |", "|---|---|---|---|---|"]
+    for name in sorted(crates, key=lambda name: -own[name]):
+        proof, tests, edits = minutes.get(name, [0, 0, 0])
+        above = list_above(crates, name)
+        lines.append(f"| `{name}` | {proof:.1f} | {tests:.1f} | {edits:.1f} | {sum(own[it] for it in sorted(above)):.0f} min, {len(above)} crates |")
+    every = [sum(minutes.get(name, [0, 0, 0])[kind] for name in crates) for kind in range(3)]
+    lines.append(f"| all | {every[0]:.0f} | {every[1]:.0f} | {every[2]:.0f} | {sum(every):.0f} min |")
+    return "\n".join(lines) + "\n"
+
+
+def meaning_of(edit):
+    """What a wrong body does: its line `what:`, or its name."""
+    found = re.search(r"^what: (.*)$", edit.read_text(encoding="utf-8"), re.M)
+    return found[1] if found else edit.stem.replace("_", " ")
+
+
+def table_wrong_bodies(crates):
+    """The wrong bodies that a clause refuses, by what they do."""
+    rows = {}
+    for crate in crates.values():
+        for edit in crate.edits("must-fail") + crate.edits("wrong"):
+            rows.setdefault(meaning_of(edit), {}).setdefault(crate.name, []).append(edit.stem)
+    lines = ["| wrong body | refused |", "|---|---|"]
+    for meaning, by_crate in rows.items():
+        named = "; ".join(", ".join(f"`{name}`" for name in names) + f" of `{crate}`" for crate, names in by_crate.items())
+        lines.append(f"| {meaning} | {named} |")
+    return "\n".join(lines) + "\n"
+
+
+# ---- what must be there
+
+def known_words():
+    """Every word of the sources, and the name of each file and folder."""
+    words = set(ELSEWHERE)
+    for top in SOURCES:
+        for file in (ROOT / top).rglob("*"):
+            if "out" in file.relative_to(ROOT).parts:
+                continue
+            words.update(re.findall(r"\w+", file.stem if file.is_file() else file.name))
+            if file.is_file() and file.suffix in (".rt", ".antt", ".edit", ".py", ".sh", ".h", ".c", ".rs", ".sv", ".txt", ".asm", ""):
+                words.update(re.findall(r"\w+", file.read_text(encoding="utf-8", errors="replace")))
+    for name in ("crates.txt", ".ci/run", "HANDLES"):
+        words.update(re.findall(r"\w+", (ROOT / name).read_text(encoding="utf-8")))
+    return words | {path.stem for path in ROOT.glob("docs/**/*")} | {path.stem for path in ROOT.iterdir()}
+
+
+def find_stale_names():
+    """Names in backticks that stand nowhere in the repository."""
+    words = known_words()
+    for page in LOOKED_UP:
+        for number, line in enumerate((ROOT / page).read_text(encoding="utf-8").splitlines(), 1):
+            for name in re.findall(r"`([^`]+)`", line):
+                lost = [word for word in re.findall(r"[A-Za-z]\w{2,}", name) if word not in words]
+                if lost:
+                    yield f"{page}:{number}: `{name}`: there is no {', '.join(lost)}"
+
+
+def find_unused(crates):
+    """Crates that crates.txt names for a crate none of whose files names them."""
+    for crate in crates.values():
+        text = crate.text()
+        for name in crate.named:
+            if not re.search(rf"\b{name}\b", text):
+                yield f"crates.txt: no file of {crate.name} names {name}"
+
+
+def make(page, made):
+    """The page with what is made put in."""
+    return MADE.sub(lambda found: f"{found[1]}{made[found[2]]()}{found[3]}" if found[2] in made else found[0], page)
+
+
+def main():
+    crates = read_crates()
+    made = {"counts": lambda: count_house(crates), "costs": lambda: table_costs(crates), "wrong": lambda: table_wrong_bodies(crates)}
+    wanted = {"docs/develop/layers.svg": draw_layers(crates), "docs/develop/data.svg": draw_data()}
+    for page in (*LOOKED_UP, "docs/develop/ARCHITECTURE.md"):
+        wanted[page] = make((ROOT / page).read_text(encoding="utf-8"), made)
+    faults = []
+    for path, text in wanted.items():
+        file = ROOT / path
+        if "--write" in sys.argv:
+            file.write_text(text, encoding="utf-8")
+        if not file.exists() or file.read_text(encoding="utf-8") != text:
+            faults.append(f"{path} isn't what the crates say: python3 tools/house.py --write")
+    faults += [*find_stale_names(), *find_unused(crates)]
+    print("\n".join(faults) or f"house: {len(crates)} crates, and the pages say what they are")
+    sys.exit(1 if faults else 0)
+
+
+main()

@@ -1,0 +1,184 @@
+/* onfiseq in one C file: every call of onfiseq.h, for any processor with a C99 compiler. It was written by tools/machines: don't edit it.
+ *
+ *     cc -O2 -c onfiseq.c
+ *
+ * It is the WebAssembly module of the proved libraries, turned to C by wasm2c of wabt, between what runs such a module and what copies a call's records into
+ * its memory and out. It needs memcpy, memmove and memset, and malloc, calloc and free unless ONFISEQ_MEMORY says otherwise:
+ *
+ *     ONFISEQ_MEMORY      the module's memory is a static array of so many bytes: its stack, its data, and room for what a call is given.
+ *                         Without it, the memory is taken by malloc at the first call, grows as calls need it, and is kept.
+ *     ONFISEQ_TRAP(why)   is called where the module can't go on, as where the memory is too small for what a call is given, and must not come back.
+ *                         Without it, abort is called.
+ *
+ * One thread at a time may be in its calls, whatever records they are given, since the module has one memory. */
+#include "onfiseq.h"
+#include <stdlib.h>
+#include <string.h>
+
+#ifndef ONFISEQ_MEMORY
+#define ONFISEQ_MEMORY 0
+#endif
+#ifndef ONFISEQ_TRAP
+#define ONFISEQ_TRAP(why) abort()
+#endif
+
+/* ---- what a module runs on */
+
+typedef uint8_t u8;
+typedef int8_t s8;
+typedef uint16_t u16;
+typedef int16_t s16;
+typedef uint32_t u32;
+typedef int32_t s32;
+typedef uint64_t u64;
+typedef int64_t s64;
+
+enum { OUT_OF_MEMORY = 1, DIVISION_BY_ZERO, UNREACHED };
+
+#ifdef __GNUC__
+__attribute__((noreturn, cold))
+#endif
+static void stop(int why) {
+    (void)why;
+    ONFISEQ_TRAP(why);
+    for (;;) {
+    }
+}
+
+struct memory {
+    u8 *data;
+    u64 size;
+};
+
+/* The place of so many bytes. */
+static inline u8 *place(const struct memory *memory, u64 at, u64 count) {
+    if (at + count > memory->size) stop(OUT_OF_MEMORY);
+    return memory->data + at;
+}
+
+/* Numbers stand in the memory with their lowest byte first, in whatever order the processor has them. */
+#if defined(__BYTE_ORDER__) && defined(__ORDER_LITTLE_ENDIAN__)
+#define IS_LITTLE_ENDIAN (__BYTE_ORDER__ == __ORDER_LITTLE_ENDIAN__)
+#elif defined(_MSC_VER)
+#define IS_LITTLE_ENDIAN 1
+#else
+#define IS_LITTLE_ENDIAN 0
+#endif
+#if IS_LITTLE_ENDIAN
+#define NUMBER(bits)                                                                                              \
+    static inline u##bits get##bits(const u8 *at) {                                                               \
+        u##bits it;                                                                                               \
+        memcpy(&it, at, sizeof it);                                                                               \
+        return it;                                                                                                \
+    }                                                                                                             \
+    static inline void put##bits(u8 *at, u##bits it) { memcpy(at, &it, sizeof it); }
+#else
+#define NUMBER(bits)                                                                                              \
+    static inline u##bits get##bits(const u8 *at) {                                                               \
+        u64 it = 0;                                                                                               \
+        for (int k = 0; k < bits / 8; k++) it |= (u64)at[k] << 8 * k;                                             \
+        return (u##bits)it;                                                                                       \
+    }                                                                                                             \
+    static inline void put##bits(u8 *at, u##bits it) {                                                            \
+        for (int k = 0; k < bits / 8; k++) at[k] = (u8)((u64)it >> 8 * k);                                        \
+    }
+#endif
+NUMBER(8)
+NUMBER(16)
+NUMBER(32)
+NUMBER(64)
+
+/* The instructions of WebAssembly that the module has. */
+#ifdef __GNUC__
+#define INSTRUCTION __attribute__((unused)) static inline
+#else
+#define INSTRUCTION static inline
+#endif
+#define LOAD(name, answer, bits, extended) \
+    INSTRUCTION answer name(const struct memory *memory, u64 at) { return extended(get##bits(place(memory, at, bits / 8))); }
+#define STORE(name, given, bits) \
+    INSTRUCTION void name(const struct memory *memory, u64 at, given it) { put##bits(place(memory, at, bits / 8), (u##bits)it); }
+#define AS_IT_IS(it) (it)
+#define SIGNED_32(it) ((u32)(s32)(s8)(it))
+#define SIGNED_32_OF_16(it) ((u32)(s32)(s16)(it))
+#define SIGNED_64(it) ((u64)(s64)(s8)(it))
+#define SIGNED_64_OF_16(it) ((u64)(s64)(s16)(it))
+#define SIGNED_64_OF_32(it) ((u64)(s64)(s32)(it))
+LOAD(i32_load, u32, 32, AS_IT_IS)
+LOAD(i64_load, u64, 64, AS_IT_IS)
+LOAD(i32_load8_u, u32, 8, AS_IT_IS)
+LOAD(i32_load16_u, u32, 16, AS_IT_IS)
+LOAD(i64_load8_u, u64, 8, AS_IT_IS)
+LOAD(i64_load16_u, u64, 16, AS_IT_IS)
+LOAD(i64_load32_u, u64, 32, AS_IT_IS)
+LOAD(i32_load8_s, u32, 8, SIGNED_32)
+LOAD(i32_load16_s, u32, 16, SIGNED_32_OF_16)
+LOAD(i64_load8_s, u64, 8, SIGNED_64)
+LOAD(i64_load16_s, u64, 16, SIGNED_64_OF_16)
+LOAD(i64_load32_s, u64, 32, SIGNED_64_OF_32)
+STORE(i32_store, u32, 32)
+STORE(i64_store, u64, 64)
+STORE(i32_store8, u32, 8)
+STORE(i32_store16, u32, 16)
+STORE(i64_store8, u64, 8)
+STORE(i64_store16, u64, 16)
+STORE(i64_store32, u64, 32)
+
+INSTRUCTION void memory_fill(const struct memory *memory, u32 at, u32 value, u32 count) { memset(place(memory, at, count), (int)(u8)value, count); }
+
+INSTRUCTION void memory_copy(const struct memory *to_memory, const struct memory *from_memory, u32 to, u32 from, u32 count) {
+    memmove(place(to_memory, to, count), place(from_memory, from, count), count);
+}
+
+INSTRUCTION u32 I64_POPCNT_32(u64 it) {
+    u32 count = 0;
+    for (; it != 0; it &= it - 1) count++;
+    return count;
+}
+INSTRUCTION u32 zeros_above(u64 it, u32 bits) {
+#ifdef __GNUC__
+    return it == 0 ? bits : (u32)__builtin_clzll(it) - (64 - bits);
+#else
+    u32 count = 0;
+    for (; count < bits && (it >> (bits - 1 - count) & 1) == 0; count++) {
+    }
+    return count;
+#endif
+}
+INSTRUCTION u32 zeros_below(u64 it, u32 bits) {
+#ifdef __GNUC__
+    return it == 0 ? bits : (u32)__builtin_ctzll(it);
+#else
+    u32 count = 0;
+    for (; count < bits && (it >> count & 1) == 0; count++) {
+    }
+    return count;
+#endif
+}
+#define I32_CLZ(it) zeros_above(it, 32)
+#define I64_CLZ(it) zeros_above(it, 64)
+#define I32_CTZ(it) zeros_below(it, 32)
+#define I64_CTZ(it) zeros_below(it, 64)
+#define I32_POPCNT(it) I64_POPCNT_32(it)
+#define I64_POPCNT(it) I64_POPCNT_32(it)
+#define DIV_U(x, y) ((y) == 0 ? (stop(DIVISION_BY_ZERO), (x)) : (x) / (y))
+#define REM_U(x, y) ((y) == 0 ? (stop(DIVISION_BY_ZERO), (x)) : (x) % (y))
+#define ROTATED(x, left, right, mask) ((x) << ((left) & (mask)) | (x) >> ((right) & (mask)))
+#define I32_ROTL(x, y) ROTATED(x, y, 32 - ((y)&31), 31)
+#define I64_ROTL(x, y) ROTATED(x, y, 64 - ((y)&63), 63)
+#define I32_ROTR(x, y) ROTATED(x, 32 - ((y)&31), y, 31)
+#define I64_ROTR(x, y) ROTATED(x, 64 - ((y)&63), y, 63)
+#define UNREACHABLE stop(UNREACHED)
+
+struct module {
+    struct memory memory;
+    u32 stack_pointer, heap_base;
+};
+
+/* What it asks for: memory, for onfiseq_verify and the assembler. */
+INSTRUCTION void module_alloc(struct module *module, u32 answer, u64 size, u64 alignment);
+INSTRUCTION void module_realloc(struct module *module, u32 answer, u32 old, u64 kept, u64 size, u64 alignment);
+INSTRUCTION void module_dealloc(struct module *module, u32 old);
+
+/* ---- the module */
+

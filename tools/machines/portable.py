@@ -1,0 +1,181 @@
+"""Writes the one C file that gives the calls of onfiseq.h on whatever has a C compiler.
+
+    python3 tools/machines/portable.py include/onfiseq.h MODULE.c > onfiseq.c      MODULE.c is what `wasm2c -n onfiseq MODULE.wasm` wrote
+
+The file is c/portable_head.c, the functions of the module, c/portable_shim.c, and for each call a function that copies what it is given into the module's memory
+and what it answers out of it.
+"""
+import os
+import re
+import sys
+
+import header
+
+HERE = os.path.dirname(os.path.abspath(__file__))
+PREFIX = "w2c_w_"
+
+# What c/portable_head.c has of the names that wasm2c's functions use; a module that uses another is refused.
+KNOWN = {"sizeof", "if", "switch", "memory_fill", "memory_copy", "init_globals", "init_memories", "LOAD_DATA", "DIV_U", "REM_U"}
+KNOWN |= {"i%d_%s" % (bits, name) for bits in (32, 64) for name in ("load", "store", "load8_u", "load16_u", "load8_s", "load16_s", "store8", "store16")}
+KNOWN |= {"i64_load32_u", "i64_load32_s", "i64_store32", "module_alloc", "module_realloc", "module_dealloc"}
+KNOWN |= {"I%d_%s" % (bits, name) for bits in (32, 64) for name in ("CLZ", "CTZ", "POPCNT", "ROTL", "ROTR")}
+
+
+def read(path):
+    with open(path) as it:
+        return it.read()
+
+
+def functions_of(text):
+    """Of what wasm2c wrote: the prototypes of the functions, the data, and the functions; without its helpers, its table of types and its exports."""
+    text = text.split("DEFINE_TABLE_FILL(externref)")[1]
+    begin = re.search(r"(?m)^static \w+ w2c_\w+\(Z_onfiseq_instance_t\*", text).start()
+    return text[begin : text.index("/* export:")]
+
+
+def shortened(text):
+    """The functions under shorter names, a line as short as it may be."""
+    changes = (
+        (r"\bZ_onfiseq_instance_t(?=\b)", "struct module"),
+        (r"\binstance->w2c___(stack_pointer|heap_base)\b", r"it->\1"),
+        (r"\binstance->w2c_memory\b", "it->memory"),
+        (r"\binstance->Z_env_instance\b", "it"),
+        (r"\binstance\b", "it"),
+        (r"\bZ_envZ_w_rattle_(alloc|realloc|dealloc)\b", r"module_\1"),
+        (r"\bw2c_([a-zA-Z]\d+)\b", r"\1"),
+        (r"(?m)^ *wasm_rt_allocate_memory\(.*\n", ""),
+        (r"(?m)^ *FUNC_(PROLOGUE|EPILOGUE);\n", ""),
+        (r"static void init_data_instances\(struct module \*it\) \{\s*\}\n", ""),
+        (r"LOAD_DATA\(it->memory, (\w+), (\w+), (\w+)\)", r"memcpy(place(&it->memory, \1, \3), \2, \3)"),
+        (r"(?m)^ +", ""),
+        (r"\n{2,}", "\n"),
+    )
+    for old, new in changes:
+        text = re.sub(old, new, text)
+    return re.sub(r"(?ms)^(static [^\n;]*\bit\b[^;{]*\{\n)(.*?^\}\n)", told_unused, text)
+
+
+def told_unused(found):
+    """A function; where it doesn't use its module, it says so."""
+    head, body = found.groups()
+    return found.group(0) if re.search(r"\bit\b", body) else head + "(void)it;\n" + body
+
+
+def refuse_unknown(text):
+    """Ends where the functions use what c/portable_head.c hasn't."""
+    used = {name for name in re.findall(r"\b([A-Za-z]\w*)\(", text) if not name.startswith("w2c_")}
+    unknown = used - KNOWN - {"memcpy", "place"}
+    if unknown:
+        sys.exit("portable: the module needs %s" % ", ".join(sorted(unknown)))
+
+
+def field_mover(verb, field):
+    """The line that moves a field of a record, for a processor that isn't known to be little-endian."""
+    place, at, loop = "x->" + field["name"], "at + %d" % field["at"], ""
+    if field["count"]:
+        place, at, loop = place + "[k]", at + " + %du * k" % field["size"], "for (u32 k = 0; k < %du; k++) " % field["count"]
+    if header.is_record(field["kind"]):
+        return "    %s%s_%s(%s, &%s);" % (loop, verb, field["kind"], at, place)
+    bits = 8 * field["size"]
+    where = "::place(&module.memory, %s, %d)".replace("::", "") % (at, field["size"])
+    if verb == "put":
+        return "    %sput%d(%s, (u%d)%s);" % (loop, bits, where, bits, place)
+    return "    %s%s = (%s)get%d(%s);" % (loop, place, field["kind"], bits, where)
+
+
+def movers_of(name, record):
+    """put_X and get_X of a record, as a whole where its bytes are those of the module."""
+    lines = []
+    for verb, const in (("put", "const "), ("get", "")):
+        lines.append("INSTRUCTION void %s_%s(u64 at, %sstruct %s *x) {" % (verb, name, const, name))
+        lines += ["#if IS_LITTLE_ENDIAN", "    %s_bytes(at, x, sizeof *x);" % verb, "#else"]
+        lines += [field_mover(verb, field) for field in record["fields"]]
+        lines += ["#endif", "}"]
+    return lines
+
+
+class Shim:
+    """The function of a call: what it is given, what stands before the module's function and behind it, and that function's arguments."""
+
+    def __init__(self, name, call, records):
+        self.name, self.call, self.records = name, call, records
+        self.given, self.before, self.after, self.words = [], [], [], ["&module"]
+        self.is_by_room = call["answer"] in records
+        if self.is_by_room:
+            self.before.append("u64 at_answer = take_room(%d);" % records[call["answer"]]["size"])
+            self.words.append("(u32)at_answer")
+        for it in call["given"]:
+            self.take(it)
+
+    def take(self, it):
+        """An argument."""
+        star = "*" if it["by"] in ("pointer", "slice") else ""
+        self.given.append("%s%s %s%s" % ("const " if it["const"] else "", header.c_type(it["kind"]), star, it["name"]))
+        if it["by"] == "slice":
+            self.take_slice(it)
+        elif it["by"] == "pointer" and it["kind"] == "size_t":
+            self.take_count(it)
+        elif it["by"] == "pointer":
+            self.take_record(it)
+        self.words.append("(u32)at_" + it["name"] if star else it["name"])
+
+    def take_slice(self, it):
+        """Bytes, or items, which are bytes too."""
+        each = self.records[it["kind"]]["size"] if it["kind"] in self.records else 1
+        size = "(u64)%s * %d" % (it["length"], each)
+        self.before.append("u64 at_%s = take_room(%s);" % (it["name"], size))
+        self.before.append("put_bytes(at_%s, %s, %s);" % (it["name"], it["name"], size))
+        if not it["const"]:
+            self.after.append("get_bytes(at_%s, %s, %s);" % (it["name"], it["name"], size))
+
+    def take_count(self, it):
+        """A count that the call writes."""
+        self.before.append("u64 at_%s = take_room(8);" % it["name"])
+        self.before.append("i64_store(&module.memory, at_%s, 0);" % it["name"])
+        self.after.append("*%s = (size_t)i64_load(&module.memory, at_%s);" % (it["name"], it["name"]))
+
+    def take_record(self, it):
+        """A record."""
+        self.before.append("u64 at_%s = take_room(%d);" % (it["name"], self.records[it["kind"]]["size"]))
+        self.before.append("put_%s(at_%s, %s);" % (it["kind"], it["name"], it["name"]))
+        if not it["const"]:
+            self.after.append("get_%s(at_%s, %s);" % (it["kind"], it["name"], it["name"]))
+
+    def lines(self):
+        """The function."""
+        answer = self.call["answer"]
+        call = "%s%s(%s)" % (PREFIX, self.name, ", ".join(self.words))
+        lines = ["%s %s(%s) {" % (header.c_type(answer), self.name, ", ".join(self.given) or "void")]
+        declared = [line.split(" = ")[0] + ";" for line in self.before if line.startswith("u64 ")]
+        lines += ["    %s answer;" % header.c_type(answer)] + ["    " + line for line in declared]
+        lines += ["    begin_call();"] + ["    " + line.replace("u64 at_", "at_", 1) if line.startswith("u64 ") else "    " + line for line in self.before]
+        lines.append("    %s;" % call if self.is_by_room else "    answer = (%s)%s;" % (answer, call))
+        if self.is_by_room:
+            lines += ["    memset(&answer, 0, sizeof answer);", "    get_%s(at_answer, &answer);" % answer]
+        return lines + ["    " + line for line in self.after] + ["    return answer;", "}"]
+
+
+def needed_records(calls, records):
+    """The records that the calls are given or answer, with those inside them, in the header's order."""
+    wanted = {kind for call in calls.values() for kind in [call["answer"]] + [it["kind"] for it in call["given"]] if kind in records}
+    for name in reversed(list(records)):
+        if name in wanted:
+            wanted |= {field["kind"] for field in records[name]["fields"] if field["kind"] in records}
+    return [name for name in records if name in wanted]
+
+
+def written(header_path, module_path):
+    """The C file."""
+    records, calls = header.read(header_path)
+    module = shortened(functions_of(read(module_path)))
+    refuse_unknown(module)
+    calls = {name: call for name, call in calls.items() if PREFIX + name + "(" in module}
+    parts = [read(HERE + "/c/portable_head.c"), module, read(HERE + "/c/portable_shim.c")]
+    parts += ["\n".join(movers_of(name, records[name])) for name in needed_records(calls, records)]
+    parts += ["", "/* ---- the calls */", ""]
+    parts += ["\n".join(Shim(name, call, records).lines()) for name, call in calls.items()]
+    return "\n".join(parts) + "\n"
+
+
+if __name__ == "__main__":
+    sys.stdout.write(written(*sys.argv[1:3]))

@@ -1,0 +1,60 @@
+"""What a file was made of: the commit, the kit, the compilers and a checksum of each crate's sources."""
+import hashlib
+import os
+import re
+import subprocess
+
+import kit
+
+PARTS = ("src",)
+
+
+def sum_of(paths, top="."):
+    """A checksum of files, with their names."""
+    total = hashlib.sha256()
+    for path in paths:
+        with open(os.path.join(top, path), "rb") as it:
+            content = it.read()
+        total.update(("%s %d\n" % (path, len(content))).encode() + content)
+    return total.hexdigest()[:32]
+
+
+def sum_of_crate(name):
+    """A checksum of the sources that a crate's code is made of."""
+    folder = "crates/" + name
+    return sum_of(kit.sources_of(folder, PARTS), folder)
+
+
+def last_commit(paths):
+    """The last commit that changed one of these paths; with -dirty where one isn't as a commit has it."""
+    commit = kit.output_of(["git", "log", "-1", "--format=%H", "--", *paths]).strip()
+    changed = kit.output_of(["git", "status", "--porcelain", "--", *paths]).strip()
+    return commit + ("-dirty" if changed else "")
+
+
+def version_of(words):
+    """The first line that a program prints of itself."""
+    return subprocess.run(words, check=True, stdout=subprocess.PIPE, text=True).stdout.splitlines()[0]
+
+
+def lines_of(crates, files):
+    """The lines of a stamp that say what was there to be made of: each crate and each file with its checksum."""
+    return ["crate %s %s" % (name, sum_of_crate(name)) for name in crates] + ["file %s %s" % (path, sum_of([path])) for path in files]
+
+
+def written(the_kit, crates, files, compilers):
+    """A stamp: the commit that last changed what the files are made of, the kit, the compilers, and checksums."""
+    paths = ["crates/%s/%s" % (name, part) for name in crates for part in PARTS] + list(files)
+    lines = ["commit %s" % last_commit(paths), "kit %s" % the_kit.version(), "compiler %s" % the_kit.compiler()]
+    lines += ["compiler %s" % it for it in compilers]
+    return "\n".join(lines + lines_of(crates, files)) + "\n"
+
+
+def differing(text):
+    """What stands here otherwise than a stamp says: the names of crates and files."""
+    found = []
+    for what, name, wanted in re.findall(r"(?m)^(crate|file) (\S+) (\S+)$", text):
+        there = os.path.isdir("crates/%s/src" % name) if what == "crate" else os.path.isfile(name)
+        if not there or wanted != (sum_of_crate(name) if what == "crate" else sum_of([name])):
+            found.append(name)
+    return found

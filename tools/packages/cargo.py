@@ -1,0 +1,41 @@
+"""Writes the cargo project of examples/rust with the static libraries in it, as a tarball.
+
+    python3 tools/packages/cargo.py FOLDER      at the root
+"""
+import io
+import os
+import sys
+import tarfile
+
+import version
+
+LIBRARIES = ("onfiseq_c", "onfiseq_verify_c", "onfiseq_text_c", "onfiseq_live_c", "onfiseq_show_c")
+
+
+def read(path):
+    with open(path, "rb") as it:
+        return it.read()
+
+
+def contents():
+    """The files of the project, by their names in it."""
+    files = {name: read("examples/rust/" + name) for name in ("Cargo.toml", "build.rs", "monitor.rs")}
+    files.update({"lib/lib%s.a" % name: read("crates/%s/out/lib%s.a" % (name, name)) for name in LIBRARIES})
+    files["LICENSE"] = read("LICENSE")
+    return files
+
+
+def main():
+    top = "%s-rust-%s" % (version.NAME, version.local())
+    path = "%s/%s.tar.gz" % (sys.argv[1], top)
+    os.makedirs(sys.argv[1], exist_ok=True)
+    with tarfile.open(path, "w:gz") as it:
+        for name, content in contents().items():
+            entry = tarfile.TarInfo("%s/%s" % (top, name))
+            entry.size = len(content)
+            it.addfile(entry, io.BytesIO(content))
+    print("%s, %d bytes" % (path, os.path.getsize(path)))
+
+
+if __name__ == "__main__":
+    main()
