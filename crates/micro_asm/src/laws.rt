@@ -1,6 +1,7 @@
 //! What holds of the definitions: the contract of a function that does nothing.
 
 ghost use Rattle.micro_asm.specs.Again.{WordsAreSpelled, HeadersAreSpelled, LabelsAreSpelled, WrittenIsRead, ReadIsWrittenAgain};
+ghost use Rattle.micro_asm.specs.Codes.{AsmFaultsAreNumbered};
 
 /// The line that is written for a word is read as that word; a branch is read with the label that is written of its place.
 pub fn words_are_spelled()
@@ -25,4 +26,9 @@ pub fn written_is_read()
 /// What a text spells, written anew, is read as the same.
 pub fn read_is_written_again()
     ensures { ReadIsWrittenAgain }
+{}
+
+/// Each fault of an assembly text is that of its number.
+pub fn asm_faults_are_numbered()
+    ensures { AsmFaultsAreNumbered }
 {}

@@ -2,7 +2,7 @@
 
 ghost use Rattle.std.specs.Prelude.{◌≡◌};
 ghost use Rattle.micro_asm.specs.declared.refusal.AsmRefusal.TheVariants.{OutOfMemory};
-ghost use Rattle.micro_asm.specs.Codes.{asm_fault_code};
+ghost use Rattle.micro_asm.specs.Codes.{asm_fault_code, asm_fault_number, asm_fault_of};
 
 use std::alloc::{AllocError, AllocFailed};
 use thiserror::Error;
@@ -50,6 +50,40 @@ impl AsmFault {
             AsmFault::LabelAfterLastWord => "A6",
             AsmFault::TooManyWords => "A7",
             AsmFault::HeaderOutOfOrder => "A8",
+        }
+    }
+
+    /// The number of its code, 1 to 8.
+    pub fn number(self) -> u32
+        ensures { result ≡ asm_fault_number self }
+    {
+        match self {
+            AsmFault::UnknownWord => 1,
+            AsmFault::BadOperand => 2,
+            AsmFault::OperandOutOfRange => 3,
+            AsmFault::NoSuchLabel => 4,
+            AsmFault::LabelTwice => 5,
+            AsmFault::LabelAfterLastWord => 6,
+            AsmFault::TooManyWords => 7,
+            AsmFault::HeaderOutOfOrder => 8,
+        }
+    }
+
+    /// The fault whose code has this number, if there is one.
+    #[tactic(auto, unfolding(crate::specs::Codes::asm_fault_of))]
+    pub fn of_number(number: u32) -> Option<AsmFault>
+        ensures { result ≡ asm_fault_of number }
+    {
+        match number {
+            1 => Some(AsmFault::UnknownWord),
+            2 => Some(AsmFault::BadOperand),
+            3 => Some(AsmFault::OperandOutOfRange),
+            4 => Some(AsmFault::NoSuchLabel),
+            5 => Some(AsmFault::LabelTwice),
+            6 => Some(AsmFault::LabelAfterLastWord),
+            7 => Some(AsmFault::TooManyWords),
+            8 => Some(AsmFault::HeaderOutOfOrder),
+            _ => None,
         }
     }
 }

@@ -8,10 +8,16 @@ pub fn accepted_lines_are_safe()
 {}
 
 ghost use Rattle.micro_claims.specs.SafePrograms.{SomeAreSafe};
+ghost use Rattle.micro_claims.specs.Codes.{ReasonsAreNumbered};
 
 /// Programs that are safe since they are accepted: a read and its data, on one LUN and on several; a read that lets others have the
 /// bus; a program of a page, also in parts; a change of the read column; an erase with its status, of two planes, and of two blocks in
 /// a loop; a cache read; the identifier, the parameter page and a reset.
 pub fn some_are_safe()
     ensures { SomeAreSafe }
+{}
+
+/// Each reason against a text is that of its number.
+pub fn reasons_are_numbered()
+    ensures { ReasonsAreNumbered }
 {}

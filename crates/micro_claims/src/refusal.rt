@@ -1,6 +1,6 @@
 //! Why a text is refused.
 ghost use Rattle.std.specs.Prelude.{◌≡◌};
-ghost use Rattle.micro_claims.specs.Codes.{reason_code};
+ghost use Rattle.micro_claims.specs.Codes.{reason_code, reason_number, reason_of};
 
 use thiserror::Error;
 
@@ -60,6 +60,54 @@ impl Reason {
             Reason::EndsTooSoon => "V14",
             Reason::OverBudget => "V15",
             Reason::CommandNotAllowed => "V16",
+        }
+    }
+
+    /// The number of its code, 1 to 16.
+    pub fn number(self) -> u32
+        ensures { result ≡ reason_number self }
+    {
+        match self {
+            Reason::NoWords => 1,
+            Reason::LoopUnpaired => 2,
+            Reason::LoopsTooDeep => 3,
+            Reason::BranchMisplaced => 4,
+            Reason::LastWordNotEnd => 5,
+            Reason::CycleForbidden => 7,
+            Reason::AddressUnaligned => 8,
+            Reason::HandoverInSequence => 9,
+            Reason::BufferPassed => 10,
+            Reason::RowOrPlaneOutside => 11,
+            Reason::ColumnTooLarge => 12,
+            Reason::NoStatus => 13,
+            Reason::EndsTooSoon => 14,
+            Reason::OverBudget => 15,
+            Reason::CommandNotAllowed => 16,
+        }
+    }
+
+    /// The reason whose code has this number, if there is one.
+    #[tactic(auto, unfolding(crate::specs::Codes::reason_of))]
+    pub fn of_number(number: u32) -> Option<Reason>
+        ensures { result ≡ reason_of number }
+    {
+        match number {
+            1 => Some(Reason::NoWords),
+            2 => Some(Reason::LoopUnpaired),
+            3 => Some(Reason::LoopsTooDeep),
+            4 => Some(Reason::BranchMisplaced),
+            5 => Some(Reason::LastWordNotEnd),
+            7 => Some(Reason::CycleForbidden),
+            8 => Some(Reason::AddressUnaligned),
+            9 => Some(Reason::HandoverInSequence),
+            10 => Some(Reason::BufferPassed),
+            11 => Some(Reason::RowOrPlaneOutside),
+            12 => Some(Reason::ColumnTooLarge),
+            13 => Some(Reason::NoStatus),
+            14 => Some(Reason::EndsTooSoon),
+            15 => Some(Reason::OverBudget),
+            16 => Some(Reason::CommandNotAllowed),
+            _ => None,
         }
     }
 }

@@ -1,8 +1,9 @@
-pub mod Loop
-pub mod Ranges
-pub mod Words
-pub mod WordLists
-pub mod Headers
-pub mod Files
 pub mod Faults
+pub mod Files
+pub mod Headers
+pub mod Loop
+pub mod Numbered
+pub mod Ranges
 pub mod Texts
+pub mod WordLists
+pub mod Words

@@ -2,6 +2,7 @@
 
 ghost use Rattle.std.specs.Prelude.{◌≡◌, ◌+◌, ◌*◌, ◌≤◌, length, IfOk};
 ghost use Rattle.micro_word.specs.Reading.{header_at, word_at, u16_at, u32_at};
+ghost use Rattle.micro_word.specs.Word.{IsInRange};
 
 use crate::format::{Format, HEADER_BYTES, MAX_WORDS, WORD_BYTES};
 use crate::refusal::{WordFault, WordRefusal};
@@ -9,9 +10,9 @@ use crate::text::fault;
 use crate::word::Word;
 use byteorder::{ByteOrder, LittleEndian};
 
-/// The first 16 bytes of a file.
-#[derive(Clone, Copy)]
-pub(crate) struct Header {
+/// The first 16 bytes of a word file.
+#[derive(Clone, Copy, Debug, PartialEq, Eq)]
+pub struct Header {
     pub format: Format,
     pub words: u16,
     pub rows: u16,
@@ -34,11 +35,12 @@ fn read_u32(bytes: &[u8], place: usize) -> u32
 }
 
 impl Header {
-    /// The header of a file that holds all its words.
+    /// The header of a file that holds all its words. Errors: `M1` to `M3`, and `M6` for a number out of its range.
     #[tactic(auto, unfolding(crate::specs::Reading::header_at))]
-    pub(crate) fn of(bytes: &[u8]) -> Result<Header, WordRefusal>
+    pub fn of(bytes: &[u8]) -> Result<Header, WordRefusal>
         ensures value { result ≡ header_at bytes.now }
         ensures length { IfOk result (λ header. 16 + 4 * header.words ≤ length bytes.now) }
+        ensures few { IfOk result (λ header. header.words ≤ 1024) }
     {
         if bytes.len() < HEADER_BYTES {
             return Err(fault(WordFault::TooShort, 0));
@@ -67,11 +69,12 @@ impl Header {
         HEADER_BYTES + WORD_BYTES * usize::from(self.words)
     }
 
-    /// The word in the first four bytes, which is word number `place` of its text.
+    /// The word in the first four bytes, which is word number `place` of its text. Errors: `M4`, `M5` and `M6`.
     #[tactic(auto, unfolding(crate::specs::Reading::word_at))]
-    pub(crate) fn read_word(self, place: usize, bytes: &[u8]) -> Result<Word, WordRefusal>
+    pub fn read_word(self, place: usize, bytes: &[u8]) -> Result<Word, WordRefusal>
         requires { 4 ≤ length bytes.now }
-        ensures { result ≡ word_at self place bytes.now }
+        ensures value { result ≡ word_at self place bytes.now }
+        ensures range { IfOk result (λ word. IsInRange self.format self.words word) }
     {
         let field_a = bytes[1];
         let field_b = read_u16(bytes, 2);

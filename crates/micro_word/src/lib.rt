@@ -9,6 +9,7 @@
 mod code;
 mod format;
 mod header;
+pub mod laws;
 mod reading;
 mod refusal;
 mod text;
@@ -16,6 +17,7 @@ mod word;
 mod writing;
 
 pub use format::{Format, HEADER_BYTES, MAX_ROWS, MAX_WORDS, WORD_BYTES};
+pub use header::Header;
 pub use reading::read;
 pub use refusal::{WordFault, WordRefusal};
 pub use text::{Text, WordsRefused};

@@ -2,7 +2,7 @@
 
 ghost use Rattle.std.specs.Prelude.{◌≡◌};
 ghost use Rattle.micro_word.specs.declared.refusal.WordRefusal.TheVariants.{OutOfMemory};
-ghost use Rattle.micro_word.specs.Codes.{word_fault_code};
+ghost use Rattle.micro_word.specs.Codes.{word_fault_code, word_fault_number, word_fault_of};
 
 use std::alloc::{AllocError, AllocFailed};
 use thiserror::Error;
@@ -40,6 +40,38 @@ impl WordFault {
             WordFault::UnusedFieldSet => "M5",
             WordFault::OutOfRange => "M6",
             WordFault::TrailingBytes => "M7",
+        }
+    }
+
+    /// The number of its code, 1 to 7.
+    pub fn number(self) -> u32
+        ensures { result ≡ word_fault_number self }
+    {
+        match self {
+            WordFault::TooShort => 1,
+            WordFault::UnknownFormat => 2,
+            WordFault::TooManyWords => 3,
+            WordFault::UnknownCode => 4,
+            WordFault::UnusedFieldSet => 5,
+            WordFault::OutOfRange => 6,
+            WordFault::TrailingBytes => 7,
+        }
+    }
+
+    /// The fault whose code has this number, if there is one.
+    #[tactic(auto, unfolding(crate::specs::Codes::word_fault_of))]
+    pub fn of_number(number: u32) -> Option<WordFault>
+        ensures { result ≡ word_fault_of number }
+    {
+        match number {
+            1 => Some(WordFault::TooShort),
+            2 => Some(WordFault::UnknownFormat),
+            3 => Some(WordFault::TooManyWords),
+            4 => Some(WordFault::UnknownCode),
+            5 => Some(WordFault::UnusedFieldSet),
+            6 => Some(WordFault::OutOfRange),
+            7 => Some(WordFault::TrailingBytes),
+            _ => None,
         }
     }
 }

@@ -36,6 +36,7 @@ pub fn parameters_have_their_length()
 {}
 
 ghost use Rattle.nand_geometry.specs.Reading.{FieldsDecide, PagesReadBack, ParametersReadBack};
+ghost use Rattle.nand_geometry.specs.Codes.{PageFaultsAreNumbered};
 
 /// What a copy declares, and its fault, depend on bytes 6 to 9, 80 to 85, 92 to 101 and 113 alone.
 pub fn fields_decide()
@@ -51,4 +52,9 @@ pub fn read_of_page()
 /// The three copies in the register of the parameter page are read as the geometry.
 pub fn read_of_parameters()
     ensures { ParametersReadBack }
+{}
+
+/// Each fault of a parameter page is that of its number.
+pub fn page_faults_are_numbered()
+    ensures { PageFaultsAreNumbered }
 {}

@@ -1,6 +1,6 @@
 //! Why a parameter page is refused.
 ghost use Rattle.std.specs.Prelude.{◌≡◌};
-ghost use Rattle.nand_geometry.specs.Codes.{page_fault_code};
+ghost use Rattle.nand_geometry.specs.Codes.{page_fault_code, page_fault_number, page_fault_of};
 
 use thiserror::Error;
 
@@ -51,6 +51,42 @@ impl PageFault {
             PageFault::LunsOutOfRange => "P7",
             PageFault::PlanesOutOfRange => "P8",
             PageFault::LunCommandsMissing => "P9",
+        }
+    }
+
+    /// The number of its code, 1 to 9.
+    pub fn number(self) -> u32
+        ensures { result ≡ page_fault_number self }
+    {
+        match self {
+            PageFault::TooShort => 1,
+            PageFault::NoSignature => 2,
+            PageFault::WrongChecksum => 3,
+            PageFault::WideBus => 4,
+            PageFault::AddressCycles => 5,
+            PageFault::SizeOutOfRange => 6,
+            PageFault::LunsOutOfRange => 7,
+            PageFault::PlanesOutOfRange => 8,
+            PageFault::LunCommandsMissing => 9,
+        }
+    }
+
+    /// The fault whose code has this number, if there is one.
+    #[tactic(auto, unfolding(crate::specs::Codes::page_fault_of))]
+    pub fn of_number(number: u32) -> Option<PageFault>
+        ensures { result ≡ page_fault_of number }
+    {
+        match number {
+            1 => Some(PageFault::TooShort),
+            2 => Some(PageFault::NoSignature),
+            3 => Some(PageFault::WrongChecksum),
+            4 => Some(PageFault::WideBus),
+            5 => Some(PageFault::AddressCycles),
+            6 => Some(PageFault::SizeOutOfRange),
+            7 => Some(PageFault::LunsOutOfRange),
+            8 => Some(PageFault::PlanesOutOfRange),
+            9 => Some(PageFault::LunCommandsMissing),
+            _ => None,
         }
     }
 }

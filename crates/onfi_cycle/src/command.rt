@@ -3,6 +3,12 @@ ghost use Rattle.std.specs.Prelude.{ℕ, ◌≡◌, ◌<◌, ◌^◌, Option};
 ghost use Rattle.onfi_cycle.specs.Command.{command, opcode, is_known, is_opener, address_cycles, closes, takes_address, at_last_row, addresses_the_array, reads_identity, wants_ready, wants_one_lun};
 ghost use Rattle.onfi_cycle.specs.Sequence.{is_proper_beginning};
 
+/// The byte of [`Command::ReadStatus`], with which a host polls the one LUN of a target.
+pub const READ_STATUS: u8 = 0x70;
+
+/// The byte of [`Command::ReadStatusEnhanced`], with which a host polls a LUN of several by a row of it.
+pub const READ_STATUS_ENHANCED: u8 = 0x78;
+
 /// The commands of the profile. Each name is the one of ONFI 4.x; the section that defines it
 /// bears that name, and stands in the table of docs/model/MODEL.md. [`Command::of`] and [`Command::opcode`] lead from
 /// bytes to commands and back.

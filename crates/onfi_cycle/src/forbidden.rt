@@ -1,6 +1,6 @@
 //! The rules of permitted items.
 ghost use Rattle.std.specs.Prelude.{◌≡◌};
-ghost use Rattle.onfi_cycle.specs.Codes.{forbidden_code};
+ghost use Rattle.onfi_cycle.specs.Codes.{forbidden_code, rule_number, rule_of};
 
 use thiserror::Error;
 
@@ -60,6 +60,54 @@ impl Forbidden {
             Forbidden::DataNotReady => "F13",
             Forbidden::ColumnOutside => "F14",
             Forbidden::CacheReadMisplaced => "F15",
+        }
+    }
+
+    /// The number of its code, 1 to 15.
+    pub fn number(self) -> u32
+        ensures { result ≡ rule_number self }
+    {
+        match self {
+            Forbidden::NotThere => 1,
+            Forbidden::CommandUnknown => 2,
+            Forbidden::SequenceOpen => 3,
+            Forbidden::SeveralLuns => 4,
+            Forbidden::NoColumnToChange => 5,
+            Forbidden::CommandMisplaced => 6,
+            Forbidden::AddressMisplaced => 7,
+            Forbidden::RowOutside => 8,
+            Forbidden::LunBusy => 9,
+            Forbidden::QueueClash => 10,
+            Forbidden::InputMisplaced => 11,
+            Forbidden::NoSoleDriver => 12,
+            Forbidden::DataNotReady => 13,
+            Forbidden::ColumnOutside => 14,
+            Forbidden::CacheReadMisplaced => 15,
+        }
+    }
+
+    /// The rule whose code has this number, if there is one.
+    #[tactic(auto, unfolding(crate::specs::Codes::rule_of))]
+    pub fn of_number(number: u32) -> Option<Forbidden>
+        ensures { result ≡ rule_of number }
+    {
+        match number {
+            1 => Some(Forbidden::NotThere),
+            2 => Some(Forbidden::CommandUnknown),
+            3 => Some(Forbidden::SequenceOpen),
+            4 => Some(Forbidden::SeveralLuns),
+            5 => Some(Forbidden::NoColumnToChange),
+            6 => Some(Forbidden::CommandMisplaced),
+            7 => Some(Forbidden::AddressMisplaced),
+            8 => Some(Forbidden::RowOutside),
+            9 => Some(Forbidden::LunBusy),
+            10 => Some(Forbidden::QueueClash),
+            11 => Some(Forbidden::InputMisplaced),
+            12 => Some(Forbidden::NoSoleDriver),
+            13 => Some(Forbidden::DataNotReady),
+            14 => Some(Forbidden::ColumnOutside),
+            15 => Some(Forbidden::CacheReadMisplaced),
+            _ => None,
         }
     }
 }

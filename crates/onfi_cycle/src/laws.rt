@@ -5,6 +5,7 @@ ghost use Rattle.onfi_cycle.specs.Table.{TailsFollowTheTable};
 ghost use Rattle.onfi_cycle.specs.Naming.{TailsName};
 ghost use Rattle.onfi_cycle.specs.Decides.{FactsAreDecided};
 ghost use Rattle.onfi_cycle.specs.Steps.{FactsGoOn, ReadiesChange, OutputsShow, OwnCyclesKeep};
+ghost use Rattle.onfi_cycle.specs.Codes.{RulesAreNumbered};
 
 /// Each command of the profile has one byte, and each byte of the profile one command.
 pub fn commands_have_bytes()
@@ -55,4 +56,9 @@ pub fn outputs_show()
 /// What the permitted cycles of one LUN of a channel keep of the others, and of the tails of other targets.
 pub fn own_cycles_keep()
     ensures { OwnCyclesKeep }
+{}
+
+/// Each rule is that of its number.
+pub fn rules_are_numbered()
+    ensures { RulesAreNumbered }
 {}

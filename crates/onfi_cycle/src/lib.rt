@@ -39,7 +39,7 @@ mod target_cycle;
 mod target_state;
 
 pub use bus_state::BusState;
-pub use command::Command;
+pub use command::{Command, READ_STATUS, READ_STATUS_ENHANCED};
 pub use data_phase::DataPhase;
 pub use effect::Effect;
 pub use filling::Filling;

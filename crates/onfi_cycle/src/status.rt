@@ -57,6 +57,13 @@ impl Status {
         self.contains(Status::RDY)
     }
 
+    /// The array of the LUN is ready too (ARDY).
+    pub fn is_array_ready(self) -> bool
+        ensures { result ≡ (bit_and self.0 32 == 32) }
+    {
+        self.contains(Status::ARDY)
+    }
+
     /// The last work of the LUN failed (FAIL).
     pub fn has_failed(self) -> bool
         ensures { result ≡ (bit_and self.0 1 == 1) }

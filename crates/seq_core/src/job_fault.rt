@@ -1,6 +1,6 @@
 //! Why a job isn't made.
 ghost use Rattle.std.specs.Prelude.{◌≡◌};
-ghost use Rattle.seq_core.specs.Codes.{job_fault_code};
+ghost use Rattle.seq_core.specs.Codes.{job_fault_code, job_fault_number, job_fault_of};
 
 use thiserror::Error;
 
@@ -35,6 +35,34 @@ impl JobFault {
             JobFault::BufferLength => "S4",
             JobFault::OtherGeometry => "S5",
             JobFault::NotAtBlock => "S6",
+        }
+    }
+
+    /// The number of its code, 2 to 6.
+    pub fn number(self) -> u32
+        ensures { result ≡ job_fault_number self }
+    {
+        match self {
+            JobFault::NoSuchLun => 2,
+            JobFault::RowsOutside => 3,
+            JobFault::BufferLength => 4,
+            JobFault::OtherGeometry => 5,
+            JobFault::NotAtBlock => 6,
+        }
+    }
+
+    /// The fault whose code has this number, if there is one.
+    #[tactic(auto, unfolding(crate::specs::Codes::job_fault_of))]
+    pub fn of_number(number: u32) -> Option<JobFault>
+        ensures { result ≡ job_fault_of number }
+    {
+        match number {
+            2 => Some(JobFault::NoSuchLun),
+            3 => Some(JobFault::RowsOutside),
+            4 => Some(JobFault::BufferLength),
+            5 => Some(JobFault::OtherGeometry),
+            6 => Some(JobFault::NotAtBlock),
+            _ => None,
         }
     }
 }

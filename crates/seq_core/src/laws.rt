@@ -64,6 +64,7 @@ pub fn unloads_give_back()
 {}
 
 ghost use Rattle.seq_core.specs.Live.{LiveStepsGoWell, ReadiesMakeTruth};
+ghost use Rattle.seq_core.specs.Codes.{JobFaultsAreNumbered};
 
 /// A step on a real bus. In a lawful world, whatever truthful bytes the chips give to the outputs of a program's next word: its cycles
 /// are permitted where they come and its LUN's own, it stays inside buffer and budget, and the world that it leaves is lawful.
@@ -75,4 +76,9 @@ pub fn live_steps_go_well()
 /// LUN isn't busy.
 pub fn readies_make_truth()
     ensures { ReadiesMakeTruth }
+{}
+
+/// Each fault of a job is that of its number.
+pub fn job_faults_are_numbered()
+    ensures { JobFaultsAreNumbered }
 {}

@@ -14,6 +14,7 @@ pub mod laws;
 mod load_fault;
 mod loops;
 pub mod lun_slots;
+pub mod outcome;
 mod playing;
 mod registers;
 mod sequencer;

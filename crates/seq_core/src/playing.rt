@@ -13,15 +13,9 @@ ghost use Rattle.seq_core.specs.Playing.{EndsWithFive, IsQuiet, KeepsQuiet, IsSa
 
 use crate::registers::Registers;
 use micro_word::Word;
-use onfi_cycle::{Cycle, Kind, Lun};
+use onfi_cycle::{Cycle, Kind, Lun, READ_STATUS, READ_STATUS_ENHANCED};
 use std::alloc::{AllocError, Allocator};
 use target_bus::{Bus, BusRefusal};
-
-// The command that asks the one LUN of a target for its status.
-const READ_STATUS: u8 = 0x70;
-
-// The command that asks a LUN for its status by a row of it.
-const READ_STATUS_ENHANCED: u8 = 0x78;
 
 // Gives one byte, by a cycle that starts no work and has its place.
 fn give<A: Allocator + Copy>(bus: &mut Bus<A>, lun: Lun, kind: Kind, byte: u8)

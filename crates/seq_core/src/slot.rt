@@ -8,17 +8,18 @@ ghost use Rattle.micro_program.specs.Program.{Job as JobValue};
 ghost use Rattle.target_bus.specs.Bus.{Traced, channel_of};
 ghost use Rattle.seq_core.specs.Event.{IsVerified};
 ghost use Rattle.seq_core.specs.Loops.{loops_behind};
-ghost use Rattle.seq_core.specs.Progress.{fresh_progress, reaches, outcome_of, is_done, code_of, with_buffer, behind_word};
+ghost use Rattle.seq_core.specs.Progress.{fresh_progress, reaches, outcome_of, with_buffer, behind_word};
 ghost use Rattle.seq_core.specs.Calls.{CanStep, DidPlay, Steps};
 ghost use Rattle.seq_core.specs.Playing.{EndsWithFive, IsSame, IsUntouched};
 
 use crate::job::Job;
 use crate::loops::{DEPTH, OpenLoop, go_behind};
+use crate::outcome::{code_of, is_done, outcome_of};
 use crate::playing::play;
 use crate::registers::Registers;
 use crate::stepped::Stepped;
 use arrayvec::ArrayVec;
-use micro_program::{Verified, is_ready_status};
+use micro_program::Verified;
 use micro_word::Word;
 use onfi_cycle::Lun;
 use std::alloc::{AllocError, Allocator};
@@ -63,35 +64,6 @@ impl<A: Allocator> Model for Slot<A> {
     ghost view = { λ s. record { job = job_of s.lun s.base s.verified s.buffer.items; at = s.position.at; loops = reverse s.position.loops.items; registers = s.position.registers; code = s.position.code } };
 
     ghost invariant = { λ s. IsVerified (job_of s.lun s.base s.verified s.buffer.items) × IsShaped s.verified.text.words };
-}
-
-// How the step of a word is answered, with the status that its poll brought.
-fn outcome_of(word: Word, status: u8) -> Stepped
-    ensures { result ≡ outcome_of word status }
-{
-    match word {
-        Word::End { .. } => Stepped::Ended,
-        Word::Yield => Stepped::HandedOver,
-        Word::Wait if !is_ready_status(status) => Stepped::NotReady,
-        _ => Stepped::Went,
-    }
-}
-
-// The word is done.
-fn is_done(answer: Stepped) -> bool
-    ensures { result ≡ is_done answer }
-{
-    !matches!(answer, Stepped::NotReady)
-}
-
-// The code that a word ends with.
-fn code_of(word: Word) -> Option<u8>
-    ensures { result ≡ code_of word }
-{
-    match word {
-        Word::End { code } => Some(code),
-        _ => None,
-    }
 }
 
 impl<A: Allocator> Slot<A> {

@@ -10,14 +10,14 @@ returns-in_err-read_word-clause-err c =
     let before = c.loop-place.invariant in
     let inside : c.loop-place.place < c.args.header.words = omega arith in
     let p = err_from_is_err_and c.from_residual.result c.from_residual.ensures.1 in
-    rw (p.1, p.2) (ends c.args.header c.loop-place.place c.loop-place.rest.now c.args.bytes.now before.0 c.in_err-read_word.field-0.0 inside (sym c.in_err-read_word.ensures) before.1)
+    rw (p.1, p.2) (ends c.args.header c.loop-place.place c.loop-place.rest.now c.args.bytes.now before.0 c.in_err-read_word.field-0.0 inside (sym c.in_err-read_word.ensures.value) before.1)
 
 pub loop-place-preserved : goal.loop-place-preserved
 loop-place-preserved c =
     let before = c.loop-place.invariant in
     let inside : c.loop-place.place < c.args.header.words = omega arith in
     let word = c.in_ok-read_word.field-0 in
-    let read : word_at c.args.header c.loop-place.place c.loop-place.rest.now ≡ Ok word = sym c.in_ok-read_word.ensures in
+    let read : word_at c.args.header c.loop-place.place c.loop-place.rest.now ≡ Ok word = sym c.in_ok-read_word.ensures.value in
     (before.0 ++ word ∷ [], rw c.split_at.ensures.back (goes_on c.args.header c.loop-place.place c.loop-place.rest.now c.args.bytes.now before.0 word inside read before.1))
 
 pub returns-clause-ok : goal.returns-clause-ok
