@@ -3,4 +3,5 @@ pub mod Pushed
 pub mod Fresh
 pub mod AllPushed
 pub mod Runs
+pub mod Done
 pub mod Changed

@@ -625,12 +625,11 @@ fn judge_command(
 fn judge_command_there(
     geometry: &OnfiseqGeometry,
     kept: &OnfiseqTarget,
-    byte: u8,
+    command: Command,
 ) -> Option<Forbidden>
     requires { IsTarget kept.now }
-    ensures { result ≡ judge_cycle (parts_of geometry.now) (tail_of kept.now) (target_of kept.now).luns (TargetCycle.CommandCycle (command byte)) }
+    ensures { result ≡ judge_cycle (parts_of geometry.now) (tail_of kept.now) (target_of kept.now).luns (TargetCycle.CommandCycle command) }
 {
-    let command = Command::of(byte);
     if breaks_command_unknown(geometry, command) {
         return Some(Forbidden::CommandUnknown);
     }
@@ -666,7 +665,7 @@ pub(crate) fn judge_kept(
     ensures { result ≡ judge_cycle (parts_of geometry.now) (tail_of kept.now) (target_of kept.now).luns (target_cycle cycle.kind cycle.byte) }
 {
     match cycle.kind {
-        Kind::Cmd => judge_command_there(geometry, kept, cycle.byte),
+        Kind::Cmd => judge_command_there(geometry, kept, Command::of(cycle.byte)),
         Kind::Adr => judge_address_there(geometry, kept, cycle.byte),
         Kind::Din => judge_input(geometry, kept),
         Kind::Dout => judge_output(geometry, kept),
@@ -707,6 +706,50 @@ pub(crate) fn judge_there(
             }
         }
     }
+}
+
+/// The first rule that a command breaks, by the record of its target.
+#[inline(always)]
+#[tactic(auto, unfolding(onfi_cycle::specs::Rules::breaks_not_there))]
+pub(crate) fn judge_command_of(
+    geometry: &OnfiseqGeometry,
+    targets: u8,
+    kept: &OnfiseqTarget,
+    cycle: Cycle,
+    named: Command,
+) -> Option<Forbidden>
+    requires kind { cycle.kind ≡ KindValue.Cmd }
+    requires named { named ≡ command cycle.byte }
+    requires limits { InLimits (parts_of geometry.now) }
+    requires numbers { IsTarget kept.now }
+    requires fits { TargetFits (parts_of geometry.now) (target_of kept.now) }
+    ensures { result ≡ judge (parts_of geometry.now) targets (target_of kept.now).tail (target_of kept.now).luns (ItemValue.Cyc cycle) }
+{
+    if targets <= cycle.ce {
+        return Some(Forbidden::NotThere);
+    }
+    judge_command_there(geometry, kept, named)
+}
+
+/// The first rule that an address breaks, by the record of its target.
+#[inline(always)]
+#[tactic(auto, unfolding(onfi_cycle::specs::Rules::breaks_not_there))]
+pub(crate) fn judge_address_of(
+    geometry: &OnfiseqGeometry,
+    targets: u8,
+    kept: &OnfiseqTarget,
+    cycle: Cycle,
+) -> Option<Forbidden>
+    requires kind { cycle.kind ≡ KindValue.Adr }
+    requires limits { InLimits (parts_of geometry.now) }
+    requires numbers { IsTarget kept.now }
+    requires fits { TargetFits (parts_of geometry.now) (target_of kept.now) }
+    ensures { result ≡ judge (parts_of geometry.now) targets (target_of kept.now).tail (target_of kept.now).luns (ItemValue.Cyc cycle) }
+{
+    if targets <= cycle.ce {
+        return Some(Forbidden::NotThere);
+    }
+    judge_address_there(geometry, kept, cycle.byte)
 }
 
 /// The first rule that an output breaks, by the record of its target.

@@ -6,15 +6,19 @@
 #![tactic(auto)]
 
 mod bus;
-mod changing;
 mod geometry;
 mod item;
 mod judging;
 mod look;
+mod lun_change;
+mod luns_change;
 mod many;
 mod record;
 mod rule;
 mod run;
+mod tail_change;
+mod target_change;
+mod target_effect;
 
 pub use bus::{DAMAGED, OnfiseqBus, begin, is_bus, push, push_item, push_numbers};
 pub use geometry::OnfiseqGeometry;
