@@ -246,7 +246,7 @@ fn step_array_ready(
 
 // A target goes on by an item that is permitted. Else the answer is the first rule that it breaks, and nothing changes.
 #[inline(always)]
-fn step_target(
+pub(crate) fn step_target(
     geometry: &OnfiseqGeometry,
     targets: u8,
     kept: &mut OnfiseqTarget,

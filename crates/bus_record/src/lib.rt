@@ -19,6 +19,7 @@ mod run;
 mod tail_change;
 mod target_change;
 mod target_effect;
+mod trial;
 
 pub use bus::{DAMAGED, OnfiseqBus, begin, is_bus, push, push_item, push_numbers};
 pub use geometry::OnfiseqGeometry;
@@ -28,3 +29,4 @@ pub use many::push_all;
 pub use record::{OnfiseqLun, OnfiseqQueued, OnfiseqTarget};
 pub use rule::rule_number;
 pub use run::{push_inputs, push_outputs};
+pub use trial::{put_target, target_at, try_inputs, try_item, try_outputs};

@@ -120,7 +120,7 @@ fn give_run(luns: &mut [OnfiseqLun; 4], there: usize, count: usize)
 }
 
 // So many inputs on their target, if they break no rule.
-fn push_inputs_there(
+pub(crate) fn push_inputs_there(
     geometry: &OnfiseqGeometry,
     targets: u8,
     kept: &mut OnfiseqTarget,
@@ -145,7 +145,7 @@ fn push_inputs_there(
 }
 
 // So many outputs on their target, if they break no rule.
-fn push_outputs_there(
+pub(crate) fn push_outputs_there(
     geometry: &OnfiseqGeometry,
     targets: u8,
     kept: &mut OnfiseqTarget,
