@@ -115,6 +115,31 @@ fn select(kept: &mut OnfiseqLun)
     kept.latch = latch_code(Latch::Status);
 }
 
+// A LUN shows its status, and has lost its column where it gave bytes.
+#[inline(always)]
+fn show_status(kept: &mut OnfiseqLun)
+    requires { IsRecord kept.old }
+    ensures value { lun_of kept.new ≡ view_after EffectValue.StatusSelected (lun_of kept.old) }
+    ensures numbers { IsRecord kept.new }
+{
+    kept.lost = kept.lost || 0 < kept.outputs;
+    kept.latch = latch_code(Latch::Status);
+}
+
+// Each does.
+fn show_status_of_each(luns: &mut [OnfiseqLun])
+    requires { All IsRecord luns.old }
+    ensures value { luns_of luns.new ≡ map (view_after EffectValue.StatusSelected) (luns_of luns.old) }
+    ensures numbers { All IsRecord luns.new }
+{
+    if luns.is_empty() {
+        return;
+    }
+    let (first, rest) = luns.split_at_mut(1);
+    show_status(&mut first[0]);
+    show_status_of_each(rest);
+}
+
 // The one of this number shows its status, if it is there.
 fn select_one(luns: &mut [OnfiseqLun], number: u32)
     requires { All IsRecord luns.old }
@@ -127,7 +152,8 @@ fn select_one(luns: &mut [OnfiseqLun], number: u32)
     }
 }
 
-// They are left so by what a command or an address does.
+// They are left so by what a command or an address does. The command that polls comes most often, so it has a way of its own.
+#[inline(always)]
 fn change_luns(luns: &mut [OnfiseqLun], effect: TargetEffect)
     requires numbers { All IsRecord luns.old }
     requires small { AreLittle luns.old }
@@ -137,6 +163,7 @@ fn change_luns(luns: &mut [OnfiseqLun], effect: TargetEffect)
 {
     match effect {
         TargetEffect::Nothing => {}
+        TargetEffect::OnEach(Effect::StatusSelected) => show_status_of_each(luns),
         TargetEffect::OnEach(effect) => change_each(luns, effect),
         TargetEffect::OnDriver(effect) => change_driver(luns, effect),
         TargetEffect::OnOne { lun, effect } => change_one(luns, lun, effect),
