@@ -16,6 +16,7 @@ use Rattle.onfi_cycle.specs.State.{TargetView, BusView, bus, bus_after, judged}
 use Rattle.onfi_cycle.proofs.Inputs.{inputs_are_data}
 use Rattle.onfi_cycle.proofs.Outputs.{outputs_are_data}
 use Rattle.bus_record.specs.Bus.{IsTarget, IsSound, IsStep, bus_view, bus_pushed, target_pushed}
+use Rattle.bus_record.specs.Channel.{IsSameChannel}
 use Rattle.bus_record.specs.Geometry.{parts_of}
 use Rattle.bus_record.specs.Kept.{Kept}
 use Rattle.bus_record.specs.Record.{target_of}
@@ -23,7 +24,7 @@ use Rattle.bus_record.specs.Rule.{by_option}
 use Rattle.bus_record.specs.Runs.{inputs_rule, inputs_pushed, outputs_rule, outputs_pushed}
 use Rattle.bus_record.specs.Trial.{tried, tried_view, IsTried}
 use Rattle.bus_record.specs.declared.record.OnfiseqTarget.{OnfiseqTarget}
-use Rattle.bus_record.proofs.Pushed.{fits_there, limits_there, sound_after, judged_there, state_there, set_same}
+use Rattle.bus_record.proofs.Pushed.{fits_there, limits_there, sound_after, judged_there, state_there, set_same, set_seen}
 use Rattle.bus_record.proofs.Runs.{inputs_judged, inputs_left, outputs_judged, outputs_left, few_there, run_pushed, run_sound, run_state, no_target}
 
 -- what stands in its place
@@ -80,6 +81,10 @@ taken_out k ce d s low =
 
 pub taken_view : (k : Kept) (ce : ℕ) (d : OnfiseqTarget) → tried_view k ce (get_or k.targets ce d) ≡ bus_view k
 taken_view k ce d = ap (λ (ts : List OnfiseqTarget). let x : Kept = record { magic = k.magic; geometry = k.geometry; count = k.count; targets = ts } in bus_view x) (set_same k.targets ce d)
+
+-- the channel stays the same
+pub tried_same : (k : Kept) (ce : ℕ) (t : OnfiseqTarget) → ce < k.count → IsSameChannel (bus_view k) (tried_view k ce t)
+tried_same k ce t low = record { geometry = refl; count = ap length (set_seen target_of k.count k.targets ce t low) ∙ length-set (map target_of (take k.count k.targets)) ce (target_of t) }
 
 -- runs of data
 

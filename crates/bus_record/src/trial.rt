@@ -5,6 +5,7 @@ ghost use Rattle.onfi_cycle.specs.Outputs.{judged_outputs, after_outputs};
 ghost use Rattle.onfi_cycle.specs.State.{bus_after, judged};
 ghost use Rattle.onfi_cycle.specs.Sequence.{target_of as target_of_item};
 ghost use Rattle.bus_record.specs.Bus.{bus_pushed, bus_view};
+ghost use Rattle.bus_record.specs.Channel.{IsSameChannel};
 ghost use Rattle.bus_record.specs.Trial.{IsTried, tried_view};
 
 use crate::bus::{OnfiseqBus, step_target};
@@ -27,6 +28,7 @@ pub fn target_at(bus: &OnfiseqBus, ce: u8) -> OnfiseqTarget
 pub fn put_target(bus: &mut OnfiseqBus, ce: u8, kept: &OnfiseqTarget)
     requires { IsTried bus.old ce kept.now }
     ensures state { bus_view bus.new ≡ tried_view bus.old ce kept.now }
+    ensures same { IsSameChannel (bus_view bus.old) (bus_view bus.new) }
     ensures count { bus.new.count ≡ bus.old.count }
 {
     bus.targets[usize::from(ce)] = *kept;

@@ -1,4 +1,4 @@
-use Rattle.std.proofs.Common.{◌∙◌, Option, refl, sym, ap, is_some, length}
+use Rattle.std.proofs.Common.{◌∙◌, Option, refl, ap, is_some, length}
 use Rattle.seq_live.specs.declared.live.StepGoingOn.{StepGoingOn}
 use Rattle.seq_live.proofs.Shown.{stepped_next, goes_on_now, no_room}
 use Rattle.seq_live.proofs.pins.step_due.Goals as goal

@@ -1,8 +1,8 @@
-use Rattle.std.proofs.Common.{◌∙◌, sym, ap, subst, None, refl, length}
+use Rattle.std.proofs.Common.{◌∙◌, sym, ap, subst, None, refl}
 use Rattle.seq_live.specs.Kept.{LiveView, IsLive}
 use Rattle.seq_live.specs.Calls.{HasFinished}
 use Rattle.seq_live.proofs.Shown.{finished_at_rest, finished, burst_left}
-use Rattle.seq_live.proofs.Faults.{none_at_rest, none_found, miscounted}
+use Rattle.seq_live.proofs.Faults.{none_at_rest}
 use Rattle.seq_live.proofs.live.Live.finish.Goals as goal
 
 pub returns-in-Some-answer_at_rest-clause-ok : goal.returns-in-Some-answer_at_rest-clause-ok
