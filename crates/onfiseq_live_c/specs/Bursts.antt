@@ -1,5 +1,5 @@
 -- What the rules say of bursts by the state of a channel, cycle after cycle, and what they leave of it.
-use Rattle.std.specs.Prelude.{ℕ, List, [], ◌∷◌, Option, None}
+use Rattle.std.specs.Prelude.{◌≡◌, ℕ, List, [], ◌∷◌, Option, None}
 use Rattle.onfi_cycle.specs.Channel.{cycle}
 use Rattle.onfi_cycle.specs.declared.forbidden.Forbidden.{Forbidden}
 use Rattle.onfi_cycle.specs.declared.item.Kind.TheVariants.{Cmd, Adr, Din, Dout}
@@ -8,6 +8,17 @@ use Rattle.onfi_cycle.specs.State.{BusView, judged, bus_after}
 use Rattle.micro_program.specs.Moves.{part}
 use Rattle.seq_live.specs.declared.burst.Burst.{Burst}
 use Rattle.seq_live.specs.declared.burst.Burst.TheVariants.{Command, Address, Input, Output}
+
+-- the target of a burst, and bursts that are all of one
+abbrev pub target_of : Burst → ℕ
+target_of (Command ce byte) = ce
+target_of (Address ce five from count) = ce
+target_of (Input ce place len) = ce
+target_of (Output ce len) = ce
+
+abbrev pub AllOn : ℕ → List Burst → Type 0
+AllOn ce [] = Unit {0}
+AllOn ce (b ∷ bursts) = (target_of b ≡ ce) × AllOn ce bursts
 
 -- address cycles of these bytes
 abbrev pub judged_addresses : ℕ → List ℕ → BusView → Option Forbidden

@@ -1,19 +1,18 @@
 //! What is to be done on the pins for a job's next word.
-ghost use Rattle.std.specs.Prelude.{◌≡◌, Ok, Err, slice_get};
+ghost use Rattle.std.specs.Prelude.{◌≡◌, ◌<◌, Ok, Err, slice_get};
 ghost use Rattle.seq_core.specs.Playing.{EndsWithFive};
 ghost use Rattle.bus_record.specs.Bus.{bus_view};
 ghost use Rattle.onfiseq_live_c.specs.Job.{job_view};
 ghost use Rattle.onfiseq_live_c.specs.Next.{shown, shown_some, three, told, next_of, turn_of};
 
-use crate::bursts::push_bursts;
+use crate::bursts::{bursts_for, try_bursts};
 use crate::due::due;
 use crate::job::OnfiseqJob;
 use crate::live::OnfiseqLive;
 use crate::stop::Stop;
-use bus_record::{OnfiseqBus, copy_of};
+use bus_record::{OnfiseqBus, target_at};
 use micro_word::Word;
-use nand_geometry::Geometry;
-use seq_live::{Burst, bursts_of, taken_by};
+use seq_live::{Burst, taken_by};
 
 /// What is to be done on the pins in one go, with the chip enable `ce` low and the others high. `kind` is a letter: C and A give `len` of the bytes, from
 /// `place` on, with CLE or ALE high; I gives `len` bytes of the job's buffer, from `place` on; O takes `len` bytes from the chip.
@@ -138,15 +137,17 @@ impl OnfiseqTurn {
 }
 
 // What is to be done for a word of a job.
-fn tell(geometry: &Geometry, bus: &mut OnfiseqBus, job: &OnfiseqJob, word: Word) -> OnfiseqTurn
-    requires geometry { geometry.now ≡ (bus_view bus.old).geometry }
+#[inline(always)]
+fn tell(bus: &OnfiseqBus, job: &OnfiseqJob, word: Word) -> OnfiseqTurn
+    requires there { job.now.ce < bus.now.count }
     requires range { EndsWithFive word }
-    ensures { result ≡ turn_of (told (bus_view bus.old) (job_view job.now) word) }
+    ensures { result ≡ turn_of (told (bus_view bus.now) (job_view job.now) word) }
 {
-    let Some(bursts) = bursts_of(geometry, job.on(), job.registers(), word) else {
+    let Some(bursts) = bursts_for(bus, job, word) else {
         return OnfiseqTurn::stopped(Stop::RowOutside);
     };
-    match push_bursts(bus, bursts.as_slice()) {
+    let mut kept = target_at(bus, job.ce);
+    match try_bursts(bus, &mut kept, job.ce, bursts.as_slice()) {
         Some(rule) => OnfiseqTurn::stopped(Stop::Breaks(rule)),
         None => OnfiseqTurn::told(bursts.as_slice(), taken_by(word)),
     }
@@ -158,14 +159,11 @@ fn tell(geometry: &Geometry, bus: &mut OnfiseqBus, job: &OnfiseqJob, word: Word)
 pub extern "C" fn onfiseq_job_next(live: &OnfiseqLive, job: &OnfiseqJob, file: &[u8]) -> OnfiseqTurn
     ensures { result ≡ turn_of (next_of live.now job.now file.now) }
 {
-    let Some(geometry) = live.geometry_for(job) else {
+    if !live.has_job(job) {
         return OnfiseqTurn::stopped(Stop::Damaged);
-    };
+    }
     match due(live.holder(), job, file) {
         Err(stop) => OnfiseqTurn::stopped(stop),
-        Ok(word) => {
-            let mut bus = copy_of(&live.bus);
-            tell(&geometry, &mut bus, job, word)
-        }
+        Ok(word) => tell(&live.bus, job, word),
     }
 }
