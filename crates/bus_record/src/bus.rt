@@ -3,6 +3,8 @@ ghost use Rattle.std.specs.Prelude.{◌≡◌, ℕ, ◌≤◌, [], Some, None, I
 ghost use Rattle.nand_geometry.specs.declared.parts.Parts.{Parts};
 ghost use Rattle.onfi_cycle.specs.declared.item.Item.{Item as ItemValue};
 ghost use Rattle.onfi_cycle.specs.declared.item.Kind.{Kind as KindValue};
+ghost use Rattle.onfi_cycle.specs.Channel.{cycle};
+ghost use Rattle.onfi_cycle.specs.Command.{command};
 ghost use Rattle.onfi_cycle.specs.State.{Follows, bus_after, judged, target_view};
 ghost use Rattle.onfi_cycle.specs.Permitted.{judge};
 ghost use Rattle.bus_record.specs.Geometry.{parts_of};
@@ -23,7 +25,7 @@ use crate::record::{NO_TARGET, OnfiseqTarget, target_record};
 use crate::rule::rule_number;
 use crate::target_change::{apply_address, apply_command, apply_input, apply_output};
 use nand_geometry::Geometry;
-use onfi_cycle::{Command, Cycle, Forbidden, Item, Kind, TargetState};
+use onfi_cycle::{Command, Cycle, Forbidden, Item, Kind, READ_STATUS, TargetState};
 use std::marker::Model;
 
 // What stands first in a record that a call left: `OBUS`.
@@ -158,6 +160,29 @@ fn step_input(
     None
 }
 
+// A target goes on by a command that is known, if that is permitted.
+#[inline(always)]
+fn step_named(
+    geometry: &OnfiseqGeometry,
+    targets: u8,
+    kept: &mut OnfiseqTarget,
+    cycle: Cycle,
+    named: Command,
+) -> Option<Forbidden>
+    requires command { cycle.kind ≡ KindValue.Cmd }
+    requires named { named ≡ command cycle.byte }
+    requires limits { InLimits (parts_of geometry.now) }
+    requires numbers { IsTarget kept.old }
+    requires fits { TargetFits (parts_of geometry.now) (target_of kept.old) }
+    ensures { IsStep (parts_of geometry.now) targets kept.old kept.new (ItemValue.Cyc cycle) result }
+{
+    if let Some(rule) = judge_command_of(geometry, targets, kept, cycle, named) {
+        return Some(rule);
+    }
+    apply_command(geometry, targets, kept, cycle, named);
+    None
+}
+
 // A target goes on by a command, if that is permitted.
 #[inline(never)]
 fn step_command(
@@ -172,12 +197,29 @@ fn step_command(
     requires fits { TargetFits (parts_of geometry.now) (target_of kept.old) }
     ensures { IsStep (parts_of geometry.now) targets kept.old kept.new (ItemValue.Cyc cycle) result }
 {
-    let named = Command::of(cycle.byte);
-    if let Some(rule) = judge_command_of(geometry, targets, kept, cycle, named) {
-        return Some(rule);
-    }
-    apply_command(geometry, targets, kept, cycle, named);
-    None
+    step_named(geometry, targets, kept, cycle, Command::of(cycle.byte))
+}
+
+/// A target goes on by 70h, if that is permitted. It comes with each poll, so it has a way of its own.
+#[inline(always)]
+#[tactic(auto, unfolding(onfi_cycle::specs::Command::command))]
+pub(crate) fn step_read_status(
+    geometry: &OnfiseqGeometry,
+    targets: u8,
+    kept: &mut OnfiseqTarget,
+    ce: u8,
+) -> Option<Forbidden>
+    requires limits { InLimits (parts_of geometry.now) }
+    requires numbers { IsTarget kept.old }
+    requires fits { TargetFits (parts_of geometry.now) (target_of kept.old) }
+    ensures { IsStep (parts_of geometry.now) targets kept.old kept.new (cycle ce KindValue.Cmd 0x70) result }
+{
+    let cycle = Cycle {
+        ce,
+        kind: Kind::Cmd,
+        byte: READ_STATUS,
+    };
+    step_named(geometry, targets, kept, cycle, Command::ReadStatus)
 }
 
 // A target goes on by an address, if that is permitted.

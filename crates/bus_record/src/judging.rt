@@ -295,6 +295,7 @@ fn breaks_cache_read_misplaced(
 }
 
 // The first of F3 to F15 that an opener breaks.
+#[inline(always)]
 #[tactic(auto, unfolding(onfi_cycle::specs::Rules::breaks_sequence_open, onfi_cycle::specs::Rules::breaks_several_luns, onfi_cycle::specs::Rules::breaks_command_misplaced, onfi_cycle::specs::Rules::breaks_address_misplaced, onfi_cycle::specs::Rules::breaks_row_outside, onfi_cycle::specs::Rules::breaks_lun_busy, onfi_cycle::specs::Rules::breaks_queue_clash, onfi_cycle::specs::Rules::breaks_input_misplaced, onfi_cycle::specs::Rules::breaks_no_sole_driver, onfi_cycle::specs::Rules::breaks_data_not_ready, onfi_cycle::specs::Rules::breaks_column_outside))]
 fn judge_opener(
     geometry: &OnfiseqGeometry,
@@ -601,6 +602,7 @@ fn is_array_not_busy(luns: &[OnfiseqLun], number: u8) -> bool
 }
 
 // The first of F3 to F15 that a command breaks. A closer can break F6 alone.
+#[inline(always)]
 #[tactic(auto, unfolding(onfi_cycle::specs::Rules::breaks_sequence_open, onfi_cycle::specs::Rules::breaks_several_luns, onfi_cycle::specs::Rules::breaks_no_column_to_change, onfi_cycle::specs::Rules::breaks_command_misplaced, onfi_cycle::specs::Rules::breaks_address_misplaced, onfi_cycle::specs::Rules::breaks_row_outside, onfi_cycle::specs::Rules::breaks_lun_busy, onfi_cycle::specs::Rules::breaks_queue_clash, onfi_cycle::specs::Rules::breaks_input_misplaced, onfi_cycle::specs::Rules::breaks_no_sole_driver, onfi_cycle::specs::Rules::breaks_data_not_ready, onfi_cycle::specs::Rules::breaks_column_outside, onfi_cycle::specs::Rules::breaks_cache_read_misplaced))]
 fn judge_command(
     geometry: &OnfiseqGeometry,
@@ -620,7 +622,7 @@ fn judge_command(
 }
 
 // The first of F2 to F15 that a command breaks.
-#[inline(never)]
+#[inline(always)]
 #[tactic(auto, unfolding(onfi_cycle::specs::Rules::breaks_command_unknown))]
 fn judge_command_there(
     geometry: &OnfiseqGeometry,

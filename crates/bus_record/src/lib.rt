@@ -29,4 +29,4 @@ pub use many::push_all;
 pub use record::{OnfiseqLun, OnfiseqQueued, OnfiseqTarget};
 pub use rule::rule_number;
 pub use run::{push_inputs, push_outputs};
-pub use trial::{put_target, target_at, try_inputs, try_item, try_outputs};
+pub use trial::{put_target, target_at, try_inputs, try_item, try_outputs, try_poll};

@@ -3,15 +3,17 @@ ghost use Rattle.std.specs.Prelude.{◌≡◌, ◌<◌, ◌≤◌, ◌^◌, Some
 ghost use Rattle.onfi_cycle.specs.Inputs.{judged_inputs, after_inputs};
 ghost use Rattle.onfi_cycle.specs.Outputs.{judged_outputs, after_outputs};
 ghost use Rattle.onfi_cycle.specs.State.{bus_after, judged};
+ghost use Rattle.onfi_cycle.specs.Channel.{cycle};
+ghost use Rattle.onfi_cycle.specs.declared.item.Kind.{Kind as KindValue};
 ghost use Rattle.onfi_cycle.specs.Sequence.{target_of as target_of_item};
 ghost use Rattle.bus_record.specs.Bus.{bus_pushed, bus_view};
 ghost use Rattle.bus_record.specs.Channel.{IsSameChannel};
-ghost use Rattle.bus_record.specs.Trial.{IsTried, tried_view};
+ghost use Rattle.bus_record.specs.Trial.{IsTried, after_poll, judged_poll, tried_view};
 
-use crate::bus::{OnfiseqBus, step_target};
+use crate::bus::{OnfiseqBus, step_read_status, step_target};
 use crate::record::OnfiseqTarget;
 use crate::run::{push_inputs_there, push_outputs_there};
-use onfi_cycle::{Forbidden, Item};
+use onfi_cycle::{Cycle, Forbidden, Item, Kind};
 
 /// The record of a target of a channel.
 #[inline(always)]
@@ -44,6 +46,43 @@ pub fn try_item(bus: &OnfiseqBus, kept: &mut OnfiseqTarget, item: Item) -> Optio
     ensures tried { IsTried bus.now (target_of_item item) kept.new }
 {
     step_target(&bus.geometry, bus.count as u8, kept, item)
+}
+
+// A target goes on by 70h, if that is permitted.
+#[inline(always)]
+fn try_read_status(bus: &OnfiseqBus, kept: &mut OnfiseqTarget, ce: u8) -> Option<Forbidden>
+    requires { IsTried bus.now ce kept.old }
+    ensures rule { result ≡ judged (tried_view bus.now ce kept.old) (cycle ce KindValue.Cmd 0x70) }
+    ensures after { result ≡ None → tried_view bus.now ce kept.new ≡ bus_after (cycle ce KindValue.Cmd 0x70) (tried_view bus.now ce kept.old) }
+    ensures tried { IsTried bus.now ce kept.new }
+{
+    step_read_status(&bus.geometry, bus.count as u8, kept, ce)
+}
+
+// A target goes on by an output, if that is permitted.
+#[inline(always)]
+fn try_output(bus: &OnfiseqBus, kept: &mut OnfiseqTarget, ce: u8) -> Option<Forbidden>
+    requires { IsTried bus.now ce kept.old }
+    ensures rule { result ≡ judged (tried_view bus.now ce kept.old) (cycle ce KindValue.Dout 0) }
+    ensures after { result ≡ None → tried_view bus.now ce kept.new ≡ bus_after (cycle ce KindValue.Dout 0) (tried_view bus.now ce kept.old) }
+    ensures tried { IsTried bus.now ce kept.new }
+{
+    let kind = Kind::Dout;
+    try_item(bus, kept, Item::Cyc(Cycle { ce, kind, byte: 0 }))
+}
+
+/// A target goes on by a status poll of its one LUN, 70h and an output, up to the first cycle that breaks a rule.
+#[inline(always)]
+pub fn try_poll(bus: &OnfiseqBus, kept: &mut OnfiseqTarget, ce: u8) -> Option<Forbidden>
+    requires { IsTried bus.now ce kept.old }
+    ensures rule { result ≡ judged_poll ce (tried_view bus.now ce kept.old) }
+    ensures state { result ≡ None → tried_view bus.now ce kept.new ≡ after_poll ce (tried_view bus.now ce kept.old) }
+    ensures tried { IsTried bus.now ce kept.new }
+{
+    match try_read_status(bus, kept, ce) {
+        Some(rule) => Some(rule),
+        None => try_output(bus, kept, ce),
+    }
 }
 
 /// A target goes on by so many inputs in a row, if each of them is permitted. Else the answer is the first rule that the first forbidden one breaks, and nothing
