@@ -1,19 +1,19 @@
 //! Going on with a target of a channel by bursts, as far as no rule is broken.
-ghost use Rattle.std.specs.Prelude.{◌≡◌, ◌<◌, Some, None, IfSome, IfNone};
+ghost use Rattle.std.specs.Prelude.{◌≡◌, ◌<◌, true, Some, None, IfSome, IfNone};
 ghost use Rattle.micro_program.specs.Moves.{part};
 ghost use Rattle.onfi_cycle.specs.Channel.{cycle};
 ghost use Rattle.seq_core.specs.Playing.{EndsWithFive};
 ghost use Rattle.seq_live.specs.Burst.{bursts_at};
 ghost use Rattle.bus_record.specs.Bus.{bus_view};
 ghost use Rattle.bus_record.specs.Trial.{IsTried, tried_view};
-ghost use Rattle.onfiseq_live_c.specs.Bursts.{target_of, AllOn, judged_addresses, after_addresses, judged_burst, after_burst, judged_bursts, after_bursts};
+ghost use Rattle.onfiseq_live_c.specs.Bursts.{PollsOne, target_of, AllOn, judged_addresses, after_addresses, judged_burst, after_burst, judged_bursts, after_bursts};
 ghost use Rattle.onfiseq_live_c.specs.Job.{lun_in, registers_in};
 
 use crate::job::OnfiseqJob;
 use bus_record::{OnfiseqBus, OnfiseqTarget, geometry_of, try_inputs, try_item, try_outputs};
 use micro_word::Word;
 use onfi_cycle::{Cycle, Forbidden, Item, Kind};
-use seq_live::{Burst, Bursts, bursts_of, bursts_without_row};
+use seq_live::{Burst, Bursts, bursts_of, bursts_without_row, is_poll};
 
 /// The bursts of a word of a job, None where the row of its address isn't there.
 pub(crate) fn bursts_for(bus: &OnfiseqBus, job: &OnfiseqJob, word: Word) -> Option<Bursts>
@@ -89,6 +89,14 @@ fn try_burst(bus: &OnfiseqBus, kept: &mut OnfiseqTarget, burst: Burst) -> Option
         Burst::Input { ce, len, .. } => try_inputs(bus, kept, ce, len),
         Burst::Output { ce, len } => try_outputs(bus, kept, ce, len),
     }
+}
+
+/// Whether a word is a status poll by 70h, on a target of so many LUNs.
+#[inline(always)]
+pub(crate) fn polls_one(bus: &OnfiseqBus, word: Word) -> bool
+    ensures { result ≡ true → PollsOne (bus_view bus.now).geometry word }
+{
+    is_poll(word) && bus.geometry.luns <= 1
 }
 
 /// Goes on by bursts of a target one after another, up to the first that breaks a rule.

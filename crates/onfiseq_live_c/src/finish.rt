@@ -1,18 +1,20 @@
 //! The step of a job's next word, whose bursts are done.
 ghost use Rattle.std.specs.Prelude.{◌≡◌, ◌<◌, ◌≤◌, ◌^◌, Some, None, Ok, Err, true, IfSome, IfNone, length};
 ghost use Rattle.onfi_cycle.specs.declared.item.Item.TheVariants.{Rdy, Ard};
+ghost use Rattle.bus_record.specs.Bus.{bus_view};
+ghost use Rattle.onfiseq_live_c.specs.Bursts.{PollsOne};
 ghost use Rattle.bus_record.specs.Trial.{IsTried, tried_view};
 ghost use Rattle.seq_core.specs.Playing.{EndsWithFive};
 ghost use Rattle.onfiseq_live_c.specs.Job.{job_view};
 ghost use Rattle.onfiseq_live_c.specs.Finish.{with_array, with_status, with_readies, played, step, answer_letter, code_number, stopped, Finishes};
 
-use crate::bursts::{bursts_for, try_bursts};
+use crate::bursts::{bursts_for, polls_one, try_bursts};
 use crate::due::due;
 use crate::job::OnfiseqJob;
 use crate::live::OnfiseqLive;
 use crate::outcome::outcome_of;
 use crate::stop::Stop;
-use bus_record::{OnfiseqBus, OnfiseqTarget, put_target, target_at, try_item};
+use bus_record::{OnfiseqBus, OnfiseqTarget, put_target, target_at, try_item, try_poll};
 use micro_program::is_ready_status;
 use micro_word::Word;
 use onfi_cycle::{Item, Lun, Status};
@@ -132,9 +134,34 @@ fn show(bus: &OnfiseqBus, kept: &mut OnfiseqTarget, lun: Lun, word: Word, taken:
     }
 }
 
-// Goes on by the bursts of a word of a job.
+// Goes on by the status poll of a job by 70h.
 #[inline(always)]
-fn play(bus: &OnfiseqBus, kept: &mut OnfiseqTarget, job: &OnfiseqJob, word: Word) -> Option<Stop>
+fn play_poll(
+    bus: &OnfiseqBus,
+    kept: &mut OnfiseqTarget,
+    job: &OnfiseqJob,
+    word: Word,
+) -> Option<Stop>
+    requires tried { IsTried bus.now job.now.ce kept.old }
+    requires poll { PollsOne (bus_view bus.now).geometry word }
+    ensures some { IfSome result (λ stop. played (job_view job.now) word (tried_view bus.now job.now.ce kept.old) ≡ Err stop) }
+    ensures none { IfNone result (played (job_view job.now) word (tried_view bus.now job.now.ce kept.old) ≡ Ok (tried_view bus.now job.now.ce kept.new)) }
+    ensures tried { IsTried bus.now job.now.ce kept.new }
+{
+    let _word = word;
+    match try_poll(bus, kept, job.ce) {
+        Some(rule) => Some(Stop::Breaks(rule)),
+        None => None,
+    }
+}
+
+// Goes on by the bursts of a word of a job.
+fn play_bursts(
+    bus: &OnfiseqBus,
+    kept: &mut OnfiseqTarget,
+    job: &OnfiseqJob,
+    word: Word,
+) -> Option<Stop>
     requires tried { IsTried bus.now job.now.ce kept.old }
     requires range { EndsWithFive word }
     ensures some { IfSome result (λ stop. played (job_view job.now) word (tried_view bus.now job.now.ce kept.old) ≡ Err stop) }
@@ -147,6 +174,22 @@ fn play(bus: &OnfiseqBus, kept: &mut OnfiseqTarget, job: &OnfiseqJob, word: Word
     match try_bursts(bus, kept, job.ce, bursts.as_slice()) {
         Some(rule) => Some(Stop::Breaks(rule)),
         None => None,
+    }
+}
+
+// Goes on by a word of a job.
+#[inline(always)]
+fn play(bus: &OnfiseqBus, kept: &mut OnfiseqTarget, job: &OnfiseqJob, word: Word) -> Option<Stop>
+    requires tried { IsTried bus.now job.now.ce kept.old }
+    requires range { EndsWithFive word }
+    ensures some { IfSome result (λ stop. played (job_view job.now) word (tried_view bus.now job.now.ce kept.old) ≡ Err stop) }
+    ensures none { IfNone result (played (job_view job.now) word (tried_view bus.now job.now.ce kept.old) ≡ Ok (tried_view bus.now job.now.ce kept.new)) }
+    ensures tried { IsTried bus.now job.now.ce kept.new }
+{
+    if polls_one(bus, word) {
+        play_poll(bus, kept, job, word)
+    } else {
+        play_bursts(bus, kept, job, word)
     }
 }
 

@@ -3,7 +3,7 @@ use Rattle.bus_record.specs.Bus.{bus_view}
 use Rattle.onfiseq_live_c.specs.Bursts.{AllOn}
 use Rattle.onfiseq_live_c.specs.Job.{lun_in, registers_in}
 use Rattle.onfiseq_live_c.proofs.Told.{bursts_on}
-use Rattle.onfiseq_live_c.proofs.finish.play.Goals as goal
+use Rattle.onfiseq_live_c.proofs.next.tell_bursts.Goals as goal
 
 pub try_bursts-requires-clause-on : goal.try_bursts-requires-clause-on
 try_bursts-requires-clause-on c =
