@@ -15,15 +15,16 @@ use Rattle.onfi_cycle.specs.Runs.{judged_run, after_run}
 use Rattle.onfi_cycle.specs.State.{TargetView, BusView, bus, bus_after, judged}
 use Rattle.onfi_cycle.proofs.Inputs.{inputs_are_data}
 use Rattle.onfi_cycle.proofs.Outputs.{outputs_are_data}
-use Rattle.bus_record.specs.Bus.{IsTarget, IsSound, IsStep, bus_view, bus_pushed, target_pushed}
+use Rattle.bus_record.specs.Bus.{IsSound, IsStep, bus_view, bus_pushed, target_pushed}
+use Rattle.target_record.specs.Record.{IsTarget}
 use Rattle.bus_record.specs.Channel.{IsSameChannel}
-use Rattle.bus_record.specs.Geometry.{parts_of}
+use Rattle.target_record.specs.Geometry.{parts_of}
 use Rattle.bus_record.specs.Kept.{Kept}
-use Rattle.bus_record.specs.Record.{target_of}
+use Rattle.target_record.specs.Record.{target_of}
 use Rattle.bus_record.specs.Rule.{by_option}
 use Rattle.bus_record.specs.Runs.{inputs_rule, inputs_pushed, outputs_rule, outputs_pushed}
 use Rattle.bus_record.specs.Trial.{tried, tried_view, IsTried}
-use Rattle.bus_record.specs.declared.record.OnfiseqTarget.{OnfiseqTarget}
+use Rattle.target_record.specs.declared.record.OnfiseqTarget.{OnfiseqTarget}
 use Rattle.bus_record.proofs.Pushed.{fits_there, limits_there, sound_after, judged_there, state_there, set_same, set_seen}
 use Rattle.bus_record.proofs.Runs.{inputs_judged, inputs_left, outputs_judged, outputs_left, few_there, run_pushed, run_sound, run_state, no_target}
 

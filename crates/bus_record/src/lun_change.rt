@@ -4,13 +4,13 @@ ghost use Rattle.onfi_cycle.specs.declared.effect.Effect.{Effect as EffectValue}
 ghost use Rattle.onfi_cycle.specs.declared.latch.Latch.{Latch as LatchValue};
 ghost use Rattle.onfi_cycle.specs.declared.register.Register.{Register as RegisterValue};
 ghost use Rattle.onfi_cycle.specs.Lun.{column_at, queue_after, view_after};
-ghost use Rattle.bus_record.specs.Record.{IsRecord, lun_of};
+ghost use Rattle.target_record.specs.Record.{IsRecord, lun_of};
 
-use crate::judging::is_caching;
-use crate::record::{
-    NO_ROW, OnfiseqLun, closer_byte, latch_code, latch_of, queued_record, register_record,
-};
 use onfi_cycle::{Command, Effect, Latch, PageAddress, Queued, Register};
+use target_record::{
+    NO_ROW, OnfiseqLun, closer_byte, is_caching, latch_code, latch_of, queued_record,
+    register_record,
+};
 
 // Its next output gives this column of its register.
 #[inline(always)]
