@@ -1,7 +1,6 @@
 -- A status poll of the one LUN of a target: where its 70h is permitted, its output is too.
-use Rattle.std.proofs.Common.{◌≡◌, ℕ, ◌<◌, ◌≤◌, Bool, true, false, List, [], ◌∷◌, Option, Some, None, length, map, take, get_or, set, refl, sym, ap, ◌∙◌, arith, subst}
+use Rattle.std.proofs.Common.{◌≡◌, ℕ, ◌<◌, ◌≤◌, false, List, [], ◌∷◌, Option, Some, None, length, map, take, get_or, set, refl, sym, ap, ◌∙◌, arith, subst}
 use Rattle.std.specs.Prelude.{nat_le}
-use Rattle.std.specs.List.{slice_get}
 use Rattle.std.proofs.lemmas.Bool.Decides.{nat_tests}
 use Rattle.std.proofs.lemmas.List.{length-set, get_or-set_same}
 use Rattle.std.proofs.lemmas.Option.{slice_get-get_or}
@@ -11,7 +10,6 @@ use Rattle.onfi_cycle.specs.declared.effect.Effect.TheVariants.{StatusSelected}
 use Rattle.onfi_cycle.specs.declared.forbidden.Forbidden.{Forbidden}
 use Rattle.onfi_cycle.specs.declared.item.Kind.TheVariants.{Cmd, Dout}
 use Rattle.onfi_cycle.specs.declared.tail_facts.TailFacts.{TailFacts}
-use Rattle.onfi_cycle.specs.declared.target_cycle.TargetCycle.{TargetCycle}
 use Rattle.onfi_cycle.specs.declared.target_cycle.TargetCycle.TheVariants.{CommandCycle}
 use Rattle.onfi_cycle.specs.Channel.{cycle}
 use Rattle.onfi_cycle.specs.Command.{command}
@@ -21,12 +19,11 @@ use Rattle.onfi_cycle.specs.Permitted.{judge}
 use Rattle.onfi_cycle.specs.Rules.{breaks_not_there, breaks_command_unknown, breaks_sequence_open, breaks_several_luns, breaks_no_column_to_change, breaks_command_misplaced, breaks_address_misplaced, breaks_row_outside, breaks_lun_busy, breaks_queue_clash, breaks_input_misplaced, breaks_no_sole_driver, breaks_data_not_ready, breaks_column_outside, breaks_cache_read_misplaced}
 use Rattle.onfi_cycle.specs.Runs.{first_rule}
 use Rattle.onfi_cycle.specs.Sequence.{facts_after, target_cycle}
-use Rattle.onfi_cycle.specs.State.{TargetView, BusView, bus, bus_after, has_driver, judged, judged_on, target, target_after}
+use Rattle.onfi_cycle.specs.State.{TargetView, BusView, bus, bus_after, judged, judged_on, target, target_after}
 use Rattle.onfi_cycle.proofs.Applied.{target_cycled}
 use Rattle.onfi_cycle.proofs.Following.{applied}
 use Rattle.target_record.specs.Geometry.{parts_of}
 use Rattle.target_record.specs.Record.{target_of}
-use Rattle.target_record.specs.declared.record.OnfiseqTarget.{OnfiseqTarget}
 use Rattle.bus_record.specs.Bus.{IsSound, bus_view}
 use Rattle.bus_record.specs.Kept.{Kept}
 use Rattle.bus_record.specs.Trial.{judged_poll}

@@ -8,7 +8,6 @@
 mod bus;
 mod item;
 mod look;
-mod lun_change;
 mod luns_change;
 mod many;
 mod rule;

@@ -15,7 +15,7 @@ use crate::rule::rule_number;
 use nand_geometry::Geometry;
 use onfi_cycle::{Item, Lun, is_cache_read};
 use target_record::{
-    OnfiseqGeometry, OnfiseqLun, OnfiseqTarget, closer_of, judge_there, output_column,
+    OnfiseqGeometry, OnfiseqLun, OnfiseqTarget, closer_of, judge_there, output_column, queue_len,
 };
 
 /// A look at a LUN. `latch`: what it drives the bus with, 0 nothing, 1 its status, 2 data. `register`: what its register holds, 0 nothing, 1 the page of `block`
@@ -75,7 +75,7 @@ fn look_at(kept: &OnfiseqLun) -> OnfiseqLook
         block: kept.register_block,
         page: kept.register_page,
         column: column.unwrap_or(0),
-        queued: kept.queued,
+        queued: queue_len(kept),
     }
 }
 

@@ -12,10 +12,11 @@ ghost use Rattle.bus_record.specs.Changing.{AreLittle, HaveRoom, driven, luns_le
 ghost use Rattle.bus_record.specs.declared.target_effect.TargetEffect.{TargetEffect as TargetEffectValue};
 ghost use Rattle.target_record.specs.Record.{HasRoom, IsRecord, lun_of, luns_of};
 
-use crate::lun_change::{become_array_ready, become_ready, change};
 use crate::target_effect::TargetEffect;
 use onfi_cycle::{Effect, Latch};
-use target_record::{OnfiseqLun, driver, latch_code, latch_of};
+use target_record::{
+    OnfiseqLun, become_array_ready, become_ready, change, driver, latch_code, latch_of,
+};
 
 // A LUN goes on by an effect, if it drives the bus.
 fn change_driving(kept: &mut OnfiseqLun, effect: Effect)

@@ -1,5 +1,5 @@
 //! The rules F1 to F15 by the record of a target: of its LUNs only what a rule looks at is read, so nothing is taken out of the record.
-ghost use Rattle.std.specs.Prelude.{◌≡◌, ℕ, List, ◌^◌, ◌<◌, ◌≤◌, IfSome, true, false, not, slice_get};
+ghost use Rattle.std.specs.Prelude.{◌≡◌, ℕ, length, List, ◌^◌, ◌<◌, ◌≤◌, IfSome, true, false, not, slice_get};
 ghost use Rattle.std.specs.List.{All, list_all, list_any};
 ghost use Rattle.std.specs.Option.{option_copied, option_map};
 ghost use Rattle.nand_geometry.specs.Limits.{InLimits};
@@ -188,6 +188,15 @@ fn some_queue(luns: &[OnfiseqLun]) -> bool
         [] => false,
         [first, rest @ ..] => has_queue(first) || some_queue(rest),
     }
+}
+
+/// How many rows its queue has.
+#[inline(always)]
+pub fn queue_len(lun: &OnfiseqLun) -> usize
+    requires { IsRecord lun.now }
+    ensures { result ≡ length (lun_of lun.now).queue }
+{
+    lun.queued
 }
 
 fn has_queue(lun: &OnfiseqLun) -> bool

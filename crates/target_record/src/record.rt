@@ -132,7 +132,7 @@ pub(crate) fn queued_of(kept: &OnfiseqQueued) -> Queued
 }
 
 /// The record of a row in a queue.
-pub fn queued_record(queued: Queued) -> OnfiseqQueued
+pub(crate) fn queued_record(queued: Queued) -> OnfiseqQueued
     ensures { queued_of result ≡ queued }
 {
     match queued {
@@ -150,7 +150,7 @@ pub fn queued_record(queued: Queued) -> OnfiseqQueued
 }
 
 /// What stands in the free places of a queue.
-pub const NO_ROW: OnfiseqQueued = OnfiseqQueued {
+pub(crate) const NO_ROW: OnfiseqQueued = OnfiseqQueued {
     page: 0,
     block: 0,
     is_program: false,
@@ -182,14 +182,14 @@ pub(crate) fn register_of(code: u8, block: u32, page: u64) -> Register
 
 /// A register as numbers.
 #[derive(Clone, Copy)]
-pub struct RegisterRecord {
+pub(crate) struct RegisterRecord {
     pub code: u8,
     pub block: u32,
     pub page: u64,
 }
 
 /// A register as numbers.
-pub fn register_record(register: Register) -> RegisterRecord
+pub(crate) fn register_record(register: Register) -> RegisterRecord
     ensures { register_of result.code result.block result.page ≡ register }
 {
     match register {
@@ -232,7 +232,7 @@ pub(crate) fn given_of(has: bool, column: u32) -> Option<u32>
 }
 
 /// The byte of a closer in its record, 0 where there is none.
-pub fn closer_byte(closer: Option<Command>) -> u8
+pub(crate) fn closer_byte(closer: Option<Command>) -> u8
     ensures { IfSome closer (λ c. command result ≡ c) }
 {
     match closer {

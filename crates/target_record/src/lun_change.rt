@@ -6,11 +6,11 @@ ghost use Rattle.onfi_cycle.specs.declared.register.Register.{Register as Regist
 ghost use Rattle.onfi_cycle.specs.Lun.{column_at, queue_after, view_after};
 ghost use Rattle.target_record.specs.Record.{IsRecord, lun_of};
 
-use onfi_cycle::{Command, Effect, Latch, PageAddress, Queued, Register};
-use target_record::{
-    NO_ROW, OnfiseqLun, closer_byte, is_caching, latch_code, latch_of, queued_record,
-    register_record,
+use crate::judging::is_caching;
+use crate::record::{
+    NO_ROW, OnfiseqLun, closer_byte, latch_code, latch_of, queued_record, register_record,
 };
+use onfi_cycle::{Command, Effect, Latch, PageAddress, Queued, Register};
 
 // Its next output gives this column of its register.
 #[inline(always)]
@@ -134,7 +134,7 @@ fn read_parameter_page(kept: &mut OnfiseqLun)
 }
 
 /// A LUN goes on by an effect.
-pub(crate) fn change(kept: &mut OnfiseqLun, effect: Effect)
+pub fn change(kept: &mut OnfiseqLun, effect: Effect)
     requires numbers { IsRecord kept.old }
     requires outputs { kept.old.outputs ≤ 2 ^ 16 }
     requires array_page { kept.old.array_page < 2 ^ 32 }
@@ -183,7 +183,7 @@ pub(crate) fn change(kept: &mut OnfiseqLun, effect: Effect)
 }
 
 /// It becomes ready, with failure or without.
-pub(crate) fn become_ready(kept: &mut OnfiseqLun, failed: bool)
+pub fn become_ready(kept: &mut OnfiseqLun, failed: bool)
     requires { IsRecord kept.old }
     ensures value { lun_of kept.new ≡ view_after (EffectValue.BecameReady failed) (lun_of kept.old) }
     ensures numbers { IsRecord kept.new }
@@ -195,7 +195,7 @@ pub(crate) fn become_ready(kept: &mut OnfiseqLun, failed: bool)
 }
 
 /// Its array becomes ready.
-pub(crate) fn become_array_ready(kept: &mut OnfiseqLun)
+pub fn become_array_ready(kept: &mut OnfiseqLun)
     requires { IsRecord kept.old }
     ensures value { lun_of kept.new ≡ view_after EffectValue.ArrayBecameReady (lun_of kept.old) }
     ensures numbers { IsRecord kept.new }
