@@ -15,7 +15,7 @@ use std::fmt::{Display, Write};
 type Words = ArrayString<256>;
 
 // The words of a fault, where there is one: what its Display writes.
-fn shown<T: Display>(fault: Option<T>) -> Words {
+fn shown<T: Display + Copy>(fault: Option<T>) -> Words {
     let mut words = Words::new();
     if let Some(fault) = fault {
         // The room is twice that of the longest.
