@@ -194,12 +194,12 @@ repeated_counted g trace at ce d counts some low size first second are = item_co
         here ∙ ap (λ (x : LunCount). Some x) (is ∙ (sym kept ∙ ap (λ (x : LunCount). counted_at g i n x) (sym is)))
 
 -- so many items of data behind a place
-data_counted : (g : Parts) (trace : List Item) (place to ce n : ℕ) (counts : List LunCount) → place + 1 + n ≤ to → to ≤ length trace → length counts ≡ 16 → AreDataFrom ce trace place to
+counted_behind : (g : Parts) (trace : List Item) (place to ce n : ℕ) (counts : List LunCount) → place + 1 + n ≤ to → to ≤ length trace → length counts ≡ 16 → AreDataFrom ce trace place to
     → AreCounts g counts (reverse (take (place + 1) trace)) → AreCounts g counts (reverse (take (place + 1 + n) trace))
-data_counted g trace place to ce zero counts few low size data are =
+counted_behind g trace place to ce zero counts few low size all are =
     let none : place + 1 ≡ place + 1 + 0 = omega arith in
     subst (λ (m : ℕ). AreCounts g counts (reverse (take m trace))) none are
-data_counted g trace place to ce (suc n) counts few low size data are =
+counted_behind g trace place to ce (suc n) counts few low size all are =
     let fewer : place + 1 + n ≤ to = omega (arith, few) in
     let some : 0 < place + 1 + n = omega arith in
     let inside : place + 1 + n < length trace = omega (arith, few, low) in
@@ -209,24 +209,24 @@ data_counted g trace place to ce (suc n) counts few low size data are =
     let here_from : place ≤ place + 1 + n = omega arith in
     let here_to : place + 1 + n < to = omega (arith, few) in
     subst (λ (m : ℕ). AreCounts g counts (reverse (take m trace))) next
-    (repeated_counted g trace (place + 1 + n) ce (Rdy 0 0 false) counts some inside size (data (place + 1 + n - 1) (Rdy 0 0 false) before_from before_to) (data (place + 1 + n) (Rdy 0 0 false) here_from here_to)
-    (data_counted g trace place to ce n counts fewer low size data are))
+    (repeated_counted g trace (place + 1 + n) ce (Rdy 0 0 false) counts some inside size (all (place + 1 + n - 1) (Rdy 0 0 false) before_from before_to) (all (place + 1 + n) (Rdy 0 0 false) here_from here_to)
+    (counted_behind g trace place to ce n counts fewer low size all are))
 
 -- a count with the item of a place is one with the data that repeats it
 pub repeated_too : (g : Parts) (trace : List Item) (place to : ℕ) (counts : List LunCount) → place < to → to ≤ length trace → length counts ≡ 16 → AreRepeated trace place to
     → AreCounts g counts (reverse (take (place + 1) trace)) → AreCounts g counts (reverse (take to trace))
 repeated_too g trace place to counts low inside size (inl is) are = subst (λ (m : ℕ). AreCounts g counts (reverse (take m trace))) (sym is) are
-repeated_too g trace place to counts low inside size (inr data) are =
+repeated_too g trace place to counts low inside size (inr all) are =
     let n = to - (place + 1) in
-    let all : place + 1 + n ≡ to = omega (arith, low) in
-    let few : place + 1 + n ≤ to = omega (arith, all) in
-    subst (λ (m : ℕ). AreCounts g counts (reverse (take m trace))) all (data_counted g trace place to data.0 n counts few inside size data.1 are)
+    let whole : place + 1 + n ≡ to = omega (arith, low) in
+    let few : place + 1 + n ≤ to = omega (arith, whole) in
+    subst (λ (m : ℕ). AreCounts g counts (reverse (take m trace))) whole (counted_behind g trace place to all.0 n counts few inside size all.1 are)
 
 -- data at a place and behind it
 pub one_data_more : (ce : ℕ) (trace : List Item) (place to : ℕ) (e : Item) → gives_data ce (get_or trace place e) ≡ true → place < length trace → AreDataFrom ce trace (place + 1) to → AreDataFrom ce trace place to
-one_data_more ce trace place to e here low data k d from under = at (cases_order k place)
+one_data_more ce trace place to e here low all k d from under = at (cases_order k place)
   where
     at : (k ≡ place) ⊎ ((k < place) ⊎ (place < k)) → gives_data ce (get_or trace k d) ≡ true
     at (inl is) = ap (λ (n : ℕ). gives_data ce (get_or trace n d)) is ∙ (ap (gives_data ce) (get_or_default trace place d e low) ∙ here)
     at (inr (inl less)) = absurd (omega (arith, less, from))
-    at (inr (inr more)) = let behind : place + 1 ≤ k = omega (arith, more) in data k d behind under
+    at (inr (inr more)) = let behind : place + 1 ≤ k = omega (arith, more) in all k d behind under

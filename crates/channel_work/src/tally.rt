@@ -5,9 +5,7 @@ ghost use Rattle.channel_work.specs.Counts.{stands_after, polls_after, count_aft
 
 use micro_program::is_ready_status;
 use nand_geometry::Geometry;
-use onfi_cycle::{
-    Item, Kind, Lun, MAX_CHANNEL_LUNS, READ_STATUS, READ_STATUS_ENHANCED,
-};
+use onfi_cycle::{Item, Kind, Lun, MAX_CHANNEL_LUNS, READ_STATUS, READ_STATUS_ENHANCED};
 use seq_core::Core;
 
 // The cycles before the output of a poll: the command, and where a target has many LUNs three bytes of a row.
