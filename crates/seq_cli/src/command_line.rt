@@ -475,7 +475,7 @@ fn disassemble<'a>(alloc: Global) -> Result<clap::Command<'a>, Error> {
 
 // A number of the chip whose page is made.
 fn chip_number<'a>(alloc: Global, id: &'a str, help: &'a str) -> Arg<'a> {
-    Arg::new(alloc, id).long(id).value_name("N").help(help)
+    Arg::new(alloc, id).long(id).value_name("n").help(help)
 }
 
 fn page<'a>(alloc: Global) -> Result<clap::Command<'a>, Error> {
