@@ -490,8 +490,9 @@ fn page<'a>(alloc: Global) -> Result<clap::Command<'a>, Error> {
         .long("status-enhanced")
         .action(ArgAction::SetTrue)
         .help("Declares read status enhanced, 78h, which several LUNs need");
-    let planes = chip_number(alloc, "planes", "Planes of a LUN, 1 if none are given")
-        .value_parser(["1", "2", "4"].as_slice());
+    let planes = chip_number(alloc, "planes", "Planes of a LUN, 1 if none are given").value_parser([
+        "1", "2", "4",
+    ].as_slice());
     let command = clap::Command::new(alloc, Verb::Page.word())
         .about(
             "Makes a parameter page of a chip's numbers, and prints `ok`; or shows what one declares",
