@@ -5,6 +5,7 @@
 #![tactic(auto)]
 
 mod clock;
+mod file;
 mod modes;
 mod timing_fault;
 mod timings;
@@ -12,6 +13,7 @@ mod violation;
 mod watch;
 
 pub use clock::{Clock, Pair};
+pub use file::{TimingFileFault, TimingFileRefusal, read_timings};
 pub use modes::timings_of;
 pub use timing_fault::TimingFault;
 pub use timings::{Timings, Want};
