@@ -40,7 +40,7 @@ MayFollow false more = ⊤
 
 -- the items of what is seen, after these
 abbrev pub inferred_on : Inferring → List Stamped → List Observed → List Stamped
-inferred_on i stamped observed = inferred i.luns i.sure i.state stamped observed
+inferred_on i stamped observed = inferred i.luns i.infers i.state stamped observed
 
 -- the items of what is told, after these
 abbrev pub traced : {A : Type 0} → Tracer A → List Stamped → List Told → Result (List Stamped) CaptureFault
