@@ -4,7 +4,7 @@ use Rattle.std.proofs.lemmas.List.{append_assoc}
 use Rattle.onfi_cycle.specs.declared.item.Item.{Item}
 use Rattle.trace_faults.specs.declared.trace_state.TraceState.{TraceState}
 use Rattle.vcd_text.specs.Tokens.{◌>>=◌}
-use Rattle.trace_faults.specs.Faults.{fresh}
+use Rattle.trace_faults.specs.Recovery.{fresh}
 use Rattle.vcd_text.specs.Body.{Told}
 use Rattle.vcd_text.specs.Shown.{told_at}
 use Rattle.bus_capture.specs.declared.tracer.Tracer.{Tracer}

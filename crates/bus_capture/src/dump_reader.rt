@@ -116,6 +116,8 @@ pub(crate) struct DumpReader<A: Allocator> {
     widths: Widths<A>,
     standing: Standing,
     left: Vec<u8, A>,
+    // How much was left when whole words were last looked for.
+    tried: usize,
     pub(crate) tracer: Tracer<A>,
 }
 
@@ -150,6 +152,7 @@ impl<A: Allocator + Clone> DumpReader<A> {
             widths,
             standing: body.standing(),
             left,
+            tried: 0,
             tracer,
         })
     }
@@ -188,6 +191,25 @@ impl<A: Allocator + Clone> DumpReader<A> {
         }
     }
 
+    // Goes on by whole words once there is twice the text that was left when they were last looked for, so that a long word isn't looked through for each piece.
+    fn try_whole(&mut self) -> Result<(), CaptureRefusal>
+        requires tracing { IsTracing self.old.tracer }
+        ensures ok { OnOk result ((stamped : List Stamped) (rest : List ℕ) → dump_after self.old stamped rest ≡ dump_after self.new stamped rest) }
+        ensures tracing { OnOk result (IsTracing self.new.tracer) }
+        ensures err { IfErr result (λ e. (stamped : List Stamped) (rest : List ℕ) → IsRefusalOf e (dump_after self.old stamped rest)) }
+    {
+        if self.left.len() / 2 < self.tried {
+            return Ok(());
+        }
+        match self.take_whole() {
+            Ok(()) => {
+                self.tried = self.left.len();
+                Ok(())
+            }
+            Err(refusal) => Err(refusal),
+        }
+    }
+
     /// Goes on by a piece of text, and adds the items that are known then.
     pub(crate) fn take<B: Allocator>(
         &mut self,
@@ -204,7 +226,7 @@ impl<A: Allocator + Clone> DumpReader<A> {
         if self.left.extend_from_slice(piece).is_err() {
             return Err(CaptureRefusal::OutOfMemory);
         }
-        self.take_whole()?;
+        self.try_whole()?;
         self.tracer.hand_on(stamped)
     }
 

@@ -56,7 +56,7 @@ impl Readies {
     }
 
     /// Goes on to where an item is judged: by the readies that it shows, where they aren't written, and the one that it needs besides, which it tells.
-    pub(crate) fn go_on_to(
+    pub fn go_on_to(
         self,
         state: &mut TraceState,
         item: Item,
