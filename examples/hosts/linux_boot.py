@@ -1,12 +1,13 @@
 """Makes the recording of a Linux host on one small chip: what its raw NAND layer does at boot, and what UBI does then.
 
-    python3 examples/hosts/linux_boot.py [--bug NUMBER] OUT.vcd OUT.trace
+    python3 examples/hosts/linux_boot.py [--polls] [--bug NUMBER] OUT.vcd OUT.trace
 
 OUT.vcd is what a logic analyzer sees: CE#, CLE, ALE, WE#, RE#, DQ and R/B#. OUT.trace has each cycle of it, with a ready where R/B# rises after work of
 the profile. The sequences are those of drivers/mtd/nand/raw/nand_base.c and nand_onfi.c (reset, Read ID at 00 and 20, parameter page, unique identifier, Set and Get
 Features for the timing mode, a scan for bad blocks by the first spare byte), and of drivers/mtd/ubi (attach by the headers of each block, erase, program, read back, a
 block whose erase fails). The chip is that of examples/small_chip: 8 blocks of 4 pages of 512 + 16 bytes.
 
+--polls makes a host without R/B#, which asks for the status until it shows RDY; OUT.trace has a ready before the status that shows it.
 --bug N puts one mistake of a host into it, 1 to 20, and prints the item at which it is to be told.
 """
 import sys
@@ -20,12 +21,13 @@ RESET, READ, PROGRAM, ERASE, FEATURE = 5_000, 25_000, 200_000, 700_000, 1_000
 class Host:
     """A host, its chip and the analyzer on the bus between them."""
 
-    def __init__(self):
+    def __init__(self, polls):
+        self.polls = polls
         self.time = 1_000
         self.events = []
         self.items = []
-        self.ready_at = None
-        self.known = True
+        self.ready_at = 0
+        self.known = False
         self.failed = False
         self.pages = {}
 
@@ -69,15 +71,32 @@ class Host:
         """R/B# falls after the last cycle, and rises so much later."""
         fall = self.time - 10
         self.ready_at = fall + nanoseconds
-        self.failed = failed
+        self.known, self.failed = known, failed
+        if self.polls:
+            return
         self.set(fall, "rb", 0)
         self.set(self.ready_at, "rb", 1)
         if known:
             self.items.append((self.ready_at, f"0 R 0 {int(failed)}"))
 
-    def wait(self):
-        """The host waits by R/B#."""
-        self.time = max(self.time, self.ready_at + 100)
+    def ask(self):
+        """The status, as the chip has it now."""
+        self.command(0x70)
+        ready = self.ready_at <= self.time
+        if ready and self.known and self.polls:
+            self.items.append((self.time + 29, f"0 R 0 {int(self.failed)}"))
+            self.known = False
+        return ready, self.cycle("O", (0xE0 if ready else 0x80) | (self.failed and ready))
+
+    def wait(self, data=False):
+        """The host waits by R/B#, or asks for the status until it shows RDY; before data it goes back by 00."""
+        if not self.polls:
+            self.time = max(self.time, self.ready_at + 100)
+            return
+        while not self.ask()[0]:
+            self.time += 20_000
+        if data:
+            self.command(0x00)
 
     # ---- nand_base.c
 
@@ -95,14 +114,14 @@ class Host:
         self.command(0xEC)
         self.addresses(0x00)
         self.work(READ)
-        self.wait()
+        self.wait(data=True)
         self.outputs(page)
 
     def unique_id(self):
         self.command(0xED)
         self.addresses(0x00)
         self.work(READ, known=False)
-        self.wait()
+        self.wait(data=True)
         self.outputs(bytes(range(32)))
 
     def set_features(self, address, data):
@@ -116,7 +135,7 @@ class Host:
         self.command(0xEE)
         self.addresses(address)
         self.work(FEATURE, known=False)
-        self.wait()
+        self.wait(data=True)
         self.outputs(data)
 
     def row(self, block, page):
@@ -130,7 +149,7 @@ class Host:
 
     def read(self, block, page, column, count):
         self.start_read(block, page, column)
-        self.wait()
+        self.wait(data=True)
         data = self.pages.get((block, page), b"\xff" * (PAGE + SPARE))
         self.outputs(data[column : column + count])
 
@@ -142,8 +161,14 @@ class Host:
         self.outputs(data[column : column + count])
 
     def status(self):
-        self.command(0x70)
-        self.outputs([0xE1 if self.failed else 0xE0])
+        if not self.polls:
+            self.command(0x70)
+            self.outputs([0xE1 if self.failed else 0xE0])
+
+    def look(self):
+        """A host that asks for the status once, and goes on whatever it says."""
+        if self.polls:
+            self.ask()
 
     def erase(self, block, failed=False):
         self.command(0x60)
@@ -185,23 +210,26 @@ def bug_of(number, h):
     row = h.row(5, 0)
     if number == 1:  # an erase while another goes on
         h.command(0x60), h.addresses(*row), h.command(0xD0), h.work(ERASE)
-        h.time += 1_000
+        h.look()
         at = h.command(0x60)
         h.wait()
         return at
     if number == 2:  # a program while an erase goes on
         h.command(0x60), h.addresses(*row), h.command(0xD0), h.work(ERASE)
+        h.look()
         at = h.command(0x80)
         h.wait()
         return at
     if number == 3:  # a read while a program goes on
         h.start_program(5, 1, 0, b"early"), h.command(0x10), h.work(PROGRAM)
+        h.look()
         at = h.command(0x00)
         h.wait()
         return at
     if number == 4:  # data before the read is done
         h.start_read(5, 0, 0)
-        at = h.cycle("O", 0xFF)
+        h.look()
+        at = h.command(0x00) if h.polls else h.cycle("O", 0xFF)
         h.wait()
         return at
     if number == 5:  # a block that isn't there
@@ -227,7 +255,7 @@ def bug_of(number, h):
         return h.cycle("O", 0xFF)
     if number == 12:  # data after a status without 00 and a column
         h.read(5, 0, 0, 4)
-        h.status()
+        h.command(0x70), h.cycle("O", 0xE0)
         h.command(0x00)
         return h.cycle("O", 0xFF)
     if number == 13:  # a change of the column without data
@@ -247,12 +275,15 @@ def bug_of(number, h):
         return h.command(0xFF)
     if number == 18:  # the identifier while an erase goes on
         h.command(0x60), h.addresses(*row), h.command(0xD0), h.work(ERASE)
+        h.look()
         at = h.command(0x90)
         h.wait()
         return at
-    if number == 19:  # data before a reset is asked for anything
-        h.reset()
-        return h.cycle("O", 0)
+    if number == 19:  # data after a reset
+        h.command(0xFF), h.work(RESET)
+        at = h.cycle("O", 0)
+        h.wait()
+        return at
     # 20: a command that only devices with a cache have
     h.read(5, 0, 0, 4)
     return h.command(0x31)
@@ -326,12 +357,14 @@ def dump_of(events):
 
 
 def main(words):
-    bug = None
+    bug, polls = None, False
+    if words and words[0] == "--polls":
+        polls, words = True, words[1:]
     if words and words[0] == "--bug":
         bug, words = int(words[1]), words[2:]
     vcd, trace = words
     page = open(f"{sys.path[0]}/../small_chip/chip.page", "rb").read(256)
-    h = Host()
+    h = Host(polls)
     h.set(500, "ce", 0)
     boot(h, page)
     attach(h)

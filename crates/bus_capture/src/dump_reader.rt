@@ -4,7 +4,7 @@ ghost use Rattle.vcd_text.specs.Words.{Word, words_from, lines_from, GoesOn, IsC
 ghost use Rattle.vcd_text.specs.Sections.{shown_variables};
 ghost use Rattle.vcd_text.specs.Dumps.{read_of, beginning};
 ghost use Rattle.vcd_text.specs.Shown.{told_before, place_of, IsOver, IsNext};
-ghost use Rattle.bus_signals.specs.Roles.{carrier_of, sources_of};
+ghost use Rattle.bus_signals.specs.Roles.{carriers_of, sources_of};
 ghost use Rattle.bus_capture.specs.Capturing.{in_roles, IsRefusalOf};
 ghost use Rattle.bus_capture.specs.Inside.{AreInside};
 ghost use Rattle.bus_capture.specs.Recorded.{IsNextOf};
@@ -63,8 +63,8 @@ pub(crate) fn find_sources<A: Allocator + Clone>(
     setup: &Setup<'_>,
     variables: &[Variable<'_>],
 ) -> Result<Vec<Source, A>, CaptureRefusal>
-    ensures ok { IfOk result (λ sources. in_roles (sources_of setup.now.targets (map (carrier_of setup.now.mappings.now) (shown_variables variables.now))) ≡ Ok sources.items) }
-    ensures err { IfErr result (λ e. IsRefusalOf e (in_roles (sources_of setup.now.targets (map (carrier_of setup.now.mappings.now) (shown_variables variables.now))))) }
+    ensures ok { IfOk result (λ sources. in_roles (sources_of setup.now.targets (carriers_of setup.now.mappings.now (shown_variables variables.now))) ≡ Ok sources.items) }
+    ensures err { IfErr result (λ e. IsRefusalOf e (in_roles (sources_of setup.now.targets (carriers_of setup.now.mappings.now (shown_variables variables.now))))) }
 {
     let Ok(copy) = alloc.clone() else {
         return Err(CaptureRefusal::OutOfMemory);

@@ -56,12 +56,12 @@ fault_lines (fault ∷ faults) = fault_line (ItemAt fault.rule fault.item) ++ fa
 -- ---- readies that are taken for granted
 
 -- `assumed ready at N`, and a line feed: before this item a LUN is taken for ready that nothing showed
-abbrev pub assumed_line : ℕ → List ℕ
-assumed_line item = codes "assumed ready at " ++ (decimal item ++ (10 ∷ []))
+abbrev pub assumed_line : NotShown → List ℕ
+assumed_line told = codes "assumed ready at " ++ (decimal told.item ++ (10 ∷ []))
 
 abbrev pub assumed_lines : List NotShown → List ℕ
 assumed_lines [] = []
-assumed_lines (told ∷ assumed) = assumed_line told.item ++ assumed_lines assumed
+assumed_lines (told ∷ assumed) = assumed_line told ++ assumed_lines assumed
 
 -- what is printed of a trace without a fault
 abbrev pub legal_text : List NotShown → List ℕ

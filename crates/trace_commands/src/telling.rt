@@ -137,10 +137,10 @@ fn say_told<A: Allocator + Clone, E: Write>(
 }
 
 // Adds the line of an item before which a LUN is taken for ready.
-fn push_assumed_line<A: Allocator>(lines: &mut String<A>, item: usize) -> Result<(), AllocError>
-    ensures { OnOk result (string_bytes lines.new ≡ string_bytes lines.old ++ assumed_line item) }
+fn push_assumed_line<A: Allocator>(lines: &mut String<A>, told: NotShown) -> Result<(), AllocError>
+    ensures { OnOk result (string_bytes lines.new ≡ string_bytes lines.old ++ assumed_line told) }
 {
-    writeln!(lines, "assumed ready at {item}")
+    writeln!(lines, "assumed ready at {}", told.item)
 }
 
 // Adds the lines of all such items.
@@ -148,7 +148,7 @@ fn push_assumed<A: Allocator>(lines: &mut String<A>, assumed: &[NotShown]) -> Re
     ensures { OnOk result (string_bytes lines.new ≡ string_bytes lines.old ++ assumed_lines assumed.now) }
 {
     for told in assumed {
-        push_assumed_line(lines, told.item)?;
+        push_assumed_line(lines, *told)?;
     }
     Ok(())
 }

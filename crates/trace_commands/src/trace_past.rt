@@ -1,5 +1,7 @@
 //! What stands before an item of a trace, and why that isn't permitted.
 
+ghost use Rattle.std.specs.Prelude.{◌≤◌};
+
 use crate::cause::{Cause, Columns, RowPart, Unwanted};
 use crate::line_cursor::LineCursor;
 use crate::open_sequence::{OpenSequence, Wanted};
@@ -228,10 +230,10 @@ impl TracePast {
 
     // How many LUNs of a target drive the bus.
     fn count_drivers(&self, ce: u8) -> usize {
-        let mut count = 0;
+        let mut count: usize = 0;
         for lun in 0..4u8 {
             if self.driver_at(ce, lun).is_some() {
-                count += 1;
+                count = count.saturating_add(1);
             }
         }
         count
