@@ -1,5 +1,5 @@
 -- What any command comes to: what its input and its files were, what the files are then, and what is printed.
-use Rattle.std.specs.Prelude.{◌≡◌, ◌⊎◌, ℕ, List, Option, IfSome, codes}
+use Rattle.std.specs.Prelude.{◌≡◌, ◌⊎◌, ℕ, true, false, List, Option, IfSome, codes}
 use Rattle.seq_files.specs.Store.{Store}
 use Rattle.trace_files.specs.Files.{no_outputs}
 use Rattle.seq_inputs.specs.declared.refusal.Refusal.{Refusal}
@@ -11,7 +11,7 @@ use Rattle.nand_geometry.specs.declared.parts.Parts.{Parts}
 use Rattle.page_commands.specs.Pages.{IsPageMade, PartsAreRefused}
 use Rattle.trace_commands.specs.declared.recording_fault.RecordingFault.{RecordingFault}
 use Rattle.trace_commands.specs.Recordings.{fault_line}
-use Rattle.trace_commands.specs.Checks.{TraceIsRefused, IsLegalTrace, CheckRefuses, CheckLeaves}
+use Rattle.trace_commands.specs.Checks.{TraceIsRefused, IsPassed, CheckRefuses, CheckLeaves}
 use Rattle.trace_commands.specs.Draws.{IsDrawn}
 use Rattle.trace_commands.specs.Captures.{IsCaptured, CaptureIsRefused}
 use Rattle.seq_run.specs.Runs.{IsRunDone, RunIsRefused, RunMayLeave}
@@ -28,12 +28,17 @@ IsDone (Lint page text output) input files later printed = IsAccepted files page
 IsDone (Once base) input files later printed = IfSome input (λ bytes. IsProgramRun base bytes printed) × (later ≡ files)
 IsDone (Run request) input files later printed = IsRunDone files later request printed
 IsDone (Capture request) input files later printed = IsCaptured files later request × (printed ≡ codes "ok\n")
-IsDone (Check request) input files later printed = IsLegalTrace files later request × (printed ≡ codes "legal\n")
+IsDone (Check request) input files later printed = IsPassed files later request true printed
 IsDone (Draw request) input files later printed = IsDrawn files later request × (printed ≡ codes "ok\n")
 IsDone (Disassemble file) input files later printed = IsDisassembled files file.now printed × (later ≡ files)
 IsDone (MakePage parts target) input files later printed = IsPageMade files later parts target.now × (printed ≡ codes "ok\n")
 IsDone (ShowPage page) input files later printed = ((g : Parts) × HasPage files page.now g) × (later ≡ files)
 IsDone (Upgrade file target) input files later printed = IsUpgraded files later file.now target.now × (printed ≡ codes "ok\n")
+
+-- a trace is legal with readies that are taken for granted, and may not be
+abbrev pub MayAssume : Command → (files later : Option Store) → (printed : List ℕ) → Type 0
+MayAssume (Check request) files later printed = IsPassed files later request false printed
+MayAssume _ files later printed = ⊥
 
 -- what a command may refuse, and what it leaves and prints then: one line
 abbrev pub MayRefuse : Command → (input : Option (List ℕ)) → (files later : Option Store) → Refusal → (printed : List ℕ) → Type 0

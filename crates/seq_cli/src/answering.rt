@@ -80,7 +80,8 @@ fn end_of_both(first: Ending, second: Ending) -> Ending {
         Ending::Exit(
             Exit::Refused(_) | Exit::FileFault | Exit::ReaderGone | Exit::Usage | Exit::OutOfMemory,
         )
-        | Ending::Faulty(_) => first,
+        | Ending::Faulty(_)
+        | Ending::Assumed => first,
     }
 }
 

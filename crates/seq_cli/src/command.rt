@@ -3,7 +3,7 @@ ghost use Rattle.std.specs.Prelude.{◌≡◌, List, ℕ};
 ghost use Rattle.std.specs.Io.KnownBytes.{Appends};
 ghost use Rattle.seq_inputs.specs.declared.refusal.Refusal.{Refusal};
 ghost use Rattle.trace_commands.specs.declared.recording_fault.RecordingFault.{RecordingFault};
-ghost use Rattle.seq_cli.specs.Commands.{IsDone, MayRefuse, MayTell, MayLeave};
+ghost use Rattle.seq_cli.specs.Commands.{IsDone, MayAssume, MayRefuse, MayTell, MayLeave};
 
 use nand_geometry::Parts;
 use page_commands::{make_page, show_page};
@@ -178,6 +178,9 @@ pub fn command_on<
 ) -> Ending
     ensures done { result ≡ Ending.Exit Exit.Done → (printed : List ℕ)
         × IsDone command.entry (R.remaining input.old) (F.store files.old) (F.store files.new) printed
+        × Appends (W.contents console.old.output) (W.contents console.new.output) printed }
+    ensures assumed { result ≡ Ending.Assumed → (printed : List ℕ)
+        × MayAssume command.entry (F.store files.old) (F.store files.new) printed
         × Appends (W.contents console.old.output) (W.contents console.new.output) printed }
     ensures refused { (refusal : Refusal) → result ≡ Ending.Exit (Exit.Refused refusal) → (printed : List ℕ)
         × MayRefuse command.entry (R.remaining input.old) (F.store files.old) (F.store files.new) refusal printed

@@ -415,6 +415,12 @@ fn check<'a>(alloc: Global) -> Result<clap::Command<'a>, Error> {
         .help(
             "For a trace that was recorded on a bus: a status output that shows RDY or ARDY has the ready before it that it shows",
         );
+    let assume = Arg::new(alloc, "assume-ready")
+        .long("assume-ready")
+        .action(ArgAction::SetTrue)
+        .help(
+            "With --readies-from-status: ends with status 0, and not 5, where a LUN is taken for ready that nothing showed",
+        );
     let copy = Arg::new(alloc, "write")
         .long("write")
         .value_name("OUT")
@@ -430,6 +436,7 @@ fn check<'a>(alloc: Global) -> Result<clap::Command<'a>, Error> {
         .arg(all)?
         .arg(recorded(alloc))?
         .arg(readies)?
+        .arg(assume)?
         .arg(middle)?
         .arg(bytes)?
         .arg(copy)?
@@ -741,6 +748,7 @@ fn read_check<'a>(matches: &ArgMatches<'a>) -> CheckRequest<'a> {
         input: find_word(matches, "TRACE"),
         tells_all: matches.get_flag("all"),
         readies: read_readies(matches),
+        assumes_ready: matches.get_flag("assume-ready"),
         beginning: read_beginning(matches),
         judges_bytes: matches.get_flag("bytes"),
         form: read_form(matches),
