@@ -18,8 +18,8 @@ use micro_program::is_ready_status;
 use micro_word::Word;
 use onfi_cycle::{Item, Lun, Status};
 use seq_core::Stepped;
-use seq_core::outcome::outcome_of;
 use seq_core::lun_slots::holder_after;
+use seq_core::outcome::outcome_of;
 use seq_live::{is_poll, status_of, taken_by};
 
 // The bit of a status byte that says that the array is ready (ARDY).
