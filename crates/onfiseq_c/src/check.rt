@@ -1,6 +1,6 @@
 //! The check of a whole trace.
 ghost use Rattle.std.specs.Prelude.{◌≡◌, ◌≤◌, []};
-ghost use Rattle.bus_record.specs.Geometry.{parts_of};
+ghost use Rattle.target_record.specs.Geometry.{parts_of};
 ghost use Rattle.onfiseq_c.specs.Check.{checked, answered};
 
 use bus_record::{OnfiseqGeometry, OnfiseqItem, rule_number};
