@@ -15,6 +15,7 @@ import os
 import re
 import resource
 import shutil
+import string
 import subprocess
 import sys
 import time
@@ -171,16 +172,21 @@ def run_user(name, words, given, status):
 
 
 def compare_words():
-    """Whether onfiseq_words has the words of docs/use/CODES.md for each code of its letters, and none for any other."""
+    """Whether onfiseq_words has the words of docs/use/CODES.md for each code of its letters, words for each answer without a number, and none for any other."""
     sys.dont_write_bytecode = True
     sys.path.insert(0, "examples/python")
     import onfiseq
 
     lib = onfiseq.load(SHARED)
-    known = dict(re.findall(r"^\| ([APFMV]\d+) \| (.*) \|$", read("docs/use/CODES.md"), re.M))
-    told = {"%s%d" % (letter, number): onfiseq.words(lib, letter, number) for letter in "APFMV" for number in range(300)}
-    wrong = [code for code in told if told[code] != known.get(code, "")]
-    return "%s is said to mean `%s`" % (wrong[0], told[wrong[0]]) if wrong or len(known) < 50 else None
+    known = dict(re.findall(r"^\| ([APFMSV]\d+) \| (.*) \|$", read("docs/use/CODES.md"), re.M))
+    # (a load of the sequencer in C is no call of its own)
+    known.pop("S1")
+    told = {letter: [onfiseq.words(lib, letter, number) for number in range(300)] for letter in string.ascii_uppercase}
+    wrong = [letter + str(at) for letter in "APFMSV" for at, it in enumerate(told[letter]) if it != known.get(letter + str(at), "")]
+    wrong += [letter for letter in "BCDHILNORTUWY" if not told[letter][0] or any(told[letter][1:])]
+    wrong += [letter for letter in "GJKQXZ" if any(told[letter])]
+    wrong += ["E"] * (not all(told["E"][:256]) or any(told["E"][256:]))
+    return "%s hasn't its words" % wrong[0] if wrong or len(known) < 55 else None
 
 
 def run_bench():

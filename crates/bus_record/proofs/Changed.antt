@@ -1,21 +1,15 @@
 -- The records of LUNs, of which some change.
-use Rattle.std.proofs.Common.{IfSome, ◌≡◌, ℕ, zero, suc, ◌+◌, ◌<◌, ◌≤◌, ◌==◌, Bool, true, false, ◌&&◌, cond, Option, Some, None, List, [], ◌∷◌, length, map, take, get_or, slice_set, refl, sym, ap, ◌∙◌, arith, ◌++◌}
+use Rattle.std.proofs.Common.{subst, IfSome, ◌≡◌, ℕ, zero, suc, ◌+◌, ◌<◌, ◌≤◌, Bool, true, cond, Option, Some, None, List, [], ◌∷◌, length, map, take, get_or, slice_set, refl, sym, ap, ◌∙◌, arith, ◌++◌}
 use Rattle.std.specs.List.{All}
 use Rattle.nand_geometry.specs.declared.parts.Parts.{Parts}
-use Rattle.onfi_cycle.specs.declared.command.Command.{Command}
-use Rattle.onfi_cycle.specs.declared.command.Command.TheVariants.{Read, ReadConfirm, ChangeReadColumn, ChangeReadColumnConfirm, BlockErase, BlockEraseConfirm, BlockErasePlane, ReadStatus, ReadStatusEnhanced, PageProgram, ChangeWriteColumn, ProgramConfirm, ProgramPlane, ReadId, ReadParameterPage, Reset, ReadCacheSequential, ReadCacheEnd, Unknown}
-use Rattle.onfi_cycle.specs.declared.latch.Latch.{Latch}
 use Rattle.onfi_cycle.specs.declared.latch.Latch.TheVariants.{Off}
-use Rattle.onfi_cycle.specs.declared.opening.Opening.{Opening}
 use Rattle.onfi_cycle.specs.declared.tail_facts.TailFacts.{TailFacts}
 use Rattle.onfi_cycle.specs.declared.target_cycle.TargetCycle.{TargetCycle}
-use Rattle.onfi_cycle.specs.declared.target_cycle.TargetCycle.TheVariants.{CommandCycle, AddressCycle, InputCycle, OutputCycle}
-use Rattle.onfi_cycle.specs.Effect.{cycle_effect, command_effect, address_effect, opening_address_effect, confirm_effect, names_lun}
-use Rattle.onfi_cycle.specs.Sequence.{facts_after, target_cycle, wants_command, row}
+use Rattle.onfi_cycle.specs.declared.target_cycle.TargetCycle.TheVariants.{InputCycle, OutputCycle}
+use Rattle.onfi_cycle.specs.Effect.{cycle_effect}
+use Rattle.onfi_cycle.specs.Sequence.{facts_after, target_cycle}
 use Rattle.onfi_cycle.specs.declared.effect.Effect.{Effect}
-use Rattle.onfi_cycle.specs.declared.effect.Effect.TheVariants.{Unaffected}
 use Rattle.onfi_cycle.specs.LunView.{LunView}
-use Rattle.onfi_cycle.specs.Outputs.{given_on}
 use Rattle.onfi_cycle.specs.Bounds.{LunsFit, TargetFits}
 use Rattle.nand_geometry.specs.Limits.{InLimits}
 use Rattle.onfi_cycle.specs.declared.item.Cycle.{Cycle}
@@ -38,8 +32,8 @@ use Rattle.bus_record.specs.Rule.{by_option}
 use Rattle.bus_record.specs.declared.record.OnfiseqTarget.{OnfiseqTarget}
 use Rattle.onfi_cycle.specs.declared.forbidden.Forbidden.{Forbidden}
 use Rattle.onfi_cycle.specs.declared.item.Item.{Item}
-use Rattle.bus_record.specs.Changing.{AreLittle, HaveRoom, command_reach, address_reach, opening_reach, reach_of}
-use Rattle.bus_record.specs.declared.changing.Reach.TheVariants.{Nothing, Named}
+use Rattle.bus_record.specs.Changing.{AreLittle, HaveRoom}
+use Rattle.bus_record.proofs.Done.{nothing_left}
 use Rattle.bus_record.specs.declared.record.OnfiseqLun.{OnfiseqLun}
 
 map_set : {X Y : Type 0} (f : X → Y) (xs : List X) (k : ℕ) (x : X) → map f (slice_set xs k x) ≡ slice_set (map f xs) k (f x)
@@ -91,78 +85,6 @@ first_numbers (x ∷ []) later l one here behind = each
     each zero d h = here
     each (suc k) d h = let low : k < length later = omega (arith, h) in behind k d low
 
--- ---- a cycle that changes no LUN
-
-named_rests : (wanted names : Bool) (e : Effect) → cond wanted Named Nothing ≡ Nothing → cond (wanted && names) e Unaffected ≡ Unaffected
-named_rests true names e h = cc
-named_rests false names e h = refl
-
-chosen_rests : (b : Bool) (e : Effect) → cond b Named Nothing ≡ Nothing → cond b e Unaffected ≡ Unaffected
-chosen_rests true e h = cc
-chosen_rests false e h = refl
-
-always_rests : (b : Bool) → cond b Unaffected Unaffected ≡ Unaffected
-always_rests true = refl
-always_rests false = refl
-
-command_rests : (g : Parts) (t : TailFacts) (s : Latch) (c : Command) (n : ℕ) → command_reach t c ≡ Nothing → command_effect g t s c n ≡ Unaffected
-command_rests g t s Read n h = cc
-command_rests g t s ReadConfirm n h = named_rests (wants_command t ReadConfirm) (names_lun g (row t) n) (confirm_effect g t ReadConfirm) h
-command_rests g t s ChangeReadColumn n h = named_rests (wants_command t ChangeReadColumn) (names_lun g (row t) n) (confirm_effect g t ChangeReadColumn) h
-command_rests g t s ChangeReadColumnConfirm n h = cc
-command_rests g t s BlockErase n h = named_rests (wants_command t BlockErase) (names_lun g (row t) n) (confirm_effect g t BlockErase) h
-command_rests g t s BlockEraseConfirm n h = named_rests (wants_command t BlockEraseConfirm) (names_lun g (row t) n) (confirm_effect g t BlockEraseConfirm) h
-command_rests g t s BlockErasePlane n h = named_rests (wants_command t BlockErasePlane) (names_lun g (row t) n) (confirm_effect g t BlockErasePlane) h
-command_rests g t s ReadStatus n h = cc
-command_rests g t s ReadStatusEnhanced n h = cc
-command_rests g t s PageProgram n h = named_rests (wants_command t PageProgram) (names_lun g (row t) n) (confirm_effect g t PageProgram) h
-command_rests g t s ChangeWriteColumn n h = always_rests (wants_command t ChangeWriteColumn && names_lun g (row t) n)
-command_rests g t s ProgramConfirm n h = named_rests (wants_command t ProgramConfirm) (names_lun g (row t) n) (confirm_effect g t ProgramConfirm) h
-command_rests g t s ProgramPlane n h = named_rests (wants_command t ProgramPlane) (names_lun g (row t) n) (confirm_effect g t ProgramPlane) h
-command_rests g t s ReadId n h = named_rests (wants_command t ReadId) (names_lun g (row t) n) (confirm_effect g t ReadId) h
-command_rests g t s ReadParameterPage n h = named_rests (wants_command t ReadParameterPage) (names_lun g (row t) n) (confirm_effect g t ReadParameterPage) h
-command_rests g t s Reset n h = cc
-command_rests g t s ReadCacheSequential n h = cc
-command_rests g t s ReadCacheEnd n h = cc
-command_rests g t s Unknown n h = named_rests (wants_command t Unknown) (names_lun g (row t) n) (confirm_effect g t Unknown) h
-
-address_rests : (g : Parts) (t : TailFacts) (byte : ℕ) (c : Command) (k n : ℕ) → address_reach c k ≡ Nothing → address_effect g t byte c k n ≡ Unaffected
-address_rests g t byte ReadStatusEnhanced k n h = chosen_rests (k == 2) _ h
-address_rests g t byte ReadId k n h = cc
-address_rests g t byte ReadParameterPage k n h = cc
-address_rests g t byte Read k n h = refl
-address_rests g t byte ReadConfirm k n h = refl
-address_rests g t byte ChangeReadColumn k n h = refl
-address_rests g t byte ChangeReadColumnConfirm k n h = refl
-address_rests g t byte BlockErase k n h = refl
-address_rests g t byte BlockEraseConfirm k n h = refl
-address_rests g t byte BlockErasePlane k n h = refl
-address_rests g t byte ReadStatus k n h = refl
-address_rests g t byte PageProgram k n h = refl
-address_rests g t byte ChangeWriteColumn k n h = refl
-address_rests g t byte ProgramConfirm k n h = refl
-address_rests g t byte ProgramPlane k n h = refl
-address_rests g t byte Reset k n h = refl
-address_rests g t byte ReadCacheSequential k n h = refl
-address_rests g t byte ReadCacheEnd k n h = refl
-address_rests g t byte Unknown k n h = refl
-
-opening_rests : (g : Parts) (t : TailFacts) (byte : ℕ) (o : Option Opening) (n : ℕ) → opening_reach o ≡ Nothing → opening_address_effect g t byte o n ≡ Unaffected
-opening_rests g t byte None n h = refl
-opening_rests g t byte (Some o) n h = address_rests g t byte o.opener o.addresses n h
-
-cycle_rests : (g : Parts) (t : TailFacts) (s : Latch) (cycle : TargetCycle) (n : ℕ) → reach_of t cycle ≡ Nothing → cycle_effect g t s cycle n ≡ Unaffected
-cycle_rests g t s (CommandCycle c) n h = command_rests g t s c n h
-cycle_rests g t s (AddressCycle byte) n h = opening_rests g t byte t.opening n h
-cycle_rests g t s (InputCycle byte) n h = refl
-cycle_rests g t s OutputCycle n h = cc
-
-pub none_changed : (g : Parts) (t : TailFacts) (sole : Bool) (cycle : TargetCycle) (n : ℕ) (vs : List LunView) → reach_of t cycle ≡ Nothing → vs ≡ luns_after_cycle g t sole cycle n vs
-none_changed g t sole cycle n [] h = refl
-none_changed g t sole cycle n (v ∷ vs) h =
-    ap (λ (ws : List LunView). v ∷ ws) (none_changed g t sole cycle (n + 1) vs h)
-    ∙ ap (λ (e : Effect). view_after e v ∷ luns_after_cycle g t sole cycle (n + 1) vs) (sym (cycle_rests g t (cond sole v.latch Off) cycle n h))
-
 -- ---- the bounds of the records
 
 pub are_little : (g : Parts) (t : TailFacts) (n : ℕ) (ls : List OnfiseqLun) → LunsFit g t n (luns_of ls) → AreLittle ls
@@ -179,6 +101,10 @@ take_front [] ys zero h = refl
 take_front [] ys (suc n) h = cc
 take_front (x ∷ xs) ys zero h = cc
 take_front (x ∷ xs) ys (suc n) h = let same : length xs ≡ n = omega (arith, h) in ap (λ zs. x ∷ zs) (take_front xs ys n same)
+
+-- the first ones of an array that is the same
+pub same_first : (n m : ℕ) (xs ys : List OnfiseqLun) → n ≡ m → xs ≡ ys → take n xs ≡ take m ys
+same_first n m xs ys counts all = ap (λ (k : ℕ). take k xs) counts ∙ ap (take m) all
 
 -- ---- a target after a cycle
 
@@ -204,7 +130,7 @@ after_output g n c s u kind permitted tail luns =
 pub after_input : (g : Parts) (c : Cycle) (s u : TargetView) → c.kind ≡ Din → u.tail ≡ facts_after (InputCycle c.byte) s.tail → u.luns ≡ s.luns → u ≡ target_after g (Cyc c) s
 after_input g c s u kind tail luns =
     target_cycled g c (InputCycle c.byte) s u (ap (λ (k : Kind). target_cycle k c.byte) (sym kind)) tail
-    (luns ∙ none_changed g s.tail (has_driver s.luns) (InputCycle c.byte) 0 s.luns refl)
+    (luns ∙ nothing_left g s.tail (InputCycle c.byte) (λ l m. refl) (has_driver s.luns) 0 s.luns)
 
 -- ---- a step of a target
 
@@ -230,10 +156,6 @@ is_step g limits n old new i numbers fits permitted is small =
       fits = after_fits g limits n i (target_of old) (target_of new) permitted is small fits;
     }
 
-pub after_tail : (g : Parts) (c : Cycle) (s u : TargetView) → reach_of s.tail (target_cycle c.kind c.byte) ≡ Nothing → u.tail ≡ facts_after (target_cycle c.kind c.byte) s.tail → u.luns ≡ s.luns → u ≡ target_after g (Cyc c) s
-after_tail g c s u rests tail luns =
-    target_cycled g c (target_cycle c.kind c.byte) s u refl tail (luns ∙ none_changed g s.tail (has_driver s.luns) (target_cycle c.kind c.byte) 0 s.luns rests)
-
 -- a record that is written back as it was
 pub kept_same : (k : Kept) (ce : ℕ) (t d : OnfiseqTarget) → t ≡ get_or k.targets ce d → record { magic = k.magic; geometry = k.geometry; count = k.count; targets = slice_set k.targets ce t } ≡ k
 kept_same k ce t d is =
@@ -245,12 +167,37 @@ pub if_refused : (o : Option Forbidden) (k later kept : Kept) (ce : ℕ) (t d : 
 if_refused None k later kept ce t d is made same = tt
 if_refused (Some rule) k later kept ce t d is made same = made ∙ (kept_same k ce t d is ∙ same)
 
--- the first of a list gives bytes, and those behind it
-pub first_given : (count : ℕ) (ls first rest later : List OnfiseqLun) (l d : OnfiseqLun) → ls ≡ first ++ rest → length first ≡ 1 → lun_of l ≡ given_on count (lun_of (get_or first 0 d))
-    → luns_of later ≡ map (given_on count) (luns_of rest) → luns_of (slice_set first 0 l ++ later) ≡ map (given_on count) (luns_of ls)
-first_given count ls [] rest later l d all one is behind = cc
-first_given count ls (x ∷ y ∷ ys) rest later l d all one is behind = absurd (omega (arith, one))
-first_given count ls (x ∷ []) rest later l d all one is behind =
+-- the first of a list changed so, and those behind it
+pub first_mapped : (f : LunView → LunView) (ls first rest later : List OnfiseqLun) (l d : OnfiseqLun) → ls ≡ first ++ rest → length first ≡ 1 → lun_of l ≡ f (lun_of (get_or first 0 d))
+    → luns_of later ≡ map f (luns_of rest) → luns_of (slice_set first 0 l ++ later) ≡ map f (luns_of ls)
+first_mapped f ls [] rest later l d all one is behind = cc
+first_mapped f ls (x ∷ y ∷ ys) rest later l d all one is behind = absurd (omega (arith, one))
+first_mapped f ls (x ∷ []) rest later l d all one is behind =
     ap (λ (v : LunView). v ∷ luns_of later) is
-    ∙ ap (λ (vs : List LunView). given_on count (lun_of x) ∷ vs) behind
-    ∙ sym (ap (λ (xs : List OnfiseqLun). map (given_on count) (luns_of xs)) all)
+    ∙ ap (λ (vs : List LunView). f (lun_of x) ∷ vs) behind
+    ∙ sym (ap (λ (xs : List OnfiseqLun). map f (luns_of xs)) all)
+
+-- the bounds of the first of a list, and of those behind it
+pub first_little : (ls first rest : List OnfiseqLun) (d : OnfiseqLun) → ls ≡ first ++ rest → length first ≡ 1 → AreLittle ls → AreLittle (get_or first 0 d ∷ rest)
+first_little ls [] rest d all one h = cc
+first_little ls (x ∷ y ∷ ys) rest d all one h = absurd (omega (arith, one))
+first_little ls (x ∷ []) rest d all one h = subst AreLittle all h
+
+pub first_room : (f : LunView → LunView) (ls first rest : List OnfiseqLun) (d : OnfiseqLun) → ls ≡ first ++ rest → length first ≡ 1 → HaveRoom (map f (luns_of ls)) → HaveRoom (f (lun_of (get_or first 0 d)) ∷ map f (luns_of rest))
+first_room f ls [] rest d all one h = cc
+first_room f ls (x ∷ y ∷ ys) rest d all one h = absurd (omega (arith, one))
+first_room f ls (x ∷ []) rest d all one h = subst (λ (xs : List OnfiseqLun). HaveRoom (map f (luns_of xs))) all h
+
+-- the bounds of the one of a number
+pub one_little : (ls : List OnfiseqLun) (k : ℕ) (d : OnfiseqLun) → k < length ls → AreLittle ls → ((get_or ls k d).outputs ≤ 65536) × ((get_or ls k d).array_page < 4294967296)
+one_little [] k d h a = absurd (omega (arith, h))
+one_little (l ∷ ls) zero d h a = (a.0, a.1)
+one_little (l ∷ ls) (suc k) d h a = one_little ls k d (omega (arith, h)) a.2
+
+pub one_room : (e : Effect) (ls : List OnfiseqLun) (k n : ℕ) (d : OnfiseqLun) → k ≡ n → k < length ls → HaveRoom (one_after e n (luns_of ls)) → HasRoom (view_after e (lun_of (get_or ls k d)))
+one_room e ls k n d place low h = at ls k low (subst (λ (m : ℕ). HaveRoom (one_after e m (luns_of ls))) (sym place) h)
+  where
+    at : (xs : List OnfiseqLun) (m : ℕ) → m < length xs → HaveRoom (one_after e m (luns_of xs)) → HasRoom (view_after e (lun_of (get_or xs m d)))
+    at [] m low room = absurd (omega (arith, low))
+    at (x ∷ xs) zero low room = room.0
+    at (x ∷ xs) (suc m) low room = at xs m (omega (arith, low)) room.1

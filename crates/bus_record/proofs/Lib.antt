@@ -3,4 +3,6 @@ pub mod Pushed
 pub mod Fresh
 pub mod AllPushed
 pub mod Runs
+pub mod Tried
+pub mod Done
 pub mod Changed

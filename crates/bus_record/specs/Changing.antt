@@ -1,18 +1,23 @@
--- What an item leaves of the records of LUNs.
-use Rattle.std.specs.Prelude.{ℕ, ◌==◌, ◌≤◌, ◌<◌, ◌^◌, if◌then◌else◌, List, [], ◌∷◌, Option, Some, None}
+-- What a command or an address leaves of the LUNs of its target, all at once.
+use Rattle.std.specs.Prelude.{ℕ, ◌==◌, ◌≤◌, ◌<◌, ◌^◌, if◌then◌else◌, List, [], ◌∷◌, Option, Some, None, map}
+use Rattle.nand_geometry.specs.declared.parts.Parts.{Parts}
+use Rattle.nand_geometry.specs.Row.{parts_of}
 use Rattle.onfi_cycle.specs.declared.command.Command.{Command}
-use Rattle.onfi_cycle.specs.declared.command.Command.TheVariants.{ReadStatusEnhanced, ReadId, ReadParameterPage, ChangeWriteColumn}
+use Rattle.onfi_cycle.specs.declared.command.Command.TheVariants.{Read, ReadConfirm, ChangeReadColumnConfirm, BlockEraseConfirm, BlockErasePlane, ReadStatus, ReadStatusEnhanced, ProgramConfirm, ProgramPlane, ReadId, ReadParameterPage, Reset, ReadCacheSequential, ReadCacheEnd}
+use Rattle.onfi_cycle.specs.declared.effect.Effect.{Effect}
+use Rattle.onfi_cycle.specs.declared.effect.Effect.TheVariants.{DataOutputEnabled, StatusSelected, StatusRowAwaited, SelectedForStatus, Deselected, IdRead, ParameterPageReadStarted, CacheReadContinued, CacheReadEnded, ResetStarted, ReadColumnChanged}
 use Rattle.onfi_cycle.specs.declared.opening.Opening.{Opening}
 use Rattle.onfi_cycle.specs.declared.tail_facts.TailFacts.{TailFacts}
-use Rattle.onfi_cycle.specs.declared.target_cycle.TargetCycle.{TargetCycle}
-use Rattle.onfi_cycle.specs.declared.target_cycle.TargetCycle.TheVariants.{CommandCycle, AddressCycle, InputCycle, OutputCycle}
-use Rattle.onfi_cycle.specs.Applied.{needs_no_row}
+use Rattle.onfi_cycle.specs.Applied.{one_after}
+use Rattle.onfi_cycle.specs.Effect.{confirm_effect, is_off}
+use Rattle.onfi_cycle.specs.Lun.{view_after}
 use Rattle.onfi_cycle.specs.LunView.{LunView}
-use Rattle.onfi_cycle.specs.Sequence.{wants_command}
+use Rattle.onfi_cycle.specs.Sequence.{row, row_with, wants_address, wants_command}
+use Rattle.onfi_cycle.specs.State.{has_driver}
 use Rattle.bus_record.specs.Record.{HasRoom}
 use Rattle.bus_record.specs.declared.record.OnfiseqLun.{OnfiseqLun}
-use Rattle.bus_record.specs.declared.changing.Reach.{Reach}
-use Rattle.bus_record.specs.declared.changing.Reach.TheVariants.{Nothing, Each, Named}
+use Rattle.bus_record.specs.declared.target_effect.TargetEffect.{TargetEffect}
+use Rattle.bus_record.specs.declared.target_effect.TargetEffect.TheVariants.{Nothing, OnEach, OnDriver, OnOne, Selection}
 
 -- each of these LUNs has a record
 abbrev pub HaveRoom : List LunView → Type 0
@@ -24,24 +29,59 @@ abbrev pub AreLittle : List OnfiseqLun → Type 0
 AreLittle [] = Unit {0}
 AreLittle (l ∷ ls) = (l.outputs ≤ 2 ^ 16) × (l.array_page < 2 ^ 32) × AreLittle ls
 
--- an address that comes after this opener and so many others
-abbrev pub address_reach : Command → ℕ → Reach
-address_reach ReadStatusEnhanced n = if n == 2 then Named else Nothing
-address_reach ReadId n = Each
-address_reach ReadParameterPage n = Each
-address_reach _ n = Nothing
+-- a LUN after an effect, if it drives the bus
+abbrev pub driven : Effect → LunView → LunView
+driven e v = if is_off v.latch then v else view_after e v
 
-abbrev pub opening_reach : Option Opening → Reach
-opening_reach None = Nothing
-opening_reach (Some o) = address_reach o.opener o.addresses
+-- the LUNs after what was done to them
+abbrev pub luns_left : TargetEffect → List LunView → List LunView
+luns_left Nothing vs = vs
+luns_left (OnEach e) vs = map (view_after e) vs
+luns_left (OnDriver e) vs = if has_driver vs then map (driven e) vs else vs
+luns_left (OnOne lun e) vs = one_after e lun vs
+luns_left (Selection lun) vs = one_after SelectedForStatus lun (map (view_after Deselected) vs)
 
-abbrev pub command_reach : TailFacts → Command → Reach
-command_reach t ChangeWriteColumn = Nothing
-command_reach t c = if needs_no_row c then Each else (if wants_command t c then Named else Nothing)
+-- ---- a command
 
--- which LUNs a cycle may change, and whether that hangs on the row that names one
-abbrev pub reach_of : TailFacts → TargetCycle → Reach
-reach_of t (CommandCycle c) = command_reach t c
-reach_of t (AddressCycle byte) = opening_reach t.opening
-reach_of t (InputCycle byte) = Nothing
-reach_of t OutputCycle = Each
+abbrev pub effect_of_closer : Parts → TailFacts → Command → TargetEffect
+effect_of_closer g t c = if wants_command t c then OnOne (parts_of g (row t)).lun (confirm_effect g t c) else Nothing
+
+abbrev pub effect_of_column_confirm : TailFacts → TargetEffect
+effect_of_column_confirm t = if wants_command t ChangeReadColumnConfirm then OnDriver (ReadColumnChanged t.column) else Nothing
+
+abbrev pub effect_of_command : Parts → TailFacts → Command → TargetEffect
+effect_of_command g t Read = OnEach DataOutputEnabled
+effect_of_command g t ReadStatus = OnEach StatusSelected
+effect_of_command g t ReadStatusEnhanced = OnEach StatusRowAwaited
+effect_of_command g t Reset = OnEach ResetStarted
+effect_of_command g t ReadCacheSequential = OnDriver CacheReadContinued
+effect_of_command g t ReadCacheEnd = OnDriver CacheReadEnded
+effect_of_command g t ChangeReadColumnConfirm = effect_of_column_confirm t
+effect_of_command g t ReadConfirm = effect_of_closer g t ReadConfirm
+effect_of_command g t BlockEraseConfirm = effect_of_closer g t BlockEraseConfirm
+effect_of_command g t BlockErasePlane = effect_of_closer g t BlockErasePlane
+effect_of_command g t ProgramConfirm = effect_of_closer g t ProgramConfirm
+effect_of_command g t ProgramPlane = effect_of_closer g t ProgramPlane
+effect_of_command g t _ = Nothing
+
+-- ---- an address
+
+abbrev pub selection : Parts → TailFacts → ℕ → TargetEffect
+selection g t byte = Selection (parts_of g (row_with t byte)).lun
+
+abbrev pub effect_of_identity : TailFacts → ℕ → Effect → TargetEffect
+effect_of_identity t byte e = if wants_address t byte then OnEach e else Nothing
+
+-- one that comes after this opener and so many others
+abbrev pub effect_after_opener : Parts → TailFacts → ℕ → Command → ℕ → TargetEffect
+effect_after_opener g t byte ReadStatusEnhanced n = if n == 2 then selection g t byte else Nothing
+effect_after_opener g t byte ReadId n = effect_of_identity t byte IdRead
+effect_after_opener g t byte ReadParameterPage n = effect_of_identity t byte ParameterPageReadStarted
+effect_after_opener g t byte _ n = Nothing
+
+abbrev pub effect_after_opening : Parts → TailFacts → ℕ → Option Opening → TargetEffect
+effect_after_opening g t byte None = Nothing
+effect_after_opening g t byte (Some o) = effect_after_opener g t byte o.opener o.addresses
+
+abbrev pub effect_of_address : Parts → TailFacts → ℕ → TargetEffect
+effect_of_address g t byte = effect_after_opening g t byte t.opening

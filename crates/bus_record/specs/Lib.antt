@@ -10,3 +10,4 @@ pub mod Runs
 pub mod Look
 pub mod Judging
 pub mod Changing
+pub mod Trial

@@ -3,6 +3,8 @@ ghost use Rattle.std.specs.Prelude.{◌≡◌, ℕ, ◌≤◌, [], Some, None, I
 ghost use Rattle.nand_geometry.specs.declared.parts.Parts.{Parts};
 ghost use Rattle.onfi_cycle.specs.declared.item.Item.{Item as ItemValue};
 ghost use Rattle.onfi_cycle.specs.declared.item.Kind.{Kind as KindValue};
+ghost use Rattle.onfi_cycle.specs.Channel.{cycle};
+ghost use Rattle.onfi_cycle.specs.Command.{command};
 ghost use Rattle.onfi_cycle.specs.State.{Follows, bus_after, judged, target_view};
 ghost use Rattle.onfi_cycle.specs.Permitted.{judge};
 ghost use Rattle.bus_record.specs.Geometry.{parts_of};
@@ -13,14 +15,17 @@ ghost use Rattle.bus_record.specs.Record.{target_of};
 ghost use Rattle.onfi_cycle.specs.Bounds.{TargetFits};
 ghost use Rattle.nand_geometry.specs.Limits.{InLimits};
 
-use crate::changing::{apply_input, apply_output, apply_there};
 use crate::geometry::OnfiseqGeometry;
 use crate::item::OnfiseqItem;
-use crate::judging::{judge_input_of, judge_output_of, judge_there};
+use crate::judging::{
+    judge_address_of, judge_command_of, judge_input_of, judge_output_of, judge_there,
+};
+use crate::luns_change::{end_array_work_of, end_work_of};
 use crate::record::{NO_TARGET, OnfiseqTarget, target_record};
 use crate::rule::rule_number;
+use crate::target_change::{apply_address, apply_command, apply_input, apply_output};
 use nand_geometry::Geometry;
-use onfi_cycle::{Cycle, Forbidden, Item, Kind, TargetState};
+use onfi_cycle::{Command, Cycle, Forbidden, Item, Kind, READ_STATUS, TargetState};
 use std::marker::Model;
 
 // What stands first in a record that a call left: `OBUS`.
@@ -155,29 +160,135 @@ fn step_input(
     None
 }
 
-// A target goes on by an item of any kind, if that is permitted.
-#[inline(never)]
-fn step_any(
+// A target goes on by a command that is known, if that is permitted.
+#[inline(always)]
+fn step_named(
     geometry: &OnfiseqGeometry,
     targets: u8,
     kept: &mut OnfiseqTarget,
-    item: Item,
+    cycle: Cycle,
+    named: Command,
+) -> Option<Forbidden>
+    requires command { cycle.kind ≡ KindValue.Cmd }
+    requires named { named ≡ command cycle.byte }
+    requires limits { InLimits (parts_of geometry.now) }
+    requires numbers { IsTarget kept.old }
+    requires fits { TargetFits (parts_of geometry.now) (target_of kept.old) }
+    ensures { IsStep (parts_of geometry.now) targets kept.old kept.new (ItemValue.Cyc cycle) result }
+{
+    if let Some(rule) = judge_command_of(geometry, targets, kept, cycle, named) {
+        return Some(rule);
+    }
+    apply_command(geometry, targets, kept, cycle, named);
+    None
+}
+
+// A target goes on by a command, if that is permitted.
+#[inline(never)]
+fn step_command(
+    geometry: &OnfiseqGeometry,
+    targets: u8,
+    kept: &mut OnfiseqTarget,
+    cycle: Cycle,
+) -> Option<Forbidden>
+    requires command { cycle.kind ≡ KindValue.Cmd }
+    requires limits { InLimits (parts_of geometry.now) }
+    requires numbers { IsTarget kept.old }
+    requires fits { TargetFits (parts_of geometry.now) (target_of kept.old) }
+    ensures { IsStep (parts_of geometry.now) targets kept.old kept.new (ItemValue.Cyc cycle) result }
+{
+    step_named(geometry, targets, kept, cycle, Command::of(cycle.byte))
+}
+
+/// A target goes on by 70h, if that is permitted. It comes with each poll, so it has a way of its own.
+#[inline(always)]
+#[tactic(auto, unfolding(onfi_cycle::specs::Command::command))]
+pub(crate) fn step_read_status(
+    geometry: &OnfiseqGeometry,
+    targets: u8,
+    kept: &mut OnfiseqTarget,
+    ce: u8,
 ) -> Option<Forbidden>
     requires limits { InLimits (parts_of geometry.now) }
     requires numbers { IsTarget kept.old }
     requires fits { TargetFits (parts_of geometry.now) (target_of kept.old) }
-    ensures { IsStep (parts_of geometry.now) targets kept.old kept.new (item) result }
+    ensures { IsStep (parts_of geometry.now) targets kept.old kept.new (cycle ce KindValue.Cmd 0x70) result }
 {
-    if let Some(rule) = judge_there(geometry, targets, kept, item) {
+    let cycle = Cycle {
+        ce,
+        kind: Kind::Cmd,
+        byte: READ_STATUS,
+    };
+    step_named(geometry, targets, kept, cycle, Command::ReadStatus)
+}
+
+// A target goes on by an address, if that is permitted.
+#[inline(never)]
+fn step_address(
+    geometry: &OnfiseqGeometry,
+    targets: u8,
+    kept: &mut OnfiseqTarget,
+    cycle: Cycle,
+) -> Option<Forbidden>
+    requires address { cycle.kind ≡ KindValue.Adr }
+    requires limits { InLimits (parts_of geometry.now) }
+    requires numbers { IsTarget kept.old }
+    requires fits { TargetFits (parts_of geometry.now) (target_of kept.old) }
+    ensures { IsStep (parts_of geometry.now) targets kept.old kept.new (ItemValue.Cyc cycle) result }
+{
+    if let Some(rule) = judge_address_of(geometry, targets, kept, cycle) {
         return Some(rule);
     }
-    apply_there(geometry, targets, kept, item);
+    apply_address(geometry, targets, kept, cycle);
+    None
+}
+
+// A target goes on by a ready, if that is permitted.
+#[inline(never)]
+fn step_ready(
+    geometry: &OnfiseqGeometry,
+    targets: u8,
+    kept: &mut OnfiseqTarget,
+    ce: u8,
+    lun: u8,
+    fail: bool,
+) -> Option<Forbidden>
+    requires limits { InLimits (parts_of geometry.now) }
+    requires numbers { IsTarget kept.old }
+    requires fits { TargetFits (parts_of geometry.now) (target_of kept.old) }
+    ensures { IsStep (parts_of geometry.now) targets kept.old kept.new (ItemValue.Rdy ce lun fail) result }
+{
+    if let Some(rule) = judge_there(geometry, targets, kept, Item::Rdy { ce, lun, fail }) {
+        return Some(rule);
+    }
+    end_work_of(&mut kept.luns, kept.count, lun, fail);
+    None
+}
+
+// A target goes on by an array ready, if that is permitted.
+#[inline(never)]
+fn step_array_ready(
+    geometry: &OnfiseqGeometry,
+    targets: u8,
+    kept: &mut OnfiseqTarget,
+    ce: u8,
+    lun: u8,
+) -> Option<Forbidden>
+    requires limits { InLimits (parts_of geometry.now) }
+    requires numbers { IsTarget kept.old }
+    requires fits { TargetFits (parts_of geometry.now) (target_of kept.old) }
+    ensures { IsStep (parts_of geometry.now) targets kept.old kept.new (ItemValue.Ard ce lun) result }
+{
+    if let Some(rule) = judge_there(geometry, targets, kept, Item::Ard { ce, lun }) {
+        return Some(rule);
+    }
+    end_array_work_of(&mut kept.luns, kept.count, lun);
     None
 }
 
 // A target goes on by an item that is permitted. Else the answer is the first rule that it breaks, and nothing changes.
 #[inline(always)]
-fn step_target(
+pub(crate) fn step_target(
     geometry: &OnfiseqGeometry,
     targets: u8,
     kept: &mut OnfiseqTarget,
@@ -192,9 +303,11 @@ fn step_target(
         Item::Cyc(cycle) => match cycle.kind {
             Kind::Dout => step_output(geometry, targets, kept, cycle),
             Kind::Din => step_input(geometry, targets, kept, cycle),
-            Kind::Cmd | Kind::Adr => step_any(geometry, targets, kept, item),
+            Kind::Cmd => step_command(geometry, targets, kept, cycle),
+            Kind::Adr => step_address(geometry, targets, kept, cycle),
         },
-        Item::Rdy { .. } | Item::Ard { .. } => step_any(geometry, targets, kept, item),
+        Item::Rdy { ce, lun, fail } => step_ready(geometry, targets, kept, ce, lun, fail),
+        Item::Ard { ce, lun } => step_array_ready(geometry, targets, kept, ce, lun),
     }
 }
 
@@ -242,9 +355,9 @@ pub fn push(bus: &mut OnfiseqBus, item: Item) -> u32
     }
 }
 
-// The channel goes on by a data cycle.
+// The channel goes on by a cycle.
 #[inline(always)]
-fn push_data(bus: &mut OnfiseqBus, ce: u8, kind: Kind, byte: u8) -> u32
+fn push_cycle(bus: &mut OnfiseqBus, ce: u8, kind: Kind, byte: u8) -> u32
     ensures answer { result ≡ pushed (bus_view bus.old) (Some (ItemValue.Cyc (record { ce = ce; kind = kind; byte = byte }))) }
     ensures state { bus_view bus.new ≡ bus_pushed (bus_view bus.old) (Some (ItemValue.Cyc (record { ce = ce; kind = kind; byte = byte }))) }
     ensures refused { (result ≡ 0 → ⊥) → bus.new ≡ bus.old }
@@ -265,8 +378,10 @@ pub fn push_numbers(bus: &mut OnfiseqBus, item: &OnfiseqItem) -> u32
     ensures count { bus.new.count ≡ bus.old.count }
 {
     match item.kind {
-        b'O' if item.fail == 0 => push_data(bus, item.ce, Kind::Dout, item.byte),
-        b'I' if item.fail == 0 => push_data(bus, item.ce, Kind::Din, item.byte),
+        b'O' if item.fail == 0 => push_cycle(bus, item.ce, Kind::Dout, item.byte),
+        b'I' if item.fail == 0 => push_cycle(bus, item.ce, Kind::Din, item.byte),
+        b'C' if item.fail == 0 => push_cycle(bus, item.ce, Kind::Cmd, item.byte),
+        b'A' if item.fail == 0 => push_cycle(bus, item.ce, Kind::Adr, item.byte),
         _ => match item.item() {
             Some(item) => push(bus, item),
             None => 255,

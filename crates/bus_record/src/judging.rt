@@ -295,6 +295,7 @@ fn breaks_cache_read_misplaced(
 }
 
 // The first of F3 to F15 that an opener breaks.
+#[inline(always)]
 #[tactic(auto, unfolding(onfi_cycle::specs::Rules::breaks_sequence_open, onfi_cycle::specs::Rules::breaks_several_luns, onfi_cycle::specs::Rules::breaks_command_misplaced, onfi_cycle::specs::Rules::breaks_address_misplaced, onfi_cycle::specs::Rules::breaks_row_outside, onfi_cycle::specs::Rules::breaks_lun_busy, onfi_cycle::specs::Rules::breaks_queue_clash, onfi_cycle::specs::Rules::breaks_input_misplaced, onfi_cycle::specs::Rules::breaks_no_sole_driver, onfi_cycle::specs::Rules::breaks_data_not_ready, onfi_cycle::specs::Rules::breaks_column_outside))]
 fn judge_opener(
     geometry: &OnfiseqGeometry,
@@ -601,6 +602,7 @@ fn is_array_not_busy(luns: &[OnfiseqLun], number: u8) -> bool
 }
 
 // The first of F3 to F15 that a command breaks. A closer can break F6 alone.
+#[inline(always)]
 #[tactic(auto, unfolding(onfi_cycle::specs::Rules::breaks_sequence_open, onfi_cycle::specs::Rules::breaks_several_luns, onfi_cycle::specs::Rules::breaks_no_column_to_change, onfi_cycle::specs::Rules::breaks_command_misplaced, onfi_cycle::specs::Rules::breaks_address_misplaced, onfi_cycle::specs::Rules::breaks_row_outside, onfi_cycle::specs::Rules::breaks_lun_busy, onfi_cycle::specs::Rules::breaks_queue_clash, onfi_cycle::specs::Rules::breaks_input_misplaced, onfi_cycle::specs::Rules::breaks_no_sole_driver, onfi_cycle::specs::Rules::breaks_data_not_ready, onfi_cycle::specs::Rules::breaks_column_outside, onfi_cycle::specs::Rules::breaks_cache_read_misplaced))]
 fn judge_command(
     geometry: &OnfiseqGeometry,
@@ -620,17 +622,16 @@ fn judge_command(
 }
 
 // The first of F2 to F15 that a command breaks.
-#[inline(never)]
+#[inline(always)]
 #[tactic(auto, unfolding(onfi_cycle::specs::Rules::breaks_command_unknown))]
 fn judge_command_there(
     geometry: &OnfiseqGeometry,
     kept: &OnfiseqTarget,
-    byte: u8,
+    command: Command,
 ) -> Option<Forbidden>
     requires { IsTarget kept.now }
-    ensures { result ≡ judge_cycle (parts_of geometry.now) (tail_of kept.now) (target_of kept.now).luns (TargetCycle.CommandCycle (command byte)) }
+    ensures { result ≡ judge_cycle (parts_of geometry.now) (tail_of kept.now) (target_of kept.now).luns (TargetCycle.CommandCycle command) }
 {
-    let command = Command::of(byte);
     if breaks_command_unknown(geometry, command) {
         return Some(Forbidden::CommandUnknown);
     }
@@ -666,7 +667,7 @@ pub(crate) fn judge_kept(
     ensures { result ≡ judge_cycle (parts_of geometry.now) (tail_of kept.now) (target_of kept.now).luns (target_cycle cycle.kind cycle.byte) }
 {
     match cycle.kind {
-        Kind::Cmd => judge_command_there(geometry, kept, cycle.byte),
+        Kind::Cmd => judge_command_there(geometry, kept, Command::of(cycle.byte)),
         Kind::Adr => judge_address_there(geometry, kept, cycle.byte),
         Kind::Din => judge_input(geometry, kept),
         Kind::Dout => judge_output(geometry, kept),
@@ -707,6 +708,50 @@ pub(crate) fn judge_there(
             }
         }
     }
+}
+
+/// The first rule that a command breaks, by the record of its target.
+#[inline(always)]
+#[tactic(auto, unfolding(onfi_cycle::specs::Rules::breaks_not_there))]
+pub(crate) fn judge_command_of(
+    geometry: &OnfiseqGeometry,
+    targets: u8,
+    kept: &OnfiseqTarget,
+    cycle: Cycle,
+    named: Command,
+) -> Option<Forbidden>
+    requires kind { cycle.kind ≡ KindValue.Cmd }
+    requires named { named ≡ command cycle.byte }
+    requires limits { InLimits (parts_of geometry.now) }
+    requires numbers { IsTarget kept.now }
+    requires fits { TargetFits (parts_of geometry.now) (target_of kept.now) }
+    ensures { result ≡ judge (parts_of geometry.now) targets (target_of kept.now).tail (target_of kept.now).luns (ItemValue.Cyc cycle) }
+{
+    if targets <= cycle.ce {
+        return Some(Forbidden::NotThere);
+    }
+    judge_command_there(geometry, kept, named)
+}
+
+/// The first rule that an address breaks, by the record of its target.
+#[inline(always)]
+#[tactic(auto, unfolding(onfi_cycle::specs::Rules::breaks_not_there))]
+pub(crate) fn judge_address_of(
+    geometry: &OnfiseqGeometry,
+    targets: u8,
+    kept: &OnfiseqTarget,
+    cycle: Cycle,
+) -> Option<Forbidden>
+    requires kind { cycle.kind ≡ KindValue.Adr }
+    requires limits { InLimits (parts_of geometry.now) }
+    requires numbers { IsTarget kept.now }
+    requires fits { TargetFits (parts_of geometry.now) (target_of kept.now) }
+    ensures { result ≡ judge (parts_of geometry.now) targets (target_of kept.now).tail (target_of kept.now).luns (ItemValue.Cyc cycle) }
+{
+    if targets <= cycle.ce {
+        return Some(Forbidden::NotThere);
+    }
+    judge_address_there(geometry, kept, cycle.byte)
 }
 
 /// The first rule that an output breaks, by the record of its target.

@@ -6,15 +6,20 @@
 #![tactic(auto)]
 
 mod bus;
-mod changing;
 mod geometry;
 mod item;
 mod judging;
 mod look;
+mod lun_change;
+mod luns_change;
 mod many;
 mod record;
 mod rule;
 mod run;
+mod tail_change;
+mod target_change;
+mod target_effect;
+mod trial;
 
 pub use bus::{DAMAGED, OnfiseqBus, begin, is_bus, push, push_item, push_numbers};
 pub use geometry::OnfiseqGeometry;
@@ -24,3 +29,4 @@ pub use many::push_all;
 pub use record::{OnfiseqLun, OnfiseqQueued, OnfiseqTarget};
 pub use rule::rule_number;
 pub use run::{push_inputs, push_outputs};
+pub use trial::{put_target, target_at, try_inputs, try_item, try_outputs, try_poll};

@@ -1,5 +1,5 @@
 //! A look at a LUN, and whether an item would be permitted: questions that change nothing.
-ghost use Rattle.std.specs.Prelude.{◌≡◌, ◌≤◌, Some, None, IfSome, IfNone};
+ghost use Rattle.std.specs.Prelude.{◌≡◌, ◌≤◌, ◌<◌, true, Some, None, IfSome, IfNone};
 ghost use Rattle.nand_geometry.specs.Limits.{InLimits};
 ghost use Rattle.onfi_cycle.specs.Bounds.{TargetFits};
 ghost use Rattle.onfi_cycle.specs.Look.{look_at, look_on, looked};
@@ -139,7 +139,8 @@ pub fn geometry_of(bus: &OnfiseqBus) -> Option<Geometry>
 
 /// Whether a LUN is there.
 pub fn has_lun(bus: &OnfiseqBus, lun: Lun) -> bool
-    ensures { result ≡ is_on (bus_view bus.now) lun }
+    ensures value { result ≡ is_on (bus_view bus.now) lun }
+    ensures there { result ≡ true → lun.ce < bus.now.count }
 {
     usize::from(lun.ce) < bus.count && lun.lun < bus.geometry.luns
 }

@@ -14,12 +14,12 @@ ghost use Rattle.bus_record.specs.Record.{IsRecord, lun_of, luns_of, tail_of, ta
 ghost use Rattle.bus_record.specs.Runs.{inputs_rule, inputs_pushed, outputs_rule, outputs_pushed};
 
 use crate::bus::OnfiseqBus;
-use crate::changing::note_output;
 use crate::geometry::OnfiseqGeometry;
 use crate::judging::{
     driver, judge_input_of, judge_output_of, output_column, register_len, shows_data,
 };
 use crate::record::{OnfiseqLun, OnfiseqTarget};
+use crate::tail_change::note_output;
 use onfi_cycle::{Cycle, Forbidden, Kind};
 
 // A data cycle on a target; which byte it is isn't judged.
@@ -120,7 +120,7 @@ fn give_run(luns: &mut [OnfiseqLun; 4], there: usize, count: usize)
 }
 
 // So many inputs on their target, if they break no rule.
-fn push_inputs_there(
+pub(crate) fn push_inputs_there(
     geometry: &OnfiseqGeometry,
     targets: u8,
     kept: &mut OnfiseqTarget,
@@ -145,7 +145,7 @@ fn push_inputs_there(
 }
 
 // So many outputs on their target, if they break no rule.
-fn push_outputs_there(
+pub(crate) fn push_outputs_there(
     geometry: &OnfiseqGeometry,
     targets: u8,
     kept: &mut OnfiseqTarget,

@@ -3,7 +3,6 @@ ghost use Rattle.std.specs.Prelude.{◌≡◌, ◌≤◌, []};
 ghost use Rattle.bus_record.specs.Geometry.{parts_of};
 ghost use Rattle.onfiseq_c.specs.Check.{checked, answered};
 
-use crate::geometry::number_of_page_fault;
 use bus_record::{OnfiseqGeometry, OnfiseqItem, rule_number};
 use nand_geometry::Geometry;
 use onfi_cycle::BusState;
@@ -63,6 +62,6 @@ pub extern "C" fn onfiseq_check(
     }
     match Geometry::of(geometry.parts()) {
         Ok(geometry) => check_items(geometry, targets, items),
-        Err(fault) => OnfiseqAnswer::of(b'P', number_of_page_fault(fault), 0),
+        Err(fault) => OnfiseqAnswer::of(b'P', fault.number(), 0),
     }
 }

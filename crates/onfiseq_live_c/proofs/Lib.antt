@@ -1,6 +1,7 @@
 pub mod Ranges
 pub mod Permits
 pub mod Told
+pub mod Polled
 pub mod Finished
 pub mod Verified
 pub mod Noted

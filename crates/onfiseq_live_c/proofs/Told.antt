@@ -25,7 +25,7 @@ use Rattle.onfiseq_live_c.specs.declared.live.OnfiseqLive.{OnfiseqLive}
 use Rattle.onfiseq_live_c.specs.declared.job.OnfiseqJob.{OnfiseqJob}
 use Rattle.onfiseq_live_c.specs.Job.{JobView, job_view, opens_loop}
 use Rattle.onfiseq_live_c.specs.Live.{state_of, holder_of, are_whole}
-use Rattle.onfiseq_live_c.specs.Bursts.{judged_bursts}
+use Rattle.onfiseq_live_c.specs.Bursts.{AllOn, judged_bursts}
 use Rattle.onfiseq_live_c.specs.Due.{and_do, checked, found, unless_ended, due}
 use Rattle.onfiseq_live_c.specs.Next.{Told, permitted, told_by, told, next_of}
 use Rattle.onfiseq_live_c.specs.Permits.{ArePermitted}
@@ -56,6 +56,26 @@ bursts_are_own g l r len (word.Put count) bursts inside e =
 bursts_are_own g l r len word.Wait bursts inside e = poll_is_own l len (ltb 1 g.luns) (row_bytes_of g l.lun 0 0) bursts e
 bursts_are_own g l r len word.ReadStatus bursts inside e = poll_is_own l len (ltb 1 g.luns) (row_bytes_of g l.lun 0 0) bursts e
 bursts_are_own g l r len w bursts inside e = same_list l.ce len [] bursts e tt
+
+-- they are of its target
+pub are_on : (ce len : ℕ) (bursts : List Burst) → AreOf ce len bursts → AllOn ce bursts
+are_on ce len [] h = tt
+are_on ce len (Command at byte ∷ bursts) h = (h.0, are_on ce len bursts h.1)
+are_on ce len (Address at five from count ∷ bursts) h = (h.0, are_on ce len bursts h.1)
+are_on ce len (Input at place count ∷ bursts) h = (h.0.0, are_on ce len bursts h.1)
+are_on ce len (Output at count ∷ bursts) h = (h.0, are_on ce len bursts h.1)
+
+same_on : (ce : ℕ) (listed bursts : List Burst) → Some listed ≡ Some bursts → AllOn ce listed → AllOn ce bursts
+same_on ce listed bursts e h = let same : listed ≡ bursts = cc in subst (AllOn ce) same h
+
+pub bursts_on : (g : Parts) (l : Lun) (r : Registers) (w : Word) (bursts : List Burst) → bursts_at g l r w ≡ Some bursts → AllOn l.ce bursts
+bursts_on g l r (word.Command byte) bursts e = same_on l.ce (Command l.ce byte ∷ []) bursts e (refl, tt)
+bursts_on g l r (word.Address from count) bursts e = are_on l.ce 0 bursts (address_is_own l 0 from count (five_bytes g l.lun r (from + count)) bursts e)
+bursts_on g l r (word.Get count) bursts e = same_on l.ce (Output l.ce count ∷ []) bursts e (refl, tt)
+bursts_on g l r (word.Put count) bursts e = same_on l.ce (Input l.ce r.place count ∷ []) bursts e (refl, tt)
+bursts_on g l r word.Wait bursts e = are_on l.ce 0 bursts (poll_is_own l 0 (ltb 1 g.luns) (row_bytes_of g l.lun 0 0) bursts e)
+bursts_on g l r word.ReadStatus bursts e = are_on l.ce 0 bursts (poll_is_own l 0 (ltb 1 g.luns) (row_bytes_of g l.lun 0 0) bursts e)
+bursts_on g l r w bursts e = same_on l.ce [] bursts e tt
 
 -- a word that is due stays inside the buffer
 checked_fits : (j : JobView) (given w : Word) → checked j given ≡ Ok w → fits j.buffer j.registers.place w ≡ true

@@ -1,13 +1,37 @@
 -- What the rules say of bursts by the state of a channel, cycle after cycle, and what they leave of it.
-use Rattle.std.specs.Prelude.{ℕ, List, [], ◌∷◌, Option, None}
+use Rattle.std.specs.Prelude.{◌≡◌, ℕ, List, [], ◌∷◌, Option, Some, None}
 use Rattle.onfi_cycle.specs.Channel.{cycle}
 use Rattle.onfi_cycle.specs.declared.forbidden.Forbidden.{Forbidden}
 use Rattle.onfi_cycle.specs.declared.item.Kind.TheVariants.{Cmd, Adr, Din, Dout}
 use Rattle.onfi_cycle.specs.Runs.{first_rule, judged_run, after_run}
 use Rattle.onfi_cycle.specs.State.{BusView, judged, bus_after}
+use Rattle.nand_geometry.specs.declared.parts.Parts.{Parts}
+use Rattle.onfi_cycle.specs.declared.lun.Lun.{Lun}
+use Rattle.micro_word.specs.declared.word.Word.{Word}
 use Rattle.micro_program.specs.Moves.{part}
+use Rattle.seq_core.specs.declared.registers.Registers.{Registers}
+use Rattle.seq_live.specs.Burst.{bursts_at, taken_by}
 use Rattle.seq_live.specs.declared.burst.Burst.{Burst}
 use Rattle.seq_live.specs.declared.burst.Burst.TheVariants.{Command, Address, Input, Output}
+
+-- the target of a burst, and bursts that are all of one
+abbrev pub target_of : Burst → ℕ
+target_of (Command ce byte) = ce
+target_of (Address ce five from count) = ce
+target_of (Input ce place len) = ce
+target_of (Output ce len) = ce
+
+abbrev pub AllOn : ℕ → List Burst → Type 0
+AllOn ce [] = Unit {0}
+AllOn ce (b ∷ bursts) = (target_of b ≡ ce) × AllOn ce bursts
+
+-- the bursts of a status poll by 70h
+abbrev pub poll_of : ℕ → List Burst
+poll_of ce = Command ce 0x70 ∷ (Output ce 1 ∷ [])
+
+-- a word is such a poll, whoever steps it
+abbrev pub PollsOne : Parts → Word → Type 0
+PollsOne g w = ((l : Lun) (r : Registers) → bursts_at g l r w ≡ Some (poll_of l.ce)) × (taken_by w ≡ 1)
 
 -- address cycles of these bytes
 abbrev pub judged_addresses : ℕ → List ℕ → BusView → Option Forbidden

@@ -1,26 +1,26 @@
 //! The step of a job's next word, whose bursts are done.
 ghost use Rattle.std.specs.Prelude.{◌≡◌, ◌<◌, ◌≤◌, ◌^◌, Some, None, Ok, Err, true, IfSome, IfNone, length};
 ghost use Rattle.onfi_cycle.specs.declared.item.Item.TheVariants.{Rdy, Ard};
-ghost use Rattle.bus_record.specs.Bus.{bus_pushed, bus_view};
-ghost use Rattle.bus_record.specs.Channel.{IsSameChannel};
+ghost use Rattle.bus_record.specs.Bus.{bus_view};
+ghost use Rattle.onfiseq_live_c.specs.Bursts.{PollsOne};
+ghost use Rattle.bus_record.specs.Trial.{IsTried, tried_view};
 ghost use Rattle.seq_core.specs.Playing.{EndsWithFive};
 ghost use Rattle.onfiseq_live_c.specs.Job.{job_view};
 ghost use Rattle.onfiseq_live_c.specs.Finish.{with_array, with_status, with_readies, played, step, answer_letter, code_number, stopped, Finishes};
 
-use crate::bursts::push_bursts;
+use crate::bursts::{bursts_for, polls_one, try_bursts};
 use crate::due::due;
 use crate::job::OnfiseqJob;
 use crate::live::OnfiseqLive;
-use crate::outcome::outcome_of;
 use crate::stop::Stop;
-use bus_record::{OnfiseqBus, copy_of, push_item};
+use bus_record::{OnfiseqBus, OnfiseqTarget, put_target, target_at, try_item, try_poll};
 use micro_program::is_ready_status;
 use micro_word::Word;
-use nand_geometry::Geometry;
 use onfi_cycle::{Item, Lun, Status};
 use seq_core::Stepped;
 use seq_core::lun_slots::holder_after;
-use seq_live::{bursts_of, is_poll, status_of, taken_by};
+use seq_core::outcome::outcome_of;
+use seq_live::{is_poll, status_of, taken_by};
 
 // The bit of a status byte that says that the array is ready (ARDY).
 const ARRAY_READY: u8 = 0x20;
@@ -92,23 +92,23 @@ impl OnfiseqStep {
 }
 
 // The array of a LUN has become ready, where a status shows that.
-fn show_array(bus: &mut OnfiseqBus, lun: Lun, status: u8)
-    ensures value { bus_view bus.new ≡ with_array lun status (bus_view bus.old) }
-    ensures same { IsSameChannel (bus_view bus.old) (bus_view bus.new) }
-    ensures count { bus.new.count ≡ bus.old.count }
+fn show_array(bus: &OnfiseqBus, kept: &mut OnfiseqTarget, lun: Lun, status: u8)
+    requires { IsTried bus.now lun.ce kept.old }
+    ensures value { tried_view bus.now lun.ce kept.new ≡ with_array lun status (tried_view bus.now lun.ce kept.old) }
+    ensures tried { IsTried bus.now lun.ce kept.new }
 {
     if status & ARRAY_READY == ARRAY_READY {
         let (ce, lun) = (lun.ce, lun.lun);
         // A ready that isn't due changes nothing.
-        let _ = push_item(bus, Item::Ard { ce, lun });
+        let _ = try_item(bus, kept, Item::Ard { ce, lun });
     }
 }
 
 // The readies that a status of a LUN shows.
-fn show_status(bus: &mut OnfiseqBus, lun: Lun, status: u8)
-    ensures value { bus_view bus.new ≡ with_status lun status (bus_view bus.old) }
-    ensures same { IsSameChannel (bus_view bus.old) (bus_view bus.new) }
-    ensures count { bus.new.count ≡ bus.old.count }
+fn show_status(bus: &OnfiseqBus, kept: &mut OnfiseqTarget, lun: Lun, status: u8)
+    requires { IsTried bus.now lun.ce kept.old }
+    ensures value { tried_view bus.now lun.ce kept.new ≡ with_status lun status (tried_view bus.now lun.ce kept.old) }
+    ensures tried { IsTried bus.now lun.ce kept.new }
 {
     if is_ready_status(status) {
         let fail = Status(status).has_failed();
@@ -118,37 +118,78 @@ fn show_status(bus: &mut OnfiseqBus, lun: Lun, status: u8)
             fail,
         };
         // A ready that isn't due changes nothing.
-        let _ = push_item(bus, ready);
-        show_array(bus, lun, status);
+        let _ = try_item(bus, kept, ready);
+        show_array(bus, kept, lun, status);
     }
 }
 
 // The readies that a word of a LUN shows, whose outputs gave these bytes.
-fn show(bus: &mut OnfiseqBus, lun: Lun, word: Word, taken: &[u8])
-    ensures value { bus_view bus.new ≡ with_readies lun word taken.now (bus_view bus.old) }
-    ensures same { IsSameChannel (bus_view bus.old) (bus_view bus.new) }
-    ensures count { bus.new.count ≡ bus.old.count }
+fn show(bus: &OnfiseqBus, kept: &mut OnfiseqTarget, lun: Lun, word: Word, taken: &[u8])
+    requires { IsTried bus.now lun.ce kept.old }
+    ensures value { tried_view bus.now lun.ce kept.new ≡ with_readies lun word taken.now (tried_view bus.now lun.ce kept.old) }
+    ensures tried { IsTried bus.now lun.ce kept.new }
 {
     if is_poll(word) {
-        show_status(bus, lun, status_of(word, taken));
+        show_status(bus, kept, lun, status_of(word, taken));
+    }
+}
+
+// Goes on by the status poll of a job by 70h.
+#[inline(always)]
+fn play_poll(
+    bus: &OnfiseqBus,
+    kept: &mut OnfiseqTarget,
+    job: &OnfiseqJob,
+    word: Word,
+) -> Option<Stop>
+    requires tried { IsTried bus.now job.now.ce kept.old }
+    requires poll { PollsOne (bus_view bus.now).geometry word }
+    ensures some { IfSome result (λ stop. played (job_view job.now) word (tried_view bus.now job.now.ce kept.old) ≡ Err stop) }
+    ensures none { IfNone result (played (job_view job.now) word (tried_view bus.now job.now.ce kept.old) ≡ Ok (tried_view bus.now job.now.ce kept.new)) }
+    ensures tried { IsTried bus.now job.now.ce kept.new }
+{
+    let _word = word;
+    match try_poll(bus, kept, job.ce) {
+        Some(rule) => Some(Stop::Breaks(rule)),
+        None => None,
     }
 }
 
 // Goes on by the bursts of a word of a job.
-fn play(geometry: &Geometry, bus: &mut OnfiseqBus, job: &OnfiseqJob, word: Word) -> Option<Stop>
-    requires geometry { geometry.now ≡ (bus_view bus.old).geometry }
+fn play_bursts(
+    bus: &OnfiseqBus,
+    kept: &mut OnfiseqTarget,
+    job: &OnfiseqJob,
+    word: Word,
+) -> Option<Stop>
+    requires tried { IsTried bus.now job.now.ce kept.old }
     requires range { EndsWithFive word }
-    ensures some { IfSome result (λ stop. played (job_view job.now) word (bus_view bus.old) ≡ Err stop) }
-    ensures none { IfNone result (played (job_view job.now) word (bus_view bus.old) ≡ Ok (bus_view bus.new)) }
-    ensures same { IsSameChannel (bus_view bus.old) (bus_view bus.new) }
-    ensures count { bus.new.count ≡ bus.old.count }
+    ensures some { IfSome result (λ stop. played (job_view job.now) word (tried_view bus.now job.now.ce kept.old) ≡ Err stop) }
+    ensures none { IfNone result (played (job_view job.now) word (tried_view bus.now job.now.ce kept.old) ≡ Ok (tried_view bus.now job.now.ce kept.new)) }
+    ensures tried { IsTried bus.now job.now.ce kept.new }
 {
-    let Some(bursts) = bursts_of(geometry, job.on(), job.registers(), word) else {
+    let Some(bursts) = bursts_for(bus, job, word) else {
         return Some(Stop::RowOutside);
     };
-    match push_bursts(bus, bursts.as_slice()) {
+    match try_bursts(bus, kept, job.ce, bursts.as_slice()) {
         Some(rule) => Some(Stop::Breaks(rule)),
         None => None,
+    }
+}
+
+// Goes on by a word of a job.
+#[inline(always)]
+fn play(bus: &OnfiseqBus, kept: &mut OnfiseqTarget, job: &OnfiseqJob, word: Word) -> Option<Stop>
+    requires tried { IsTried bus.now job.now.ce kept.old }
+    requires range { EndsWithFive word }
+    ensures some { IfSome result (λ stop. played (job_view job.now) word (tried_view bus.now job.now.ce kept.old) ≡ Err stop) }
+    ensures none { IfNone result (played (job_view job.now) word (tried_view bus.now job.now.ce kept.old) ≡ Ok (tried_view bus.now job.now.ce kept.new)) }
+    ensures tried { IsTried bus.now job.now.ce kept.new }
+{
+    if polls_one(bus, word) {
+        play_poll(bus, kept, job, word)
+    } else {
+        play_bursts(bus, kept, job, word)
     }
 }
 
@@ -163,9 +204,9 @@ pub extern "C" fn onfiseq_job_finish(
 ) -> OnfiseqStep
     ensures { Finishes live.old job.old file.now taken.now result live.new job.new }
 {
-    let Some(geometry) = live.geometry_for(job) else {
+    if !live.has_job(job) {
         return OnfiseqStep::stopped(Stop::Damaged);
-    };
+    }
     let word = match due(live.holder(), job, file) {
         Err(stop) => return OnfiseqStep::stopped(stop),
         Ok(word) => word,
@@ -173,12 +214,12 @@ pub extern "C" fn onfiseq_job_finish(
     if taken.len() != taken_by(word) {
         return OnfiseqStep::stopped(Stop::WrongCount);
     }
-    let mut bus = copy_of(&live.bus);
-    show(&mut bus, job.on(), word, taken);
-    if let Some(stop) = play(&geometry, &mut bus, job, word) {
+    let mut kept = target_at(&live.bus, job.ce);
+    show(&live.bus, &mut kept, job.on(), word, taken);
+    if let Some(stop) = play(&live.bus, &mut kept, job, word) {
         return OnfiseqStep::stopped(stop);
     }
-    live.bus = bus;
+    put_target(&mut live.bus, job.ce, &kept);
     let status = status_of(word, taken);
     let answer = outcome_of(word, status);
     live.hand_over(holder_after(answer, job.on()));

@@ -1,5 +1,5 @@
 //! A channel on whose pins jobs run, as a record in the caller's memory.
-ghost use Rattle.std.specs.Prelude.{◌≡◌, ◌≤◌, true, false, [], Some, None, IfSome, IfNone, if◌then◌else◌};
+ghost use Rattle.std.specs.Prelude.{◌≡◌, ◌≤◌, ◌<◌, true, false, [], Some, None, IfSome, IfNone, if◌then◌else◌};
 ghost use Rattle.onfi_cycle.specs.State.{Follows};
 ghost use Rattle.onfi_cycle.specs.declared.item.Item.TheVariants.{Rdy, Ard};
 ghost use Rattle.bus_record.specs.Bus.{CanBegin, pushed, bus_pushed};
@@ -49,17 +49,14 @@ impl OnfiseqLive {
         geometry_of(&self.bus)
     }
 
-    /// The geometry of its channel, where both records are whole.
-    pub(crate) fn geometry_for(&self, job: &OnfiseqJob) -> Option<Geometry>
-        ensures some { IfSome result (λ g. g ≡ (state_of self.now).geometry) }
-        ensures whole { IfSome result (λ g. are_whole self.now job.now ≡ true) }
-        ensures few { IfSome result (λ g. job.now.loops.depth ≤ 4) }
-        ensures none { IfNone result (are_whole self.now job.now ≡ false) }
+    /// Whether both records are whole.
+    #[inline(always)]
+    pub(crate) fn has_job(&self, job: &OnfiseqJob) -> bool
+        ensures value { result ≡ are_whole self.now job.now }
+        ensures few { result ≡ true → job.now.loops.depth ≤ 4 }
+        ensures there { result ≡ true → job.now.ce < self.now.bus.count }
     {
-        if !job.is_whole() || !has_lun(&self.bus, job.on()) {
-            return None;
-        }
-        self.geometry()
+        self.is_live() && job.is_whole() && has_lun(&self.bus, job.on())
     }
 
     /// The LUN that has the bus, if one has it.

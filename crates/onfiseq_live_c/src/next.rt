@@ -1,19 +1,20 @@
 //! What is to be done on the pins for a job's next word.
-ghost use Rattle.std.specs.Prelude.{◌≡◌, Ok, Err, slice_get};
+ghost use Rattle.std.specs.Prelude.{◌≡◌, ◌<◌, None, Ok, Err, slice_get};
 ghost use Rattle.seq_core.specs.Playing.{EndsWithFive};
 ghost use Rattle.bus_record.specs.Bus.{bus_view};
+ghost use Rattle.onfiseq_live_c.specs.Bursts.{PollsOne, poll_of};
 ghost use Rattle.onfiseq_live_c.specs.Job.{job_view};
 ghost use Rattle.onfiseq_live_c.specs.Next.{shown, shown_some, three, told, next_of, turn_of};
 
-use crate::bursts::push_bursts;
+use crate::bursts::{bursts_for, polls_one, try_bursts};
 use crate::due::due;
 use crate::job::OnfiseqJob;
 use crate::live::OnfiseqLive;
 use crate::stop::Stop;
-use bus_record::{OnfiseqBus, copy_of};
+use bus_record::{OnfiseqBus, target_at, try_poll};
 use micro_word::Word;
-use nand_geometry::Geometry;
-use seq_live::{Burst, bursts_of, taken_by};
+use onfi_cycle::READ_STATUS;
+use seq_live::{Burst, taken_by};
 
 /// What is to be done on the pins in one go, with the chip enable `ce` low and the others high. `kind` is a letter: C and A give `len` of the bytes, from
 /// `place` on, with CLE or ALE high; I gives `len` bytes of the job's buffer, from `place` on; O takes `len` bytes from the chip.
@@ -41,6 +42,7 @@ pub struct OnfiseqTurn {
 
 impl OnfiseqBurst {
     // A burst as numbers.
+    #[inline(always)]
     fn of(burst: Burst) -> OnfiseqBurst
         ensures { result ≡ shown burst }
     {
@@ -81,19 +83,27 @@ impl OnfiseqBurst {
         }
     }
 
+    // What stands where there is no burst: all 0.
+    #[inline(always)]
+    fn none() -> OnfiseqBurst
+        ensures { result ≡ shown_some None }
+    {
+        OnfiseqBurst {
+            kind: 0,
+            ce: 0,
+            bytes: [0; 5],
+            place: 0,
+            len: 0,
+        }
+    }
+
     // The burst of this number as numbers, all 0 where there are fewer.
     fn at(bursts: &[Burst], number: usize) -> OnfiseqBurst
         ensures { result ≡ shown_some (slice_get bursts.now number) }
     {
         match bursts.get(number) {
             Some(burst) => OnfiseqBurst::of(*burst),
-            None => OnfiseqBurst {
-                kind: 0,
-                ce: 0,
-                bytes: [0; 5],
-                place: 0,
-                len: 0,
-            },
+            None => OnfiseqBurst::none(),
         }
     }
 }
@@ -123,6 +133,27 @@ impl OnfiseqTurn {
         }
     }
 
+    // A status poll by 70h is due.
+    #[inline(always)]
+    fn of_poll(ce: u8) -> OnfiseqTurn
+        ensures { result ≡ turn_of (Ok (record { bursts = poll_of ce; taken = 1 })) }
+    {
+        OnfiseqTurn {
+            letter: 0,
+            number: 0,
+            count: 2,
+            taken: 1,
+            bursts: [
+                OnfiseqBurst::of(Burst::Command {
+                    ce,
+                    byte: READ_STATUS,
+                }),
+                OnfiseqBurst::of(Burst::Output { ce, len: 1 }),
+                OnfiseqBurst::none(),
+            ],
+        }
+    }
+
     // These bursts are due.
     fn told(bursts: &[Burst], taken: usize) -> OnfiseqTurn
         ensures { result ≡ turn_of (Ok (record { bursts = bursts.now; taken = taken })) }
@@ -137,18 +168,48 @@ impl OnfiseqTurn {
     }
 }
 
-// What is to be done for a word of a job.
-fn tell(geometry: &Geometry, bus: &mut OnfiseqBus, job: &OnfiseqJob, word: Word) -> OnfiseqTurn
-    requires geometry { geometry.now ≡ (bus_view bus.old).geometry }
-    requires range { EndsWithFive word }
-    ensures { result ≡ turn_of (told (bus_view bus.old) (job_view job.now) word) }
+// What is to be done for the status poll of a job by 70h.
+#[inline(always)]
+fn tell_poll(bus: &OnfiseqBus, job: &OnfiseqJob, word: Word) -> OnfiseqTurn
+    requires there { job.now.ce < bus.now.count }
+    requires poll { PollsOne (bus_view bus.now).geometry word }
+    ensures { result ≡ turn_of (told (bus_view bus.now) (job_view job.now) word) }
 {
-    let Some(bursts) = bursts_of(geometry, job.on(), job.registers(), word) else {
+    let _word = word;
+    let mut kept = target_at(bus, job.ce);
+    match try_poll(bus, &mut kept, job.ce) {
+        Some(rule) => OnfiseqTurn::stopped(Stop::Breaks(rule)),
+        None => OnfiseqTurn::of_poll(job.ce),
+    }
+}
+
+// What the bursts of a word of a job say is to be done.
+fn tell_bursts(bus: &OnfiseqBus, job: &OnfiseqJob, word: Word) -> OnfiseqTurn
+    requires there { job.now.ce < bus.now.count }
+    requires range { EndsWithFive word }
+    ensures { result ≡ turn_of (told (bus_view bus.now) (job_view job.now) word) }
+{
+    let Some(bursts) = bursts_for(bus, job, word) else {
         return OnfiseqTurn::stopped(Stop::RowOutside);
     };
-    match push_bursts(bus, bursts.as_slice()) {
+    let mut kept = target_at(bus, job.ce);
+    match try_bursts(bus, &mut kept, job.ce, bursts.as_slice()) {
         Some(rule) => OnfiseqTurn::stopped(Stop::Breaks(rule)),
         None => OnfiseqTurn::told(bursts.as_slice(), taken_by(word)),
+    }
+}
+
+// What is to be done for a word of a job.
+#[inline(always)]
+fn tell(bus: &OnfiseqBus, job: &OnfiseqJob, word: Word) -> OnfiseqTurn
+    requires there { job.now.ce < bus.now.count }
+    requires range { EndsWithFive word }
+    ensures { result ≡ turn_of (told (bus_view bus.now) (job_view job.now) word) }
+{
+    if polls_one(bus, word) {
+        tell_poll(bus, job, word)
+    } else {
+        tell_bursts(bus, job, word)
     }
 }
 
@@ -158,14 +219,11 @@ fn tell(geometry: &Geometry, bus: &mut OnfiseqBus, job: &OnfiseqJob, word: Word)
 pub extern "C" fn onfiseq_job_next(live: &OnfiseqLive, job: &OnfiseqJob, file: &[u8]) -> OnfiseqTurn
     ensures { result ≡ turn_of (next_of live.now job.now file.now) }
 {
-    let Some(geometry) = live.geometry_for(job) else {
+    if !live.has_job(job) {
         return OnfiseqTurn::stopped(Stop::Damaged);
-    };
+    }
     match due(live.holder(), job, file) {
         Err(stop) => OnfiseqTurn::stopped(stop),
-        Ok(word) => {
-            let mut bus = copy_of(&live.bus);
-            tell(&geometry, &mut bus, job, word)
-        }
+        Ok(word) => tell(&live.bus, job, word),
     }
 }

@@ -52,6 +52,8 @@ fn say_mistake<W: Write, E: Write, P>(
         | Mistake::Steps(_)
         | Mistake::Glitch(_)
         | Mistake::Mapping(_)
+        | Mistake::NoPage
+        | Mistake::PageNumber { .. }
         | Mistake::Paths(_) => {
             let _ = write!(&mut console.errors, "{}", Escaped(&mistake));
             Exit::Usage

@@ -1,5 +1,5 @@
 -- When no burst is to be done, and why a call is refused.
-use Rattle.std.proofs.Common.{◌≡◌, ℕ, List, [], Option, Some, None, sym, ap, ◌∙◌, subst, get_or, IfNone, Bor}
+use Rattle.std.proofs.Common.{◌≡◌, ℕ, List, [], Option, Some, None, sym, ap, ◌∙◌, subst, get_or, IfNone, Bor, Bool, false, is_some}
 use Rattle.std.specs.List.{slice_get}
 use Rattle.nand_geometry.specs.declared.parts.Parts.{Parts}
 use Rattle.onfi_cycle.specs.declared.lun.Lun.{Lun}
@@ -43,6 +43,14 @@ none_left v step bursts None is next h = λ burst n.
     let bursts_are : n.bursts ≡ bursts = same_bursts v.state.geometry (live_slot v step.lun) n.bursts bursts there next in
     let here : slice_get n.bursts step.done ≡ Some burst = subst (λ (x : StepGoingOn). slice_get n.bursts x.done ≡ Some burst) same n.is_burst in
     none_some (h ∙ subst (λ (bs : List Burst). slice_get bs step.done ≡ Some burst) bursts_are here)
+
+-- so it is where none is found
+pub none_found : (v : LiveView) (step : StepGoingOn) (bursts : List Burst) (found : Option Burst) (b : Bool) → v.going ≡ Some step → AreNextBursts v step.lun bursts → found ≡ slice_get bursts step.done → b ≡ is_some found → b ≡ false → HasNoBurst v
+none_found v step bursts found b is next h tells none = at found h (sym tells ∙ none)
+  where
+    at : (o : Option Burst) → o ≡ slice_get bursts step.done → is_some o ≡ false → HasNoBurst v
+    at None e t = none_left v step bursts None is next e
+    at (Some burst) e t = cc
 
 -- 2. a LUN without a buffer
 

@@ -8,7 +8,6 @@ pub mod Truth
 pub mod Stepping
 pub mod Shown
 pub mod Faults
-pub mod Pinned
 pub mod Owned
 pub mod Turns
 pub mod Main

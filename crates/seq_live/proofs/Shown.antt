@@ -1,5 +1,5 @@
 -- The readies that a status shows, as runs.
-use Rattle.std.proofs.Common.{◌≡◌, ℕ, ◌==◌, Bool, true, false, cond, List, [], ◌∷◌, ◌++◌, Option, Some, None, refl, sym, ap, ◌∙◌, subst, eqb-true, eq-eqb, IfSome, IfOk, Result, Ok, Err, ◌<◌, length, length-append, arith}
+use Rattle.std.proofs.Common.{◌≡◌, ℕ, ◌==◌, Bool, true, false, cond, List, [], ◌∷◌, ◌++◌, Option, Some, None, refl, sym, ap, ◌∙◌, subst, eqb-true, eq-eqb, IfSome, is_some, ◌<◌, length, length-append, take, inl, inr, arith}
 use Rattle.std.specs.Int.RustNames.{bit_and}
 use Rattle.onfi_cycle.specs.declared.lun.Lun.{Lun}
 use Rattle.micro_word.specs.declared.word.Word.{Word}
@@ -11,9 +11,9 @@ use Rattle.seq_live.specs.declared.live.StepGoingOn.{StepGoingOn}
 use Rattle.seq_live.specs.declared.burst.Burst.{Burst}
 use Rattle.seq_live.specs.Event.{LiveEvent, Step, Ready, ArrayReady, is_quiet}
 use Rattle.seq_live.specs.Kept.{LiveView, IsLive}
-use Rattle.seq_live.specs.Calls.{IsLiveRun, IsLiveEvent, MayStep, IsNextWord, AreNextBursts, IsNextBurst, HasFinished, shown_by, shown, has_fail, has_array_ready, is_poll, ends_with, live_slot, NextWordIs, AreFewDone, Begins, HasStepped, GoesOnFor}
-use Rattle.seq_live.specs.declared.out_of_turn.OutOfTurn.{OutOfTurn}
-use Rattle.seq_live.specs.declared.begun.Begun.TheVariants.{Answered, Going}
+use Rattle.seq_live.specs.Calls.{IsLiveRun, IsLiveEvent, MayStep, IsNextWord, AreNextBursts, IsNextBurst, HasFinished, shown_by, shown, has_fail, has_array_ready, is_poll, ends_with, live_slot, NextWordIs, AreFewDone, HasStepped, IsStepFault}
+use Rattle.seq_live.specs.declared.out_of_turn.OutOfTurn.TheVariants.{StepGoesOn, NoRoom}
+use Rattle.seq_live.specs.Burst.{taken_by}
 use Rattle.seq_live.proofs.Running.{runs_more, no_run, answered_each}
 use Rattle.std.proofs.lemmas.Bool.{and_parts}
 use Rattle.std.specs.List.{slice_get, list_all}
@@ -99,7 +99,7 @@ whatever_goes_on v u going es rs run w at law =
 
 pub finished_at_rest : (v : LiveView) (bytes : List ℕ) (answer : Stepped) (step : StepGoingOn) → v.going ≡ Some step → (MayStep v step.lun → ⊥) → IsLiveEvent v (Step step.lun bytes) (ToStep answer) v → HasFinished v bytes answer (record v { going = None })
 finished_at_rest v bytes answer step is rest run =
-    record { step = step; is_step = is; readies = []; are_shown = λ word may next. absurd (rest may); replies = []; paired = refl; quiet = refl; run = whatever_goes_on v v None (Step step.lun bytes ∷ []) (ToStep answer ∷ []) run; is_over = refl }
+    record { step = step; is_step = is; readies = []; are_shown = λ word may next. absurd (rest may); none_shown = λ stays. refl; replies = []; paired = refl; quiet = refl; run = whatever_goes_on v v None (Step step.lun bytes ∷ []) (ToStep answer ∷ []) run; is_over = refl }
 
 pub same_next : (o : Option Progress) (word other : Word) → NextWordIs o word → NextWordIs o other → word ≡ other
 same_next o word other a b =
@@ -114,13 +114,14 @@ paired_before v later readies replies e reply k run =
     let other = length-append readies (e ∷ []) in
     omega (arith, all, one, other)
 
-pub finished : (v later : LiveView) (bytes : List ℕ) (answer : Stepped) (step : StepGoingOn) (word : Word) → IsLive v → v.going ≡ Some step → IsNextWord v step.lun word → (replies : List Reply) × IsLiveRun v (shown step.lun word bytes ++ (Step step.lun bytes ∷ [])) (replies ++ (ToStep answer ∷ [])) later → later.going ≡ None → HasFinished v bytes answer later
-finished v later bytes answer step word k is next run over =
+pub finished : (v later : LiveView) (bytes : List ℕ) (answer : Stepped) (step : StepGoingOn) (word : Word) → IsLive v → v.going ≡ Some step → MayStep v step.lun → IsNextWord v step.lun word → (replies : List Reply) × IsLiveRun v (shown step.lun word bytes ++ (Step step.lun bytes ∷ [])) (replies ++ (ToStep answer ∷ [])) later → later.going ≡ None → HasFinished v bytes answer later
+finished v later bytes answer step word k is may next run over =
     record {
       step = step;
       is_step = is;
       readies = shown step.lun word bytes;
-      are_shown = λ other may there. ap (λ (y : Word). shown step.lun y bytes) (same_next (live_slot v step.lun) word other next there);
+      are_shown = λ other goes there. ap (λ (y : Word). shown step.lun y bytes) (same_next (live_slot v step.lun) word other next there);
+      none_shown = λ rest. absurd (rest may);
       replies = run.0;
       paired = paired_before v later (shown step.lun word bytes) run.0 (Step step.lun bytes) (ToStep answer) k run.1;
       quiet = shown_quiet step.lun word bytes;
@@ -132,39 +133,71 @@ pub next_burst : (v : LiveView) (step : StepGoingOn) (bursts : List Burst) (foun
 next_burst v step bursts None is may next h = tt
 next_burst v step bursts (Some burst) is may next h = record { step = step; is_step = is; may = may; bursts = bursts; are_next = next; is_burst = sym h }
 
+pub burst_left : (v : LiveView) (step : StepGoingOn) (bursts : List Burst) (found : Option Burst) (b : Bool) → v.going ≡ Some step → MayStep v step.lun → AreNextBursts v step.lun bursts → found ≡ slice_get bursts step.done → b ≡ is_some found → b ≡ true → (burst : Burst) × IsNextBurst v burst
+burst_left v step bursts found b is may next h tells left = at found h (sym tells ∙ left)
+  where
+    at : (o : Option Burst) → o ≡ slice_get bursts step.done → is_some o ≡ true → (burst : Burst) × IsNextBurst v burst
+    at None e t = cc
+    at (Some burst) e t = (burst, next_burst v step bursts (Some burst) is may next e)
+
 pub few_done : (v : LiveView) (step : StepGoingOn) (found : Option Burst) → v.going ≡ Some step → IfSome found (λ burst. step.done < 3) → IfSome found (λ burst. AreFewDone v)
 few_done v step None is h = tt
 few_done v step (Some burst) is h = λ other e. let same : step ≡ other = some_same step other (sym is ∙ e) in subst (λ (x : StepGoingOn). x.done < 3) same h
 
--- 6. bursts, one after another
+-- 6. a step on pins
 
-pub begun : (v u : LiveView) (l : Lun) → Begins v l Going u → IsLiveRun v [] [] u
-begun v u l h = subst (IsLiveRun v [] []) (sym h.1) (whatever_goes_on v v (Some (record { lun = l; done = 0 })) [] [] (no_run v))
-
-pub answered_at_once : (v u : LiveView) (l : Lun) (answer : Stepped) → Begins v l (Answered answer) u → HasStepped v l answer u
-answered_at_once v u l answer h = record { readies = []; bytes = []; replies = []; paired = refl; quiet = refl; run = subst (λ (x : LiveView). IsLiveRun v (Step l [] ∷ []) (ToStep answer ∷ []) x) (sym h.0) (h.1 []) }
-
-pub begun_for : (v u : LiveView) (l : Lun) → Begins v l Going u → GoesOnFor l u
-begun_for v u l h = subst (GoesOnFor l) (sym h.1) (record { lun = l; done = 0 }, refl, refl)
-
-pub stepped_on : (v u t : LiveView) (l : Lun) (bytes : List ℕ) (answer : Stepped) → IsLiveRun v [] [] u → GoesOnFor l u → HasFinished u bytes answer t → HasStepped v l answer t
-stepped_on v u t l bytes answer run goes f =
-    let same : f.step ≡ goes.0 = some_same f.step goes.0 (sym f.is_step ∙ goes.1) in
-    let here : f.step.lun ≡ l = ap (λ (x : StepGoingOn). x.lun) same ∙ goes.2 in
+pub stepped_at_rest : (v : LiveView) (l : Lun) (taken : List ℕ) (answer : Stepped) → (MayStep v l → ⊥) → IsLiveEvent v (Step l []) (ToStep answer) v → HasStepped v l taken answer v
+stepped_at_rest v l taken answer rest run =
     record {
-      readies = f.readies;
-      bytes = bytes;
-      replies = f.replies;
-      paired = f.paired;
-      quiet = f.quiet;
-      run = subst (λ (m : Lun). IsLiveRun v (f.readies ++ (Step m bytes ∷ [])) (f.replies ++ (ToStep answer ∷ [])) t) here (runs_more v u t [] (f.readies ++ (Step f.step.lun bytes ∷ [])) [] (f.replies ++ (ToStep answer ∷ [])) run f.run);
+      count = 0;
+      takes = inr (rest, refl);
+      room = omega arith;
+      bytes = [];
+      are_taken = none_taken taken;
+      readies = [];
+      are_shown = λ word may next. absurd (rest may);
+      none_shown = λ stays. refl;
+      replies = [];
+      paired = refl;
+      quiet = refl;
+      run = run;
+    }
+  where
+    none_taken : (xs : List ℕ) → [] ≡ take 0 xs
+    none_taken [] = refl
+    none_taken (x ∷ xs) = refl
+
+front_taken : (xs ys : List ℕ) → xs ≡ take (length xs) (xs ++ ys)
+front_taken [] [] = refl
+front_taken [] (y ∷ ys) = refl
+front_taken (x ∷ xs) ys = ap (λ (zs : List ℕ). x ∷ zs) (front_taken xs ys)
+
+pub stepped_next : (v later : LiveView) (l : Lun) (word : Word) (front back : List ℕ) (answer : Stepped) → IsLive v → MayStep v l → IsNextWord v l word → length front ≡ taken_by word
+    → (replies : List Reply) × IsLiveRun v (shown l word front ++ (Step l front ∷ [])) (replies ++ (ToStep answer ∷ [])) later → HasStepped v l (front ++ back) answer later
+stepped_next v later l word front back answer k may next count run =
+    record {
+      count = length front;
+      takes = inl (record { may = may; word = word; is_word = next; is_count = count });
+      room = let both = length-append front back in omega (arith, both);
+      bytes = front;
+      are_taken = front_taken front back;
+      readies = shown l word front;
+      are_shown = λ other goes there. ap (λ (y : Word). shown l y front) (same_next (live_slot v l) word other next there);
+      none_shown = λ rest. absurd (rest may);
+      replies = run.0;
+      paired = paired_before v later (shown l word front) run.0 (Step l front) (ToStep answer) k run.1;
+      quiet = shown_quiet l word front;
+      run = run.1;
     }
 
--- what was begun, and then stepped
-pub begun_stepped : (v u t : LiveView) (l : Lun) (answer : Stepped) → IsLiveRun v [] [] u → HasStepped u l answer t → HasStepped v l answer t
-begun_stepped v u t l answer run h =
-    record { readies = h.readies; bytes = h.bytes; replies = h.replies; paired = h.paired; quiet = h.quiet; run = runs_more v u t [] (h.readies ++ (Step l h.bytes ∷ [])) [] (h.replies ++ (ToStep answer ∷ [])) run h.run }
+-- 7. why a step on pins isn't made
 
-pub begun_went : (v u t : LiveView) (l : Lun) (r : Result Stepped OutOfTurn) → IsLiveRun v [] [] u → IfOk r (λ answer. HasStepped u l answer t) → IfOk r (λ answer. HasStepped v l answer t)
-begun_went v u t l (Ok answer) run h = begun_stepped v u t l answer run h
-begun_went v u t l (Err e) run h = h
+pub goes_on_now : (v : LiveView) (l : Lun) (room : ℕ) (b : Bool) → b ≡ is_some v.going → b ≡ true → IsStepFault v l room StepGoesOn
+goes_on_now v l room b is goes = at v.going refl (sym is ∙ goes)
+  where
+    at : (o : Option StepGoingOn) → v.going ≡ o → is_some o ≡ true → (step : StepGoingOn) × (v.going ≡ Some step)
+    at None e h = cc
+    at (Some step) e h = (step, e)
+
+pub no_room : (v : LiveView) (l : Lun) (room count : ℕ) (word : Word) → MayStep v l → IsNextWord v l word → count ≡ taken_by word → room < count → IsStepFault v l room NoRoom
+no_room v l room count word may next is more = (count, record { may = may; word = word; is_word = next; is_count = is }, more)

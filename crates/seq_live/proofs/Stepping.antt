@@ -68,6 +68,9 @@ next_there v l place k h may =
 pub never_missing : (v : LiveView) (l : Lun) → None ≡ place_of (core_at v []) l → MayStep v l → ⊥
 never_missing v l h may = never_there (core_at v []) l h may.running
 
+pub bursts_for : (v : LiveView) (l : Lun) (place : ℕ) (bursts : List Burst) → NextThere v l place → AreNextBursts v l bursts → NextBurstsAre v.state.geometry (get_or v.slots place None) bursts
+bursts_for v l place bursts n h = subst (λ (o : Option Progress). NextBurstsAre v.state.geometry o bursts) (n.slot ∙ sym n.found) h
+
 pub has_next_word : (v : LiveView) (l : Lun) (place : ℕ) → NextThere v l place → HasNextWord (get_or v.slots place None)
 has_next_word v l place n = (n.can.word, record { v = n.p; is_slot = n.found; here = n.can.here })
 

@@ -104,8 +104,8 @@ quiet_loads_none (Step l bytes ∷ es) quiet = (tt, quiet_loads_none es quiet)
 quiet_loads_none (Ready l fail ∷ es) quiet = (tt, quiet_loads_none es quiet)
 quiet_loads_none (ArrayReady l ∷ es) quiet = (tt, quiet_loads_none es quiet)
 
-pub stepped_run : (v u : LiveView) (l : Lun) (answer : Stepped) → HasStepped v l answer u → SteppedRun v u l answer
-stepped_run v u l answer h =
+pub stepped_run : (v u : LiveView) (l : Lun) (taken : List ℕ) (answer : Stepped) → HasStepped v l taken answer u → SteppedRun v u l answer
+stepped_run v u l taken answer h =
     record {
       log = z.log ++ (last ∷ []);
       ran = record {
@@ -295,9 +295,9 @@ not_taken_away {A} most v u on fault event =
     }
 
 -- a step, and what becomes of its job then
-pub stepped_turn : {A : Type 0} (most : ℕ) (v u : LiveView) (on : OnLun) (answer : Stepped) (y : LiveJob A) → HasStepped v on.lun answer u → StaysOn on y → ((log : List Told) → (answer ≡ NotReady → 1 ≤ busy_polls on.lun log) → Goes most (Running on) y log) → HasTurned most v u (Running on) y
-stepped_turn most v u on answer y h stays goes =
-    let r = stepped_run v u on.lun answer h in
+pub stepped_turn : {A : Type 0} (most : ℕ) (v u : LiveView) (on : OnLun) (taken : List ℕ) (answer : Stepped) (y : LiveJob A) → HasStepped v on.lun taken answer u → StaysOn on y → ((log : List Told) → (answer ≡ NotReady → 1 ≤ busy_polls on.lun log) → Goes most (Running on) y log) → HasTurned most v u (Running on) y
+stepped_turn most v u on taken answer y h stays goes =
+    let r = stepped_run v u on.lun taken answer h in
     record {
       log = r.log;
       ran = r.ran;
@@ -307,9 +307,9 @@ stepped_turn most v u on answer y h stays goes =
     }
 
 -- a step, and the turn of its job after it
-pub stepped_then : {A : Type 0} (most : ℕ) (v u t : LiveView) (on : OnLun) (answer : Stepped) (z : LiveJob A) → HasStepped v on.lun answer u → HasTurned most u t (Running on) z → HasTurned most v t (Running on) z
-stepped_then {A} most v u t on answer z h b =
-    let r = stepped_run v u on.lun answer h in
+pub stepped_then : {A : Type 0} (most : ℕ) (v u t : LiveView) (on : OnLun) (taken : List ℕ) (answer : Stepped) (z : LiveJob A) → HasStepped v on.lun taken answer u → HasTurned most u t (Running on) z → HasTurned most v t (Running on) z
+stepped_then {A} most v u t on taken answer z h b =
+    let r = stepped_run v u on.lun taken answer h in
     let some = r.some in
     let both = length-append r.log b.log in
     record {

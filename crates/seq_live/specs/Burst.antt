@@ -1,5 +1,5 @@
 -- The bursts of a word: what is to be done on the pins, one after another.
-use Rattle.std.specs.Prelude.{ℕ, ◌+◌, ◌≤◌, nat_lt, if◌then◌else◌, List, [], ◌∷◌, ◌++◌, Option, Some, replicate}
+use Rattle.std.specs.Prelude.{ℕ, ◌+◌, ◌≤◌, nat_lt, Bool, true, false, if◌then◌else◌, List, [], ◌∷◌, ◌++◌, Option, Some, replicate}
 use Rattle.nand_geometry.specs.declared.parts.Parts.{Parts}
 use Rattle.nand_geometry.specs.Row.{row_bytes_of}
 use Rattle.onfi_cycle.specs.declared.item.Kind.TheVariants.{Cmd, Adr, Din}
@@ -50,6 +50,13 @@ bursts_at g l r (word.Put len) = Some (Input l.ce r.place len ∷ [])
 bursts_at g l r word.Wait = poll_bursts g l
 bursts_at g l r word.ReadStatus = poll_bursts g l
 bursts_at g l r _ = Some []
+
+-- the bursts of a word may name a row: an address, and a poll of one of several LUNs
+abbrev pub names_row : Word → Bool
+names_row (word.Address from count) = true
+names_row word.Wait = true
+names_row word.ReadStatus = true
+names_row _ = false
 
 -- how many bytes a word takes
 abbrev pub taken_by : Word → ℕ

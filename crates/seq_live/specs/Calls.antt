@@ -1,5 +1,5 @@
 -- What a call of a sequencer on a real bus is: an event, or several, of the world that it keeps.
-use Rattle.std.specs.Prelude.{◌≡◌, ℕ, ◌+◌, ◌<◌, ◌==◌, ◌⊎◌, Bool, true, false, ◌&&◌, if◌then◌else◌, List, [], ◌∷◌, ◌++◌, Option, Some, None, length, slice_get}
+use Rattle.std.specs.Prelude.{◌≡◌, ℕ, ◌+◌, ◌<◌, ◌≤◌, ◌==◌, ◌⊎◌, Bool, true, false, ◌&&◌, if◌then◌else◌, List, [], ◌∷◌, ◌++◌, Option, Some, None, length, slice_get, take}
 use Rattle.std.specs.List.{list_all}
 use Rattle.std.specs.Int.RustNames.{bit_and}
 use Rattle.nand_geometry.specs.declared.parts.Parts.{Parts}
@@ -206,12 +206,13 @@ pub record IsBurstDone (v later : LiveView) : Type 0 where
   pub is_step : v.going ≡ Some step
   pub is_later : later ≡ record v { going = Some (record step { done = step.done + 1 }) }
 
--- the step that went on is finished: after the readies that its poll shows it is an event whose outputs gave these bytes
+-- the step that went on is finished: after the readies that its poll shows, and no others, it is an event whose outputs gave these bytes
 pub record HasFinished (v : LiveView) (bytes : List ℕ) (answer : Stepped) (later : LiveView) : Type 0 where
   pub step : StepGoingOn
   pub is_step : v.going ≡ Some step
   pub readies : List LiveEvent
   pub are_shown : (word : Word) → MayStep v step.lun → IsNextWord v step.lun word → readies ≡ shown step.lun word bytes
+  pub none_shown : (MayStep v step.lun → ⊥) → readies ≡ []
   pub replies : List Reply
   pub paired : length replies ≡ length readies
   pub quiet : list_all is_quiet readies ≡ true
@@ -257,13 +258,6 @@ pub record NextTakes (v : LiveView) (l : Lun) (count : ℕ) : Type 0 where
 abbrev pub Takes : LiveView → Lun → ℕ → Type 0
 Takes v l count = NextTakes v l count ⊎ ((MayStep v l → ⊥) × (count ≡ 0))
 
--- the step of this LUN, if one goes on, still does
-abbrev pub GoesOnFor : Lun → LiveView → Type 0
-GoesOnFor l v = (step : StepGoingOn) × (v.going ≡ Some step) × (step.lun ≡ l)
-
-abbrev pub KeepsStep : LiveView → LiveView → Type 0
-KeepsStep v later = (l : Lun) → GoesOnFor l v → GoesOnFor l later
-
 -- ---- what a call leaves
 
 -- the jobs, the LUN that has the bus and the step that goes on are as they were
@@ -283,14 +277,6 @@ ends_with word bytes = is_wait word && is_ready_status (first_byte bytes)
 
 -- ---- a step on pins
 
--- a step of this LUN has begun, and none of its bursts is done
-abbrev pub HasBegun : LiveView → Lun → Type 0
-HasBegun v l = v.going ≡ Some (record { lun = l; done = 0 })
-
--- nothing has changed but how far the step that goes on is
-abbrev pub KeepsAllButStep : LiveView → LiveView → Type 0
-KeepsAllButStep v later = later ≡ record v { going = later.going }
-
 -- why a step on pins isn't made, with room for so many bytes
 abbrev pub IsStepFault : LiveView → Lun → ℕ → OutOfTurn → Type 0
 IsStepFault v l room StepGoesOn = (step : StepGoingOn) × (v.going ≡ Some step)
@@ -300,10 +286,17 @@ IsStepFault v l room NoBurst = ⊥
 IsStepFault v l room BurstsLeft = ⊥
 IsStepFault v l room WrongCount = ⊥
 
--- a step of a LUN came: after the readies that it shows, with the bytes that the pins gave
-pub record HasStepped (v : LiveView) (l : Lun) (answer : Stepped) (later : LiveView) : Type 0 where
-  pub readies : List LiveEvent
+-- a step of a LUN came: its outputs gave the first of the bytes that were taken, as many as its next word asks for, and before it came the readies that they show, and no others.
+-- Where it may not step, it took no bytes and nothing came before it
+pub record HasStepped (v : LiveView) (l : Lun) (taken : List ℕ) (answer : Stepped) (later : LiveView) : Type 0 where
+  pub count : ℕ
+  pub takes : Takes v l count
+  pub room : count ≤ length taken
   pub bytes : List ℕ
+  pub are_taken : bytes ≡ take count taken
+  pub readies : List LiveEvent
+  pub are_shown : (word : Word) → MayStep v l → IsNextWord v l word → readies ≡ shown l word bytes
+  pub none_shown : (MayStep v l → ⊥) → readies ≡ []
   pub replies : List Reply
   pub paired : length replies ≡ length readies
   pub quiet : list_all is_quiet readies ≡ true

@@ -1,7 +1,8 @@
 //! A burst: what is to be done on the pins in one go.
-ghost use Rattle.std.specs.Prelude.{◌≡◌, ◌+◌, ◌<◌, ◌≤◌, [], ◌∷◌, Some, None, IfSome, IfNone, slice_get};
+ghost use Rattle.std.specs.Prelude.{◌≡◌, ◌+◌, ◌<◌, ◌≤◌, false, [], ◌∷◌, Some, None, IfSome, IfNone, slice_get};
 ghost use Rattle.seq_core.specs.Playing.{EndsWithFive};
-ghost use Rattle.seq_live.specs.Burst.{bursts_at, poll_bursts, taken_by};
+ghost use Rattle.nand_geometry.specs.declared.parts.Parts.{Parts as PartsValue};
+ghost use Rattle.seq_live.specs.Burst.{bursts_at, names_row, poll_bursts, taken_by};
 
 use arrayvec::ArrayVec;
 use micro_word::Word;
@@ -57,6 +58,7 @@ impl Default for Burst {
 }
 
 // One burst in a list.
+#[inline(always)]
 fn one(burst: Burst) -> Bursts
     ensures { result.items ≡ burst ∷ [] }
 {
@@ -66,6 +68,7 @@ fn one(burst: Burst) -> Bursts
 }
 
 // The bursts of a status poll of the one LUN of a target.
+#[inline(always)]
 fn poll_one(ce: u8) -> Bursts
     ensures { result.items ≡ Burst.Command ce READ_STATUS ∷ (Burst.Output ce 1 ∷ []) }
 {
@@ -131,26 +134,51 @@ fn address(
     }))
 }
 
+// The bursts of a word that names no row.
+#[inline(always)]
+fn plain_bursts(lun: Lun, registers: Registers, word: Word) -> Bursts
+    requires { names_row word ≡ false }
+    ensures { (g : PartsValue) → bursts_at g lun registers word ≡ Some result.items }
+{
+    let ce = lun.ce;
+    match word {
+        Word::Command { byte } => one(Burst::Command { ce, byte }),
+        Word::Get { len } => {
+            let len = len as usize;
+            one(Burst::Output { ce, len })
+        }
+        Word::Put { len } => {
+            let (place, len) = (registers.place as usize, len as usize);
+            one(Burst::Input { ce, place, len })
+        }
+        _ => ArrayVec::new(),
+    }
+}
+
 /// The bursts of a word on a LUN, whose program has these registers; None where the row of its address isn't there.
+#[inline(always)]
 pub fn bursts_of(geometry: &Geometry, lun: Lun, registers: Registers, word: Word) -> Option<Bursts>
     requires { EndsWithFive word }
     ensures some { IfSome result (λ bursts. bursts_at geometry.now lun registers word ≡ Some bursts.items) }
     ensures none { IfNone result (bursts_at geometry.now lun registers word ≡ None) }
 {
-    let ce = lun.ce;
     match word {
-        Word::Command { byte } => Some(one(Burst::Command { ce, byte })),
         Word::Address { from, count } => address(geometry, lun, registers, from, count),
-        Word::Get { len } => {
-            let len = len as usize;
-            Some(one(Burst::Output { ce, len }))
-        }
-        Word::Put { len } => {
-            let (place, len) = (registers.place as usize, len as usize);
-            Some(one(Burst::Input { ce, place, len }))
-        }
         Word::Wait | Word::ReadStatus => poll(geometry, lun),
-        _ => Some(ArrayVec::new()),
+        _ => Some(plain_bursts(lun, registers, word)),
+    }
+}
+
+/// The bursts of a word on a LUN of a target that has so many, as far as they name no row; None for those that do.
+#[inline(always)]
+pub fn bursts_without_row(luns: u8, lun: Lun, registers: Registers, word: Word) -> Option<Bursts>
+    ensures { IfSome result (λ bursts. (g : PartsValue) → g.luns ≡ luns → bursts_at g lun registers word ≡ Some bursts.items) }
+{
+    match word {
+        Word::Address { .. } => None,
+        Word::Wait | Word::ReadStatus if luns > 1 => None,
+        Word::Wait | Word::ReadStatus => Some(poll_one(lun.ce)),
+        _ => Some(plain_bursts(lun, registers, word)),
     }
 }
 

@@ -20,7 +20,7 @@ mod run;
 mod slot_steps;
 
 pub use begun::Begun;
-pub use burst::{Burst, Bursts, MAX_BURSTS, bursts_of, taken_by};
+pub use burst::{Burst, Bursts, MAX_BURSTS, bursts_of, bursts_without_row, taken_by};
 pub use live::{Live, StepGoingOn};
 pub use live_job::{LiveJob, OnLun};
 pub use out_of_turn::OutOfTurn;

@@ -13,10 +13,10 @@ ghost use Rattle.seq_live.specs.Kept.{channel_at, IsLiveAt, IsLive};
 ghost use Rattle.seq_live.specs.Calls.{IsLiveRun, IsLiveEvent, live_slot, live_load_fault, MayStep, IsNextWord, AreNextBursts, Begins, IsNextBurst, HasNoBurst, AreFewDone, Takes, IsBurstDone, IsGaveFault, IsFinishFault, HasFinished, HasBuffer, KeepsSlots, IsReadyNow, ends_with, shown, shown_by};
 
 use crate::begun::Begun;
-use crate::burst::{Burst, Bursts, burst_of, taken_by};
+use crate::burst::{Burst, burst_of, taken_by};
 use crate::moving::go_on_if;
 use crate::out_of_turn::OutOfTurn;
-use crate::slot_steps::{buffer_in, bursts_in, is_poll, status_of, step_in, word_in};
+use crate::slot_steps::{Due, buffer_in, due_in, is_poll, status_of, step_in, word_in};
 use arrayvec::ArrayVec;
 use micro_program::is_ready_status;
 use micro_word::Word;
@@ -145,8 +145,8 @@ impl<A: Allocator> Live<A> {
         self.going
     }
 
-    // The answer of a step that changes nothing: the LUN has no program that goes on, or another LUN has the bus.
-    fn answer_at_rest(&self, lun: Lun) -> Option<Stepped>
+    /// The answer of a step that changes nothing: the LUN has no program that goes on, or another LUN has the bus.
+    pub(crate) fn answer_at_rest(&self, lun: Lun) -> Option<Stepped>
         ensures came { IfSome result (λ answer. (bytes : List ℕ) → IsLiveEvent self.now (Step lun bytes) (ToStep answer) self.now) }
         ensures rest { IfSome result (λ answer. MayStep self.now lun → ⊥) }
         ensures may { IfNone result (MayStep self.now lun) }
@@ -289,15 +289,17 @@ impl<A: Allocator> Live<A> {
         }
     }
 
-    // The bursts of the next word of a LUN that may step.
-    fn bursts_at(&self, lun: Lun) -> Bursts
+    /// The next word of a LUN that may step, and its bursts.
+    pub(crate) fn due_at(&self, lun: Lun) -> Due
         requires { MayStep self.now lun }
-        ensures { AreNextBursts self.now lun result.items }
+        ensures word { IsNextWord self.now lun result.word }
+        ensures range { EndsWithFive result.word }
+        ensures bursts { AreNextBursts self.now lun result.bursts.items }
     {
         let geometry = self.state.geometry();
         match self.place(lun) {
             None => unreachable!(),
-            Some(place) => bursts_in(&geometry, self.slots.as_slice(), place),
+            Some(place) => due_in(&geometry, self.slots.as_slice(), place),
         }
     }
 
@@ -330,7 +332,7 @@ impl<A: Allocator> Live<A> {
         let step = self.going?;
         match self.answer_at_rest(step.lun) {
             Some(_) => None,
-            None => burst_of(&self.bursts_at(step.lun), step.done),
+            None => burst_of(&self.due_at(step.lun).bursts, step.done),
         }
     }
 
@@ -381,11 +383,12 @@ impl<A: Allocator> Live<A> {
     }
 
     // Steps the next word of a LUN, whose outputs gave these bytes.
-    fn step_by(&mut self, lun: Lun, word: Word, taken: &[u8]) -> Stepped
+    fn step_by(&mut self, lun: Lun, due: &Due, taken: &[u8]) -> Stepped
         requires may { MayStep self.old lun }
-        requires next { IsNextWord self.old lun word }
-        requires count { length taken.now ≡ taken_by word }
-        requires truth { ends_with word taken.now ≡ true → IsReadyNow self.old.state lun }
+        requires next { IsNextWord self.old lun due.now.word }
+        requires bursts { AreNextBursts self.old lun due.now.bursts.items }
+        requires count { length taken.now ≡ taken_by due.now.word }
+        requires truth { ends_with due.now.word taken.now ≡ true → IsReadyNow self.old.state lun }
         ensures came { IsLiveEvent self.old (Step lun taken.now) (ToStep result) self.new }
         ensures over { self.new.going ≡ None }
     {
@@ -394,7 +397,7 @@ impl<A: Allocator> Live<A> {
             None => unreachable!(),
             Some(place) => {
                 let slots = self.slots.as_mut_slice();
-                let answer = step_in(&mut self.state, &geometry, slots, place, taken);
+                let answer = step_in(&mut self.state, &geometry, slots, place, due, taken);
                 self.holder = holder_after(answer, lun);
                 self.going = None;
                 answer
@@ -402,16 +405,17 @@ impl<A: Allocator> Live<A> {
         }
     }
 
-    // Steps the next word of a LUN after the readies that its poll shows.
-    fn step_word(&mut self, lun: Lun, word: Word, taken: &[u8]) -> Stepped
+    /// Steps the next word of a LUN after the readies that its poll shows.
+    pub(crate) fn step_word(&mut self, lun: Lun, due: &Due, taken: &[u8]) -> Stepped
         requires may { MayStep self.old lun }
-        requires next { IsNextWord self.old lun word }
-        requires count { length taken.now ≡ taken_by word }
-        ensures run { (replies : List Reply) × IsLiveRun self.old (shown lun word taken.now ++ (Step lun taken.now ∷ [])) (replies ++ (ToStep result ∷ [])) self.new }
+        requires next { IsNextWord self.old lun due.now.word }
+        requires bursts { AreNextBursts self.old lun due.now.bursts.items }
+        requires count { length taken.now ≡ taken_by due.now.word }
+        ensures run { (replies : List Reply) × IsLiveRun self.old (shown lun due.now.word taken.now ++ (Step lun taken.now ∷ [])) (replies ++ (ToStep result ∷ [])) self.new }
         ensures over { self.new.going ≡ None }
     {
-        self.show(lun, word, taken);
-        self.step_by(lun, word, taken)
+        self.show(lun, due.word, taken);
+        self.step_by(lun, due, taken)
     }
 
     /// Finishes the step that goes on, all of whose bursts are done: these bytes are what its outputs gave, one for a poll, as many as a `get` asks
@@ -425,17 +429,17 @@ impl<A: Allocator> Live<A> {
         let Some(step) = self.going else {
             return Err(OutOfTurn::NoStep);
         };
-        let None = self.next() else {
-            return Err(OutOfTurn::BurstsLeft);
-        };
         if let Some(answer) = self.answer_at_rest(step.lun) {
             self.going = None;
             return Ok(answer);
         }
-        let word = self.word_at(step.lun);
-        if taken.len() != taken_by(word) {
+        let due = self.due_at(step.lun);
+        if burst_of(&due.bursts, step.done).is_some() {
+            return Err(OutOfTurn::BurstsLeft);
+        }
+        if taken.len() != taken_by(due.word) {
             return Err(OutOfTurn::WrongCount);
         }
-        Ok(self.step_word(step.lun, word, taken))
+        Ok(self.step_word(step.lun, &due, taken))
     }
 }

@@ -1,9 +1,8 @@
 //! A step on pins: whoever drives them gives and takes bytes.
 ghost use Rattle.std.specs.Prelude.{◌≡◌, IfOk, IfErr, length};
-ghost use Rattle.seq_live.specs.Calls.{GoesOnFor, HasBegun, HasNoBurst, HasStepped, IsStepFault, KeepsAllButStep, KeepsStep, Takes};
+ghost use Rattle.seq_live.specs.Calls.{HasStepped, IsStepFault, MayStep};
 
-use crate::begun::Begun;
-use crate::burst::{Burst, MAX_BURSTS};
+use crate::burst::{Burst, taken_by};
 use crate::live::Live;
 use crate::out_of_turn::OutOfTurn;
 use onfi_cycle::{Kind, Lun};
@@ -54,39 +53,41 @@ fn do_burst<A: Allocator, P: Pins>(
     }
 }
 
-// Does the bursts of the step of a LUN on the pins, one after another.
-fn do_bursts<A: Allocator, P: Pins>(live: &mut Live<A>, pins: &mut P, lun: Lun, taken: &mut [u8])
-    ensures kept { KeepsAllButStep live.old live.new }
-    ensures step { KeepsStep live.old live.new }
-    ensures done { HasBegun live.old lun → HasNoBurst live.new }
-{
-    for _ in 0..MAX_BURSTS {
-        match live.next() {
-            None => return,
-            Some(burst) => {
-                do_burst(live, pins, lun, burst, taken);
-                // There was a burst to do, so this isn't out of turn.
-                let _ = live.gave();
-            }
-        }
+// Does these bursts of a LUN on the pins, one after another.
+fn do_bursts<A: Allocator, P: Pins>(
+    live: &Live<A>,
+    pins: &mut P,
+    lun: Lun,
+    bursts: &[Burst],
+    taken: &mut [u8],
+) {
+    for burst in bursts {
+        do_burst(live, pins, lun, *burst, taken);
     }
 }
 
-// Does what is begun: its bursts on the pins, and what the chip answered.
-fn finish_on<A: Allocator, P: Pins>(
+// Steps the next word of a LUN on the pins.
+fn step_due<A: Allocator, P: Pins>(
     live: &mut Live<A>,
     pins: &mut P,
     lun: Lun,
     taken: &mut [u8],
 ) -> Result<Stepped, OutOfTurn>
-    ensures ok { GoesOnFor lun live.old → IfOk result (λ answer. HasStepped live.old lun answer live.new) }
-    ensures err { HasBegun live.old lun → Takes live.old lun (length taken.old) → IfErr result (λ e. ⊥) }
+    requires { MayStep live.old lun }
+    ensures ok { IfOk result (λ answer. HasStepped live.old lun taken.new answer live.new) }
+    ensures err { IfErr result (λ e. IsStepFault live.old lun (length taken.old) e × (live.new ≡ live.old)) }
 {
-    do_bursts(live, pins, lun, taken);
-    match live.finish(taken) {
-        Ok(answer) => Ok(answer),
-        Err(fault) => Err(fault),
+    let due = live.due_at(lun);
+    let count = taken_by(due.word);
+    if count > taken.len() {
+        return Err(OutOfTurn::NoRoom);
     }
+    if live.going().is_some() {
+        return Err(OutOfTurn::StepGoesOn);
+    }
+    let (taken, _) = taken.split_at_mut(count);
+    do_bursts(live, pins, lun, due.bursts.as_slice(), taken);
+    Ok(live.step_word(lun, &due, taken))
 }
 
 /// Steps a LUN on the pins: the bursts of its next word, one after another, and then what the chip answered. `taken` is where the bytes that it gives go, as
@@ -100,17 +101,12 @@ pub fn step_on<A: Allocator, P: Pins>(
     lun: Lun,
     taken: &mut [u8],
 ) -> Result<Stepped, OutOfTurn>
-    ensures ok { IfOk result (λ answer. HasStepped live.old lun answer live.new) }
+    ensures ok { IfOk result (λ answer. HasStepped live.old lun taken.new answer live.new) }
     ensures err { IfErr result (λ e. IsStepFault live.old lun (length taken.old) e × (live.new ≡ live.old)) }
 {
-    let count = live.takes(lun);
-    if count > taken.len() {
-        return Err(OutOfTurn::NoRoom);
-    }
-    let (taken, _) = taken.split_at_mut(count);
-    match live.begin(lun) {
-        Err(fault) => Err(fault),
-        Ok(Begun::Answered(answer)) => Ok(answer),
-        Ok(Begun::Going) => finish_on(live, pins, lun, taken),
+    match live.answer_at_rest(lun) {
+        None => step_due(live, pins, lun, taken),
+        Some(_) if live.going().is_some() => Err(OutOfTurn::StepGoesOn),
+        Some(answer) => Ok(answer),
     }
 }

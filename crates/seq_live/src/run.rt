@@ -114,7 +114,7 @@ fn end_job<A: Allocator>(live: &mut Live<A>, on: OnLun) -> LiveJob<A>
 
 // What becomes of a job that runs, whose step was answered so.
 fn go_on<A: Allocator>(live: &mut Live<A>, on: OnLun, answer: Stepped, most: u64) -> LiveJob<A>
-    ensures { (v : LiveView) → HasStepped v on.lun answer live.old → HasTurned most v live.new (LiveJob.Running on) result }
+    ensures { (v : LiveView) (taken : List ℕ) → HasStepped v on.lun taken answer live.old → HasTurned most v live.new (LiveJob.Running on) result }
 {
     match answer {
         Stepped::Ended => end_job(live, on),

@@ -55,40 +55,56 @@ pub(crate) fn word_in<A: Allocator>(slots: &[Option<Slot<A>>], place: usize) -> 
     }
 }
 
-/// The bursts of the next word of the slot of a number.
-pub(crate) fn bursts_in<A: Allocator>(
+/// The next word of a slot, and its bursts.
+#[derive(Drop)]
+pub(crate) struct Due {
+    pub(crate) word: Word,
+    pub(crate) bursts: Bursts,
+}
+
+/// The next word of the slot of a number, and its bursts.
+#[inline(always)]
+pub(crate) fn due_in<A: Allocator>(
     geometry: &Geometry,
     slots: &[Option<Slot<A>>],
     place: usize,
-) -> Bursts
+) -> Due
     requires inside { place < length slots.now }
     requires next { HasNextMoves geometry.now (get_or slots.now place None) }
-    ensures { NextBurstsAre geometry.now (get_or slots.now place None) result.items }
+    ensures word { NextWordIs (get_or slots.now place None) result.word }
+    ensures range { EndsWithFive result.word }
+    ensures bursts { NextBurstsAre geometry.now (get_or slots.now place None) result.bursts.items }
 {
     match &slots[place] {
-        Some(slot) => match bursts_of(geometry, slot.lun(), slot.registers(), slot.next_word()) {
-            Some(bursts) => bursts,
-            None => unreachable!(),
-        },
+        Some(slot) => {
+            let word = slot.next_word();
+            match bursts_of(geometry, slot.lun(), slot.registers(), word) {
+                Some(bursts) => Due { word, bursts },
+                None => unreachable!(),
+            }
+        }
         None => unreachable!(),
     }
 }
 
-/// Steps the next word of the slot of a number, whose outputs gave these bytes.
+/// Steps the next word of the slot of a number, whose bursts are these, and whose outputs gave these bytes.
+#[inline(always)]
 pub(crate) fn step_in<A: Allocator>(
     state: &mut BusState,
     geometry: &Geometry,
     slots: &mut [Option<Slot<A>>],
     place: usize,
+    due: &Due,
     taken: &[u8],
 ) -> Stepped
     requires inside { place < length slots.old }
     requires can { (v : Progress) × (get_or slots.old place None ≡ Some v) × CanAnswer geometry.now state.old v (length taken.now) }
+    requires bursts { NextBurstsAre geometry.now (get_or slots.old place None) due.now.bursts.items }
     ensures { (v : Progress) × (u : Progress) × (get_or slots.old place None ≡ Some v)
         × AnsweredSteps geometry.now state.old state.new v taken.now result u × (slots.new ≡ set slots.old place (Some u)) }
 {
     match &mut slots[place] {
-        Some(slot) => play_next(state, geometry, slot, taken),
+        Some(slot) => play_next(state, geometry, slot, due.bursts.as_slice(), taken),
         None => unreachable!(),
     }
 }

@@ -1,25 +1,11 @@
-use Rattle.std.proofs.Common.{subst, sym, refl, length}
-use Rattle.seq_live.specs.declared.begun.Begun.{Begun}
-use Rattle.seq_live.specs.Calls.{Begins, Takes}
-use Rattle.seq_live.proofs.Shown.{begun, begun_for, answered_at_once, begun_went}
-use Rattle.seq_live.proofs.Pinned.{begun_now, takes_begun, never_fails, no_room}
+use Rattle.std.proofs.Common.{◌∙◌, Option, refl, ap, is_some, [], length}
+use Rattle.seq_live.specs.declared.live.StepGoingOn.{StepGoingOn}
+use Rattle.seq_live.proofs.Shown.{stepped_at_rest, goes_on_now}
 use Rattle.seq_live.proofs.pins.step_on.Goals as goal
 
-pub returns-in-Ok-Answered-clause-ok : goal.returns-in-Ok-Answered-clause-ok
-returns-in-Ok-Answered-clause-ok g c =
-    answered_at_once c.args.live.now c.begin.new.self c.args.lun c.in-Ok-Answered.answer
-    (subst (λ (b : Begun). Begins c.args.live.now c.args.lun b c.begin.new.self) c.in-Ok-Answered.field-0-is c.in-Ok-Answered.ensures.ok)
+pub returns-in-Some-clause-err : goal.returns-in-Some-clause-err
+returns-in-Some-clause-err g c =
+    (goes_on_now c.args.live.now c.args.lun (length c.args.taken.now) c.is_some.result (c.is_some.ensures ∙ ap (λ (o : Option StepGoingOn). is_some o) c.going.ensures.value) c.if-is_some.true, refl)
 
-pub returns-in-Ok-Going-clause-ok : goal.returns-in-Ok-Going-clause-ok
-returns-in-Ok-Going-clause-ok g c =
-    let began = subst (λ (b : Begun). Begins c.args.live.now c.args.lun b c.begin.new.self) c.in-Ok-Going.field-0-is c.in-Ok-Going.ensures.ok in
-    begun_went c.args.live.now c.begin.new.self c.finish_on.new.live c.args.lun c.finish_on.result (begun c.args.live.now c.begin.new.self c.args.lun began) (c.finish_on.ensures.ok (begun_for c.args.live.now c.begin.new.self c.args.lun began))
-
-pub returns-then-count-taken-clause-err : goal.returns-then-count-taken-clause-err
-returns-then-count-taken-clause-err g c = (no_room c.args.live.now c.args.lun (length c.args.taken.now) c.takes-count.result c.takes-count.ensures c.if-count-taken.true, refl)
-
-pub returns-in-Ok-Going-clause-err : goal.returns-in-Ok-Going-clause-err
-returns-in-Ok-Going-clause-err g c =
-    let began = subst (λ (b : Begun). Begins c.args.live.now c.args.lun b c.begin.new.self) c.in-Ok-Going.field-0-is c.in-Ok-Going.ensures.ok in
-    let takes = takes_begun c.args.live.now c.begin.new.self c.args.lun c.takes-count.result began c.takes-count.ensures in
-    never_fails c.args.live.now c.finish_on.new.live c.args.lun (length c.args.taken.now) c.finish_on.result (c.finish_on.ensures.err (begun_now c.args.live.now c.begin.new.self c.args.lun began) (subst (Takes c.begin.new.self c.args.lun) (sym c.split_at_mut-taken.ensures.front_len) takes))
+pub returns-in-Some-2-clause-ok : goal.returns-in-Some-2-clause-ok
+returns-in-Some-2-clause-ok g c = stepped_at_rest c.args.live.now c.args.lun c.args.taken.now c.in-Some.field-0 c.in-Some.ensures.rest (c.in-Some.ensures.came [])

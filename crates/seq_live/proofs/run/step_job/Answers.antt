@@ -13,4 +13,4 @@ returns-in-Err-clause-err g c =
 
 pub returns-in-Ok-clause-ok : goal.returns-in-Ok-clause-ok
 returns-in-Ok-clause-ok g c =
-    subst (λ (x : LiveJob _). HasTurned c.args.most c.args.live.now c.go_on.new.live x c.go_on.result) (sym (place_is c.args.job.now c.args.on c.requires)) (c.go_on.ensures c.args.live.now c.in-Ok.ensures.ok)
+    subst (λ (x : LiveJob _). HasTurned c.args.most c.args.live.now c.go_on.new.live x c.go_on.result) (sym (place_is c.args.job.now c.args.on c.requires)) (c.go_on.ensures c.args.live.now c.step_on.new.taken c.in-Ok.ensures.ok)

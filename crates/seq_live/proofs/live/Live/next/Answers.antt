@@ -6,7 +6,7 @@ use Rattle.seq_live.proofs.live.Live.next.Goals as goal
 
 pub returns-in-None-clause-some : goal.returns-in-None-clause-some
 returns-in-None-clause-some g c =
-    next_burst c.args.self.now c.in_ok-step.step c.bursts_at.result.items c.burst_of.result (sym (ap (λ (v : LiveView). v.going) c.self.view_is) ∙ c.in_ok-step.was) c.in-None.ensures.may c.bursts_at.ensures c.burst_of.ensures.value
+    next_burst c.args.self.now c.in_ok-step.step c.due_at.result.bursts.items c.burst_of.result (sym (ap (λ (v : LiveView). v.going) c.self.view_is) ∙ c.in_ok-step.was) c.in-None.ensures.may c.due_at.ensures.bursts c.burst_of.ensures.value
 
 pub returns-in-None-clause-few : goal.returns-in-None-clause-few
 returns-in-None-clause-few g c = few_done c.args.self.now c.in_ok-step.step c.burst_of.result (sym (ap (λ (v : LiveView). v.going) c.self.view_is) ∙ c.in_ok-step.was) c.burst_of.ensures.few
@@ -15,4 +15,4 @@ pub returns-in-Some-clause-none : goal.returns-in-Some-clause-none
 returns-in-Some-clause-none g c = none_at_rest c.args.self.now c.in_ok-step.step (sym (ap (λ (v : LiveView). v.going) c.self.view_is) ∙ c.in_ok-step.was) c.in-Some.ensures.rest
 
 pub returns-in-None-clause-none : goal.returns-in-None-clause-none
-returns-in-None-clause-none g c = none_left c.args.self.now c.in_ok-step.step c.bursts_at.result.items c.burst_of.result (sym (ap (λ (v : LiveView). v.going) c.self.view_is) ∙ c.in_ok-step.was) c.bursts_at.ensures c.burst_of.ensures.value
+returns-in-None-clause-none g c = none_left c.args.self.now c.in_ok-step.step c.due_at.result.bursts.items c.burst_of.result (sym (ap (λ (v : LiveView). v.going) c.self.view_is) ∙ c.in_ok-step.was) c.due_at.ensures.bursts c.burst_of.ensures.value

@@ -1,0 +1,184 @@
+-- What a command or an address does to the LUNs of its target, all at once, is what it does to each of them.
+use Rattle.std.proofs.Common.{◌≡◌, ℕ, zero, suc, ◌+◌, ◌<◌, ◌==◌, ◌≢◌, Bool, true, false, ◌&&◌, cond, not, Option, Some, None, List, [], ◌∷◌, map, refl, sym, ap, ◌∙◌, arith}
+use Rattle.std.proofs.lemmas.Bool.{eq-eqb}
+use Rattle.std.proofs.lemmas.Bool.Decides.{nat_tests}
+use Rattle.nand_geometry.specs.declared.parts.Parts.{Parts}
+use Rattle.nand_geometry.specs.Row.{parts_of}
+use Rattle.onfi_cycle.specs.declared.command.Command.{Command}
+use Rattle.onfi_cycle.specs.declared.command.Command.TheVariants.{Read, ReadConfirm, ChangeReadColumn, ChangeReadColumnConfirm, BlockErase, BlockEraseConfirm, BlockErasePlane, ReadStatus, ReadStatusEnhanced, PageProgram, ChangeWriteColumn, ProgramConfirm, ProgramPlane, ReadId, ReadParameterPage, Reset, ReadCacheSequential, ReadCacheEnd, Unknown}
+use Rattle.onfi_cycle.specs.declared.effect.Effect.{Effect}
+use Rattle.onfi_cycle.specs.declared.effect.Effect.TheVariants.{Unaffected, DataOutputEnabled, StatusSelected, StatusRowAwaited, SelectedForStatus, Deselected, IdRead, ParameterPageReadStarted, CacheReadContinued, CacheReadEnded, ResetStarted, ReadColumnChanged}
+use Rattle.onfi_cycle.specs.declared.latch.Latch.{Latch}
+use Rattle.onfi_cycle.specs.declared.latch.Latch.TheVariants.{Off, Status, Data}
+use Rattle.onfi_cycle.specs.declared.opening.Opening.{Opening}
+use Rattle.onfi_cycle.specs.declared.tail_facts.TailFacts.{TailFacts}
+use Rattle.onfi_cycle.specs.declared.target_cycle.TargetCycle.{TargetCycle}
+use Rattle.onfi_cycle.specs.declared.target_cycle.TargetCycle.TheVariants.{CommandCycle, AddressCycle}
+use Rattle.onfi_cycle.specs.Applied.{one_after, luns_after_cycle}
+use Rattle.onfi_cycle.specs.Effect.{cycle_effect, address_effect, opening_address_effect, confirm_effect, is_off, names_lun}
+use Rattle.onfi_cycle.specs.Lun.{view_after}
+use Rattle.onfi_cycle.specs.LunView.{LunView}
+use Rattle.onfi_cycle.specs.Sequence.{row, row_with, wants_address, wants_command}
+use Rattle.onfi_cycle.specs.State.{has_driver}
+use Rattle.bus_record.specs.Changing.{driven, luns_left, effect_of_closer, effect_of_command, effect_after_opener, effect_of_address, effect_after_opening}
+use Rattle.bus_record.specs.declared.target_effect.TargetEffect.TheVariants.{Nothing, OnEach, OnDriver, OnOne, Selection}
+
+-- 1. what a cycle does to each of them by itself
+
+-- the first of them, and those behind it
+step_left : (g : Parts) (t : TailFacts) (sole : Bool) (cycle : TargetCycle) (n : ℕ) (v : LunView) (vs ws : List LunView) (e : Effect) → cycle_effect g t (cond sole v.latch Off) cycle n ≡ e
+    → ws ≡ luns_after_cycle g t sole cycle (n + 1) vs → view_after e v ∷ ws ≡ luns_after_cycle g t sole cycle n (v ∷ vs)
+step_left g t sole cycle n v vs ws e is rest =
+    ap (λ (us : List LunView). view_after e v ∷ us) rest ∙ ap (λ (x : Effect). view_after x v ∷ luns_after_cycle g t sole cycle (n + 1) vs) (sym is)
+
+pub nothing_left : (g : Parts) (t : TailFacts) (cycle : TargetCycle) → ((s : Latch) (m : ℕ) → cycle_effect g t s cycle m ≡ Unaffected) → (sole : Bool) (n : ℕ) (vs : List LunView) → vs ≡ luns_after_cycle g t sole cycle n vs
+nothing_left g t cycle is sole n [] = refl
+nothing_left g t cycle is sole n (v ∷ vs) = step_left g t sole cycle n v vs vs Unaffected (is (cond sole v.latch Off) n) (nothing_left g t cycle is sole (n + 1) vs)
+
+each_left : (g : Parts) (t : TailFacts) (cycle : TargetCycle) (e : Effect) → ((s : Latch) (m : ℕ) → cycle_effect g t s cycle m ≡ e) → (sole : Bool) (n : ℕ) (vs : List LunView) → map (view_after e) vs ≡ luns_after_cycle g t sole cycle n vs
+each_left g t cycle e is sole n [] = refl
+each_left g t cycle e is sole n (v ∷ vs) = step_left g t sole cycle n v vs (map (view_after e) vs) e (is (cond sole v.latch Off) n) (each_left g t cycle e is sole (n + 1) vs)
+
+-- a LUN that is off, and what is done to it
+driven_is : (e : Effect) (v : LunView) (b : Bool) → cond b v (view_after e v) ≡ view_after (cond b Unaffected e) v
+driven_is e v true = refl
+driven_is e v false = refl
+
+drivers_left : (g : Parts) (t : TailFacts) (cycle : TargetCycle) (e : Effect) → ((s : Latch) (m : ℕ) → cycle_effect g t s cycle m ≡ cond (is_off s) Unaffected e) → (n : ℕ) (vs : List LunView) → map (driven e) vs ≡ luns_after_cycle g t true cycle n vs
+drivers_left g t cycle e is n [] = refl
+drivers_left g t cycle e is n (v ∷ vs) =
+    ap (λ (w : LunView). w ∷ map (driven e) vs) (driven_is e v (is_off v.latch))
+    ∙ step_left g t true cycle n v vs (map (driven e) vs) (cond (is_off v.latch) Unaffected e) (is v.latch n) (drivers_left g t cycle e is (n + 1) vs)
+
+undriven_left : (g : Parts) (t : TailFacts) (cycle : TargetCycle) (e : Effect) → ((s : Latch) (m : ℕ) → cycle_effect g t s cycle m ≡ cond (is_off s) Unaffected e) → (n : ℕ) (vs : List LunView) → vs ≡ luns_after_cycle g t false cycle n vs
+undriven_left g t cycle e is n [] = refl
+undriven_left g t cycle e is n (v ∷ vs) = step_left g t false cycle n v vs vs Unaffected (is Off n) (undriven_left g t cycle e is (n + 1) vs)
+
+driver_left : (g : Parts) (t : TailFacts) (cycle : TargetCycle) (e : Effect) → ((s : Latch) (m : ℕ) → cycle_effect g t s cycle m ≡ cond (is_off s) Unaffected e) → (sole : Bool) (vs : List LunView)
+    → cond sole (map (driven e) vs) vs ≡ luns_after_cycle g t sole cycle 0 vs
+driver_left g t cycle e is true vs = drivers_left g t cycle e is 0 vs
+driver_left g t cycle e is false vs = undriven_left g t cycle e is 0 vs
+
+eq_false : (a b : ℕ) → a ≢ b → (a == b) ≡ false
+eq_false a b ne = grind (arith, nat_tests)
+
+-- one of them by its number, and the others otherwise
+others_left : (g : Parts) (t : TailFacts) (cycle : TargetCycle) (e other : Effect) (lun : ℕ) → ((s : Latch) (m : ℕ) → cycle_effect g t s cycle m ≡ cond (lun == m) e other) → (sole : Bool) (n : ℕ) → lun < n → (vs : List LunView)
+    → map (view_after other) vs ≡ luns_after_cycle g t sole cycle n vs
+others_left g t cycle e other lun is sole n low [] = refl
+others_left g t cycle e other lun is sole n low (v ∷ vs) =
+    let ne : lun ≢ n = omega (arith, low) in
+    step_left g t sole cycle n v vs (map (view_after other) vs) other (is (cond sole v.latch Off) n ∙ ap (λ (b : Bool). cond b e other) (eq_false lun n ne)) (others_left g t cycle e other lun is sole (n + 1) (omega (arith, low)) vs)
+
+one_left : (g : Parts) (t : TailFacts) (cycle : TargetCycle) (e other : Effect) (lun : ℕ) → ((s : Latch) (m : ℕ) → cycle_effect g t s cycle m ≡ cond (lun == m) e other) → ((v : LunView) → view_after e (view_after other v) ≡ view_after e v) → (sole : Bool) (k n : ℕ) → lun ≡ n + k → (vs : List LunView)
+    → one_after e k (map (view_after other) vs) ≡ luns_after_cycle g t sole cycle n vs
+one_left g t cycle e other lun is same sole k n at [] = refl
+one_left g t cycle e other lun is same sole zero n at (v ∷ vs) =
+    let here : lun ≡ n = omega (arith, at) in
+    ap (λ (w : LunView). w ∷ map (view_after other) vs) (same v)
+    ∙ step_left g t sole cycle n v vs (map (view_after other) vs) e (is (cond sole v.latch Off) n ∙ ap (λ (b : Bool). cond b e other) (eq-eqb lun n here)) (others_left g t cycle e other lun is sole (n + 1) (omega (arith, at)) vs)
+one_left g t cycle e other lun is same sole (suc k) n at (v ∷ vs) =
+    let ne : lun ≢ n = omega (arith, at) in
+    step_left g t sole cycle n v vs (one_after e k (map (view_after other) vs)) other (is (cond sole v.latch Off) n ∙ ap (λ (b : Bool). cond b e other) (eq_false lun n ne)) (one_left g t cycle e other lun is same sole k (n + 1) (omega (arith, at)) vs)
+
+-- where the others stay as they are
+all_stay : (vs : List LunView) → vs ≡ map (view_after Unaffected) vs
+all_stay [] = refl
+all_stay (v ∷ vs) = ap (λ (ws : List LunView). v ∷ ws) (all_stay vs)
+
+named_left : (g : Parts) (t : TailFacts) (cycle : TargetCycle) (e : Effect) (lun : ℕ) → ((s : Latch) (m : ℕ) → cycle_effect g t s cycle m ≡ cond (lun == m) e Unaffected) → (sole : Bool) (vs : List LunView) → one_after e lun vs ≡ luns_after_cycle g t sole cycle 0 vs
+named_left g t cycle e lun is sole vs = ap (one_after e lun) (all_stay vs) ∙ one_left g t cycle e Unaffected lun is (λ v. refl) sole lun 0 (omega arith) vs
+
+selection_left : (g : Parts) (t : TailFacts) (cycle : TargetCycle) (lun : ℕ) → ((s : Latch) (m : ℕ) → cycle_effect g t s cycle m ≡ cond (lun == m) SelectedForStatus Deselected) → (sole : Bool) (vs : List LunView)
+    → one_after SelectedForStatus lun (map (view_after Deselected) vs) ≡ luns_after_cycle g t sole cycle 0 vs
+selection_left g t cycle lun is sole vs = one_left g t cycle SelectedForStatus Deselected lun is (λ v. refl) sole lun 0 (omega arith) vs
+
+-- 2. a command
+
+closer_left : (g : Parts) (t : TailFacts) (c : Command) (vs : List LunView) → ((s : Latch) (m : ℕ) → cycle_effect g t s (CommandCycle c) m ≡ cond (wants_command t c && names_lun g (row t) m) (confirm_effect g t c) Unaffected)
+    → luns_left (effect_of_closer g t c) vs ≡ luns_after_cycle g t (has_driver vs) (CommandCycle c) 0 vs
+closer_left g t c vs is = at (wants_command t c) refl
+  where
+    at : (b : Bool) → wants_command t c ≡ b → luns_left (cond b (OnOne (parts_of g (row t)).lun (confirm_effect g t c)) Nothing) vs ≡ luns_after_cycle g t (has_driver vs) (CommandCycle c) 0 vs
+    at true w = named_left g t (CommandCycle c) (confirm_effect g t c) (parts_of g (row t)).lun (λ s m. is s m ∙ ap (λ (b : Bool). cond (b && names_lun g (row t) m) (confirm_effect g t c) Unaffected) w) (has_driver vs) vs
+    at false w = nothing_left g t (CommandCycle c) (λ s m. is s m ∙ ap (λ (b : Bool). cond (b && names_lun g (row t) m) (confirm_effect g t c) Unaffected) w) (has_driver vs) 0 vs
+
+always_rests : (b : Bool) → cond b Unaffected Unaffected ≡ Unaffected
+always_rests true = refl
+always_rests false = refl
+
+drives : (s : Latch) (e : Effect) → cond (not (is_off s)) e Unaffected ≡ cond (is_off s) Unaffected e
+drives Off e = refl
+drives Status e = refl
+drives Data e = refl
+
+column_left : (g : Parts) (t : TailFacts) (vs : List LunView) → luns_left (effect_of_command g t ChangeReadColumnConfirm) vs ≡ luns_after_cycle g t (has_driver vs) (CommandCycle ChangeReadColumnConfirm) 0 vs
+column_left g t vs = at (wants_command t ChangeReadColumnConfirm) refl
+  where
+    at : (b : Bool) → wants_command t ChangeReadColumnConfirm ≡ b → luns_left (cond b (OnDriver (ReadColumnChanged t.column)) Nothing) vs ≡ luns_after_cycle g t (has_driver vs) (CommandCycle ChangeReadColumnConfirm) 0 vs
+    at true w = driver_left g t (CommandCycle ChangeReadColumnConfirm) (ReadColumnChanged t.column) (λ s m. ap (λ (b : Bool). cond (b && not (is_off s)) (ReadColumnChanged t.column) Unaffected) w ∙ drives s (ReadColumnChanged t.column)) (has_driver vs) vs
+    at false w = nothing_left g t (CommandCycle ChangeReadColumnConfirm) (λ s m. ap (λ (b : Bool). cond (b && not (is_off s)) (ReadColumnChanged t.column) Unaffected) w) (has_driver vs) 0 vs
+
+pub command_left : (g : Parts) (t : TailFacts) (c : Command) (vs : List LunView) → luns_left (effect_of_command g t c) vs ≡ luns_after_cycle g t (has_driver vs) (CommandCycle c) 0 vs
+command_left g t Read vs = each_left g t (CommandCycle Read) DataOutputEnabled (λ s m. refl) (has_driver vs) 0 vs
+command_left g t ReadStatus vs = each_left g t (CommandCycle ReadStatus) StatusSelected (λ s m. refl) (has_driver vs) 0 vs
+command_left g t ReadStatusEnhanced vs = each_left g t (CommandCycle ReadStatusEnhanced) StatusRowAwaited (λ s m. refl) (has_driver vs) 0 vs
+command_left g t Reset vs = each_left g t (CommandCycle Reset) ResetStarted (λ s m. refl) (has_driver vs) 0 vs
+command_left g t ReadCacheSequential vs = driver_left g t (CommandCycle ReadCacheSequential) CacheReadContinued (λ s m. refl) (has_driver vs) vs
+command_left g t ReadCacheEnd vs = driver_left g t (CommandCycle ReadCacheEnd) CacheReadEnded (λ s m. refl) (has_driver vs) vs
+command_left g t ChangeReadColumnConfirm vs = column_left g t vs
+command_left g t ReadConfirm vs = closer_left g t ReadConfirm vs (λ s m. refl)
+command_left g t BlockEraseConfirm vs = closer_left g t BlockEraseConfirm vs (λ s m. refl)
+command_left g t BlockErasePlane vs = closer_left g t BlockErasePlane vs (λ s m. refl)
+command_left g t ProgramConfirm vs = closer_left g t ProgramConfirm vs (λ s m. refl)
+command_left g t ProgramPlane vs = closer_left g t ProgramPlane vs (λ s m. refl)
+command_left g t ChangeReadColumn vs = nothing_left g t (CommandCycle ChangeReadColumn) (λ s m. always_rests (wants_command t ChangeReadColumn && names_lun g (row t) m)) (has_driver vs) 0 vs
+command_left g t BlockErase vs = nothing_left g t (CommandCycle BlockErase) (λ s m. always_rests (wants_command t BlockErase && names_lun g (row t) m)) (has_driver vs) 0 vs
+command_left g t PageProgram vs = nothing_left g t (CommandCycle PageProgram) (λ s m. always_rests (wants_command t PageProgram && names_lun g (row t) m)) (has_driver vs) 0 vs
+command_left g t ChangeWriteColumn vs = nothing_left g t (CommandCycle ChangeWriteColumn) (λ s m. always_rests (wants_command t ChangeWriteColumn && names_lun g (row t) m)) (has_driver vs) 0 vs
+command_left g t ReadId vs = nothing_left g t (CommandCycle ReadId) (λ s m. always_rests (wants_command t ReadId && names_lun g (row t) m)) (has_driver vs) 0 vs
+command_left g t ReadParameterPage vs = nothing_left g t (CommandCycle ReadParameterPage) (λ s m. always_rests (wants_command t ReadParameterPage && names_lun g (row t) m)) (has_driver vs) 0 vs
+command_left g t Unknown vs = nothing_left g t (CommandCycle Unknown) (λ s m. always_rests (wants_command t Unknown && names_lun g (row t) m)) (has_driver vs) 0 vs
+
+-- 3. an address
+
+opener_left : (g : Parts) (t : TailFacts) (byte : ℕ) (c : Command) (k : ℕ) (vs : List LunView) → ((s : Latch) (m : ℕ) → cycle_effect g t s (AddressCycle byte) m ≡ address_effect g t byte c k m)
+    → luns_left (effect_after_opener g t byte c k) vs ≡ luns_after_cycle g t (has_driver vs) (AddressCycle byte) 0 vs
+opener_left g t byte ReadStatusEnhanced k vs is = at (k == 2) refl
+  where
+    at : (b : Bool) → (k == 2) ≡ b → luns_left (cond b (Selection (parts_of g (row_with t byte)).lun) Nothing) vs ≡ luns_after_cycle g t (has_driver vs) (AddressCycle byte) 0 vs
+    at true w = selection_left g t (AddressCycle byte) (parts_of g (row_with t byte)).lun (λ s m. is s m ∙ ap (λ (b : Bool). cond b (cond (names_lun g (row_with t byte) m) SelectedForStatus Deselected) Unaffected) w) (has_driver vs) vs
+    at false w = nothing_left g t (AddressCycle byte) (λ s m. is s m ∙ ap (λ (b : Bool). cond b (cond (names_lun g (row_with t byte) m) SelectedForStatus Deselected) Unaffected) w) (has_driver vs) 0 vs
+opener_left g t byte ReadId k vs is = at (wants_address t byte) refl
+  where
+    at : (b : Bool) → wants_address t byte ≡ b → luns_left (cond b (OnEach IdRead) Nothing) vs ≡ luns_after_cycle g t (has_driver vs) (AddressCycle byte) 0 vs
+    at true w = each_left g t (AddressCycle byte) IdRead (λ s m. is s m ∙ ap (λ (b : Bool). cond b IdRead Unaffected) w) (has_driver vs) 0 vs
+    at false w = nothing_left g t (AddressCycle byte) (λ s m. is s m ∙ ap (λ (b : Bool). cond b IdRead Unaffected) w) (has_driver vs) 0 vs
+opener_left g t byte ReadParameterPage k vs is = at (wants_address t byte) refl
+  where
+    at : (b : Bool) → wants_address t byte ≡ b → luns_left (cond b (OnEach ParameterPageReadStarted) Nothing) vs ≡ luns_after_cycle g t (has_driver vs) (AddressCycle byte) 0 vs
+    at true w = each_left g t (AddressCycle byte) ParameterPageReadStarted (λ s m. is s m ∙ ap (λ (b : Bool). cond b ParameterPageReadStarted Unaffected) w) (has_driver vs) 0 vs
+    at false w = nothing_left g t (AddressCycle byte) (λ s m. is s m ∙ ap (λ (b : Bool). cond b ParameterPageReadStarted Unaffected) w) (has_driver vs) 0 vs
+opener_left g t byte Read k vs is = nothing_left g t (AddressCycle byte) is (has_driver vs) 0 vs
+opener_left g t byte ReadConfirm k vs is = nothing_left g t (AddressCycle byte) is (has_driver vs) 0 vs
+opener_left g t byte ChangeReadColumn k vs is = nothing_left g t (AddressCycle byte) is (has_driver vs) 0 vs
+opener_left g t byte ChangeReadColumnConfirm k vs is = nothing_left g t (AddressCycle byte) is (has_driver vs) 0 vs
+opener_left g t byte BlockErase k vs is = nothing_left g t (AddressCycle byte) is (has_driver vs) 0 vs
+opener_left g t byte BlockEraseConfirm k vs is = nothing_left g t (AddressCycle byte) is (has_driver vs) 0 vs
+opener_left g t byte BlockErasePlane k vs is = nothing_left g t (AddressCycle byte) is (has_driver vs) 0 vs
+opener_left g t byte ReadStatus k vs is = nothing_left g t (AddressCycle byte) is (has_driver vs) 0 vs
+opener_left g t byte PageProgram k vs is = nothing_left g t (AddressCycle byte) is (has_driver vs) 0 vs
+opener_left g t byte ChangeWriteColumn k vs is = nothing_left g t (AddressCycle byte) is (has_driver vs) 0 vs
+opener_left g t byte ProgramConfirm k vs is = nothing_left g t (AddressCycle byte) is (has_driver vs) 0 vs
+opener_left g t byte ProgramPlane k vs is = nothing_left g t (AddressCycle byte) is (has_driver vs) 0 vs
+opener_left g t byte Reset k vs is = nothing_left g t (AddressCycle byte) is (has_driver vs) 0 vs
+opener_left g t byte ReadCacheSequential k vs is = nothing_left g t (AddressCycle byte) is (has_driver vs) 0 vs
+opener_left g t byte ReadCacheEnd k vs is = nothing_left g t (AddressCycle byte) is (has_driver vs) 0 vs
+opener_left g t byte Unknown k vs is = nothing_left g t (AddressCycle byte) is (has_driver vs) 0 vs
+
+pub address_left : (g : Parts) (t : TailFacts) (byte : ℕ) (vs : List LunView) → luns_left (effect_of_address g t byte) vs ≡ luns_after_cycle g t (has_driver vs) (AddressCycle byte) 0 vs
+address_left g t byte vs = at t.opening refl
+  where
+    at : (o : Option Opening) → t.opening ≡ o → luns_left (effect_after_opening g t byte o) vs ≡ luns_after_cycle g t (has_driver vs) (AddressCycle byte) 0 vs
+    at None w = nothing_left g t (AddressCycle byte) (λ s m. ap (λ (x : Option Opening). opening_address_effect g t byte x m) w) (has_driver vs) 0 vs
+    at (Some o) w = opener_left g t byte o.opener o.addresses vs (λ s m. ap (λ (x : Option Opening). opening_address_effect g t byte x m) w)

@@ -1,5 +1,0 @@
-use Rattle.std.proofs.Common.{length}
-use Rattle.bus_record.proofs.changing.+change_each.Given as goal
-
-abbrev pub decreases-change_each : goal.decreases-change_each
-decreases-change_each l = length l.luns.now

@@ -1,0 +1,43 @@
+use Rattle.std.proofs.Common.{◌≡◌, ◌<◌, None, refl, sym, ap, subst, ◌∙◌, arith}
+use Rattle.onfi_cycle.specs.declared.item.Kind.TheVariants.{Din}
+use Rattle.onfi_cycle.specs.Runs.{after_run}
+use Rattle.onfi_cycle.specs.Inputs.{judged_inputs}
+use Rattle.bus_record.specs.Kept.{Kept}
+use Rattle.bus_record.specs.Trial.{IsTried, tried_view}
+use Rattle.bus_record.proofs.Tried.{tried_limits, tried_numbers, tried_fits, tried_inputs_rule, tried_inputs_state, tried_inputs_sound}
+use Rattle.bus_record.proofs.trial.try_inputs.Goals as goal
+
+pub push_inputs_there-requires-clause-limits : goal.push_inputs_there-requires-clause-limits
+push_inputs_there-requires-clause-limits c =
+    let k : Kept = record { magic = c.bus.inside.magic; geometry = c.bus.inside.geometry; count = c.bus.inside.count; targets = c.bus.inside.targets } in
+    tried_limits k c.args.ce c.args.kept.now (subst (λ (x : Kept). IsTried x c.args.ce c.args.kept.now) (sym c.bus.view_is) c.requires)
+
+pub push_inputs_there-requires-clause-numbers : goal.push_inputs_there-requires-clause-numbers
+push_inputs_there-requires-clause-numbers c = tried_numbers c.args.bus.now c.args.ce c.args.kept.now c.requires
+
+pub push_inputs_there-requires-clause-fits : goal.push_inputs_there-requires-clause-fits
+push_inputs_there-requires-clause-fits c =
+    let k : Kept = record { magic = c.bus.inside.magic; geometry = c.bus.inside.geometry; count = c.bus.inside.count; targets = c.bus.inside.targets } in
+    tried_fits k c.args.ce c.args.kept.now (subst (λ (x : Kept). IsTried x c.args.ce c.args.kept.now) (sym c.bus.view_is) c.requires)
+
+pub returns-clause-rule : goal.returns-clause-rule
+returns-clause-rule c =
+    let k : Kept = record { magic = c.bus.inside.magic; geometry = c.bus.inside.geometry; count = c.bus.inside.count; targets = c.bus.inside.targets } in
+    tried_inputs_rule k c.args.ce c.args.count c.args.kept.now c.push_inputs_there.result (subst (λ (x : Kept). IsTried x c.args.ce c.args.kept.now) (sym c.bus.view_is) c.requires) (omega (arith, c.if-count-eq0.false)) c.push_inputs_there.ensures.rule
+    ∙ ap (λ (x : Kept). judged_inputs c.args.ce c.args.count (tried_view x c.args.ce c.args.kept.now)) c.bus.view_is
+
+pub returns-clause-state : goal.returns-clause-state
+returns-clause-state c none =
+    let k : Kept = record { magic = c.bus.inside.magic; geometry = c.bus.inside.geometry; count = c.bus.inside.count; targets = c.bus.inside.targets } in
+    let h = subst (λ (x : Kept). IsTried x c.args.ce c.args.kept.now) (sym c.bus.view_is) c.requires in
+    let some : 0 < c.args.count = omega (arith, c.if-count-eq0.false) in
+    subst (λ (x : Kept). tried_view x c.args.ce c.push_inputs_there.new.kept ≡ after_run Din c.args.ce c.args.count (tried_view x c.args.ce c.args.kept.now)) c.bus.view_is
+    (tried_inputs_state k c.args.ce c.args.count c.args.kept.now c.push_inputs_there.new.kept c.push_inputs_there.result h some
+    (tried_inputs_rule k c.args.ce c.args.count c.args.kept.now c.push_inputs_there.result h some c.push_inputs_there.ensures.rule) c.push_inputs_there.ensures.state none)
+
+pub returns-clause-tried : goal.returns-clause-tried
+returns-clause-tried c =
+    let k : Kept = record { magic = c.bus.inside.magic; geometry = c.bus.inside.geometry; count = c.bus.inside.count; targets = c.bus.inside.targets } in
+    let h = subst (λ (x : Kept). IsTried x c.args.ce c.args.kept.now) (sym c.bus.view_is) c.requires in
+    subst (λ (x : Kept). IsTried x c.args.ce c.push_inputs_there.new.kept) c.bus.view_is
+    (tried_inputs_sound k c.args.ce c.args.count c.args.kept.now c.push_inputs_there.new.kept h (omega (arith, c.if-count-eq0.false)) c.push_inputs_there.ensures.numbers c.push_inputs_there.ensures.state)

@@ -1,0 +1,166 @@
+//! What a command or an address does to the LUNs of its target.
+ghost use Rattle.std.specs.Prelude.{◌≡◌};
+ghost use Rattle.nand_geometry.specs.Limits.{InLimits};
+ghost use Rattle.onfi_cycle.specs.Effect.{confirm_effect};
+ghost use Rattle.bus_record.specs.Changing.{effect_of_closer, effect_of_column_confirm, effect_of_command, selection, effect_of_identity, effect_of_address};
+ghost use Rattle.bus_record.specs.Geometry.{parts_of};
+ghost use Rattle.bus_record.specs.Record.{tail_of};
+
+use crate::geometry::OnfiseqGeometry;
+use crate::judging::wants_command;
+use crate::record::{OnfiseqTarget, opening_of, tail_of};
+use nand_geometry::Geometry;
+use onfi_cycle::{Command, Effect, PageAddress};
+
+/// What a cycle does to the LUNs of its target.
+#[derive(Clone, Copy)]
+pub(crate) enum TargetEffect {
+    Nothing,
+    /// The same to each.
+    OnEach(Effect),
+    /// To the one that alone drives the bus, if one does.
+    OnDriver(Effect),
+    /// To the one of this number, if it is there.
+    OnOne { lun: u32, effect: Effect },
+    /// The one of this number, if it is there, shows its status, and the others nothing.
+    Selection { lun: u32 },
+}
+
+// What the closer of a row does to the LUN that it names.
+fn confirm_effect(geometry: &Geometry, kept: &OnfiseqTarget, named: Command) -> Effect
+    ensures { result ≡ confirm_effect geometry.now (tail_of kept.now) named }
+{
+    let page = PageAddress::of_row(geometry, tail_of(kept).named_row());
+    match named {
+        Command::ReadConfirm => Effect::ReadStarted {
+            page,
+            column: kept.column,
+        },
+        Command::BlockEraseConfirm => Effect::EraseStarted {
+            queued: false,
+            row: page,
+        },
+        Command::BlockErasePlane => Effect::EraseStarted {
+            queued: true,
+            row: page,
+        },
+        Command::ProgramConfirm => Effect::ProgramStarted {
+            queued: false,
+            page,
+        },
+        Command::ProgramPlane => Effect::ProgramStarted { queued: true, page },
+        _ => Effect::Unaffected,
+    }
+}
+
+// What the closer of a row does.
+#[inline(never)]
+fn effect_of_closer(
+    geometry: &OnfiseqGeometry,
+    kept: &OnfiseqTarget,
+    named: Command,
+) -> TargetEffect
+    requires { InLimits (parts_of geometry.now) }
+    ensures { result ≡ effect_of_closer (parts_of geometry.now) (tail_of kept.now) named }
+{
+    if !wants_command(kept, named) {
+        return TargetEffect::Nothing;
+    }
+    let known = geometry.known();
+    TargetEffect::OnOne {
+        lun: known.parts_of(tail_of(kept).named_row()).lun,
+        effect: confirm_effect(&known, kept, named),
+    }
+}
+
+// What E0h does.
+fn effect_of_column_confirm(kept: &OnfiseqTarget) -> TargetEffect
+    ensures { result ≡ effect_of_column_confirm (tail_of kept.now) }
+{
+    if wants_command(kept, Command::ChangeReadColumnConfirm) {
+        TargetEffect::OnDriver(Effect::ReadColumnChanged {
+            column: kept.column,
+        })
+    } else {
+        TargetEffect::Nothing
+    }
+}
+
+/// What a command does.
+#[inline(always)]
+pub(crate) fn effect_of_command(
+    geometry: &OnfiseqGeometry,
+    kept: &OnfiseqTarget,
+    named: Command,
+) -> TargetEffect
+    requires { InLimits (parts_of geometry.now) }
+    ensures { result ≡ effect_of_command (parts_of geometry.now) (tail_of kept.now) named }
+{
+    match named {
+        Command::Read => TargetEffect::OnEach(Effect::DataOutputEnabled),
+        Command::ReadStatus => TargetEffect::OnEach(Effect::StatusSelected),
+        Command::ReadStatusEnhanced => TargetEffect::OnEach(Effect::StatusRowAwaited),
+        Command::Reset => TargetEffect::OnEach(Effect::ResetStarted),
+        Command::ReadCacheSequential => TargetEffect::OnDriver(Effect::CacheReadContinued),
+        Command::ReadCacheEnd => TargetEffect::OnDriver(Effect::CacheReadEnded),
+        Command::ChangeReadColumnConfirm => effect_of_column_confirm(kept),
+        Command::ReadConfirm
+        | Command::BlockEraseConfirm
+        | Command::BlockErasePlane
+        | Command::ProgramConfirm
+        | Command::ProgramPlane => effect_of_closer(geometry, kept, named),
+        Command::ChangeReadColumn
+        | Command::BlockErase
+        | Command::PageProgram
+        | Command::ChangeWriteColumn
+        | Command::ReadId
+        | Command::ReadParameterPage
+        | Command::Unknown => TargetEffect::Nothing,
+    }
+}
+
+// What the last address of a 78h does.
+#[inline(never)]
+fn selection(geometry: &OnfiseqGeometry, kept: &OnfiseqTarget, byte: u8) -> TargetEffect
+    requires { InLimits (parts_of geometry.now) }
+    ensures { result ≡ selection (parts_of geometry.now) (tail_of kept.now) byte }
+{
+    let row = tail_of(kept).row_with(byte);
+    TargetEffect::Selection {
+        lun: geometry.known().parts_of(row).lun,
+    }
+}
+
+// What the address of a 90h or an ECh does, if it wants it.
+fn effect_of_identity(kept: &OnfiseqTarget, byte: u8, effect: Effect) -> TargetEffect
+    ensures { result ≡ effect_of_identity (tail_of kept.now) byte effect }
+{
+    if tail_of(kept).wants_address(byte) {
+        TargetEffect::OnEach(effect)
+    } else {
+        TargetEffect::Nothing
+    }
+}
+
+/// What an address does.
+#[inline(always)]
+pub(crate) fn effect_of_address(
+    geometry: &OnfiseqGeometry,
+    kept: &OnfiseqTarget,
+    byte: u8,
+) -> TargetEffect
+    requires { InLimits (parts_of geometry.now) }
+    ensures { result ≡ effect_of_address (parts_of geometry.now) (tail_of kept.now) byte }
+{
+    let Some(opening) = opening_of(kept.is_open, kept.opener, kept.addresses) else {
+        return TargetEffect::Nothing;
+    };
+    match opening.opener {
+        Command::ReadStatusEnhanced if opening.addresses == 2 => selection(geometry, kept, byte),
+        Command::ReadId => effect_of_identity(kept, byte, Effect::IdRead),
+        Command::ReadParameterPage => {
+            effect_of_identity(kept, byte, Effect::ParameterPageReadStarted)
+        }
+        _ => TargetEffect::Nothing,
+    }
+}
