@@ -1,5 +1,5 @@
 -- What a capture comes to after items stands behind them, whatever they are.
-use Rattle.std.proofs.Common.{◌≡◌, ℕ, Bool, true, false, not, List, [], ◌∷◌, ◌++◌, Option, Some, None, Result, Ok, Err, refl, sym, ap, ◌∙◌}
+use Rattle.std.proofs.Common.{◌≡◌, ℕ, Bool, true, false, not, List, [], ◌∷◌, ◌++◌, Option, Some, None, Result, Ok, Err, refl, ap, ◌∙◌}
 use Rattle.std.proofs.lemmas.List.{append_assoc}
 use Rattle.onfi_cycle.specs.declared.item.Item.{Item}
 use Rattle.trace_faults.specs.declared.trace_state.TraceState.{TraceState}

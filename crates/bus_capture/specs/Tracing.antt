@@ -1,5 +1,5 @@
 -- What is still to come of a capture that is read in pieces.
-use Rattle.std.specs.Prelude.{◌≡◌, ⊤, ◌≤◌, ℕ, Bool, true, false, List, [], ◌++◌, Option, Some, None, Result, Ok, Err, map}
+use Rattle.std.specs.Prelude.{◌≡◌, ⊤, ◌≤◌, ℕ, Bool, true, false, List, [], ◌++◌, Option, Some, None, Result, Ok, Err}
 use Rattle.vcd_text.specs.Tokens.{◌>>=◌}
 use Rattle.vcd_text.specs.Words.{Word, IsCut}
 use Rattle.vcd_text.specs.Header.{Read}

@@ -1,5 +1,5 @@
 -- Sequences outside of the profile: where one begins, and which cycles belong to it.
-use Rattle.std.specs.Prelude.{ℕ, ◌==◌, Bool, true, false, not, ◌&&◌, ◌||◌, List, Option, Some, None, get_or, slice_set, if◌then◌else◌}
+use Rattle.std.specs.Prelude.{ℕ, Bool, true, false, not, ◌&&◌, ◌||◌, List, Option, Some, None, get_or, slice_set, if◌then◌else◌}
 use Rattle.onfi_cycle.specs.declared.item.Item.{Item}
 use Rattle.onfi_cycle.specs.declared.item.Item.TheVariants.{Cyc, Rdy, Ard}
 use Rattle.onfi_cycle.specs.declared.item.Cycle.{Cycle}
@@ -14,8 +14,7 @@ use Rattle.onfi_cycle.specs.declared.forbidden.Forbidden.TheVariants.{CommandUnk
 use Rattle.onfi_cycle.specs.declared.latch.Latch.{Latch}
 use Rattle.onfi_cycle.specs.declared.latch.Latch.TheVariants.{Off, Status, Data}
 use Rattle.onfi_cycle.specs.declared.lun_state.LunState.{LunState}
-use Rattle.onfi_cycle.specs.Command.{is_opener}
-use Rattle.onfi_cycle.specs.Sequence.{target_of, target_cycle, begins_sequence}
+use Rattle.onfi_cycle.specs.Sequence.{target_cycle, begins_sequence}
 use Rattle.onfi_cycle.specs.State.{BusView, judged}
 use Rattle.onfi_cycle.specs.Look.{looked}
 use Rattle.trace_faults.specs.declared.standing.Standing.{Standing}

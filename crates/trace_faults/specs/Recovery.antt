@@ -1,5 +1,5 @@
 -- How a trace is gone on with, whether its items are permitted or not.
-use Rattle.std.specs.Prelude.{ℕ, Bool, false, List, [], ◌∷◌, replicate, Option, Some, None, if◌then◌else◌}
+use Rattle.std.specs.Prelude.{ℕ, false, List, [], ◌∷◌, replicate, Option, Some, None, if◌then◌else◌}
 use Rattle.nand_geometry.specs.declared.parts.Parts.{Parts}
 use Rattle.onfi_cycle.specs.declared.item.Item.{Item}
 use Rattle.onfi_cycle.specs.declared.forbidden.Forbidden.{Forbidden}

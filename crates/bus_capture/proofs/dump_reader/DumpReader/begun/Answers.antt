@@ -1,4 +1,4 @@
-use Rattle.std.proofs.Common.{rules, ◌≡◌, ◌++◌, ap, sym, ◌∙◌, map}
+use Rattle.std.proofs.Common.{rules, ◌≡◌, ◌++◌, ap, sym, ◌∙◌}
 use Rattle.vcd_text.specs.Sections.{shown_variables}
 use Rattle.vcd_text.specs.Shown.{told_at}
 use Rattle.bus_signals.specs.Roles.{carriers_of, sources_of}

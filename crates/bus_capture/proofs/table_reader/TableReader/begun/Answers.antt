@@ -1,4 +1,4 @@
-use Rattle.std.proofs.Common.{rules, ◌≡◌, ◌++◌, [], ap, ◌∙◌, map}
+use Rattle.std.proofs.Common.{rules, ◌≡◌, ◌++◌, [], ap, ◌∙◌}
 use Rattle.vcd_text.specs.Sections.{shown_variables}
 use Rattle.csv_text.specs.Shown.{standing_of, table_before}
 use Rattle.bus_signals.specs.Roles.{carriers_of, sources_of}
