@@ -1,4 +1,5 @@
-"""Passes on what the gate prints, and lists before its last line the minute at which each step ended and the processor time of each crate.
+"""Passes on what the gate prints, and lists before its last line the minute at which each step ended, the processor time of each crate, and once more each
+line that says what failed, since whoever reads a long print reads its end.
 Where a file is named, the last line goes there, and with --table the minutes go into docs/develop/minutes.tsv, which `tools/house.py` reads.
 
     rt ci | python3 tools/gate_minutes.py [--table] [FILE]
@@ -15,6 +16,9 @@ import threading
 import time
 
 STEP = re.compile(r"^rt: (\S+?):? (proved|NOT PROVED|its tests (are )?(proved|NOT PROVED|passed|FAILED)|trying its must-fail edits.*|ran\b.*)$")
+FAILURE = re.compile(r"NOT PROVED|FAILED|BAD EDIT|: no proof|is not proved|must prove:|error\[|^error|was not refused|^test .* FAILED|they differ first")
+# How many of those lines are said again, each cut after so many characters.
+MOST_FAILURES, LONGEST = 60, 300
 LAST = re.compile(r"^\d+ passed, \d+ failed$")
 KINDS = ("proof", "tests", "edits")
 TABLE = "docs/develop/minutes.tsv"
@@ -84,7 +88,7 @@ class Provers:
 
 
 def main():
-    begun, steps, last = time.monotonic(), [], None
+    begun, steps, failures, last = time.monotonic(), [], [], None
     provers = Provers()
     watch = threading.Thread(target=provers.watch, daemon=True)
     watch.start()
@@ -94,11 +98,14 @@ def main():
             continue
         if STEP.match(line):
             steps.append(f"minute {(time.monotonic() - begun) / 60:5.1f}  {line[4:]}")
+        if FAILURE.search(line) and len(failures) < MOST_FAILURES:
+            failures.append(f"failed: {line.strip()[:LONGEST]}\n")
         sys.stdout.write(line)
         sys.stdout.flush()
     provers.is_over = True
     watch.join()
-    sys.stdout.write("".join([*steps, *provers.table()]))
+    steps = [step if step.endswith("\n") else step + "\n" for step in steps]
+    sys.stdout.write("".join([*steps, *provers.table(), *failures]))
     words = [word for word in sys.argv[1:] if word != "--table"]
     if "--table" in sys.argv:
         provers.write()

@@ -5,7 +5,7 @@
 PROGRAM is the built program (crates/onfiseq/out/onfiseq when none is given). A page is pasted from top to bottom in a fresh folder that has
 examples/, release/ and bin/onfiseq. In an indented block a line that begins with a command is one; it goes on below where it ends with `\\`. The lines
 under it, up to the next command or the end of the block, are what it must print on standard output. A command without such lines may print
-anything; none may end but with the statuses 0 and 1, and none may say that a command or a file isn't there. What builds the program
+anything; none may end but with the statuses 0, 1 and 5, and none may say that a command or a file isn't there. What builds the program
 (`rt`) isn't run.
 
 Where a page says "standard error says", what it shows next is what the command before it must print there: the text between double backticks in that
@@ -23,7 +23,7 @@ from pathlib import Path
 
 ROOT = Path(__file__).resolve().parent.parent
 PROGRAM = Path(sys.argv[1] if len(sys.argv) > 1 else ROOT / "crates/onfiseq/out/onfiseq").resolve()
-PAGES = ("README.md", *(f"docs/use/{name}.md" for name in ("COMMANDS", "ASSEMBLY", "WORDS", "TRACES", "RUNFILES", "IMAGES", "NOTES", "WAVES", "CAPTURES")))
+PAGES = ("README.md", *(f"docs/use/{name}.md" for name in ("COMMANDS", "ASSEMBLY", "WORDS", "TRACES", "RUNFILES", "IMAGES", "NOTES", "WAVES", "CAPTURES", "PAGES")))
 COMMANDS = ("onfiseq", "bin/onfiseq", "cc", "./onfiseq-mini", "cd", "printf", "echo", "sed")
 SECONDS = 180
 # For a machine without this tool of vim's.
@@ -38,7 +38,7 @@ class Command:
 
     def takes(self, ran):
         """Whether it ended and printed as the page says."""
-        if ran.returncode not in (0, 1) or any(words in ran.stderr for words in ("not found", "No such file", "file fault")):
+        if ran.returncode not in (0, 1, 5) or any(words in ran.stderr for words in ("not found", "No such file", "file fault")):
             return False
         if any(text not in ran.stderr for text in self.errors):
             return False

@@ -299,7 +299,7 @@ static unsigned long play_accepted(void) {
 
 static unsigned long play_words(void) {
     char text[160];
-    size_t room = draw(sizeof text + 1), length = onfiseq_words((uint8_t)("APFMVOIT?"[draw(9)]), draw(20), text, room);
+    size_t room = draw(sizeof text + 1), length = onfiseq_words((uint8_t)("ABCDEFHILMNOPRSTUVWY?"[draw(21)]), draw(20), text, room);
     must(length < 160 && (room == 0 || strlen(text) < room), "words");
     uint8_t *cut = malloc(page_length);
     size_t few = draw((uint32_t)page_length + 1);

@@ -3,7 +3,7 @@ use Rattle.std.proofs.Common.{◌≡◌, ◌≤◌, ◌<◌, ◌+◌, ◌*◌, �
 use Rattle.std.proofs.lemmas.Nat.{mod_below}
 use Rattle.onfi_cycle.specs.declared.item.Item.{Item}
 use Rattle.onfi_cycle.specs.declared.item.Item.TheVariants.{Cyc, Rdy, Ard}
-use Rattle.onfi_cycle.specs.State.{BusView}
+use Rattle.trace_faults.specs.declared.trace_state.TraceState.{TraceState}
 use Rattle.trace_faults.specs.ShownReadies.{ready_before, array_ready_before, with_ready}
 use Rattle.trace_faults.specs.Inside.{IsInside}
 use Rattle.trace_faults.proofs.Inside.{ready_inside, array_ready_inside}
@@ -185,7 +185,7 @@ stamps_inside time (Some i) here = (here i refl, tt)
 some_inside : (i j : Item) → IsInside i → Some i ≡ Some j → IsInside j
 some_inside i j here h = let same : i ≡ j = cc in subst IsInside same here
 
-pub shown_inside : (sure : Bool) (state : BusView) (time : ℕ) (i : Item) (stamped : List Stamped) → IsInside i → AreInside stamped → AreInside (with_shown sure state time i stamped)
+pub shown_inside : (infers : Bool) (state : TraceState) (time : ℕ) (i : Item) (stamped : List Stamped) → IsInside i → AreInside stamped → AreInside (with_shown infers state time i stamped)
 shown_inside false state time i stamped here rest = inside_append stamped (stamps time (Some i)) rest (stamps_inside time (Some i) (λ j is. some_inside i j here is))
 shown_inside true state time i stamped here rest =
     inside_append ((stamped ++ stamps time (ready_before state i)) ++ stamps time (array_ready_before (with_ready state i) i)) (stamps time (Some i))
@@ -194,12 +194,12 @@ shown_inside true state time i stamped here rest =
     (stamps_inside time (array_ready_before (with_ready state i) i) (λ r is. array_ready_inside (with_ready state i) i r here is)))
     (stamps_inside time (Some i) (λ j is. some_inside i j here is))
 
-release_inside : (sure : Bool) (state : BusView) (luns ce : ℕ) (os : List Observed) (i : Item) → ce ≤ 3 → release_of sure state luns ce os ≡ Some i → IsInside i
+release_inside : (infers : Bool) (state : TraceState) (luns ce : ℕ) (os : List Observed) (i : Item) → ce ≤ 3 → release_of infers state luns ce os ≡ Some i → IsInside i
 release_inside false state luns ce os i few h = cc
 release_inside true state luns ce os i few h =
     some_of (is_waiting state luns ce) (Rdy ce 0 (fails_within 65536 false ce os)) i None h (few, omega arith) (none_is i)
 
-pub released_inside : (sure : Bool) (state : BusView) (luns ce time : ℕ) (os : List Observed) (stamped : List Stamped) → ce ≤ 3 → AreInside stamped
-    → AreInside (stamped ++ stamps time (release_of sure state luns ce os))
-released_inside sure state luns ce time os stamped few rest =
-    inside_append stamped (stamps time (release_of sure state luns ce os)) rest (stamps_inside time (release_of sure state luns ce os) (λ i is. release_inside sure state luns ce os i few is))
+pub released_inside : (infers : Bool) (state : TraceState) (luns ce time : ℕ) (os : List Observed) (stamped : List Stamped) → ce ≤ 3 → AreInside stamped
+    → AreInside (stamped ++ stamps time (release_of infers state luns ce os))
+released_inside infers state luns ce time os stamped few rest =
+    inside_append stamped (stamps time (release_of infers state luns ce os)) rest (stamps_inside time (release_of infers state luns ce os) (λ i is. release_inside infers state luns ce os i few is))

@@ -1,10 +1,10 @@
 -- What a capture comes to after items stands behind them, whatever they are.
-use Rattle.std.proofs.Common.{◌≡◌, ℕ, Bool, true, false, not, List, [], ◌∷◌, ◌++◌, Option, Some, None, Result, Ok, Err, refl, sym, ap, ◌∙◌}
+use Rattle.std.proofs.Common.{◌≡◌, ℕ, Bool, true, false, not, List, [], ◌∷◌, ◌++◌, Option, Some, None, Result, Ok, Err, refl, ap, ◌∙◌}
 use Rattle.std.proofs.lemmas.List.{append_assoc}
 use Rattle.onfi_cycle.specs.declared.item.Item.{Item}
-use Rattle.onfi_cycle.specs.State.{BusView}
+use Rattle.trace_faults.specs.declared.trace_state.TraceState.{TraceState}
 use Rattle.vcd_text.specs.Tokens.{◌>>=◌}
-use Rattle.trace_faults.specs.Faults.{fresh}
+use Rattle.trace_faults.specs.Recovery.{fresh}
 use Rattle.vcd_text.specs.Body.{Told}
 use Rattle.vcd_text.specs.Shown.{told_at}
 use Rattle.bus_capture.specs.declared.tracer.Tracer.{Tracer}
@@ -22,11 +22,11 @@ use Rattle.bus_capture.specs.declared.reading.CaptureReader.{CaptureReader}
 use Rattle.bus_capture.specs.declared.reading.CaptureForm.{CaptureForm}
 use Rattle.bus_capture.specs.declared.reading.CaptureForm.TheVariants as form
 use Rattle.bus_capture.specs.Capturing.{Shown, capturing, shown_in, shown_in_csv}
-use Rattle.bus_capture.specs.Inferring.{items_after, stamps, with_shown, state_after, sure_after, release_of, released, inferred_by, inferred}
+use Rattle.bus_capture.specs.Inferring.{items_after, stamps, with_shown, state_after, release_of, released, inferred_by, inferred}
 use Rattle.bus_capture.specs.Tracing.{inferred_on, traced, comes_dump, last_of, comes_table, comes_as}
 use Rattle.bus_capture.specs.Fronts.{in_front, KeepsFront}
 
-shown_front : (sure : Bool) (state : BusView) (time : ℕ) (item : Item) (xs ys : List Stamped) → with_shown sure state time item (xs ++ ys) ≡ xs ++ with_shown sure state time item ys
+shown_front : (infers : Bool) (state : TraceState) (time : ℕ) (item : Item) (xs ys : List Stamped) → with_shown infers state time item (xs ++ ys) ≡ xs ++ with_shown infers state time item ys
 shown_front false state time item xs ys = append_assoc xs ys (stamps time (Some item))
 shown_front true state time item xs ys =
     let a = stamps time (ready_before state item) in
@@ -35,25 +35,24 @@ shown_front true state time item xs ys =
     ap (λ (l : List Stamped). (l ++ b) ++ c) (append_assoc xs ys a) ∙ ap (λ (l : List Stamped). l ++ c) (append_assoc xs (ys ++ a) b) ∙ append_assoc xs ((ys ++ a) ++ b) c
 
 -- one thing that is seen, where that holds of those after it
-one_front : (seen : Observation) (time luns : ℕ) (sure : Bool) (state : BusView) (later : List Observed) (xs ys : List Stamped)
-    → ((sure : Bool) (state : BusView) (ys : List Stamped) → inferred luns sure state (xs ++ ys) later ≡ xs ++ inferred luns sure state ys later)
-    → inferred_by seen time luns sure state later (xs ++ ys) (λ sure state stamped. inferred luns sure state stamped later)
-    ≡ xs ++ inferred_by seen time luns sure state later ys (λ sure state stamped. inferred luns sure state stamped later)
-one_front (observation.Item item) time luns sure state later xs ys front =
-    let sure_then = sure_after sure state item in
-    let state_then = state_after sure state item in
-    ap (λ (l : List Stamped). inferred luns sure_then state_then l later) (shown_front sure state time item xs ys)
-    ∙ front sure_then state_then (with_shown sure state time item ys)
-one_front (observation.Released ce) time luns sure state later xs ys front =
-    let more = stamps time (release_of sure state luns ce later) in
-    let state_then = released (release_of sure state luns ce later) state in
-    ap (λ (l : List Stamped). inferred luns sure state_then l later) (append_assoc xs ys more) ∙ front sure state_then (ys ++ more)
+one_front : (seen : Observation) (time luns : ℕ) (infers : Bool) (state : TraceState) (later : List Observed) (xs ys : List Stamped)
+    → ((state : TraceState) (ys : List Stamped) → inferred luns infers state (xs ++ ys) later ≡ xs ++ inferred luns infers state ys later)
+    → inferred_by seen time luns infers state later (xs ++ ys) (λ state stamped. inferred luns infers state stamped later)
+    ≡ xs ++ inferred_by seen time luns infers state later ys (λ state stamped. inferred luns infers state stamped later)
+one_front (observation.Item item) time luns infers state later xs ys front =
+    let state_then = state_after infers state item in
+    ap (λ (l : List Stamped). inferred luns infers state_then l later) (shown_front infers state time item xs ys)
+    ∙ front state_then (with_shown infers state time item ys)
+one_front (observation.Released ce) time luns infers state later xs ys front =
+    let more = stamps time (release_of infers state luns ce later) in
+    let state_then = released (release_of infers state luns ce later) state in
+    ap (λ (l : List Stamped). inferred luns infers state_then l later) (append_assoc xs ys more) ∙ front state_then (ys ++ more)
 
-inferred_front : (luns : ℕ) (sure : Bool) (state : BusView) (xs ys : List Stamped) (observed : List Observed)
-    → inferred luns sure state (xs ++ ys) observed ≡ xs ++ inferred luns sure state ys observed
-inferred_front luns sure state xs ys [] = refl
-inferred_front luns sure state xs ys (o ∷ later) =
-    one_front o.observation o.time luns sure state later xs ys (λ sure state ys. inferred_front luns sure state xs ys later)
+inferred_front : (luns : ℕ) (infers : Bool) (state : TraceState) (xs ys : List Stamped) (observed : List Observed)
+    → inferred luns infers state (xs ++ ys) observed ≡ xs ++ inferred luns infers state ys observed
+inferred_front luns infers state xs ys [] = refl
+inferred_front luns infers state xs ys (o ∷ later) =
+    one_front o.observation o.time luns infers state later xs ys (λ state ys. inferred_front luns infers state xs ys later)
 
 -- items that don't hang on those before them, or a refusal
 made_front : {A : Type 0} (r : Result A CaptureFault) (items : List Stamped → A → List Stamped) (xs ys : List Stamped)
@@ -71,7 +70,7 @@ shown_items_front r setup xs ys =
 traced_front : {A : Type 0} (t : Tracer A) (xs ys : List Stamped) (told : List Told) → traced t (xs ++ ys) told ≡ in_front xs (traced t ys told)
 traced_front t xs ys told =
     made_front (capturing t.sources.items t.sampler t.observed.items told) (inferred_on t.inferring) xs ys
-    (λ observed. inferred_front t.inferring.luns t.inferring.sure t.inferring.state xs ys observed)
+    (λ observed. inferred_front t.inferring.luns t.inferring.infers t.inferring.state xs ys observed)
 
 dump_front : {A : Type 0} (dump : Option (DumpReader A)) (setup : Setup) (head : List ℕ) (xs ys : List Stamped) (rest : List ℕ)
     → comes_dump dump setup head (xs ++ ys) rest ≡ in_front xs (comes_dump dump setup head ys rest)

@@ -1,5 +1,5 @@
 -- A capture that is read in pieces comes to what the whole text does.
-use Rattle.std.proofs.Common.{◌≡◌, ◌≤◌, ◌+◌, ◌*◌, ◌/◌, ◌%◌, ℕ, zero, suc, Bool, true, false, List, [], ◌∷◌, ◌++◌, length, take, drop, Option, Some, None, Result, Ok, Err, refl, ap, sym, ◌∙◌, subst, arith, cond, eqb, map}
+use Rattle.std.proofs.Common.{◌≡◌, ◌≤◌, ◌+◌, ◌*◌, ◌/◌, ◌%◌, ℕ, zero, suc, Bool, true, false, List, [], ◌∷◌, ◌++◌, length, take, drop, Option, Some, None, Result, Ok, Err, refl, ap, sym, ◌∙◌, subst, arith, cond, eqb}
 use Rattle.std.proofs.lemmas.List.{append_assoc, append-nil, take-append-drop}
 use Rattle.std.specs.Prelude.{OnOk, IfErr}
 use Rattle.onfi_cycle.specs.declared.item.Item.{Item}
@@ -26,7 +26,7 @@ use Rattle.csv_text.specs.Table as table
 use Rattle.csv_text.specs.Body.{told}
 use Rattle.bus_signals.specs.declared.source.Source.{Source}
 use Rattle.bus_signals.specs.declared.role.Role.TheVariants as role
-use Rattle.bus_signals.specs.Roles.{carrier_of, sources_of}
+use Rattle.bus_signals.specs.Roles.{carriers_of, sources_of}
 use Rattle.bus_capture.specs.declared.fault.CaptureFault.{CaptureFault}
 use Rattle.bus_capture.specs.declared.fault.CaptureFault.TheVariants.{File}
 use Rattle.bus_capture.specs.declared.fault.CaptureRefusal.{CaptureRefusal}
@@ -209,7 +209,7 @@ fails_more setup stamped whole more f cut ended is = fails_last setup stamped (w
 -- ---- a CSV
 
 pub table_whole : (setup : Setup) (stamped : List Stamped) (text : List ℕ) (t : table.Table) → table_of (rows text) ≡ Ok t → captured_by form.Table setup stamped text ≡ table_read setup stamped t
-table_whole setup stamped text t is = rw is (at (in_roles (sources_of setup.targets (map (carrier_of setup.mappings.now) t.columns.variables))))
+table_whole setup stamped text t is = rw is (at (in_roles (sources_of setup.targets (carriers_of setup.mappings.now t.columns.variables))))
   where
     on : (sources : List Source) (seen : Result (List Observed) CaptureFault)
         → ((seen >>= λ observed. Ok (record { observed = observed; tells_readies = tells_readies sources })) >>= λ shown. Ok (items_after setup stamped shown))
@@ -229,7 +229,7 @@ table_fails setup stamped text f is = rw is refl
 
 -- a table as it is read on
 pub table_begins : {A : Type 0} (setup : Setup) (t : table.Table) (sources : List Source) (tracer : Tracer A) (st now_st : TableStanding) (names now_names text tail left rest : List ℕ) (stamped : List Stamped)
-    → in_roles (sources_of setup.targets (map (carrier_of setup.mappings.now) t.columns.variables)) ≡ Ok sources
+    → in_roles (sources_of setup.targets (carriers_of setup.mappings.now t.columns.variables)) ≡ Ok sources
     → ((stamped : List Stamped) (told : List Told) → traced tracer stamped told ≡ items_told setup sources stamped told)
     → told t ≡ table_told st names None (text ++ (tail ++ rest)) → now_st ≡ st → now_names ≡ names ++ [] → left ≡ text ++ tail
     → table_read setup stamped t ≡ traced tracer stamped (table_told now_st now_names None (left ++ rest))

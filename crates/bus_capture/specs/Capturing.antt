@@ -1,5 +1,5 @@
 -- A capture as items, each with its time.
-use Rattle.std.specs.Prelude.{◌≡◌, ⊤, ℕ, zero, suc, ◌+◌, ◌*◌, ◌/◌, ◌%◌, ◌==◌, ◌||◌, Bool, true, false, if◌then◌else◌, List, [], ◌∷◌, ◌++◌, map, Option, Some, None, Result, Ok, Err}
+use Rattle.std.specs.Prelude.{◌≡◌, ⊤, ℕ, zero, suc, ◌+◌, ◌*◌, ◌/◌, ◌%◌, ◌==◌, ◌||◌, Bool, true, false, if◌then◌else◌, List, [], ◌∷◌, ◌++◌, Option, Some, None, Result, Ok, Err}
 use Rattle.onfi_cycle.specs.declared.item.Item.{Item}
 use Rattle.vcd_text.specs.declared.fault.LineFault.{LineFault}
 use Rattle.vcd_text.specs.declared.tokens.Level.{Level}
@@ -31,7 +31,7 @@ use Rattle.bus_capture.specs.declared.sampler.Observed.{Observed}
 use Rattle.bus_capture.specs.declared.sampler.Sampler.{Sampler}
 use Rattle.bus_capture.specs.declared.sampler.Strobing.{Strobing}
 use Rattle.bus_capture.specs.declared.reading.Setup.{Setup}
-use Rattle.bus_signals.specs.Roles.{carrier_of, sources_of}
+use Rattle.bus_signals.specs.Roles.{carriers_of, sources_of}
 use Rattle.bus_capture.specs.Sampling.{level, with_change, seen_of, item_of, rises, is_edge, is_short, steady, ready_of}
 
 -- ---- what is seen at a time
@@ -138,7 +138,7 @@ abbrev pub unknown : List Level
 unknown = unknown_from 68
 
 abbrev pub sources_in : Setup → Read → Result (List Source) CaptureFault
-sources_in setup read = in_roles (sources_of setup.targets (map (carrier_of setup.mappings.now) read.header.variables))
+sources_in setup read = in_roles (sources_of setup.targets (carriers_of setup.mappings.now read.header.variables))
 
 -- the items of what is told
 abbrev pub told_items : Setup → List Source → List Told → Result (List Observed) CaptureFault
@@ -181,7 +181,7 @@ shown_in setup text = do
 abbrev pub shown_in_csv : Setup → List ℕ → Result Shown CaptureFault
 shown_in_csv setup text = do
   table ← in_file (table_of (rows text))
-  sources ← in_roles (sources_of setup.targets (map (carrier_of setup.mappings.now) table.columns.variables))
+  sources ← in_roles (sources_of setup.targets (carriers_of setup.mappings.now table.columns.variables))
   observed ← told_items setup sources (told table)
   Ok (record { observed = observed; tells_readies = tells_readies sources })
 

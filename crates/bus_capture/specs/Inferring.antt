@@ -5,13 +5,11 @@ use Rattle.onfi_cycle.specs.declared.item.Kind.TheVariants.{Cmd, Adr, Din, Dout}
 use Rattle.onfi_cycle.specs.declared.item.Cycle.{Cycle}
 use Rattle.onfi_cycle.specs.declared.item.Item.{Item}
 use Rattle.onfi_cycle.specs.declared.item.Item.TheVariants.{Cyc, Rdy, Ard}
-use Rattle.onfi_cycle.specs.declared.forbidden.Forbidden.{Forbidden}
 use Rattle.onfi_cycle.specs.declared.lun_state.LunState.{LunState}
-use Rattle.onfi_cycle.specs.State.{BusView, judged}
 use Rattle.onfi_cycle.specs.Look.{looked}
-use Rattle.trace_faults.specs.Recovery.{gone_on}
+use Rattle.trace_faults.specs.declared.trace_state.TraceState.{TraceState}
+use Rattle.trace_faults.specs.Recovery.{fresh, gone_on}
 use Rattle.trace_faults.specs.ShownReadies.{ready_before, array_ready_before, with_ready, with_readies, has_fail}
-use Rattle.trace_faults.specs.Faults.{fresh}
 use Rattle.bus_capture.specs.declared.fault.CaptureFault.{CaptureFault}
 use Rattle.bus_capture.specs.declared.reading.Setup.{Setup}
 use Rattle.bus_capture.specs.declared.sampler.Observation.{Observation}
@@ -52,28 +50,20 @@ fails_within zero asked ce later = false
 fails_within (suc most) asked ce [] = false
 fails_within (suc most) asked ce (o ∷ later) = fails_by (ahead_of asked ce o.observation) (λ asked. fails_within most asked ce later)
 
--- ---- an item, with the readies that its byte shows as long as all before it were permitted
+-- ---- an item, with the readies that its byte shows, unless lines of a model tell them
 
 abbrev pub stamps : ℕ → Option Item → List Stamped
 stamps time None = []
 stamps time (Some item) = record { time = time; item = item } ∷ []
 
-abbrev pub with_shown : (sure : Bool) → BusView → ℕ → Item → List Stamped → List Stamped
+abbrev pub with_shown : (infers : Bool) → TraceState → ℕ → Item → List Stamped → List Stamped
 with_shown false state time item stamped = stamped ++ stamps time (Some item)
 with_shown true state time item stamped =
     ((stamped ++ stamps time (ready_before state item)) ++ stamps time (array_ready_before (with_ready state item) item)) ++ stamps time (Some item)
 
-abbrev pub state_after : (sure : Bool) → BusView → Item → BusView
+abbrev pub state_after : (infers : Bool) → TraceState → Item → TraceState
 state_after false state item = state
 state_after true state item = gone_on item (with_readies state item)
-
-abbrev pub is_permitted : Option Forbidden → Bool
-is_permitted None = true
-is_permitted (Some rule) = false
-
-abbrev pub sure_after : (sure : Bool) → BusView → Item → Bool
-sure_after false state item = false
-sure_after true state item = is_permitted (judged (with_readies state item) item)
 
 -- ---- R/B# rises
 
@@ -82,30 +72,30 @@ is_busy None = false
 is_busy (Some lun) = lun.busy
 
 -- the target has one LUN, which is busy
-abbrev pub is_waiting : BusView → (luns ce : ℕ) → Bool
-is_waiting state luns ce = luns == 1 && is_busy (looked state (record { ce = ce; lun = 0 }))
+abbrev pub is_waiting : TraceState → (luns ce : ℕ) → Bool
+is_waiting state luns ce = luns == 1 && is_busy (looked state.bus (record { ce = ce; lun = 0 }))
 
 -- the ready that this shows
-abbrev pub release_of : (sure : Bool) → BusView → (luns ce : ℕ) → List Observed → Option Item
+abbrev pub release_of : (infers : Bool) → TraceState → (luns ce : ℕ) → List Observed → Option Item
 release_of false state luns ce later = None
 release_of true state luns ce later = if is_waiting state luns ce then Some (Rdy ce 0 (fails_within 65536 false ce later)) else None
 
-abbrev pub released : Option Item → BusView → BusView
+abbrev pub released : Option Item → TraceState → TraceState
 released None state = state
 released (Some item) state = gone_on item state
 
 -- ---- all items
 
-abbrev pub inferred_by : Observation → ℕ → (luns : ℕ) → (sure : Bool) → BusView → List Observed → List Stamped → (Bool → BusView → List Stamped → List Stamped) → List Stamped
-inferred_by (observation.Item item) time luns sure state later stamped next = next (sure_after sure state item) (state_after sure state item) (with_shown sure state time item stamped)
-inferred_by (observation.Released ce) time luns sure state later stamped next =
-    next sure (released (release_of sure state luns ce later) state) (stamped ++ stamps time (release_of sure state luns ce later))
+abbrev pub inferred_by : Observation → ℕ → (luns : ℕ) → (infers : Bool) → TraceState → List Observed → List Stamped → (TraceState → List Stamped → List Stamped) → List Stamped
+inferred_by (observation.Item item) time luns infers state later stamped next = next (state_after infers state item) (with_shown infers state time item stamped)
+inferred_by (observation.Released ce) time luns infers state later stamped next =
+    next (released (release_of infers state luns ce later) state) (stamped ++ stamps time (release_of infers state luns ce later))
 
--- the items of what is seen, after these, on a channel of targets of so many LUNs; after an item that isn't permitted no ready is inferred
-abbrev pub inferred : (luns : ℕ) → (sure : Bool) → BusView → List Stamped → List Observed → List Stamped
-inferred luns sure state stamped [] = stamped
-inferred luns sure state stamped (o ∷ later) =
-    inferred_by o.observation o.time luns sure state later stamped (λ sure state stamped. inferred luns sure state stamped later)
+-- the items of what is seen, after these, on a channel of targets of so many LUNs; a trace is gone on with as a check of all faults does
+abbrev pub inferred : (luns : ℕ) → (infers : Bool) → TraceState → List Stamped → List Observed → List Stamped
+inferred luns infers state stamped [] = stamped
+inferred luns infers state stamped (o ∷ later) =
+    inferred_by o.observation o.time luns infers state later stamped (λ state stamped. inferred luns infers state stamped later)
 
 -- ---- a whole capture: its items, each with its time
 

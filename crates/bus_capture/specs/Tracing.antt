@@ -1,5 +1,5 @@
 -- What is still to come of a capture that is read in pieces.
-use Rattle.std.specs.Prelude.{◌≡◌, ⊤, ◌≤◌, ℕ, Bool, true, false, List, [], ◌++◌, Option, Some, None, Result, Ok, Err, map}
+use Rattle.std.specs.Prelude.{◌≡◌, ⊤, ◌≤◌, ℕ, Bool, true, false, List, [], ◌++◌, Option, Some, None, Result, Ok, Err}
 use Rattle.vcd_text.specs.Tokens.{◌>>=◌}
 use Rattle.vcd_text.specs.Words.{Word, IsCut}
 use Rattle.vcd_text.specs.Header.{Read}
@@ -11,7 +11,7 @@ use Rattle.csv_text.specs.Table.{Table}
 use Rattle.csv_text.specs.Body.{told}
 use Rattle.csv_text.specs.Shown as csv
 use Rattle.bus_signals.specs.declared.source.Source.{Source}
-use Rattle.bus_signals.specs.Roles.{carrier_of, sources_of}
+use Rattle.bus_signals.specs.Roles.{carriers_of, sources_of}
 use Rattle.bus_capture.specs.declared.fault.CaptureFault.{CaptureFault}
 use Rattle.bus_capture.specs.declared.fault.CaptureRefusal.{CaptureRefusal}
 use Rattle.bus_capture.specs.declared.sampler.Observed.{Observed}
@@ -40,7 +40,7 @@ MayFollow false more = ⊤
 
 -- the items of what is seen, after these
 abbrev pub inferred_on : Inferring → List Stamped → List Observed → List Stamped
-inferred_on i stamped observed = inferred i.luns i.sure i.state stamped observed
+inferred_on i stamped observed = inferred i.luns i.infers i.state stamped observed
 
 -- the items of what is told, after these
 abbrev pub traced : {A : Type 0} → Tracer A → List Stamped → List Told → Result (List Stamped) CaptureFault
@@ -102,7 +102,7 @@ last_of false text = None
 
 -- the items of a table, after those
 abbrev pub table_read : Setup → List Stamped → Table → Result (List Stamped) CaptureFault
-table_read setup stamped t = in_roles (sources_of setup.targets (map (carrier_of setup.mappings.now) t.columns.variables)) >>= λ sources. items_told setup sources stamped (told t)
+table_read setup stamped t = in_roles (sources_of setup.targets (carriers_of setup.mappings.now t.columns.variables)) >>= λ sources. items_told setup sources stamped (told t)
 
 -- the items of a CSV, of which this much is read, with this text more
 abbrev pub table_after : {A : Type 0} → TableReader A → List Stamped → List ℕ → Result (List Stamped) CaptureFault

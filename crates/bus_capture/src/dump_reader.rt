@@ -4,7 +4,7 @@ ghost use Rattle.vcd_text.specs.Words.{Word, words_from, lines_from, GoesOn, IsC
 ghost use Rattle.vcd_text.specs.Sections.{shown_variables};
 ghost use Rattle.vcd_text.specs.Dumps.{read_of, beginning};
 ghost use Rattle.vcd_text.specs.Shown.{told_before, place_of, IsOver, IsNext};
-ghost use Rattle.bus_signals.specs.Roles.{carrier_of, sources_of};
+ghost use Rattle.bus_signals.specs.Roles.{carriers_of, sources_of};
 ghost use Rattle.bus_capture.specs.Capturing.{in_roles, IsRefusalOf};
 ghost use Rattle.bus_capture.specs.Inside.{AreInside};
 ghost use Rattle.bus_capture.specs.Recorded.{IsNextOf};
@@ -63,8 +63,8 @@ pub(crate) fn find_sources<A: Allocator + Clone>(
     setup: &Setup<'_>,
     variables: &[Variable<'_>],
 ) -> Result<Vec<Source, A>, CaptureRefusal>
-    ensures ok { IfOk result (λ sources. in_roles (sources_of setup.now.targets (map (carrier_of setup.now.mappings.now) (shown_variables variables.now))) ≡ Ok sources.items) }
-    ensures err { IfErr result (λ e. IsRefusalOf e (in_roles (sources_of setup.now.targets (map (carrier_of setup.now.mappings.now) (shown_variables variables.now))))) }
+    ensures ok { IfOk result (λ sources. in_roles (sources_of setup.now.targets (carriers_of setup.now.mappings.now (shown_variables variables.now))) ≡ Ok sources.items) }
+    ensures err { IfErr result (λ e. IsRefusalOf e (in_roles (sources_of setup.now.targets (carriers_of setup.now.mappings.now (shown_variables variables.now))))) }
 {
     let Ok(copy) = alloc.clone() else {
         return Err(CaptureRefusal::OutOfMemory);
@@ -116,6 +116,8 @@ pub(crate) struct DumpReader<A: Allocator> {
     widths: Widths<A>,
     standing: Standing,
     left: Vec<u8, A>,
+    // How much was left when whole words were last looked for.
+    tried: usize,
     pub(crate) tracer: Tracer<A>,
 }
 
@@ -150,6 +152,7 @@ impl<A: Allocator + Clone> DumpReader<A> {
             widths,
             standing: body.standing(),
             left,
+            tried: 0,
             tracer,
         })
     }
@@ -188,6 +191,25 @@ impl<A: Allocator + Clone> DumpReader<A> {
         }
     }
 
+    // Goes on by whole words once there is twice the text that was left when they were last looked for, so that a long word isn't looked through for each piece.
+    fn try_whole(&mut self) -> Result<(), CaptureRefusal>
+        requires tracing { IsTracing self.old.tracer }
+        ensures ok { OnOk result ((stamped : List Stamped) (rest : List ℕ) → dump_after self.old stamped rest ≡ dump_after self.new stamped rest) }
+        ensures tracing { OnOk result (IsTracing self.new.tracer) }
+        ensures err { IfErr result (λ e. (stamped : List Stamped) (rest : List ℕ) → IsRefusalOf e (dump_after self.old stamped rest)) }
+    {
+        if self.left.len() / 2 < self.tried {
+            return Ok(());
+        }
+        match self.take_whole() {
+            Ok(()) => {
+                self.tried = self.left.len();
+                Ok(())
+            }
+            Err(refusal) => Err(refusal),
+        }
+    }
+
     /// Goes on by a piece of text, and adds the items that are known then.
     pub(crate) fn take<B: Allocator>(
         &mut self,
@@ -204,7 +226,7 @@ impl<A: Allocator + Clone> DumpReader<A> {
         if self.left.extend_from_slice(piece).is_err() {
             return Err(CaptureRefusal::OutOfMemory);
         }
-        self.take_whole()?;
+        self.try_whole()?;
         self.tracer.hand_on(stamped)
     }
 

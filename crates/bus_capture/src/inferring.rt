@@ -1,19 +1,18 @@
 //! The readies that a capture without a model shows.
 ghost use Rattle.std.specs.Prelude.{◌≡◌, ◌≤◌, List, [], ◌∷◌, ◌++◌, true, false, not, length, drop, Ok, IfOk, OnOk, IfSome, IfNone};
-ghost use Rattle.onfi_cycle.specs.State.{judged};
 ghost use Rattle.onfi_cycle.specs.Look.{looked};
 ghost use Rattle.trace_faults.specs.ShownReadies.{with_readies};
-ghost use Rattle.trace_faults.specs.Faults.{fresh};
-ghost use Rattle.bus_capture.specs.Inferring.{stamps, with_shown, state_after, is_permitted, sure_after, is_busy, is_waiting, release_of, released};
+ghost use Rattle.trace_faults.specs.Recovery.{fresh};
+ghost use Rattle.bus_capture.specs.Inferring.{stamps, with_shown, state_after, is_busy, is_waiting, release_of, released};
 ghost use Rattle.bus_capture.specs.Inside.{AreInside, IsSeenInside, AreSeenInside};
 ghost use Rattle.bus_capture.specs.Tracing.{MayFollow, inferred_on};
 
 use crate::ahead::fails_ahead;
 use crate::sampler::{Observation, Observed};
 use nand_geometry::Geometry;
-use onfi_cycle::{BusState, Forbidden, Item, Lun, LunState};
+use onfi_cycle::{Item, Lun, LunState};
 use std::alloc::{AllocError, Allocator};
-use trace_faults::{go_on, go_on_by_readies};
+use trace_faults::{TraceState, go_on_by_readies};
 
 /// An item, and the time at which it was seen.
 #[derive(Clone, Copy, Debug, PartialEq, Eq)]
@@ -37,51 +36,39 @@ fn push_some<A: Allocator>(
     Ok(())
 }
 
-fn is_permitted(rule: Option<Forbidden>) -> bool
-    ensures { result ≡ is_permitted rule }
-{
-    match rule {
-        None => true,
-        Some(_) => false,
-    }
-}
-
-// Adds an item after the readies that it shows, and goes on by them: whether it is permitted. All before it were.
-fn infer_sure<A: Allocator>(
-    state: &mut BusState,
+// Adds an item after the readies that it shows, and goes on by them.
+fn infer_item<A: Allocator>(
+    state: &mut TraceState,
     stamped: &mut Vec<Stamped, A>,
     time: u64,
     item: Item,
-) -> Result<bool, AllocError>
+) -> Result<(), AllocError>
     ensures items { OnOk result (stamped.new.items ≡ with_shown true state.old time item stamped.old.items) }
     ensures state { state.new ≡ state_after true state.old item }
-    ensures sure { IfOk result (λ sure. sure ≡ sure_after true state.old item) }
 {
     let (ready, array_ready) = go_on_by_readies(state, item);
-    let rule = go_on(state, item);
+    let _ = state.go_on(item);
     push_some(stamped, time, ready)?;
     push_some(stamped, time, array_ready)?;
-    push_some(stamped, time, Some(item))?;
-    Ok(is_permitted(rule))
+    push_some(stamped, time, Some(item))
 }
 
-// Adds an item, with the readies that it shows where all before it were permitted: whether all are.
-fn infer_item<A: Allocator>(
-    state: &mut BusState,
+// Adds an item, with the readies that it shows unless lines of a model tell them.
+fn take_item<A: Allocator>(
+    state: &mut TraceState,
     stamped: &mut Vec<Stamped, A>,
-    sure: bool,
+    infers: bool,
     time: u64,
     item: Item,
-) -> Result<bool, AllocError>
-    ensures items { OnOk result (stamped.new.items ≡ with_shown sure state.old time item stamped.old.items) }
-    ensures state { state.new ≡ state_after sure state.old item }
-    ensures sure { IfOk result (λ now. now ≡ sure_after sure state.old item) }
+) -> Result<(), AllocError>
+    ensures items { OnOk result (stamped.new.items ≡ with_shown infers state.old time item stamped.old.items) }
+    ensures state { state.new ≡ state_after infers state.old item }
 {
-    if sure {
-        return infer_sure(state, stamped, time, item);
+    if infers {
+        infer_item(state, stamped, time, item)
+    } else {
+        push_some(stamped, time, Some(item))
     }
-    push_some(stamped, time, Some(item))?;
-    Ok(false)
 }
 
 fn is_busy(lun: Option<LunState>) -> bool
@@ -94,25 +81,25 @@ fn is_busy(lun: Option<LunState>) -> bool
 }
 
 // The target has one LUN, which is busy.
-fn is_waiting(state: &BusState, luns: u8, ce: u8) -> bool
+fn is_waiting(state: &TraceState, luns: u8, ce: u8) -> bool
     ensures { result ≡ is_waiting state.now luns ce }
 {
-    luns == 1 && is_busy(state.lun_state(Lun { ce, lun: 0 }))
+    luns == 1 && is_busy(state.bus.lun_state(Lun { ce, lun: 0 }))
 }
 
 // The ready that a rise of R/B# shows, by what is seen later; None where that isn't known yet.
 fn release_of(
-    state: &BusState,
+    state: &TraceState,
     luns: u8,
-    sure: bool,
+    infers: bool,
     ce: u8,
     later: &[Observed],
     is_last: bool,
 ) -> Option<Option<Item>>
-    ensures known { IfSome result (λ ready. (more : List Observed) → MayFollow is_last more → release_of sure state.now luns ce (later.now ++ more) ≡ ready) }
+    ensures known { IfSome result (λ ready. (more : List Observed) → MayFollow is_last more → release_of infers state.now luns ce (later.now ++ more) ≡ ready) }
     ensures open { IfNone result (is_last ≡ false) }
 {
-    if !sure || !is_waiting(state, luns, ce) {
+    if !infers || !is_waiting(state, luns, ce) {
         return Some(None);
     }
     let fail = match fails_ahead(ce, later) {
@@ -128,20 +115,20 @@ fn release_of(
 }
 
 // Goes on by a ready, if there is one.
-fn release(state: &mut BusState, ready: Option<Item>)
+fn release(state: &mut TraceState, ready: Option<Item>)
     ensures { state.new ≡ released ready state.old }
 {
     if let Some(item) = ready {
-        let _ = go_on(state, item);
+        let _ = state.go_on(item);
     }
 }
 
-/// How far items are made of what is seen on targets of so many LUNs: whether all were permitted so far, and the state of the bus then.
+/// How far items are made of what is seen on targets of so many LUNs: whether readies are inferred, and the state that a check of all faults goes on with.
 #[derive(Drop)]
 pub(crate) struct Inferring {
     pub(crate) luns: u8,
-    pub(crate) sure: bool,
-    pub(crate) state: BusState,
+    pub(crate) infers: bool,
+    pub(crate) state: TraceState,
 }
 
 impl Inferring {
@@ -149,13 +136,13 @@ impl Inferring {
     pub(crate) fn begun(geometry: &Geometry, targets: u8, tells_readies: bool) -> Inferring
         requires few { targets ≤ 4 }
         ensures luns { result.luns ≡ geometry.now.luns }
-        ensures sure { result.sure ≡ not tells_readies }
+        ensures infers { result.infers ≡ not tells_readies }
         ensures state { result.state ≡ fresh geometry.now targets }
     {
         Inferring {
             luns: geometry.parts().luns,
-            sure: !tells_readies,
-            state: BusState::new(*geometry, targets),
+            infers: !tells_readies,
+            state: TraceState::new(geometry, targets),
         }
     }
 
@@ -168,14 +155,14 @@ impl Inferring {
         later: &[Observed],
         is_last: bool,
     ) -> Result<bool, AllocError>
-        ensures same { self.new.luns ≡ self.old.luns × self.new.sure ≡ self.old.sure }
+        ensures same { self.new.luns ≡ self.old.luns × self.new.infers ≡ self.old.infers }
         ensures taken { result ≡ Ok true → (more : List Observed) → MayFollow is_last more
-            → (self.new.state ≡ released (release_of self.old.sure self.old.state self.old.luns ce (later.now ++ more)) self.old.state)
-            × (stamped.new.items ≡ stamped.old.items ++ stamps time (release_of self.old.sure self.old.state self.old.luns ce (later.now ++ more))) }
+            → (self.new.state ≡ released (release_of self.old.infers self.old.state self.old.luns ce (later.now ++ more)) self.old.state)
+            × (stamped.new.items ≡ stamped.old.items ++ stamps time (release_of self.old.infers self.old.state self.old.luns ce (later.now ++ more))) }
         ensures inside { result ≡ Ok true → ce ≤ 3 → AreInside stamped.old.items → AreInside stamped.new.items }
         ensures open { result ≡ Ok false → (is_last ≡ false) × (self.new ≡ self.old) × (stamped.new.items ≡ stamped.old.items) }
     {
-        match release_of(&self.state, self.luns, self.sure, ce, later, is_last) {
+        match release_of(&self.state, self.luns, self.infers, ce, later, is_last) {
             None => Ok(false),
             Some(ready) => {
                 release(&mut self.state, ready);
@@ -201,7 +188,7 @@ impl Inferring {
     {
         match first.observation {
             Observation::Item(item) => {
-                self.sure = infer_item(&mut self.state, stamped, self.sure, first.time, item)?;
+                take_item(&mut self.state, stamped, self.infers, first.time, item)?;
                 Ok(true)
             }
             Observation::Released(ce) => {

@@ -83,6 +83,8 @@ pub(crate) struct TableReader<A: Allocator> {
     has_last: bool,
     last: Vec<u8, A>,
     left: Vec<u8, A>,
+    // How much was left when whole lines were last looked for.
+    tried: usize,
     pub(crate) tracer: Tracer<A>,
 }
 
@@ -116,6 +118,7 @@ impl<A: Allocator + Clone> TableReader<A> {
             has_last: false,
             last: Vec::new(copy_of(&alloc)?),
             left,
+            tried: 0,
             alloc,
             tracer,
         })
@@ -162,6 +165,25 @@ impl<A: Allocator + Clone> TableReader<A> {
         }
     }
 
+    // Goes on by whole lines once there is twice the text that was left when they were last looked for, so that a long row isn't looked through for each piece.
+    fn try_lines(&mut self) -> Result<(), CaptureRefusal>
+        requires tabling { IsTabling self.old }
+        ensures ok { OnOk result ((stamped : List Stamped) (rest : List ℕ) → table_after self.old stamped rest ≡ table_after self.new stamped rest) }
+        ensures tabling { OnOk result (IsTabling self.new) }
+        ensures err { IfErr result (λ e. (stamped : List Stamped) (rest : List ℕ) → IsRefusalOf e (table_after self.old stamped rest)) }
+    {
+        if self.left.len() / 2 < self.tried {
+            return Ok(());
+        }
+        match self.take_lines() {
+            Ok(()) => {
+                self.tried = self.left.len();
+                Ok(())
+            }
+            Err(refusal) => Err(refusal),
+        }
+    }
+
     /// Goes on by a piece of text, and adds the items that are known then.
     pub(crate) fn take<B: Allocator>(
         &mut self,
@@ -178,7 +200,7 @@ impl<A: Allocator + Clone> TableReader<A> {
         if self.left.extend_from_slice(piece).is_err() {
             return Err(CaptureRefusal::OutOfMemory);
         }
-        self.take_lines()?;
+        self.try_lines()?;
         self.tracer.hand_on(stamped)
     }
 

@@ -25,7 +25,8 @@ use Rattle.onfi_cycle.specs.Permitted.{judge}
 use Rattle.onfi_cycle.specs.Bounds.{LunFits, TargetFits, BusFits}
 use Rattle.onfi_cycle.specs.State.{TargetView, BusView, Follows, judged, judged_on, bus_after, target_after, bus}
 use Rattle.onfi_cycle.proofs.Following.{judged_is_broken, bus_goes_on, target_fits, lun_fits_at, applied}
-use Rattle.bus_record.specs.Rule.{by_option, rule_number}
+use Rattle.bus_record.specs.Rule.{by_option}
+use Rattle.onfi_cycle.specs.Codes.{rule_number}
 use Rattle.bus_record.specs.Bus.{pushed, bus_pushed, target_pushed, GoesOn, IsSound, bus_view}
 use Rattle.target_record.specs.Record.{IsTarget}
 

@@ -9,7 +9,8 @@ use Rattle.onfi_cycle.specs.Bounds.{BusFits, TargetFits}
 use Rattle.onfi_cycle.specs.Permitted.{judge, broken}
 use Rattle.onfi_cycle.specs.State.{TargetView, BusView, Follows, judged, bus_after, target_after}
 use Rattle.target_record.specs.Geometry.{parts_of}
-use Rattle.bus_record.specs.Rule.{by_option, rule_number}
+use Rattle.bus_record.specs.Rule.{by_option}
+use Rattle.onfi_cycle.specs.Codes.{rule_number}
 use Rattle.target_record.specs.Record.{target_of, IsTarget}
 use Rattle.bus_record.specs.Kept.{Kept}
 use Rattle.target_record.specs.declared.record.OnfiseqTarget.{OnfiseqTarget}

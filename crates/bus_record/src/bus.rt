@@ -18,7 +18,6 @@ ghost use Rattle.nand_geometry.specs.Limits.{InLimits};
 
 use crate::item::OnfiseqItem;
 use crate::luns_change::{end_array_work_of, end_work_of};
-use crate::rule::rule_number;
 use crate::target_change::{apply_address, apply_command, apply_input, apply_output};
 use nand_geometry::Geometry;
 use onfi_cycle::{Command, Cycle, Forbidden, Item, Kind, READ_STATUS, TargetState};
@@ -372,7 +371,7 @@ pub fn push(bus: &mut OnfiseqBus, item: Item) -> u32
     ensures count { bus.new.count ≡ bus.old.count }
 {
     match push_item(bus, item) {
-        Some(rule) => rule_number(rule),
+        Some(rule) => rule.number(),
         None => 0,
     }
 }
@@ -386,7 +385,7 @@ fn push_cycle(bus: &mut OnfiseqBus, ce: u8, kind: Kind, byte: u8) -> u32
     ensures count { bus.new.count ≡ bus.old.count }
 {
     match push_here(bus, Item::Cyc(Cycle { ce, kind, byte })) {
-        Some(rule) => rule_number(rule),
+        Some(rule) => rule.number(),
         None => 0,
     }
 }

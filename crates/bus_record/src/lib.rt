@@ -10,7 +10,6 @@ mod item;
 mod look;
 mod luns_change;
 mod many;
-mod rule;
 mod run;
 mod tail_change;
 mod target_change;
@@ -21,7 +20,6 @@ pub use bus::{DAMAGED, OnfiseqBus, begin, is_bus, push, push_item, push_numbers}
 pub use item::OnfiseqItem;
 pub use look::{OnfiseqLook, ask, copy_of, geometry_of, has_lun, look_at_lun, no_look};
 pub use many::push_all;
-pub use rule::rule_number;
 pub use run::{push_inputs, push_outputs};
 pub use target_record::{OnfiseqGeometry, OnfiseqLun, OnfiseqQueued, OnfiseqTarget};
 pub use trial::{ask_poll, put_target, target_at, try_inputs, try_item, try_outputs, try_poll};

@@ -11,7 +11,6 @@ ghost use Rattle.bus_record.specs.Look.{look_of};
 ghost use Rattle.target_record.specs.Record.{IsRecord, lun_of, target_of};
 
 use crate::bus::OnfiseqBus;
-use crate::rule::rule_number;
 use nand_geometry::Geometry;
 use onfi_cycle::{Item, Lun, is_cache_read};
 use target_record::{
@@ -111,7 +110,7 @@ fn ask_target(geometry: &OnfiseqGeometry, targets: u8, kept: &OnfiseqTarget, ite
     ensures { result ≡ answered_there (parts_of geometry.now) targets (target_of kept.now) item }
 {
     match judge_there(geometry, targets, kept, item) {
-        Some(rule) => rule_number(rule),
+        Some(rule) => rule.number(),
         None => 0,
     }
 }

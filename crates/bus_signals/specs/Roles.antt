@@ -1,5 +1,5 @@
 -- The lines of a bus that a capture shows, and the signal of each.
-use Rattle.std.specs.Prelude.{ℕ, zero, suc, ◌+◌, ◌-◌, ◌*◌, ◌/◌, ◌%◌, ◌==◌, ◌||◌, ◌&&◌, Bool, true, false, nat_le, nat_lt, min, if◌then◌else◌, List, [], ◌∷◌, ◌++◌, Option, Some, None, Result, Ok, Err}
+use Rattle.std.specs.Prelude.{ℕ, zero, suc, ◌+◌, ◌-◌, ◌*◌, ◌/◌, ◌%◌, ◌==◌, ◌||◌, ◌&&◌, not, Bool, true, false, nat_le, nat_lt, min, if◌then◌else◌, List, [], ◌∷◌, ◌++◌, Option, Some, None, Result, Ok, Err}
 use Rattle.std.specs.Str.{bytes_eq}
 use Rattle.vcd_text.specs.Tokens.{◌>>=◌}
 use Rattle.vcd_text.specs.Header.{Variable}
@@ -57,18 +57,31 @@ is_joined (b ∷ name) range (t ∷ text) = if b == t then is_joined name range 
 abbrev pub is_name : Variable → List ℕ → Bool
 is_name v text = bytes_eq v.name text || is_joined v.name v.range text
 
--- the role that is given to a signal, as the number of its name
-abbrev pub given_role : List Mapping → Variable → Option ℕ
-given_role [] v = None
-given_role (m ∷ mappings) v = if is_name v m.name.now then Some (plain_of m.role.now) else given_role mappings v
+-- a signal that is what this name tells, as it was given that role or is called so
+abbrev pub carrier_as : (given : Bool) → (plain : ℕ) → Variable → Carrier
+carrier_as given plain v = record { meaning = named plain; spot = spot_of v.name v.range; width = v.width; code = v.code; is_given = given }
 
-abbrev pub carrier_by : Option ℕ → Variable → Carrier
-carrier_by None v = record { meaning = named (plain_of v.name); spot = spot_of v.name v.range; width = v.width; code = v.code; is_given = false }
-carrier_by (Some plain) v = record { meaning = named plain; spot = spot_of v.name v.range; width = v.width; code = v.code; is_given = true }
+-- a role is given to a signal
+abbrev pub is_given : List Mapping → Variable → Bool
+is_given [] v = false
+is_given (m ∷ mappings) v = is_name v m.name.now || is_given mappings v
 
--- what a signal is: what it is given as, or what its own name tells
-abbrev pub carrier_of : List Mapping → Variable → Carrier
-carrier_of mappings v = carrier_by (given_role mappings v) v
+abbrev pub given_if : Bool → Mapping → Variable → List Carrier
+given_if b m v = if b then carrier_as true (plain_of m.role.now) v ∷ [] else []
+
+-- each role that is given to it
+abbrev pub given_carriers : List Mapping → Variable → List Carrier
+given_carriers [] v = []
+given_carriers (m ∷ mappings) v = given_if (is_name v m.name.now) m v ++ given_carriers mappings v
+
+-- what a signal is: all that it is given as, or what its own name tells
+abbrev pub carriers_for : List Mapping → Variable → List Carrier
+carriers_for mappings v = if is_given mappings v then given_carriers mappings v else carrier_as false (plain_of v.name) v ∷ []
+
+-- what each signal is
+abbrev pub carriers_of : List Mapping → List Variable → List Carrier
+carriers_of mappings [] = []
+carriers_of mappings (v ∷ variables) = carriers_for mappings v ++ carriers_of mappings variables
 
 -- ---- the bit of a signal that is a line
 
@@ -151,11 +164,35 @@ abbrev pub found_from : Role → Bool → Option Source → List Carrier → Res
 found_from role given found [] = Ok found
 found_from role given found (c ∷ carriers) = joined role found (source_in role given c) >>= λ now. found_from role given now carriers
 
+-- one R/B# of several targets: a signal of one bit, without a number
+abbrev pub is_shared : Carrier → Bool
+is_shared c = number_of c.meaning.family == 6 && (is_none c.meaning.number && (c.width == 1 && not (is_bit c.spot)))
+
+abbrev pub shared_by : Role → Carrier → Option Source
+shared_by (Enable n) c = None
+shared_by Cle c = None
+shared_by Ale c = None
+shared_by We c = None
+shared_by Re c = None
+shared_by (Dq bit) c = None
+shared_by (ReadyBusy n) c = if is_shared c then Some (record { role = ReadyBusy n; code = c.code; place = 0 }) else None
+shared_by (Busy ce lun) c = None
+shared_by (ArrayBusy ce lun) c = None
+shared_by (Failed ce lun) c = None
+
+abbrev pub shared_from : Role → Option Source → List Carrier → Result (Option Source) RoleFault
+shared_from role found [] = Ok found
+shared_from role found (c ∷ carriers) = joined role found (shared_by role c) >>= λ now. shared_from role now carriers
+
+abbrev pub or_shared : Role → List Carrier → Option Source → Result (Option Source) RoleFault
+or_shared role carriers (Some s) = Ok (Some s)
+or_shared role carriers None = shared_from role None carriers
+
 abbrev pub or_other : Role → List Carrier → Option Source → Result (Option Source) RoleFault
 or_other role carriers (Some s) = Ok (Some s)
-or_other role carriers None = found_from role false None carriers
+or_other role carriers None = found_from role false None carriers >>= λ found. or_shared role carriers found
 
--- where a line is: what was given goes before what names tell
+-- where a line is: what was given goes before what names tell, and an R/B# of its own before the one of several targets
 abbrev pub source_of : Role → List Carrier → Result (Option Source) RoleFault
 source_of role carriers = found_from role true None carriers >>= λ found. or_other role carriers found
 

@@ -1,10 +1,10 @@
 //! What a signal is, and which of its bits is a line.
-ghost use Rattle.std.specs.Prelude.{◌≡◌, map, IfOk};
+ghost use Rattle.std.specs.Prelude.{◌≡◌, ◌++◌, true, false, IfOk, OnOk};
 ghost use Rattle.vcd_text.specs.Sections.{shown_variable, shown_variables};
-ghost use Rattle.bus_signals.specs.Roles.{carrier_of, is_number, is_none, only_bit, single, is_bit, numbered, of_lun, bit_by, bit_for};
+ghost use Rattle.bus_signals.specs.Roles.{carrier_as, is_name, given_if, given_carriers, carriers_for, carriers_of, is_shared, is_number, is_none, only_bit, single, is_bit, numbered, of_lun, bit_by, bit_for};
 
-use crate::mapping::{Mapping, given_role};
-use crate::names::{Meaning, named, plain_of};
+use crate::mapping::{Mapping, is_given, role_given};
+use crate::names::{Family, Meaning, named, plain_of};
 use crate::role::Role;
 use crate::spot::{Spot, place_in};
 use std::alloc::{AllocError, Allocator};
@@ -21,54 +21,76 @@ pub struct Carrier {
     pub is_given: bool,
 }
 
-/// What a signal is, by what a caller says or else by its name.
-pub(crate) fn carrier_of(mappings: &[Mapping<'_>], variable: &Variable<'_>) -> Carrier
-    ensures { result ≡ carrier_of mappings.now (shown_variable variable.now) }
+// A signal that is what this name tells, as it was given that role or is called so.
+fn carrier_as(given: bool, plain: u64, variable: &Variable<'_>) -> Carrier
+    ensures { result ≡ carrier_as given plain (shown_variable variable.now) }
 {
-    let spot = Spot::of(variable.name, variable.range);
-    match given_role(mappings, variable) {
-        None => Carrier {
-            meaning: named(plain_of(variable.name)),
-            spot,
-            width: variable.width as u64,
-            code: variable.code,
-            is_given: false,
-        },
-        Some(plain) => Carrier {
-            meaning: named(plain),
-            spot,
-            width: variable.width as u64,
-            code: variable.code,
-            is_given: true,
-        },
+    Carrier {
+        meaning: named(plain),
+        spot: Spot::of(variable.name, variable.range),
+        width: variable.width as u64,
+        code: variable.code,
+        is_given: given,
     }
 }
 
-fn each_carrier<A: Allocator>(
-    alloc: A,
-    mappings: &[Mapping<'_>],
-    variables: &[Variable<'_>],
-) -> Result<Vec<Carrier, A>, AllocError>
-    ensures { IfOk result (λ carriers. carriers.items ≡ map (λ v. carrier_of mappings.now (shown_variable v)) variables.now) }
+// Adds what one mapping gives a signal as, if it is about that.
+fn push_given_one<A: Allocator>(
+    carriers: &mut Vec<Carrier, A>,
+    mapping: Mapping<'_>,
+    variable: &Variable<'_>,
+) -> Result<(), AllocError>
+    ensures { OnOk result (carriers.new.items ≡ carriers.old.items
+        ++ given_if (is_name (shown_variable variable.now) mapping.entry.name.now) mapping.entry (shown_variable variable.now)) }
 {
-    variables
-        .iter()
-        .map(|variable| carrier_of(mappings, variable))
-        .collect(alloc)
+    if let Some(plain) = role_given(mapping, variable) {
+        carriers.push(carrier_as(true, plain, variable))?;
+    }
+    Ok(())
 }
 
-/// What each signal is.
+// Adds all that a signal is given as.
+fn push_given<A: Allocator>(
+    carriers: &mut Vec<Carrier, A>,
+    mappings: &[Mapping<'_>],
+    variable: &Variable<'_>,
+) -> Result<(), AllocError>
+    ensures { OnOk result (carriers.new.items ≡ carriers.old.items ++ given_carriers mappings.now (shown_variable variable.now)) }
+{
+    for mapping in mappings {
+        push_given_one(carriers, *mapping, variable)?;
+    }
+    Ok(())
+}
+
+// Adds what a signal is: all that it is given as, or what its own name tells.
+fn push_carriers<A: Allocator>(
+    carriers: &mut Vec<Carrier, A>,
+    mappings: &[Mapping<'_>],
+    variable: &Variable<'_>,
+) -> Result<(), AllocError>
+    ensures { OnOk result (carriers.new.items ≡ carriers.old.items ++ carriers_for mappings.now (shown_variable variable.now)) }
+{
+    if is_given(mappings, variable) {
+        return push_given(carriers, mappings, variable);
+    }
+    carriers.push(carrier_as(false, plain_of(variable.name), variable))?;
+    Ok(())
+}
+
+/// What each signal is; one may be given several roles, and has each of them.
 pub fn carriers_of<A: Allocator>(
     alloc: A,
     mappings: &[Mapping<'_>],
     variables: &[Variable<'_>],
 ) -> Result<Vec<Carrier, A>, AllocError>
-    ensures { IfOk result (λ carriers. carriers.items ≡ map (carrier_of mappings.now) (shown_variables variables.now)) }
+    ensures { IfOk result (λ carriers. carriers.items ≡ carriers_of mappings.now (shown_variables variables.now)) }
 {
-    match each_carrier(alloc, mappings, variables) {
-        Ok(carriers) => Ok(carriers),
-        Err(refused) => Err(refused),
+    let mut carriers = Vec::new(alloc);
+    for variable in variables {
+        push_carriers(&mut carriers, mappings, variable)?;
     }
+    Ok(carriers)
 }
 
 fn is_number(number: Option<u64>, wanted: u8) -> bool
@@ -155,6 +177,16 @@ impl Carrier {
                 self.of_lun(ce, lun)
             }
         }
+    }
+
+    /// It is one R/B# of several targets: a signal of one bit, without a number.
+    pub(crate) fn is_shared(self) -> bool
+        ensures { result ≡ is_shared self }
+    {
+        self.meaning.family.number() == Family::ReadyBusy.number()
+            && is_none(self.meaning.number)
+            && self.width == 1
+            && !self.spot.is_bit()
     }
 
     /// The place from the right of the bit that is this line, if one is.

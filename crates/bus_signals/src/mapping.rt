@@ -1,8 +1,9 @@
 //! What a caller says that a signal is.
-ghost use Rattle.std.specs.Prelude.{◌≡◌};
+ghost use Rattle.std.specs.Prelude.{◌≡◌, Some, None, if◌then◌else◌};
 ghost use Rattle.std.specs.Str.{bytes_eq};
 ghost use Rattle.vcd_text.specs.Sections.{shown_variable};
-ghost use Rattle.bus_signals.specs.Roles.{is_joined, is_name, given_role};
+ghost use Rattle.bus_signals.specs.Names.{plain_of};
+ghost use Rattle.bus_signals.specs.Roles.{is_joined, is_name, is_given};
 
 use crate::names::plain_of;
 use vcd_text::Variable;
@@ -43,14 +44,25 @@ fn is_name(variable: &Variable<'_>, text: &[u8]) -> bool
     is_same_text(variable.name, text) || is_joined(variable.name, variable.range, text)
 }
 
-/// The role that is given to a signal, as the number of its name.
-pub(crate) fn given_role(mappings: &[Mapping<'_>], variable: &Variable<'_>) -> Option<u64>
-    ensures { result ≡ given_role mappings.now (shown_variable variable.now) }
+/// The role that one of these gives a signal, as the number of its name, if it is about that signal.
+pub(crate) fn role_given(mapping: Mapping<'_>, variable: &Variable<'_>) -> Option<u64>
+    ensures { result ≡ (if is_name (shown_variable variable.now) mapping.entry.name.now then Some (plain_of mapping.entry.role.now) else None) }
+{
+    if is_name(variable, mapping.name.as_bytes()) {
+        Some(plain_of(mapping.role.as_bytes()))
+    } else {
+        None
+    }
+}
+
+/// Whether a role is given to a signal.
+pub(crate) fn is_given(mappings: &[Mapping<'_>], variable: &Variable<'_>) -> bool
+    ensures { result ≡ is_given mappings.now (shown_variable variable.now) }
 {
     for mapping in mappings {
         if is_name(variable, mapping.name.as_bytes()) {
-            return Some(plain_of(mapping.role.as_bytes()));
+            return true;
         }
     }
-    None
+    false
 }

@@ -1,6 +1,6 @@
 //! Where the lines of a bus are among the signals of a capture.
 ghost use Rattle.std.specs.Prelude.{◌≡◌, None, Ok, IfOk, IfErr};
-ghost use Rattle.bus_signals.specs.Roles.{is_same, source_in, is_same_bit, joined, found_from, source_of, role_at, is_there, is_needed, sources_at, sources_of};
+ghost use Rattle.bus_signals.specs.Roles.{is_same, source_in, is_same_bit, joined, found_from, shared_by, shared_from, or_other, source_of, role_at, is_there, is_needed, sources_at, sources_of};
 ghost use Rattle.bus_signals.specs.Sources.{IsListed, IsAdded, IsRefusalOf};
 
 use crate::carrier::Carrier;
@@ -86,13 +86,60 @@ fn found_in(role: Role, given: bool, carriers: &[Carrier]) -> Result<Option<Sour
     Ok(found)
 }
 
+// Where the R/B# of a target is, if it is this signal with those of other targets.
+fn shared_by(role: Role, carrier: Carrier) -> Option<Source>
+    ensures { result ≡ shared_by role carrier }
+{
+    match role {
+        Role::ReadyBusy(_) if carrier.is_shared() => Some(Source {
+            role,
+            code: carrier.code,
+            place: 0,
+        }),
+        Role::ReadyBusy(_)
+        | Role::Enable(_)
+        | Role::Cle
+        | Role::Ale
+        | Role::We
+        | Role::Re
+        | Role::Dq(_)
+        | Role::Busy { .. }
+        | Role::ArrayBusy { .. }
+        | Role::Failed { .. } => None,
+    }
+}
+
+fn shared_in(role: Role, carriers: &[Carrier]) -> Result<Option<Source>, RoleFault>
+    ensures { result ≡ shared_from role None carriers.now }
+{
+    let mut found = None;
+    for carrier in carriers {
+        match joined(role, found, shared_by(role, *carrier)) {
+            Ok(now) => found = now,
+            Err(fault) => return Err(fault),
+        }
+    }
+    Ok(found)
+}
+
+// Where a line is by its name, or an R/B# that several targets have.
+fn named_source_of(role: Role, carriers: &[Carrier]) -> Result<Option<Source>, RoleFault>
+    ensures { result ≡ or_other role carriers.now None }
+{
+    match found_in(role, false, carriers) {
+        Ok(Some(source)) => Ok(Some(source)),
+        Ok(None) => shared_in(role, carriers),
+        Err(fault) => Err(fault),
+    }
+}
+
 // Where a line is: what was given goes before what names tell.
 fn source_of(role: Role, carriers: &[Carrier]) -> Result<Option<Source>, RoleFault>
     ensures { result ≡ source_of role carriers.now }
 {
     match found_in(role, true, carriers) {
         Ok(Some(source)) => Ok(Some(source)),
-        Ok(None) => found_in(role, false, carriers),
+        Ok(None) => named_source_of(role, carriers),
         Err(fault) => Err(fault),
     }
 }

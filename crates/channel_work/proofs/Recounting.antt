@@ -2,10 +2,10 @@
 use Rattle.std.proofs.Common.{◌≡◌, ◌≢◌, ◌⊎◌, inl, inr, ℕ, zero, suc, ◌+◌, ◌*◌, ◌/◌, ◌%◌, ◌<◌, ◌≤◌, ◌==◌, ◌&&◌, true, false, Bool, cond, List, [], ◌∷◌, Some, refl, sym, ap, ◌∙◌, subst, arith, length, reverse, take, get_or, eqb, eqb-true, ◌-◌, nat_lt}
 use Rattle.std.specs.List.{slice_get}
 use Rattle.std.proofs.Math.Seq.{take-suc}
-use Rattle.std.proofs.lemmas.List.{reverse-append}
+use Rattle.std.proofs.lemmas.List.{reverse-append, get_or_default}
 use Rattle.std.proofs.Math.Nat.{mod-lt, mul-le-mul_right}
 use Rattle.std.proofs.lemmas.Nat.{div-mul-add, mod-mul-add, div-add-mod'}
-use Rattle.std.proofs.lemmas.Bool.{ne_eqb, and_parts}
+use Rattle.std.proofs.lemmas.Bool.{ne_eqb, and_parts, cases_order}
 use Rattle.std.proofs.lemmas.Bool.Decides.{eqb_tells}
 use Rattle.nand_geometry.specs.declared.parts.Parts.{Parts}
 use Rattle.onfi_cycle.specs.declared.lun.Lun.{Lun}
@@ -17,7 +17,7 @@ use Rattle.std.proofs.lemmas.Option.{slice_get_within}
 use Rattle.onfi_cycle.specs.Sequence.{target_of}
 use Rattle.target_bus.specs.Bus.{numbered}
 use Rattle.channel_work.specs.declared.tally.LunCount.{LunCount}
-use Rattle.channel_work.specs.Counts.{stands_after, polls_after, count_after, count_of, AreCounts, IsFewAt, counted_at, HaveCounted, HasCounted, poll_row, is_data_kind, gives_data, RepeatsAt}
+use Rattle.channel_work.specs.Counts.{stands_after, polls_after, count_after, count_of, AreCounts, IsFewAt, counted_at, HaveCounted, HasCounted, poll_row, is_data_kind, gives_data, AreDataFrom, AreRepeated}
 use Rattle.channel_work.proofs.Bounds.{few_at}
 
 -- an item on another target changes nothing
@@ -167,21 +167,21 @@ turned_at trace at d low =
     let next : at + 1 ≡ suc at = omega arith in
     ap (λ (n : ℕ). reverse (take n trace)) next ∙ ap reverse (take-suc trace at d low) ∙ reverse-append (take at trace) (get_or trace at d ∷ [])
 
-pub repeated_counted : (g : Parts) (trace : List Item) (at : ℕ) (counts : List LunCount) → at < length trace → length counts ≡ 16 → AreCounts g counts (reverse (take at trace)) → RepeatsAt trace at → AreCounts g counts (reverse (take (at + 1) trace))
-repeated_counted g trace at counts low size are r = item_counted g trace at r.1.1.0 counts counts low are has
+repeated_counted : (g : Parts) (trace : List Item) (at ce : ℕ) (d : Item) (counts : List LunCount) → 0 < at → at < length trace → length counts ≡ 16
+    → gives_data ce (get_or trace (at - 1) d) ≡ true → gives_data ce (get_or trace at d) ≡ true → AreCounts g counts (reverse (take at trace)) → AreCounts g counts (reverse (take (at + 1) trace))
+repeated_counted g trace at ce d counts some low size first second are = item_counted g trace at d counts counts low are has
   where
     j : Item
-    j = get_or trace (at - 1) r.1.0
+    j = get_or trace (at - 1) d
 
     i : Item
-    i = get_or trace at r.1.1.0
+    i = get_or trace at d
 
     past_is : reverse (take at trace) ≡ j ∷ reverse (take (at - 1) trace)
     past_is =
-        let some = r.0 in
         let one : at ≡ at - 1 + 1 = omega (arith, some) in
         let before : at - 1 < length trace = omega (arith, low) in
-        ap (λ (n : ℕ). reverse (take n trace)) one ∙ turned_at trace (at - 1) r.1.0 before
+        ap (λ (n : ℕ). reverse (take n trace)) one ∙ turned_at trace (at - 1) d before
 
     some_is : (x y : LunCount) → Some x ≡ Some y → x ≡ y
     some_is x y h = cc
@@ -190,6 +190,43 @@ repeated_counted g trace at counts low size are r = item_counted g trace at r.1.
     has n k here =
         let small : n < 16 = omega (arith, slice_get_within counts n k here, size) in
         let is : k ≡ count_of g n (j ∷ reverse (take (at - 1) trace)) = some_is _ _ (sym here ∙ (are n small ∙ ap (λ (past : List Item). Some (count_of g n past)) past_is)) in
-        let parts = and_parts (gives_data (target_of i) j) _ r.1.1.1 in
-        let kept = two_data (nat_lt 1 g.luns) (poll_row g (numbered g n)) (numbered g n) (count_of g n (reverse (take (at - 1) trace))) (target_of i) j i parts.0 parts.1 in
+        let kept = two_data (nat_lt 1 g.luns) (poll_row g (numbered g n)) (numbered g n) (count_of g n (reverse (take (at - 1) trace))) ce j i first second in
         here ∙ ap (λ (x : LunCount). Some x) (is ∙ (sym kept ∙ ap (λ (x : LunCount). counted_at g i n x) (sym is)))
+
+-- so many items of data behind a place
+counted_behind : (g : Parts) (trace : List Item) (place to ce n : ℕ) (counts : List LunCount) → place + 1 + n ≤ to → to ≤ length trace → length counts ≡ 16 → AreDataFrom ce trace place to
+    → AreCounts g counts (reverse (take (place + 1) trace)) → AreCounts g counts (reverse (take (place + 1 + n) trace))
+counted_behind g trace place to ce zero counts few low size all are =
+    let none : place + 1 ≡ place + 1 + 0 = omega arith in
+    subst (λ (m : ℕ). AreCounts g counts (reverse (take m trace))) none are
+counted_behind g trace place to ce (suc n) counts few low size all are =
+    let fewer : place + 1 + n ≤ to = omega (arith, few) in
+    let some : 0 < place + 1 + n = omega arith in
+    let inside : place + 1 + n < length trace = omega (arith, few, low) in
+    let next : place + 1 + n + 1 ≡ place + 1 + suc n = omega arith in
+    let before_from : place ≤ place + 1 + n - 1 = omega arith in
+    let before_to : place + 1 + n - 1 < to = omega (arith, few) in
+    let here_from : place ≤ place + 1 + n = omega arith in
+    let here_to : place + 1 + n < to = omega (arith, few) in
+    subst (λ (m : ℕ). AreCounts g counts (reverse (take m trace))) next
+    (repeated_counted g trace (place + 1 + n) ce (Rdy 0 0 false) counts some inside size (all (place + 1 + n - 1) (Rdy 0 0 false) before_from before_to) (all (place + 1 + n) (Rdy 0 0 false) here_from here_to)
+    (counted_behind g trace place to ce n counts fewer low size all are))
+
+-- a count with the item of a place is one with the data that repeats it
+pub repeated_too : (g : Parts) (trace : List Item) (place to : ℕ) (counts : List LunCount) → place < to → to ≤ length trace → length counts ≡ 16 → AreRepeated trace place to
+    → AreCounts g counts (reverse (take (place + 1) trace)) → AreCounts g counts (reverse (take to trace))
+repeated_too g trace place to counts low inside size (inl is) are = subst (λ (m : ℕ). AreCounts g counts (reverse (take m trace))) (sym is) are
+repeated_too g trace place to counts low inside size (inr all) are =
+    let n = to - (place + 1) in
+    let whole : place + 1 + n ≡ to = omega (arith, low) in
+    let few : place + 1 + n ≤ to = omega (arith, whole) in
+    subst (λ (m : ℕ). AreCounts g counts (reverse (take m trace))) whole (counted_behind g trace place to all.0 n counts few inside size all.1 are)
+
+-- data at a place and behind it
+pub one_data_more : (ce : ℕ) (trace : List Item) (place to : ℕ) (e : Item) → gives_data ce (get_or trace place e) ≡ true → place < length trace → AreDataFrom ce trace (place + 1) to → AreDataFrom ce trace place to
+one_data_more ce trace place to e here low all k d from under = at (cases_order k place)
+  where
+    at : (k ≡ place) ⊎ ((k < place) ⊎ (place < k)) → gives_data ce (get_or trace k d) ≡ true
+    at (inl is) = ap (λ (n : ℕ). gives_data ce (get_or trace n d)) is ∙ (ap (gives_data ce) (get_or_default trace place d e low) ∙ here)
+    at (inr (inl less)) = absurd (omega (arith, less, from))
+    at (inr (inr more)) = let behind : place + 1 ≤ k = omega (arith, more) in all k d behind under

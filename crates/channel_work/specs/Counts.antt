@@ -85,10 +85,10 @@ gives_data ce (Cyc c) = c.ce == ce && is_data_kind c.kind
 gives_data ce (Rdy _ _ _) = false
 gives_data ce (Ard _ _) = false
 
--- data that comes directly after data on its target: it is the output of no poll, and changes no count
-abbrev pub repeats_data : Item → Item → Bool
-repeats_data before i = gives_data (target_of i) before && gives_data (target_of i) i
+-- the items from one place to another are data on the target
+abbrev pub AreDataFrom : ℕ → List Item → (from to : ℕ) → Type 0
+AreDataFrom ce trace from to = (k : ℕ) (d : Item) → from ≤ k → k < to → gives_data ce (slice_index_or trace k d) ≡ true
 
--- so does the item of this place
-abbrev pub RepeatsAt : List Item → ℕ → Type 0
-RepeatsAt trace at = (0 < at) × ((d : Item) × ((e : Item) × (repeats_data (slice_index_or trace (at - 1) d) (slice_index_or trace at e) ≡ true)))
+-- behind a place comes nothing up to another, or data comes directly after data on its target: that is the output of no poll, and changes no count
+abbrev pub AreRepeated : List Item → (place to : ℕ) → Type 0
+AreRepeated trace place to = (to ≡ place + 1) ⊎ ((ce : ℕ) × AreDataFrom ce trace place to)

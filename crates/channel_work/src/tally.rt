@@ -1,18 +1,12 @@
 //! The busy polls and the readies of each LUN, counted item by item.
-ghost use Rattle.std.specs.Prelude.{◌≡◌, ℕ, ◌-◌, ◌+◌, ◌^◌, ◌<◌, ◌≤◌, length, reverse, take, nat_lt, IsTrue};
+ghost use Rattle.std.specs.Prelude.{◌≡◌, ℕ, ◌-◌, ◌+◌, ◌^◌, ◌<◌, ◌≤◌, length, reverse, take, nat_lt};
 ghost use Rattle.target_bus.specs.Bus.{numbered};
-ghost use Rattle.channel_work.specs.Counts.{stands_after, polls_after, count_after, poll_row, AreCounts, IsFewAt, HaveCounted, HasCounted, gives_data, repeats_data, RepeatsAt};
+ghost use Rattle.channel_work.specs.Counts.{stands_after, polls_after, count_after, poll_row, AreCounts, IsFewAt, HaveCounted, HasCounted, gives_data, AreDataFrom, AreRepeated};
 
 use micro_program::is_ready_status;
 use nand_geometry::Geometry;
-use onfi_cycle::{Item, Kind, Lun, MAX_CHANNEL_LUNS};
+use onfi_cycle::{Item, Kind, Lun, MAX_CHANNEL_LUNS, READ_STATUS, READ_STATUS_ENHANCED};
 use seq_core::Core;
-
-// The command that asks the one LUN of a target for its status.
-const READ_STATUS: u8 = 0x70;
-
-// The command that asks a LUN for its status by a row of it.
-const READ_STATUS_ENHANCED: u8 = 0x78;
 
 // The cycles before the output of a poll: the command, and where a target has many LUNs three bytes of a row.
 const POLL_LENGTH: u8 = 1;
@@ -194,19 +188,33 @@ fn gives_data(ce: u8, item: Item) -> bool
     }
 }
 
-// Data that comes directly after data on its target.
-fn repeats_data(before: Item, item: Item) -> bool
-    ensures { result ≡ repeats_data before item }
+// The first place from a place on whose item is no data on a target.
+fn find_data_end(trace: &[Item], ce: u8, from: usize) -> usize
+    requires { from ≤ length trace.now }
+    ensures behind { from ≤ result }
+    ensures inside { result ≤ length trace.now }
+    ensures data { AreDataFrom ce trace.now from result }
 {
-    gives_data(item.target(), before) && gives_data(item.target(), item)
+    let mut at = from;
+    while at < trace.len() && gives_data(ce, trace[at]) {
+        at += 1;
+    }
+    at
 }
 
-// The item of a place is so: it changes no count.
-fn repeats_at(trace: &[Item], place: usize) -> bool
+// The first place behind a place whose item may change a count: data that comes directly after data on its target changes none.
+fn skip_repeated(trace: &[Item], place: usize) -> usize
     requires { place < length trace.now }
-    ensures { IsTrue result → RepeatsAt trace.now place }
+    ensures behind { place < result }
+    ensures inside { result ≤ length trace.now }
+    ensures repeated { AreRepeated trace.now place result }
 {
-    place > 0 && repeats_data(trace[place - 1], trace[place])
+    let ce = trace[place].target();
+    if gives_data(ce, trace[place]) {
+        find_data_end(trace, ce, place + 1)
+    } else {
+        place + 1
+    }
 }
 
 // Counts the item of a place.
@@ -220,9 +228,6 @@ fn count_place(
     requires counts { AreCounts geometry.now counts.old (reverse (take place trace.now)) }
     ensures { AreCounts geometry.now counts.new (reverse (take (place + 1) trace.now)) }
 {
-    if repeats_at(trace, place) {
-        return;
-    }
     count_on_target(counts, geometry, trace[place]);
 }
 
@@ -240,8 +245,10 @@ pub(crate) fn count_luns(
     let geometry = core.geometry();
     let trace = core.trace();
     let mut counted = counts;
-    for place in from..trace.len() {
+    let mut place = from;
+    while place < trace.len() {
         count_place(&mut counted, &geometry, trace, place);
+        place = skip_repeated(trace, place);
     }
     counted
 }

@@ -25,5 +25,5 @@ pub use plain_making::plain;
 pub use plain_op::PlainOp;
 pub use plain_refusal::{PlainFault, PlainRefusal};
 pub use refusal::{TextRefused, VerifyRefusal};
-pub use showing::Counter;
+pub use showing::{Counter, counter_of};
 pub use verifying::verify;

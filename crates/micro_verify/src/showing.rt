@@ -159,7 +159,7 @@ fn may_show<A: Allocator>(text: &Text<A>, geometry: &Geometry, fault: Fault) -> 
 
 /// The counter of a text with a fault: for V7 of a text without branches and loops, for a geometry of one LUN with as many rows as
 /// the text has, where the bytes of the word are there; else none. Takes memory for such a V7 alone.
-pub(crate) fn counter_of<A: Allocator + Clone>(
+pub fn counter_of<A: Allocator + Clone>(
     text: &Text<A>,
     geometry: &Geometry,
     fault: Fault,

@@ -21,3 +21,4 @@ pub mod ShapeNested
 pub mod ShapeTable
 pub mod Ends
 pub mod Verdicts
+pub mod Front

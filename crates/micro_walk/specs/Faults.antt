@@ -1,5 +1,5 @@
 -- The fault of a text: of its shape; and where it has no loop, its lowest word with a reason against it.
-use Rattle.std.specs.Prelude.{ℕ, ◌+◌, Bool, true, false, if◌then◌else◌, List, [], ◌∷◌, Option, Some, None, length, replicate, slice_set}
+use Rattle.std.specs.Prelude.{ℕ, suc, ◌+◌, take, Bool, true, false, if◌then◌else◌, List, [], ◌∷◌, Option, Some, None, length, replicate, slice_set}
 use Rattle.std.specs.List.{list_any}
 use Rattle.nand_geometry.specs.declared.parts.Parts.{Parts}
 use Rattle.micro_word.specs.declared.word.Word.{Word}
@@ -76,6 +76,25 @@ fault_within g b words = or_fault (shape_fault words) (if has_loop words then No
 -- the fault of a text
 abbrev pub fault_of : Parts → Microprogram → Option Fault
 fault_of g text = fault_within g (bounds_of text) text.words
+
+-- ---- of a text with loops, before the first of them
+
+-- how many words stand before the first loop
+abbrev pub before_loops : List Word → ℕ
+before_loops [] = 0
+before_loops (word ∷ words) = if is_loop word then 0 else suc (before_loops words)
+
+-- these words
+abbrev pub front : List Word → List Word
+front words = take (before_loops words) words
+
+-- the lowest of them with a reason against it, in all ways that lead there
+abbrev pub front_fault : Parts → Bounds → List Word → Option Fault
+front_fault g b words = followed g b (known_first (front words)) 0 (front words)
+
+-- the fault of a text that no loop hides: of its shape, or of a word before its first loop
+abbrev pub early_fault : Parts → Microprogram → Option Fault
+early_fault g text = or_fault (shape_fault text.words) (front_fault g (bounds_of text) text.words)
 
 -- ---- of a text without branches and loops, word by word
 

@@ -1,5 +1,5 @@
 -- What is found of a text: that it is safe, or what is against it.
-use Rattle.std.specs.Prelude.{◌≡◌, ℕ, ◌⊎◌, Bool, true, false, List, Some, None, slice_get}
+use Rattle.std.specs.Prelude.{◌≡◌, ℕ, ◌≤◌, ◌⊎◌, Bool, true, false, List, Option, Some, None, slice_get}
 use Rattle.nand_geometry.specs.declared.parts.Parts.{Parts}
 use Rattle.micro_word.specs.declared.word.Word.{Word}
 use Rattle.micro_word.specs.Text.{Microprogram}
@@ -14,7 +14,7 @@ use Rattle.micro_program.specs.Safe.{IsSafe}
 use Rattle.micro_program.specs.Places.{IsShaped}
 use Rattle.micro_program.specs.Verified.{IsFewWalked}
 use Rattle.micro_walk.specs.Shape.{shape_fault}
-use Rattle.micro_walk.specs.Faults.{has_loop, fault_of}
+use Rattle.micro_walk.specs.Faults.{has_loop, fault_of, before_loops, early_fault}
 
 -- a reason of the text as a whole
 abbrev pub is_of_shape : Reason → Bool
@@ -32,11 +32,17 @@ pub record IsOfWord (g : Parts) (b : Bounds) (words : List Word) (fault : Fault)
   pub claimed : State
   pub against : reason_against g b claimed word ≡ Some fault.reason
 
+-- where a fault of a text with loops stands: it is the one that no loop hides, if there is one; else it isn't before the first loop
+abbrev pub StandsRight : Option Fault → (first : ℕ) → Fault → Type 0
+StandsRight (Some early) first fault = fault ≡ early
+StandsRight None first fault = first ≤ fault.word
+
 -- of a text with loops whose shape is right
 pub record IsOfLoops (g : Parts) (text : Microprogram) (fault : Fault) : Type 0 where
   pub loops : has_loop text.words ≡ true
   pub shape : shape_fault text.words ≡ None
   pub of_word : IsOfWord g (bounds_of text) text.words fault
+  pub stands : StandsRight (early_fault g text) (before_loops text.words) fault
 
 -- what may be against a text: its fault, or a word of a text with loops
 abbrev pub MayBe : Parts → Microprogram → Fault → Type 0
@@ -48,3 +54,4 @@ pub record IsVerified (text : Microprogram) (g : Parts) (walked : ℕ) : Type 0 
   pub shaped : IsShaped text.words
   pub few : IsFewWalked text.words walked
   pub faultless : fault_of g text ≡ None
+  pub early : early_fault g text ≡ None

@@ -1,11 +1,11 @@
 //! Examining a text: its shape first, and then, from its first word on, what is known before each word and whether anything is against it.
-ghost use Rattle.std.specs.Prelude.{◌≡◌, ◌≤◌, true, false, length, replicate, Option, Some, None, IfOk, IfErr};
+ghost use Rattle.std.specs.Prelude.{◌≡◌, ◌≤◌, ◌<◌, true, false, length, replicate, Option, Some, None, IfOk, IfErr};
 ghost use Rattle.micro_claims.specs.declared.refusal.Fault.{Fault};
 ghost use Rattle.micro_program.specs.Lines.{all_lead_on};
 ghost use Rattle.micro_claims.specs.declared.state.State.{State};
 ghost use Rattle.micro_claims.specs.State.{first_state, bounds_of};
 ghost use Rattle.micro_walk.specs.Shape.{shape_fault};
-ghost use Rattle.micro_walk.specs.Faults.{onward, walked, is_loop, has_loop, fault_of};
+ghost use Rattle.micro_walk.specs.Faults.{onward, walked, is_loop, has_loop, before_loops, front_fault};
 ghost use Rattle.micro_walk.specs.Verdicts.{MayBe, IsVerified};
 
 use crate::claim_table::{FEW_WORDS, nothing_known};
@@ -99,7 +99,37 @@ fn examine_branches<A: Allocator>(
     }
 }
 
-// A text with loops, with room for its certificate.
+// How many words stand before the first loop.
+fn count_before_loops(words: &[Word]) -> usize
+    ensures value { result ≡ before_loops words.now }
+    ensures inside { result ≤ length words.now }
+    ensures loops { has_loop words.now ≡ true → result < length words.now }
+{
+    for (place, word) in words.iter().enumerate() {
+        if matches!(word, Word::Loop { .. }) {
+            return place;
+        }
+    }
+    words.len()
+}
+
+// The lowest word before the first loop with a reason against it.
+fn front_fault(
+    geometry: &Geometry,
+    bounds: Bounds,
+    words: &[Word],
+    known: &mut [Option<State>],
+) -> Option<Fault>
+    requires { known.old ≡ replicate (length words.now) None }
+    ensures value { result ≡ front_fault geometry.now bounds words.now }
+    ensures length { length known.new ≡ length known.old }
+{
+    let count = count_before_loops(words);
+    let (front, _) = known.split_at_mut(count);
+    follow(geometry, bounds, &words[..count], front)
+}
+
+// A text with loops, with room for its certificate. What stands before the first loop is judged first, as in a text without loops.
 fn examine_loops<A: Allocator>(
     text: &Text<A>,
     geometry: &Geometry,
@@ -107,13 +137,18 @@ fn examine_loops<A: Allocator>(
 ) -> Result<u64, Fault>
     requires shape { shape_fault text.now.words ≡ None }
     requires loops { has_loop text.now.words ≡ true }
-    requires room { length text.now.words ≡ length claims.old }
+    requires room { claims.old ≡ replicate (length text.now.words) None }
     ensures verified { IfOk result (λ walked. IsVerified text.now geometry.now walked) }
     ensures refused { IfErr result (λ fault. MayBe geometry.now text.now fault) }
 {
     // The call hands out what the proof needs: that the geometry is within its limits.
     let _ = geometry.parts();
-    match find_certificate(geometry, bounds_of(text), text.words(), claims) {
+    let words = text.words();
+    let bounds = bounds_of(text);
+    if let Some(fault) = front_fault(geometry, bounds, words, claims) {
+        return Err(fault);
+    }
+    match find_certificate(geometry, bounds, words, claims, count_before_loops(words)) {
         Ok(walked) => Ok(walked),
         Err(fault) => Err(fault),
     }
@@ -165,7 +200,8 @@ fn examine_many<A: Allocator>(text: &Text<A>, geometry: &Geometry) -> Result<u64
 /// First comes the shape of the text: V1 for a text without words, V2 at the lowest `loop` or `next` without its partner, V3 at the lowest `loop` that
 /// is nested five deep, V4 at the lowest branch that doesn't lead forward in its own loop, V5 for a last word that isn't `end`. Then, of
 /// a text without loops, the lowest word with something against it, in any way that leads to it, and its lowest reason; of a text with
-/// loops, a word at which a fault can't be ruled out. Words that no way reaches are looked at for their shape alone.
+/// loops the same of the words before its first loop, and then a word from there on at which a fault can't be ruled out. Words that no
+/// way reaches are looked at for their shape alone.
 ///
 /// It takes no memory: of a text with branches or loops it keeps what is known before each word on the stack (docs/use/SPEED.md says how much
 /// that is).

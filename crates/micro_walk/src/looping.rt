@@ -1,5 +1,5 @@
 //! Texts with loops: a certificate that is searched for, and checked.
-ghost use Rattle.std.specs.Prelude.{◌≡◌, ◌≤◌, ◌<◌, true, length, IfOk, IfErr};
+ghost use Rattle.std.specs.Prelude.{◌≡◌, ◌≤◌, ◌<◌, ◌+◌, true, length, IfOk, IfErr};
 ghost use Rattle.micro_claims.specs.declared.refusal.Fault.{Fault};
 ghost use Rattle.micro_claims.specs.Certificate.{is_certified};
 ghost use Rattle.micro_claims.specs.Order.{machine};
@@ -36,7 +36,8 @@ fn most_walked(words: &[Word]) -> u32
 // The last word, an `end`: it comes too soon where the LUN may be busy.
 fn busy_at_end(geometry: &Geometry, bounds: Bounds, words: &[Word]) -> Fault
     requires ends { ends words.now ≡ true }
-    ensures { IsOfWord geometry.now bounds words.now result }
+    ensures of_word { IsOfWord geometry.now bounds words.now result }
+    ensures last { length words.now ≡ result.word + 1 }
 {
     Fault {
         word: words.len() - 1,
@@ -47,7 +48,9 @@ fn busy_at_end(geometry: &Geometry, bounds: Bounds, words: &[Word]) -> Fault
 // The first word from a place on with a reason against it where nothing is known; the last one has one.
 fn first_against_unknown(geometry: &Geometry, bounds: Bounds, words: &[Word], from: usize) -> Fault
     requires ends { ends words.now ≡ true }
-    ensures { IsOfWord geometry.now bounds words.now result }
+    requires inside { from < length words.now }
+    ensures of_word { IsOfWord geometry.now bounds words.now result }
+    ensures behind { from ≤ result.word }
 {
     let unknown = Some(State::unknown());
     for at in from..words.len() {
@@ -69,7 +72,8 @@ fn fault_there(
     requires inside { at < length words.now }
     requires same { length words.now ≡ length claims.now }
     requires ends { ends words.now ≡ true }
-    ensures { IsOfWord geometry.now bounds words.now result }
+    ensures of_word { IsOfWord geometry.now bounds words.now result }
+    ensures behind { at ≤ result.word }
 {
     match reason_at(geometry, bounds, &claims[at], words[at]) {
         Some(reason) => Fault { word: at, reason },
@@ -98,19 +102,23 @@ fn first_unheld(
     0
 }
 
-/// Looks for a certificate of words and checks it: how many words were walked, or a word that couldn't be shown to be safe.
+/// Looks for a certificate of words and checks it: how many words were walked, or a word that couldn't be shown to be safe, which is the one
+/// of number `first` or one behind it.
 pub(crate) fn find_certificate(
     geometry: &Geometry,
     bounds: Bounds,
     words: &[Word],
     claims: &mut [Option<State>],
+    first: usize,
 ) -> Result<u64, Fault>
+    requires first { first < length words.now }
     requires ends { ends words.now ≡ true }
     requires few { length words.now ≤ 1024 }
     requires same { length words.now ≡ length claims.old }
     ensures certified { IfOk result (λ walked. is_certified (machine geometry.now bounds) words.now claims.new ≡ true) }
     ensures walked { IfOk result (λ walked. IsFewWalked words.now walked) }
     ensures refused { IfErr result (IsOfWord geometry.now bounds words.now) }
+    ensures behind { IfErr result (λ fault. first ≤ fault.word) }
 {
     let Found { walked, stopped } = find(geometry, bounds, words, claims, most_walked(words));
     let at = match stopped {
@@ -118,5 +126,5 @@ pub(crate) fn find_certificate(
         _ if is_certified(geometry, bounds, words, claims) => return Ok(u64::from(walked)),
         _ => first_unheld(geometry, bounds, words, claims),
     };
-    Err(fault_there(geometry, bounds, words, claims, at))
+    Err(fault_there(geometry, bounds, words, claims, at.max(first)))
 }

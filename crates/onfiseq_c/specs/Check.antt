@@ -5,8 +5,9 @@ use Rattle.nand_geometry.specs.declared.page_fault.PageFault.{PageFault}
 use Rattle.nand_geometry.specs.Limits.{fault_of}
 use Rattle.onfi_cycle.specs.declared.item.Item.{Item}
 use Rattle.onfi_cycle.specs.Permitted.{broken}
-use Rattle.bus_record.specs.Rule.{rule_number, by_option}
-use Rattle.onfiseq_c.specs.Geometry.{number_of_fault}
+use Rattle.bus_record.specs.Rule.{by_option}
+use Rattle.onfi_cycle.specs.Codes.{rule_number}
+use Rattle.nand_geometry.specs.Codes.{page_fault_number}
 use Rattle.bus_record.specs.Item.{item_of}
 use Rattle.bus_record.specs.declared.item.OnfiseqItem.{OnfiseqItem}
 use Rattle.onfiseq_c.specs.declared.check.OnfiseqAnswer.{OnfiseqAnswer}
@@ -23,7 +24,7 @@ checked g targets past (i ∷ items) at =
 
 -- the answer where the numbers have this fault
 abbrev pub answered_with : Parts → ℕ → List OnfiseqItem → Option PageFault → OnfiseqAnswer
-answered_with g targets items (Some fault) = answer 80 (number_of_fault fault) 0
+answered_with g targets items (Some fault) = answer 80 (page_fault_number fault) 0
 answered_with g targets items None = checked g targets [] items 0
 
 abbrev pub answered : Parts → ℕ → List OnfiseqItem → OnfiseqAnswer

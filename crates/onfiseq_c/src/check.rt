@@ -3,8 +3,7 @@ ghost use Rattle.std.specs.Prelude.{◌≡◌, ◌≤◌, []};
 ghost use Rattle.target_record.specs.Geometry.{parts_of};
 ghost use Rattle.onfiseq_c.specs.Check.{checked, answered};
 
-use crate::geometry::number_of_page_fault;
-use bus_record::{OnfiseqGeometry, OnfiseqItem, rule_number};
+use bus_record::{OnfiseqGeometry, OnfiseqItem};
 use nand_geometry::Geometry;
 use onfi_cycle::BusState;
 
@@ -40,7 +39,7 @@ fn check_items(geometry: Geometry, targets: u8, items: &[OnfiseqItem]) -> Onfise
             return OnfiseqAnswer::of(b'I', 0, at);
         };
         if let Some(rule) = state.judge(item) {
-            return OnfiseqAnswer::of(b'F', rule_number(rule), at);
+            return OnfiseqAnswer::of(b'F', rule.number(), at);
         }
         state.apply(item);
         rest = behind;
@@ -63,6 +62,6 @@ pub extern "C" fn onfiseq_check(
     }
     match Geometry::of(geometry.parts()) {
         Ok(geometry) => check_items(geometry, targets, items),
-        Err(fault) => OnfiseqAnswer::of(b'P', number_of_page_fault(fault), 0),
+        Err(fault) => OnfiseqAnswer::of(b'P', fault.number(), 0),
     }
 }

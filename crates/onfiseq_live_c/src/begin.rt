@@ -11,10 +11,11 @@ use crate::job::OnfiseqJob;
 use crate::live::OnfiseqLive;
 use crate::stop::Stop;
 use bus_record::{OnfiseqBus, has_lun};
+use micro_word::Header;
 use nand_geometry::Geometry;
 use onfi_cycle::Lun;
 use seq_core::JobFault;
-use word_file::{FileHeader, WordMissing, continues_cache_read, header_in};
+use word_file::{WordMissing, continues_cache_read};
 
 // The first fault of a job with this header and this buffer, whose file continues a cache read or not.
 fn job_fault(
@@ -23,7 +24,7 @@ fn job_fault(
     lun: Lun,
     base: u32,
     buffer: usize,
-    header: FileHeader,
+    header: Header,
     continues: bool,
 ) -> Option<JobFault>
     requires { geometry.now ≡ (bus_view bus.now).geometry }
@@ -61,7 +62,7 @@ pub extern "C" fn onfiseq_job_begin(
     let Some(geometry) = live.geometry() else {
         return OnfiseqStep::stopped(Stop::Damaged);
     };
-    let header = match header_in(file) {
+    let header = match Header::of(file) {
         Err(refusal) => return OnfiseqStep::stopped(Stop::Word(WordMissing::Fault(refusal))),
         Ok(header) => header,
     };

@@ -12,7 +12,6 @@ use crate::bursts::{bursts_for, polls_one, try_bursts};
 use crate::due::due;
 use crate::job::OnfiseqJob;
 use crate::live::OnfiseqLive;
-use crate::outcome::outcome_of;
 use crate::stop::Stop;
 use bus_record::{OnfiseqBus, OnfiseqTarget, put_target, target_at, try_item, try_poll};
 use micro_program::is_ready_status;
@@ -20,6 +19,7 @@ use micro_word::Word;
 use onfi_cycle::{Item, Lun, Status};
 use seq_core::Stepped;
 use seq_core::lun_slots::holder_after;
+use seq_core::outcome::outcome_of;
 use seq_live::{is_poll, status_of, taken_by};
 
 // The bit of a status byte that says that the array is ready (ARDY).

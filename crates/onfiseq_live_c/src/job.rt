@@ -4,10 +4,10 @@ ghost use Rattle.seq_core.specs.Progress.{reaches};
 ghost use Rattle.onfiseq_live_c.specs.Job.{code_in, registers_in, lun_in, job_view, is_whole, opens_loop, fresh_job, job_done, job_behind};
 
 use crate::loops::{OnfiseqLoops, go_behind, no_loops};
-use crate::outcome::{code_of, is_done, outcome_of};
 use micro_word::Word;
 use onfi_cycle::Lun;
 use seq_core::Registers;
+use seq_core::outcome::{code_of, is_done, outcome_of};
 
 // What stands first in a record that a call left: `OJOB`.
 const MAGIC: u32 = 0x424f_4a4f;

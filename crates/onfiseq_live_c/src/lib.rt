@@ -15,7 +15,6 @@ pub mod laws;
 mod live;
 mod loops;
 mod next;
-mod outcome;
 mod stop;
 
 pub use abi::{OnfiseqLiveAbi, OnfiseqLiveSample, onfiseq_live_abi, onfiseq_live_sample};

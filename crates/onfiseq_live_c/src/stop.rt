@@ -1,9 +1,8 @@
 //! Why a step of a job isn't due, or isn't finished.
 ghost use Rattle.std.specs.Prelude.{◌≡◌};
-ghost use Rattle.onfiseq_live_c.specs.Stop.{letter_of, number_of, word_number, job_number};
+ghost use Rattle.onfiseq_live_c.specs.Stop.{letter_of, number_of};
 
-use bus_record::rule_number;
-use micro_word::{WordFault, WordRefusal};
+use micro_word::WordRefusal;
 use onfi_cycle::Forbidden;
 use seq_core::JobFault;
 use word_file::WordMissing;
@@ -33,34 +32,6 @@ pub enum Stop {
     Unfit(JobFault),
 }
 
-// The number of the code of a fault of a file: n of Mn.
-fn word_number(fault: WordFault) -> u32
-    ensures { result ≡ word_number fault }
-{
-    match fault {
-        WordFault::TooShort => 1,
-        WordFault::UnknownFormat => 2,
-        WordFault::TooManyWords => 3,
-        WordFault::UnknownCode => 4,
-        WordFault::UnusedFieldSet => 5,
-        WordFault::OutOfRange => 6,
-        WordFault::TrailingBytes => 7,
-    }
-}
-
-// The number of the code of a fault of a job: n of Sn.
-fn job_number(fault: JobFault) -> u32
-    ensures { result ≡ job_number fault }
-{
-    match fault {
-        JobFault::NoSuchLun => 2,
-        JobFault::RowsOutside => 3,
-        JobFault::BufferLength => 4,
-        JobFault::OtherGeometry => 5,
-        JobFault::NotAtBlock => 6,
-    }
-}
-
 impl Stop {
     /// Its letter.
     pub(crate) fn letter(self) -> u8
@@ -87,9 +58,9 @@ impl Stop {
     {
         match self {
             Stop::Ended(code) => u32::from(code),
-            Stop::Word(WordMissing::Fault(WordRefusal::Fault { fault, .. })) => word_number(fault),
-            Stop::Breaks(rule) => rule_number(rule),
-            Stop::Unfit(fault) => job_number(fault),
+            Stop::Word(WordMissing::Fault(WordRefusal::Fault { fault, .. })) => fault.number(),
+            Stop::Breaks(rule) => rule.number(),
+            Stop::Unfit(fault) => fault.number(),
             Stop::Damaged
             | Stop::Held
             | Stop::Word(WordMissing::Fault(WordRefusal::OutOfMemory))

@@ -1,13 +1,11 @@
 -- What comes of assembling and disassembling.
 use Rattle.std.specs.Prelude.{◌≡◌, ℕ, List, Result, Ok, Err, IsOk, MatchResult}
 use Rattle.std.specs.Str.{IsUtf8}
-use Rattle.micro_asm.specs.declared.refusal.AsmFault.{AsmFault}
-use Rattle.micro_asm.specs.declared.refusal.AsmFault.TheVariants as A
+use Rattle.micro_asm.specs.Codes.{asm_fault_number}
 use Rattle.micro_asm.specs.declared.refusal.AsmRefusal.TheVariants as asm
 use Rattle.micro_asm.specs.Assembly.{assembly}
 use Rattle.micro_asm.specs.Reading.{reading, Spells}
-use Rattle.micro_word.specs.declared.refusal.WordFault.{WordFault}
-use Rattle.micro_word.specs.declared.refusal.WordFault.TheVariants as M
+use Rattle.micro_word.specs.Codes.{word_fault_number}
 use Rattle.micro_word.specs.declared.refusal.WordRefusal.TheVariants as W
 use Rattle.micro_word.specs.Text.{Microprogram, file2, IsFileOf}
 use Rattle.micro_word.specs.Reading.{reading as file_reading}
@@ -16,31 +14,10 @@ use Rattle.onfiseq_text_c.specs.declared.failure.Failure.{Failure}
 use Rattle.onfiseq_text_c.specs.declared.failure.Failure.TheVariants as F
 use Rattle.placed_bytes.specs.Placed.{placed, placed_in, refusal}
 
--- the number of the code of a fault of a text, A1 to A8
-abbrev pub asm_number : AsmFault → ℕ
-asm_number A.UnknownWord = 1
-asm_number A.BadOperand = 2
-asm_number A.OperandOutOfRange = 3
-asm_number A.NoSuchLabel = 4
-asm_number A.LabelTwice = 5
-asm_number A.LabelAfterLastWord = 6
-asm_number A.TooManyWords = 7
-asm_number A.HeaderOutOfOrder = 8
-
--- the number of the code of a fault of a word file, M1 to M7
-abbrev pub word_number : WordFault → ℕ
-word_number M.TooShort = 1
-word_number M.UnknownFormat = 2
-word_number M.TooManyWords = 3
-word_number M.UnknownCode = 4
-word_number M.UnusedFieldSet = 5
-word_number M.OutOfRange = 6
-word_number M.TrailingBytes = 7
-
 -- what is told of a failure: A with the line, M with the word, U, or O
 abbrev pub told_of : Failure → OnfiseqPlaced
-told_of (F.Text fault line) = refusal 65 (asm_number fault) line
-told_of (F.File fault word) = refusal 77 (word_number fault) word
+told_of (F.Text fault line) = refusal 65 (asm_fault_number fault) line
+told_of (F.File fault word) = refusal 77 (word_fault_number fault) word
 told_of F.NotText = refusal 85 0 0
 told_of F.OutOfMemory = refusal 79 0 0
 

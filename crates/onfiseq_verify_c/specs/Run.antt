@@ -14,7 +14,7 @@ use Rattle.onfiseq_verify_c.specs.declared.verdict.Found.{Found}
 use Rattle.onfiseq_verify_c.specs.declared.verdict.Found.TheVariants as F
 use Rattle.onfiseq_verify_c.specs.declared.verdict.OnfiseqVerdict.{OnfiseqVerdict}
 use Rattle.onfiseq_verify_c.specs.declared.item.OnfiseqItem.{OnfiseqItem}
-use Rattle.onfiseq_verify_c.specs.Verify.{Finds, IsReadAnd, answer_of}
+use Rattle.onfiseq_verify_c.specs.Verify.{FindsText, Finds, IsReadAnd, answer_of}
 
 -- C, A, I and O
 abbrev pub letter_of : Kind → ℕ
@@ -47,6 +47,14 @@ run_of g x F.Accepted = None
 run_of g x (F.Page fault) = None
 run_of g x (F.File fault word) = None
 run_of g x F.OutOfMemory = None
+
+-- of a text whose run is asked for too: memory may be refused to that
+abbrev pub FindsOrLacks : Parts → Microprogram → Found → Type 0
+FindsOrLacks g x F.Accepted = FindsText g x F.Accepted
+FindsOrLacks g x (F.Text reason word) = FindsText g x (F.Text reason word)
+FindsOrLacks g x F.OutOfMemory = Unit {0}
+FindsOrLacks g x (F.Page fault) = ⊥
+FindsOrLacks g x (F.File fault word) = ⊥
 
 -- a page and a file that are read, what is found of the text, and the run of that
 pub record IsReadWithRun (page file : List ℕ) (found : Found) (run : Option Counter) : Type 0 where

@@ -7,22 +7,22 @@ ghost use Rattle.std.specs.Prelude.{◌≡◌};
 ghost use Rattle.onfiseq_verify_c.specs.Verify.{Says};
 ghost use Rattle.onfiseq_verify_c.specs.Run.{SaysRun};
 
-mod codes;
 mod item;
 mod verdict;
 
 use crate::item::place_run;
-use crate::verdict::{Finding, answer_of, finding_of};
+use crate::verdict::{Finding, answer_of, finding_of, found_of};
 pub use item::OnfiseqItem;
 use std::alloc::Global;
 pub use verdict::OnfiseqVerdict;
 
-/// Verifies the microprogram of a word file for the geometry of a parameter page: whether it is safe there, and else why not.
+/// Verifies the microprogram of a word file for the geometry of a parameter page: whether it is safe there, and else why not. It takes memory for the words
+/// of the file alone, 8 bytes each.
 #[unsafe(no_mangle)]
 pub extern "C" fn onfiseq_verify(alloc: Global, page: &[u8], file: &[u8]) -> OnfiseqVerdict
     ensures { Says page.now file.now result }
 {
-    answer_of(finding_of(alloc, page, file).found)
+    answer_of(found_of(alloc, page, file))
 }
 
 /// Verifies as `onfiseq_verify` does, and tells the run of a refusal that has one (V7, docs/model/PROOF.md): what happens on a channel of one LUN up to the

@@ -1,15 +1,18 @@
 //! What is found of a word file.
-ghost use Rattle.std.specs.Prelude.{◌≡◌, None};
+ghost use Rattle.std.specs.Prelude.{◌≡◌, None, Ok, IfOk, IfErr};
+ghost use Rattle.nand_geometry.specs.Reading.{read_of};
+ghost use Rattle.micro_word.specs.Text.{IsFileOf};
+ghost use Rattle.micro_walk.specs.Verdicts.{MayBe};
 ghost use Rattle.micro_verify.specs.Playing.{Shown};
-ghost use Rattle.onfiseq_verify_c.specs.Verify.{FindsText, answer_of};
-ghost use Rattle.onfiseq_verify_c.specs.Run.{FindsShown, run_of};
+ghost use Rattle.onfiseq_verify_c.specs.Verify.{Finds, FindsText, LacksProgram, answer_of};
+ghost use Rattle.onfiseq_verify_c.specs.Run.{FindsOrLacks, FindsShown, run_of};
 
-use crate::codes::{page_number, reason_number, word_number};
-use micro_claims::Reason;
-use micro_verify::{Counter, TextRefused, VerifyRefusal, verify};
+use micro_claims::{Fault, Reason};
+use micro_verify::{Counter, counter_of};
+use micro_walk::examine;
 use micro_word::{Text, WordFault, WordRefusal, read};
 use nand_geometry::{Geometry, PageFault};
-use std::alloc::Global;
+use std::alloc::{AllocError, Global};
 
 /// `letter` is 0 where the program is accepted. Else `letter` and `number` are those of the code, as V and 7 of V7, and `at` is the word or 0: P is a fault of
 /// the page, M one of the file, V a reason against the program. O, with 0, says that memory was refused.
@@ -59,17 +62,17 @@ pub(crate) fn answer_of(found: Found) -> OnfiseqVerdict
         },
         Found::Page(fault) => OnfiseqVerdict {
             letter: b'P',
-            number: page_number(fault),
+            number: fault.number(),
             at: 0,
         },
         Found::File { fault, word } => OnfiseqVerdict {
             letter: b'M',
-            number: word_number(fault),
+            number: fault.number(),
             at: word,
         },
         Found::Text { reason, word } => OnfiseqVerdict {
             letter: b'V',
-            number: reason_number(reason),
+            number: reason.number(),
             at: word,
         },
         Found::OutOfMemory => OnfiseqVerdict {
@@ -80,45 +83,82 @@ pub(crate) fn answer_of(found: Found) -> OnfiseqVerdict
     }
 }
 
-// What is found of a text.
-fn found_of_text(text: Text<Global>, geometry: Geometry) -> Finding
-    ensures finds { FindsText geometry text result.found }
-    ensures run { Shown result.run (run_of geometry text result.found) }
-{
-    let TextRefused { refusal, text: _ } = match verify(text, geometry) {
-        Ok(verified) => {
-            // The call hands out that the text is safe.
-            let _ = verified.text();
-            return Finding::without_run(Found::Accepted);
-        }
-        Err(refused) => refused,
-    };
-    match refusal {
-        VerifyRefusal::Refusal {
-            word,
-            reason,
-            counter,
-        } => Finding {
-            found: Found::Text { reason, word },
-            run: counter,
-        },
-        VerifyRefusal::OutOfMemory => Finding::without_run(Found::OutOfMemory),
-    }
+// The geometry of a page and the text of a file.
+#[derive(Drop)]
+struct Program {
+    geometry: Geometry,
+    text: Text<Global>,
 }
 
-// What is found of a file.
-pub(crate) fn finding_of(alloc: Global, page: &[u8], file: &[u8]) -> Finding
-    ensures { FindsShown page.now file.now result.found result.run }
+// Reads a page and then a file, or finds what is wrong with the first that can't be read.
+fn read_program(alloc: Global, page: &[u8], file: &[u8]) -> Result<Program, Found>
+    ensures read { IfOk result (λ p. (read_of page.now ≡ Ok p.geometry) × IsFileOf file.now p.text) }
+    ensures refused { IfErr result (LacksProgram page.now file.now) }
 {
     let geometry = match Geometry::read(page) {
         Ok(geometry) => geometry,
-        Err(fault) => return Finding::without_run(Found::Page(fault)),
+        Err(fault) => return Err(Found::Page(fault)),
     };
     match read(alloc, file) {
-        Ok(text) => found_of_text(text, geometry),
-        Err(WordRefusal::Fault { fault, word }) => {
-            Finding::without_run(Found::File { fault, word })
-        }
-        Err(WordRefusal::OutOfMemory) => Finding::without_run(Found::OutOfMemory),
+        Ok(text) => Ok(Program { geometry, text }),
+        Err(WordRefusal::Fault { fault, word }) => Err(Found::File { fault, word }),
+        Err(WordRefusal::OutOfMemory) => Err(Found::OutOfMemory),
+    }
+}
+
+// What is found of a text. It takes no memory.
+fn examined(program: &Program) -> Found
+    ensures { FindsText program.now.geometry program.now.text result }
+{
+    match examine(&program.text, &program.geometry) {
+        Ok(_walked) => Found::Accepted,
+        Err(Fault { reason, word }) => Found::Text { reason, word },
+    }
+}
+
+// What is found of a page and a file.
+pub(crate) fn found_of(alloc: Global, page: &[u8], file: &[u8]) -> Found
+    ensures { Finds page.now file.now result }
+{
+    match read_program(alloc, page, file) {
+        Ok(program) => examined(&program),
+        Err(found) => found,
+    }
+}
+
+// A refused text, with the run of its refusal. Memory may be refused to that run alone.
+fn finding_of_fault(program: &Program, fault: Fault) -> Finding
+    requires { MayBe program.now.geometry program.now.text fault }
+    ensures finds { FindsOrLacks program.now.geometry program.now.text result.found }
+    ensures run { Shown result.run (run_of program.now.geometry program.now.text result.found) }
+{
+    let Fault { reason, word } = fault;
+    match counter_of(&program.text, &program.geometry, fault) {
+        Ok(run) => Finding {
+            found: Found::Text { reason, word },
+            run,
+        },
+        Err(AllocError) => Finding::without_run(Found::OutOfMemory),
+    }
+}
+
+// What is found of a text, with its run.
+fn finding_of_text(program: &Program) -> Finding
+    ensures finds { FindsOrLacks program.now.geometry program.now.text result.found }
+    ensures run { Shown result.run (run_of program.now.geometry program.now.text result.found) }
+{
+    match examine(&program.text, &program.geometry) {
+        Ok(_walked) => Finding::without_run(Found::Accepted),
+        Err(fault) => finding_of_fault(program, fault),
+    }
+}
+
+// What is found of a page and a file, with its run.
+pub(crate) fn finding_of(alloc: Global, page: &[u8], file: &[u8]) -> Finding
+    ensures { FindsShown page.now file.now result.found result.run }
+{
+    match read_program(alloc, page, file) {
+        Ok(program) => finding_of_text(&program),
+        Err(found) => Finding::without_run(found),
     }
 }

@@ -1,21 +1,23 @@
 -- What any command comes to: what its input and its files were, what the files are then, and what is printed.
-use Rattle.std.specs.Prelude.{◌≡◌, ◌⊎◌, ℕ, List, Option, IfSome, codes}
+use Rattle.std.specs.Prelude.{◌≡◌, ◌⊎◌, ℕ, true, false, List, Option, IfSome, codes}
 use Rattle.seq_files.specs.Store.{Store}
 use Rattle.trace_files.specs.Files.{no_outputs}
 use Rattle.seq_inputs.specs.declared.refusal.Refusal.{Refusal}
-use Rattle.seq_inputs.specs.Inputs.{PageIsRefused, FileIsRefused}
+use Rattle.seq_inputs.specs.Inputs.{HasPage, PageIsRefused, FileIsRefused}
 use Rattle.seq_inputs.specs.Stops.{Tells}
 use Rattle.seq_inputs.specs.Refusals.{line_of}
 use Rattle.seq_commands.specs.Commands.{IsAssembled, SourceIsRefused, IsAssembledFor, AssembleForRefuses, IsDisassembled, IsUpgraded, IsAccepted, VerifyRefuses, VerifyLeaves}
+use Rattle.nand_geometry.specs.declared.parts.Parts.{Parts}
+use Rattle.page_commands.specs.Pages.{IsPageMade, PartsAreRefused}
 use Rattle.trace_commands.specs.declared.recording_fault.RecordingFault.{RecordingFault}
 use Rattle.trace_commands.specs.Recordings.{fault_line}
-use Rattle.trace_commands.specs.Checks.{TraceIsRefused, IsLegalTrace, CheckRefuses, CheckLeaves}
+use Rattle.trace_commands.specs.Checks.{TraceIsRefused, IsPassed, CheckRefuses, CheckLeaves}
 use Rattle.trace_commands.specs.Draws.{IsDrawn}
 use Rattle.trace_commands.specs.Captures.{IsCaptured, CaptureIsRefused}
 use Rattle.seq_run.specs.Runs.{IsRunDone, RunIsRefused, RunMayLeave}
 use Rattle.run_once.specs.Once.{IsProgramRun, ProgramMayBeRefused}
 use Rattle.seq_cli.specs.declared.command.Command.{Command}
-use Rattle.seq_cli.specs.declared.command.Command.TheVariants.{Assemble, AssembleFor, Verify, Lint, Once, Run, Capture, Check, Draw, Disassemble, Upgrade}
+use Rattle.seq_cli.specs.declared.command.Command.TheVariants.{Assemble, AssembleFor, Verify, Lint, Once, Run, Capture, Check, Draw, Disassemble, MakePage, ShowPage, Upgrade}
 
 -- the command is done: this was its input, where that is known, this is left and this was printed
 abbrev pub IsDone : Command → (input : Option (List ℕ)) → (files later : Option Store) → (printed : List ℕ) → Type 0
@@ -26,10 +28,17 @@ IsDone (Lint page text output) input files later printed = IsAccepted files page
 IsDone (Once base) input files later printed = IfSome input (λ bytes. IsProgramRun base bytes printed) × (later ≡ files)
 IsDone (Run request) input files later printed = IsRunDone files later request printed
 IsDone (Capture request) input files later printed = IsCaptured files later request × (printed ≡ codes "ok\n")
-IsDone (Check request) input files later printed = IsLegalTrace files later request × (printed ≡ codes "legal\n")
+IsDone (Check request) input files later printed = IsPassed files later request true printed
 IsDone (Draw request) input files later printed = IsDrawn files later request × (printed ≡ codes "ok\n")
 IsDone (Disassemble file) input files later printed = IsDisassembled files file.now printed × (later ≡ files)
+IsDone (MakePage parts target) input files later printed = IsPageMade files later parts target.now × (printed ≡ codes "ok\n")
+IsDone (ShowPage page) input files later printed = ((g : Parts) × HasPage files page.now g) × (later ≡ files)
 IsDone (Upgrade file target) input files later printed = IsUpgraded files later file.now target.now × (printed ≡ codes "ok\n")
+
+-- a trace is legal with readies that are taken for granted, and may not be
+abbrev pub MayAssume : Command → (files later : Option Store) → (printed : List ℕ) → Type 0
+MayAssume (Check request) files later printed = IsPassed files later request false printed
+MayAssume _ files later printed = ⊥
 
 -- what a command may refuse, and what it leaves and prints then: one line
 abbrev pub MayRefuse : Command → (input : Option (List ℕ)) → (files later : Option Store) → Refusal → (printed : List ℕ) → Type 0
@@ -46,6 +55,8 @@ MayRefuse (Capture request) input files later refusal printed = Tells (PageIsRef
 MayRefuse (Check request) input files later refusal printed = Tells (PageIsRefused files request.page.now) refusal × (later ≡ files) × (printed ≡ line_of refusal)
 MayRefuse (Draw request) input files later refusal printed = Tells (PageIsRefused files request.page.now) refusal × (later ≡ files) × (printed ≡ line_of refusal)
 MayRefuse (Disassemble file) input files later refusal printed = Tells (FileIsRefused files file.now) refusal × (later ≡ files) × (printed ≡ line_of refusal)
+MayRefuse (MakePage parts target) input files later refusal printed = Tells (PartsAreRefused parts) refusal × (later ≡ files) × (printed ≡ line_of refusal)
+MayRefuse (ShowPage page) input files later refusal printed = Tells (PageIsRefused files page.now) refusal × (later ≡ files) × (printed ≡ line_of refusal)
 MayRefuse (Upgrade file target) input files later refusal printed = Tells (FileIsRefused files file.now) refusal × (later ≡ files) × (printed ≡ line_of refusal)
 
 -- what a command may find wrong with a trace or a capture, and what it leaves and prints then: one line, but for all faults of a trace
@@ -68,4 +79,6 @@ MayLeave (Capture request) files later = (later ≡ files) ⊎ IsCaptured files 
 MayLeave (Check request) files later = CheckLeaves files later request
 MayLeave (Draw request) files later = (later ≡ files) ⊎ IsDrawn files later request
 MayLeave (Disassemble file) files later = later ≡ files
+MayLeave (MakePage parts target) files later = (later ≡ files) ⊎ IsPageMade files later parts target.now
+MayLeave (ShowPage page) files later = later ≡ files
 MayLeave (Upgrade file target) files later = (later ≡ files) ⊎ IsUpgraded files later file.now target.now

@@ -52,6 +52,8 @@ fn say_mistake<W: Write, E: Write, P>(
         | Mistake::Steps(_)
         | Mistake::Glitch(_)
         | Mistake::Mapping(_)
+        | Mistake::NoPage
+        | Mistake::PageNumber { .. }
         | Mistake::Paths(_) => {
             let _ = write!(&mut console.errors, "{}", Escaped(&mistake));
             Exit::Usage
@@ -78,7 +80,8 @@ fn end_of_both(first: Ending, second: Ending) -> Ending {
         Ending::Exit(
             Exit::Refused(_) | Exit::FileFault | Exit::ReaderGone | Exit::Usage | Exit::OutOfMemory,
         )
-        | Ending::Faulty(_) => first,
+        | Ending::Faulty(_)
+        | Ending::Assumed => first,
     }
 }
 

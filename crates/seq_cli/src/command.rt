@@ -3,8 +3,10 @@ ghost use Rattle.std.specs.Prelude.{◌≡◌, List, ℕ};
 ghost use Rattle.std.specs.Io.KnownBytes.{Appends};
 ghost use Rattle.seq_inputs.specs.declared.refusal.Refusal.{Refusal};
 ghost use Rattle.trace_commands.specs.declared.recording_fault.RecordingFault.{RecordingFault};
-ghost use Rattle.seq_cli.specs.Commands.{IsDone, MayRefuse, MayTell, MayLeave};
+ghost use Rattle.seq_cli.specs.Commands.{IsDone, MayAssume, MayRefuse, MayTell, MayLeave};
 
+use nand_geometry::Parts;
+use page_commands::{make_page, show_page};
 use run_once::run_program;
 use seq_commands::{
     LintOutput, assemble_file, assemble_file_for, disassemble_file, lint_file, upgrade_file,
@@ -68,6 +70,15 @@ pub enum Command<'a> {
     /// To print the assembly text of a word file.
     Disassemble {
         input: &'a str,
+    },
+    /// To make the parameter page of a chip with these numbers.
+    MakePage {
+        parts: Parts,
+        target: &'a str,
+    },
+    /// To show what a parameter page declares.
+    ShowPage {
+        page: &'a str,
     },
     /// To write a word file of either format as one of format 2.
     Upgrade {
@@ -136,13 +147,16 @@ impl<'a> Command<'a> {
                 [Some(request.page), Some(request.input)],
                 one(Some(request.target)),
             ),
-            Command::Disassemble { input } => ([Some(input), None], one(None)),
+            Command::Disassemble { input } | Command::ShowPage { page: input } => {
+                ([Some(input), None], one(None))
+            }
+            Command::MakePage { parts: _, target } => ([None, None], one(Some(target))),
         };
         Paths { inputs, outputs }
     }
 }
 
-/// Does a command, as its own function says: [`run_program`] of the input, [`run_watched`], or one of `seq_commands` or `trace_commands`. What is wrong with a file is said in
+/// Does a command, as its own function says: [`run_program`] of the input, [`run_watched`], or one of `page_commands`, `seq_commands` or `trace_commands`. What is wrong with a file is said in
 /// words on the console's errors, and so is a fault of a file or a stream, or that there is no memory; its progress is told how far a check or a run has
 /// come. A run starts threads by the handle and takes the time by the clock.
 pub fn command_on<
@@ -164,6 +178,9 @@ pub fn command_on<
 ) -> Ending
     ensures done { result ≡ Ending.Exit Exit.Done → (printed : List ℕ)
         × IsDone command.entry (R.remaining input.old) (F.store files.old) (F.store files.new) printed
+        × Appends (W.contents console.old.output) (W.contents console.new.output) printed }
+    ensures assumed { result ≡ Ending.Assumed → (printed : List ℕ)
+        × MayAssume command.entry (F.store files.old) (F.store files.new) printed
         × Appends (W.contents console.old.output) (W.contents console.new.output) printed }
     ensures refused { (refusal : Refusal) → result ≡ Ending.Exit (Exit.Refused refusal) → (printed : List ℕ)
         × MayRefuse command.entry (R.remaining input.old) (F.store files.old) (F.store files.new) refusal printed
@@ -206,6 +223,10 @@ pub fn command_on<
         Command::Disassemble { input } => {
             Ending::Exit(disassemble_file(alloc, files, console, input))
         }
+        Command::MakePage { parts, target } => {
+            Ending::Exit(make_page(alloc, files, console, parts, target))
+        }
+        Command::ShowPage { page } => Ending::Exit(show_page(alloc, files, console, page)),
         Command::Upgrade { input, target } => {
             Ending::Exit(upgrade_file(alloc, files, console, input, target))
         }

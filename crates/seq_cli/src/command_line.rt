@@ -5,6 +5,7 @@ use crate::mistake::{Mistake, PathMistake};
 use bus_capture::CaptureForm;
 use bus_signals::{Family, named, plain_of};
 use clap::{Arg, ArgAction, ArgMatches, Error};
+use nand_geometry::Parts;
 use seq_commands::LintOutput;
 use seq_inputs::Style;
 use seq_run::{MOST_STEPS, RunRequest};
@@ -28,11 +29,12 @@ enum Verb {
     Wave,
     Draw,
     Disassemble,
+    Page,
     Upgrade,
 }
 
 // All of them.
-const VERBS: [Verb; 11] = [
+const VERBS: [Verb; 12] = [
     Verb::Assemble,
     Verb::Verify,
     Verb::Lint,
@@ -43,6 +45,7 @@ const VERBS: [Verb; 11] = [
     Verb::Wave,
     Verb::Draw,
     Verb::Disassemble,
+    Verb::Page,
     Verb::Upgrade,
 ];
 
@@ -60,6 +63,7 @@ impl Verb {
             Verb::Wave => "wave",
             Verb::Draw => "draw",
             Verb::Disassemble => "dis",
+            Verb::Page => "page",
             Verb::Upgrade => "upgrade",
         }
     }
@@ -86,6 +90,7 @@ impl Verb {
             Verb::Wave => wave(alloc),
             Verb::Draw => draw(alloc),
             Verb::Disassemble => disassemble(alloc),
+            Verb::Page => page(alloc),
             Verb::Upgrade => upgrade(alloc),
         }
     }
@@ -118,6 +123,7 @@ impl Verb {
             Verb::Wave => Command::Draw(read_draw(matches, DrawForm::Waveform)),
             Verb::Draw => Command::Draw(read_draw(matches, form_of(target))),
             Verb::Disassemble => Command::Disassemble { input },
+            Verb::Page => read_page(matches)?,
             Verb::Upgrade => Command::Upgrade { input, target },
         })
     }
@@ -409,6 +415,12 @@ fn check<'a>(alloc: Global) -> Result<clap::Command<'a>, Error> {
         .help(
             "For a trace that was recorded on a bus: a status output that shows RDY or ARDY has the ready before it that it shows",
         );
+    let assume = Arg::new(alloc, "assume-ready")
+        .long("assume-ready")
+        .action(ArgAction::SetTrue)
+        .help(
+            "With --readies-from-status: ends with status 0, and not 5, where a LUN is taken for ready that nothing showed",
+        );
     let copy = Arg::new(alloc, "write")
         .long("write")
         .value_name("OUT")
@@ -424,6 +436,7 @@ fn check<'a>(alloc: Global) -> Result<clap::Command<'a>, Error> {
         .arg(all)?
         .arg(recorded(alloc))?
         .arg(readies)?
+        .arg(assume)?
         .arg(middle)?
         .arg(bytes)?
         .arg(copy)?
@@ -464,6 +477,46 @@ fn disassemble<'a>(alloc: Global) -> Result<clap::Command<'a>, Error> {
         .about("Prints the assembly text of a word file")
         .after_help("Example: onfiseq dis erase.nmp > erase.asm")
         .arg(require(alloc, "IN", "The word file, of either format"))?;
+    Ok(command)
+}
+
+// A number of the chip whose page is made.
+fn chip_number<'a>(alloc: Global, id: &'a str, help: &'a str) -> Arg<'a> {
+    Arg::new(alloc, id).long(id).value_name("n").help(help)
+}
+
+fn page<'a>(alloc: Global) -> Result<clap::Command<'a>, Error> {
+    let show = Arg::new(alloc, "show").long("show").value_name("PAGE").help(
+        "Prints what this parameter page declares: the geometry, how a row is made, the commands, and each copy with its checksum",
+    );
+    let cache = Arg::new(alloc, "cache")
+        .long("cache")
+        .action(ArgAction::SetTrue)
+        .help("Declares read cache, 31h and 3Fh");
+    let enhanced = Arg::new(alloc, "status-enhanced")
+        .long("status-enhanced")
+        .action(ArgAction::SetTrue)
+        .help("Declares read status enhanced, 78h, which several LUNs need");
+    let planes = chip_number(alloc, "planes", "Planes of a LUN, 1 if none are given").value_parser([
+        "1", "2", "4",
+    ].as_slice());
+    let command = clap::Command::new(alloc, Verb::Page.word())
+        .about(
+            "Makes a parameter page of a chip's numbers, and prints `ok`; or shows what one declares",
+        )
+        .after_help(
+            "Examples: onfiseq page chip.page --data 2048 --spare 64 --pages 64 --blocks 1024; onfiseq page --show chip.page",
+        )
+        .arg(Arg::new(alloc, "OUT").help("The parameter page to write"))?
+        .arg(show)?
+        .arg(chip_number(alloc, "data", "Data bytes of a page"))?
+        .arg(chip_number(alloc, "spare", "Spare bytes of a page"))?
+        .arg(chip_number(alloc, "pages", "Pages of a block"))?
+        .arg(chip_number(alloc, "blocks", "Blocks of a LUN"))?
+        .arg(chip_number(alloc, "luns", "LUNs of a chip enable, 1 if none are given"))?
+        .arg(planes)?
+        .arg(cache)?
+        .arg(enhanced)?;
     Ok(command)
 }
 
@@ -604,6 +657,66 @@ fn read_capture<'a>(matches: &ArgMatches<'a>) -> Result<CaptureRequest<'a>, Mist
     })
 }
 
+// The number of an option of `page`; none where it isn't given.
+fn read_chip_number<'a>(
+    matches: &ArgMatches<'a>,
+    option: &'static str,
+) -> Result<Option<u32>, Mistake<'a>> {
+    match matches.get_str(option) {
+        None => Ok(None),
+        Some(word) => match u32::from_str_radix(word, 10) {
+            Ok(number) => Ok(Some(number)),
+            Err(_) => Err(Mistake::PageNumber { option, word }),
+        },
+    }
+}
+
+// A number of `page` that has to be given.
+fn need_chip_number<'a>(
+    matches: &ArgMatches<'a>,
+    option: &'static str,
+) -> Result<u32, Mistake<'a>> {
+    read_chip_number(matches, option)?.ok_or(Mistake::NoPage)
+}
+
+// The plane bits of a number of planes; the parser takes no other word than 1, 2 and 4.
+fn read_plane_bits(given: Option<&str>) -> u8 {
+    match given {
+        Some("2") => 1,
+        Some("4") => 2,
+        _ => 0,
+    }
+}
+
+// The chip whose page is made. A number of LUNs that no byte holds is one that no chip has, as the greatest byte is.
+fn read_chip<'a>(matches: &ArgMatches<'a>) -> Result<Parts, Mistake<'a>> {
+    let luns = read_chip_number(matches, "luns")?.unwrap_or(1);
+    let plane_bits = read_plane_bits(matches.get_str("planes"));
+    Ok(Parts {
+        page_bytes: need_chip_number(matches, "data")?,
+        spare_bytes: need_chip_number(matches, "spare")?,
+        pages: need_chip_number(matches, "pages")?,
+        blocks: need_chip_number(matches, "blocks")?,
+        luns: luns.min(255) as u8,
+        plane_bits,
+        enhanced: matches.get_flag("status-enhanced"),
+        multi_plane: plane_bits > 0,
+        cache: matches.get_flag("cache"),
+    })
+}
+
+// What is asked of a parameter page.
+fn read_page<'a>(matches: &ArgMatches<'a>) -> Result<Command<'a>, Mistake<'a>> {
+    match (matches.get_str("show"), matches.get_str("OUT")) {
+        (Some(page), None) => Ok(Command::ShowPage { page }),
+        (None, Some(target)) => Ok(Command::MakePage {
+            parts: read_chip(matches)?,
+            target,
+        }),
+        (Some(_), Some(_)) | (None, None) => Err(Mistake::NoPage),
+    }
+}
+
 // The assembly that is asked for.
 fn read_assemble<'a>(matches: &ArgMatches<'a>) -> Command<'a> {
     let input = find_word(matches, "IN");
@@ -635,6 +748,7 @@ fn read_check<'a>(matches: &ArgMatches<'a>) -> CheckRequest<'a> {
         input: find_word(matches, "TRACE"),
         tells_all: matches.get_flag("all"),
         readies: read_readies(matches),
+        assumes_ready: matches.get_flag("assume-ready"),
         beginning: read_beginning(matches),
         judges_bytes: matches.get_flag("bytes"),
         form: read_form(matches),
@@ -773,6 +887,8 @@ fn with_trace<'a>(command: Command<'a>, input: &'a str) -> Command<'a> {
         | Command::Capture(_)
         | Command::Draw(_)
         | Command::Disassemble { .. }
+        | Command::MakePage { .. }
+        | Command::ShowPage { .. }
         | Command::Upgrade { .. } => command,
     }
 }

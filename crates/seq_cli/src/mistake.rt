@@ -109,6 +109,10 @@ pub enum Mistake<'a> {
     Glitch(&'a str),
     /// A part of `--map` isn't a role and the name of a signal.
     Mapping(&'a str),
+    /// `page` is asked neither to show a page nor to make one.
+    NoPage,
+    /// The number of an option of `page` isn't one.
+    PageNumber { option: &'static str, word: &'a str },
     /// The paths don't go together.
     Paths(PathMistake<'a>),
 }
@@ -146,6 +150,15 @@ impl fmt::Display for Mistake<'_> {
                 f,
                 "error: --map takes ROLE=NAME with commas between several, the role one of CE0 to CE3, CLE, ALE, WE, RE, DQ, DQ0 to DQ7 and RB0 to RB3, and not `{}`",
                 Shown::line(part)
+            ),
+            Mistake::NoPage => writeln!(
+                f,
+                "error: page takes --show PAGE, or a file to write with --data, --spare, --pages and --blocks"
+            ),
+            Mistake::PageNumber { option, word } => writeln!(
+                f,
+                "error: --{option} takes a decimal number, 0 to 4294967295, and not `{}`",
+                Shown::line(word)
             ),
             Mistake::Paths(mistake) => writeln!(f, "error: {mistake}"),
         }

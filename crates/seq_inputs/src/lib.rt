@@ -27,8 +27,8 @@ pub use fault::Fault;
 pub use headed::{Headed, read_headed};
 pub use lines::{push_end_line, push_refusal_line};
 pub use reading::{
-    geometry_at, is_source, read_file, read_program, read_source, read_words, text_of, verified_at,
-    verify_program, words_at, write_file, write_files,
+    geometry_at, geometry_in, is_source, read_file, read_program, read_source, read_words, text_of,
+    verified_at, verify_program, words_at, write_file, write_files,
 };
 pub use refusal::Refusal;
 pub use stop::{MOST_BUFFER_BYTES, Stop};

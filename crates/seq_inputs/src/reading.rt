@@ -103,8 +103,8 @@ pub fn text_of<'p, 'b, A: Allocator>(path: &'p str, bytes: &'b [u8]) -> Result<&
     }
 }
 
-// The geometry that a parameter page declares.
-fn geometry_in<'p, A: Allocator>(
+/// The geometry that the parameter page in these bytes declares.
+pub fn geometry_in<'p, A: Allocator>(
     alloc: A,
     path: &'p str,
     bytes: &[u8],

@@ -1,7 +1,7 @@
 //! A geometry as numbers.
 ghost use Rattle.std.specs.Prelude.{◌≡◌};
 ghost use Rattle.nand_geometry.specs.Limits.{InLimits, page_len};
-ghost use Rattle.target_record.specs.Geometry.{parts_of};
+ghost use Rattle.target_record.specs.Geometry.{parts_of, no_geometry};
 
 use nand_geometry::{Geometry, Parts};
 
@@ -71,7 +71,9 @@ impl OnfiseqGeometry {
     }
 
     /// All numbers 0.
-    pub fn none() -> OnfiseqGeometry {
+    pub fn none() -> OnfiseqGeometry
+        ensures { result ≡ no_geometry }
+    {
         OnfiseqGeometry {
             page_bytes: 0,
             spare_bytes: 0,

@@ -1,19 +1,30 @@
 //! Legal traces without their readies have no fault where readies are shown by the status: what nothing showed ready is taken for that.
 use crate::made_trace_tests::{made_trace, parts_of};
 use nand_geometry::Geometry;
-use onfi_cycle::Item;
+use onfi_cycle::{Cycle, Item, Kind};
 use std::alloc::Global;
 use std::process::Abort;
 use std::test::Fail;
 use trace_faults::{Readies, complete, find_faults, find_not_shown};
 use trace_text::{is_printable, print};
 
-/// The cycles of a trace.
+// A cycle whose byte, where it is an output, shows RDY: a status that doesn't would deny that its LUN is ready by the next cycle that needs it.
+fn showing_ready(cycle: Cycle) -> Item {
+    match cycle.kind {
+        Kind::Cmd | Kind::Adr | Kind::Din => Item::Cyc(cycle),
+        Kind::Dout => Item::Cyc(Cycle {
+            byte: cycle.byte | 0x40,
+            ..cycle
+        }),
+    }
+}
+
+/// The cycles of a trace, whose outputs show RDY.
 pub(crate) fn cycles_of(alloc: Global, items: &[Item]) -> Result<Vec<Item>, Fail> {
     let mut cycles = Vec::new(alloc);
     for item in items {
         match *item {
-            Item::Cyc(_) => cycles.push(*item)?,
+            Item::Cyc(cycle) => cycles.push(showing_ready(cycle))?,
             Item::Rdy { .. } | Item::Ard { .. } => {}
         }
     }

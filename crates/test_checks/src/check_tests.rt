@@ -21,6 +21,7 @@ const REQUEST: CheckRequest<'static> = CheckRequest {
     input: "bus.trace",
     tells_all: false,
     readies: Readies::Written,
+    assumes_ready: false,
     beginning: Beginning::Start,
     judges_bytes: false,
     form: TraceForm::Strict,
@@ -82,7 +83,7 @@ fn the_first_fault(rt: HostRuntime) -> Result<(), Fail> {
         &seen,
         1,
         "refused F2 at 8\n",
-        "bus.trace:9: item 8, `0 C ef`: the command is unknown, or the parameter page doesn't declare it (F2)\n",
+        "bus.trace:9: item 8, `0 C ef`: outside of the profile, 0 cycles passed over (F2)\n",
     )
 }
 
@@ -99,7 +100,7 @@ fn all_faults(rt: HostRuntime) -> Result<(), Fail> {
         &seen,
         1,
         "refused F2 at 8\nrefused F3 at 11\n",
-        "bus.trace:9: item 8, `0 C ef`: the command is unknown, or the parameter page doesn't declare it (F2)\nbus.trace:12: item 11, `0 C 60`: a sequence is open on the target, so none may begin (F3)\njudged: 8 commands, 7 addresses, 0 inputs, 3 outputs, 0 readies; 2 faults\n",
+        "bus.trace:9: item 8, `0 C ef`: outside of the profile, 0 cycles passed over (F2)\nbus.trace:12: item 11, `0 C 60`: a sequence is open: `80` (line 10) wants address 2 of 5 next (F3)\njudged: 8 commands, 7 addresses, 0 inputs, 3 outputs, 0 readies; 2 faults\n",
     )
 }
 
@@ -192,7 +193,7 @@ fn a_fault_of_a_log(rt: HostRuntime) -> Result<(), Fail> {
         &see(rt.alloc(), LOG, LOGGED)?,
         1,
         "refused F2 at 5\n",
-        "bus.trace:8: item 5 at 900, `@900   0 C ef`: the command is unknown, or the parameter page doesn't declare it (F2)\n",
+        "bus.trace:8: item 5 at 900, `@900   0 C ef`: outside of the profile, 0 cycles passed over (F2)\n",
     )
 }
 
@@ -247,7 +248,7 @@ fn faults_as_json(rt: HostRuntime) -> Result<(), Fail> {
         &see(rt.alloc(), RECORDED, request)?,
         1,
         "refused F2 at 8\nrefused F3 at 11\n",
-        "{\"code\":\"F2\",\"file\":\"bus.trace\",\"line\":9,\"item\":8,\"message\":\"item 8, `0 C ef`: the command is unknown, or the parameter page doesn't declare it (F2)\"}\n{\"code\":\"F3\",\"file\":\"bus.trace\",\"line\":12,\"item\":11,\"message\":\"item 11, `0 C 60`: a sequence is open on the target, so none may begin (F3)\"}\n",
+        "{\"code\":\"F2\",\"file\":\"bus.trace\",\"line\":9,\"item\":8,\"message\":\"item 8, `0 C ef`: outside of the profile, 0 cycles passed over (F2)\"}\n{\"code\":\"F3\",\"file\":\"bus.trace\",\"line\":12,\"item\":11,\"message\":\"item 11, `0 C 60`: a sequence is open: `80` (line 10) wants address 2 of 5 next (F3)\"}\n",
     )
 }
 
@@ -319,9 +320,12 @@ fn a_status_that_contradicts_its_trace(rt: HostRuntime) -> Result<(), Fail> {
 
 // ---- readies that nothing showed
 
-// Two erases of a host that waits by the clock; it asks for the status of the first too early.
+// Two erases of a host that waits by the clock.
 const BY_CLOCK: &str =
-    "0 C 60\n0 A 04\n0 A 00\n0 A 00\n0 C d0\n0 C 70\n0 O 80\n0 C 60\n0 A 08\n0 A 00\n0 A 00\n0 C d0\n";
+    "0 C 60\n0 A 04\n0 A 00\n0 A 00\n0 C d0\n0 C 60\n0 A 08\n0 A 00\n0 A 00\n0 C d0\n";
+
+// The same, where the status of the first is asked for, and says that it goes on.
+const DENIED: &str = "0 C 60\n0 A 04\n0 A 00\n0 A 00\n0 C d0\n0 C 70\n0 O 80\n0 C 60\n";
 
 const SHOWN: CheckRequest<'static> = CheckRequest {
     readies: Readies::Shown,
@@ -338,9 +342,9 @@ fn a_ready_that_nothing_showed(rt: HostRuntime) -> Result<(), Fail> {
     expect(
         &rt,
         &see(rt.alloc(), BY_CLOCK, request)?,
-        0,
-        "legal\n",
-        "bus.trace:8: item 7, `0 C 60`: not shown ready: LUN 0 of target 0 is taken for ready here (else F9: the LUN is busy)\nnot shown ready: 1 in all\n",
+        5,
+        "legal\nassumed ready at 5\n",
+        "bus.trace:6: item 5, `0 C 60`: not shown ready: LUN 0 of target 0 is taken for ready here (else F9: the LUN is busy)\nnot shown ready: 1 in all\n",
     )
 }
 
@@ -354,7 +358,34 @@ fn a_ready_that_nothing_showed_is_written(rt: HostRuntime) -> Result<(), Fail> {
     expect_written(
         &rt,
         &see(rt.alloc(), BY_CLOCK, request)?,
-        "0 C 60\n0 A 04\n0 A 00\n0 A 00\n0 C d0\n0 C 70\n0 O 80\n0 R 0 0\n0 C 60\n0 A 08\n0 A 00\n0 A 00\n0 C d0\n",
+        "0 C 60\n0 A 04\n0 A 00\n0 A 00\n0 C d0\n0 R 0 0\n0 C 60\n0 A 08\n0 A 00\n0 A 00\n0 C d0\n",
+    )
+}
+
+// It may be taken for granted.
+#[test]
+fn a_ready_that_is_assumed(rt: HostRuntime) -> Result<(), Fail> {
+    let request = CheckRequest {
+        assumes_ready: true,
+        ..SHOWN
+    };
+    let seen = see(rt.alloc(), BY_CLOCK, request)?;
+    assert_eq!(rt;
+        (seen.exit.status(), seen.output.as_slice()),
+        (0, "legal\nassumed ready at 5\n".as_bytes())
+    );
+    Ok(())
+}
+
+// Nothing is taken for granted that the recording denies.
+#[test]
+fn a_ready_that_is_denied(rt: HostRuntime) -> Result<(), Fail> {
+    expect(
+        &rt,
+        &see(rt.alloc(), DENIED, SHOWN)?,
+        1,
+        "refused F9 at 7\n",
+        "bus.trace:8: item 7, `0 C 60`: LUN 0 works since `d0` (line 5) (F9)\n",
     )
 }
 
@@ -365,8 +396,8 @@ fn a_ready_that_is_not_written(rt: HostRuntime) -> Result<(), Fail> {
         &rt,
         &see(rt.alloc(), BY_CLOCK, REQUEST)?,
         1,
-        "refused F9 at 7\n",
-        "bus.trace:8: item 7, `0 C 60`: the LUN is busy (F9)\n",
+        "refused F9 at 5\n",
+        "bus.trace:6: item 5, `0 C 60`: LUN 0 works since `d0` (line 5) (F9)\n",
     )
 }
 
@@ -379,9 +410,9 @@ fn a_ready_that_nothing_showed_as_json(rt: HostRuntime) -> Result<(), Fail> {
     expect(
         &rt,
         &see(rt.alloc(), BY_CLOCK, request)?,
-        0,
-        "legal\n",
-        "{\"file\":\"bus.trace\",\"line\":8,\"item\":7,\"message\":\"item 7, `0 C 60`: not shown ready: LUN 0 of target 0 is taken for ready here (else F9: the LUN is busy)\"}\n{\"message\":\"not shown ready: 1 in all\"}\n",
+        5,
+        "legal\nassumed ready at 5\n",
+        "{\"file\":\"bus.trace\",\"line\":6,\"item\":5,\"message\":\"item 5, `0 C 60`: not shown ready: LUN 0 of target 0 is taken for ready here (else F9: the LUN is busy)\"}\n{\"message\":\"not shown ready: 1 in all\"}\n",
     )
 }
 
@@ -397,7 +428,7 @@ fn a_ready_that_nothing_showed_in_the_middle(rt: HostRuntime) -> Result<(), Fail
         &rt,
         &seen,
         1,
-        "refused F2 at 3\n",
+        "refused F2 at 3\nassumed ready at 2\n",
         "bus.trace:4: item 3, `0 C ef`: the command is unknown, or the parameter page doesn't declare it (F2)\nbus.trace:3: item 2, `0 C 60`: not shown ready: LUN 0 of target 0 is taken for ready here (else F9: the LUN is busy)\nnot shown ready: 1 in all\nfrom the middle: cycles passed over 1, taken for granted 0\n",
     )
 }
@@ -416,7 +447,7 @@ fn resets(alloc: Global, count: usize) -> Result<String, Fail> {
 fn many_readies_that_nothing_showed(rt: HostRuntime) -> Result<(), Fail> {
     let text = resets(rt.alloc(), 22)?;
     let seen = see(rt.alloc(), text.as_str(), SHOWN)?;
-    assert_eq!(rt; seen.exit.status(), 0);
+    assert_eq!(rt; seen.exit.status(), 5);
     let said = str::from_utf8(seen.errors.as_slice())?;
     assert_eq!(rt; said.lines().count(), 22);
     assert!(rt;

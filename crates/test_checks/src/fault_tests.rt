@@ -3,7 +3,7 @@ use onfi_cycle::{Forbidden, Item};
 use std::alloc::Global;
 use std::process::Abort;
 use std::test::Fail;
-use trace_faults::{BrokenRule, Readies, complete, find_faults};
+use trace_faults::{BrokenRule, OutsideSequence, Readies, complete, find_faults, find_outside};
 use trace_text::parse;
 
 // Two LUNs of 8 blocks of 4 pages of 512 + 16 bytes, in two planes each.
@@ -61,26 +61,68 @@ fn expect_whole(
     Ok(())
 }
 
-// The features of a die are set, which is none of the commands, and its status is asked for.
+// The features of a die are set, which is none of the commands, and its status is asked for: all of the first sequence costs one fault.
 const FOREIGN: Judged<'static> = Judged {
     parts: SMALL_CHIP,
     text: "0 C ef\n0 A 01\n0 I 00\n0 C 70\n0 O e0\n",
     readies: Readies::Written,
+    faults: &[BrokenRule {
+        item: 0,
+        rule: Forbidden::CommandUnknown,
+    }],
+};
+
+// The identifier at 00, of which the profile hasn't, and then at 20; an erase; the features, whose host asks for the status before it reads them; and a
+// second erase while the first goes on.
+const HOST: Judged<'static> = Judged {
+    parts: SMALL_CHIP,
+    text: "0 C ff\n0 R 0 0\n0 C 90\n0 A 00\n0 O 2c\n0 O da\n0 C 90\n0 A 20\n0 O 4f\n0 C ee\n0 A 01\n0 C 70\n0 O 80\n0 O e0\n0 C 00\n0 O 05\n0 O 00\n0 C 60\n0 A 00\n0 A 00\n0 A 00\n0 C d0\n0 C 60\n",
+    readies: Readies::Written,
     faults: &[
         BrokenRule {
-            item: 0,
-            rule: Forbidden::CommandUnknown,
-        },
-        BrokenRule {
-            item: 1,
+            item: 3,
             rule: Forbidden::AddressMisplaced,
         },
         BrokenRule {
-            item: 2,
-            rule: Forbidden::InputMisplaced,
+            item: 9,
+            rule: Forbidden::CommandUnknown,
+        },
+        BrokenRule {
+            item: 22,
+            rule: Forbidden::LunBusy,
         },
     ],
 };
+
+// A program in the midst of which an unknown command comes: it is dropped, and its data is passed over; the next sequence is judged.
+const DROPPED: Judged<'static> = Judged {
+    parts: SMALL_CHIP,
+    text: "0 C 80\n0 A 00\n0 A 00\n0 A 00\n0 A 00\n0 A 00\n0 I 12\n0 C 15\n0 I 13\n0 C 10\n0 C 00\n0 A 00\n0 C 30\n",
+    readies: Readies::Written,
+    faults: &[
+        BrokenRule {
+            item: 7,
+            rule: Forbidden::CommandUnknown,
+        },
+        BrokenRule {
+            item: 12,
+            rule: Forbidden::CommandMisplaced,
+        },
+    ],
+};
+
+// What of a trace is outside of the profile.
+fn expect_outside(
+    rt: &(impl Abort + AllocGlobal),
+    judged: Judged<'_>,
+    expected: &[OutsideSequence],
+) -> Result<(), Fail> {
+    let items = items_of(rt.alloc(), judged.text)?;
+    let geometry = Geometry::of(judged.parts)?;
+    let found = find_outside(rt.alloc(), &geometry, 1, items.as_slice(), judged.readies)?;
+    assert_eq!(rt; found.as_slice(), expected, "{}", judged.text);
+    Ok(())
+}
 
 // A program that isn't ended, and an erase: the opener of that is too early, and all that follows it is right.
 const NOT_ENDED: Judged<'static> = Judged {
@@ -172,7 +214,24 @@ const RECORDED_AS_SHOWN: Judged<'static> = Judged {
 
 #[test]
 fn foreign_sequences(rt: HostRuntime) -> Result<(), Fail> {
-    expect_faults(&rt, FOREIGN)
+    for judged in [FOREIGN, HOST, DROPPED] {
+        expect_faults(&rt, judged)?;
+    }
+    Ok(())
+}
+
+#[test]
+fn cycles_that_are_passed_over(rt: HostRuntime) -> Result<(), Fail> {
+    expect_outside(&rt, FOREIGN, &[OutsideSequence { item: 0, cycles: 2 }])?;
+    expect_outside(&rt, DROPPED, &[OutsideSequence { item: 7, cycles: 2 }])?;
+    expect_outside(
+        &rt,
+        HOST,
+        &[
+            OutsideSequence { item: 3, cycles: 2 },
+            OutsideSequence { item: 9, cycles: 3 },
+        ],
+    )
 }
 
 #[test]

@@ -6,6 +6,8 @@ mod assemble_tests;
 #[cfg(test)]
 mod capture_tests;
 #[cfg(test)]
+mod cause_tests;
+#[cfg(test)]
 mod check_tests;
 #[cfg(test)]
 mod draw_tests;

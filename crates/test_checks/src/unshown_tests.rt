@@ -282,16 +282,37 @@ fn one_of_two_luns(rt: HostRuntime) -> Result<(), Fail> {
     expect(&rt, LUN_NOT_THERE)
 }
 
-// A status that shows the LUN busy is no ready, and nor is it a contradiction of the one that is taken later; a status that shows RDY needs none.
+// After a status that shows the LUN busy none is taken for granted; a status that shows RDY needs none.
 const ASKED: Judged<'static> = Judged {
     parts: SMALL_CHIP,
-    text: "0 C 60\n0 A 00\n0 A 00\n0 A 00\n0 C d0\n0 C 70\n0 O 80\n0 C 60\n0 A 04\n0 A 00\n0 A 00\n0 C d0\n0 C 70\n0 O 80\n0 O e1\n0 C 60\n",
-    faults: &[],
-    not_shown: &[NotShown {
+    text: "0 C 60\n0 A 00\n0 A 00\n0 A 00\n0 C d0\n0 C 70\n0 O 80\n0 C 60\n0 C 70\n0 O 80\n0 O e1\n0 C 60\n0 A 00\n0 A 00\n0 A 00\n0 C d0\n0 C 60\n",
+    faults: &[BrokenRule {
         item: 7,
+        rule: Forbidden::LunBusy,
+    }],
+    not_shown: &[NotShown {
+        item: 16,
         ready: BUSY,
     }],
-    whole: "0 C 60\n0 A 00\n0 A 00\n0 A 00\n0 C d0\n0 C 70\n0 O 80\n0 R 0 0\n0 C 60\n0 A 04\n0 A 00\n0 A 00\n0 C d0\n0 C 70\n0 O 80\n0 R 0 1\n0 O e1\n0 C 60\n",
+    whole: "0 C 60\n0 A 00\n0 A 00\n0 A 00\n0 C d0\n0 C 70\n0 O 80\n0 C 60\n0 C 70\n0 O 80\n0 R 0 1\n0 O e1\n0 C 60\n0 A 00\n0 A 00\n0 A 00\n0 C d0\n0 R 0 0\n0 C 60\n",
+};
+
+// Where a ready of the target is written, none of it is taken for granted, before it and after it; the other target tells none.
+const TOLD: Judged<'static> = Judged {
+    parts: SMALL_CHIP,
+    text: "0 C 60\n0 A 00\n0 A 00\n0 A 00\n0 C d0\n1 C ff\n0 C 60\n1 C 90\n0 R 0 0\n",
+    faults: &[BrokenRule {
+        item: 6,
+        rule: Forbidden::LunBusy,
+    }],
+    not_shown: &[NotShown {
+        item: 7,
+        ready: UnshownReady {
+            lun: Lun { ce: 1, lun: 0 },
+            rule: Forbidden::LunBusy,
+        },
+    }],
+    whole: "0 C 60\n0 A 00\n0 A 00\n0 A 00\n0 C d0\n1 C ff\n0 C 60\n1 R 0 0\n1 C 90\n0 R 0 0\n",
 };
 
 // A ready that is written is judged as it stands, also one between an opener and its row.
@@ -308,8 +329,10 @@ const WRITTEN: Judged<'static> = Judged {
 
 #[test]
 fn beside_readies_that_are_shown_or_written(rt: HostRuntime) -> Result<(), Fail> {
-    expect(&rt, ASKED)?;
-    expect(&rt, WRITTEN)
+    for judged in [ASKED, TOLD, WRITTEN] {
+        expect(&rt, judged)?;
+    }
+    Ok(())
 }
 
 // From the middle this is found of a trace on one target of this geometry.

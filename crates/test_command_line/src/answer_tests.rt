@@ -589,6 +589,7 @@ const COMMANDS: [(Command<'static>, u8, &str); 7] = [
             input: "a",
             tells_all: false,
             readies: Readies::Written,
+            assumes_ready: false,
             beginning: Beginning::Start,
             judges_bytes: false,
             form: TraceForm::Strict,

@@ -12,6 +12,7 @@ use std::io::{self, Read};
 use std::process::Abort;
 use std::test::Fail;
 use trace_commands::{CaptureRequest, DrawRequest, Targets};
+use trace_faults::Readies;
 use trace_files::{DrawForm, Drawing, TraceOutputs};
 
 // The words of a command line, behind the name of the program.
@@ -287,6 +288,10 @@ fn make_call(alloc: Global, name: &str) -> Result<String, Fail> {
             }
         }
     }
+    // What `page` wants is an option.
+    if name == "page" {
+        call.push_str(" --show 1")?;
+    }
     Ok(call)
 }
 
@@ -297,6 +302,7 @@ fn name_of(asked: Command<'_>) -> &'static str {
         Command::Run(_) => "run",
         Command::Assemble { .. } => "asm",
         Command::Disassemble { .. } => "dis",
+        Command::MakePage { .. } | Command::ShowPage { .. } => "page",
         Command::Upgrade { .. } => "upgrade",
         Command::AssembleFor { .. } => "asm --auto",
         Command::Verify { .. } => "verify",
@@ -357,6 +363,36 @@ fn a_check_of_several_traces(rt: HostRuntime) -> Result<(), Fail> {
     assert!(rt; is_check_of(*first, "a"));
     assert!(rt; is_check_of(*second, "b"));
     assert!(rt; is_check_of(*third, "c"));
+    Ok(())
+}
+
+// Whether the check that this line asks for takes readies from the status, and takes those for granted that nothing showed.
+fn readies_of(alloc: Global, line: &str) -> Result<(bool, bool), Fail> {
+    let words = words_of(alloc, line)?;
+    match parse_all(alloc, words.as_slice()) {
+        Ok(commands) => match commands.as_slice() {
+            [Command::Check(request)] => {
+                Ok((request.readies == Readies::Shown, request.assumes_ready))
+            }
+            _ => Err(Fail::from("no check")),
+        },
+        Err(_) => Err(Fail::from("no commands")),
+    }
+}
+
+#[test]
+fn a_check_that_assumes_readies(rt: HostRuntime) -> Result<(), Fail> {
+    let lines = [
+        ("check p 1 a", (false, false)),
+        ("check p 1 a --readies-from-status", (true, false)),
+        (
+            "check p 1 a --readies-from-status --assume-ready",
+            (true, true),
+        ),
+    ];
+    for (line, readies) in lines {
+        assert_eq!(rt; readies_of(rt.alloc(), line)?, readies);
+    }
     Ok(())
 }
 

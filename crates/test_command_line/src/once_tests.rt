@@ -360,6 +360,7 @@ fn command_lines_of_files(rt: HostRuntime) -> Result<(), Fail> {
             input: "b",
             tells_all: false,
             readies: Readies::Written,
+            assumes_ready: false,
             beginning: Beginning::Start,
             judges_bytes: false,
             form: TraceForm::Strict,

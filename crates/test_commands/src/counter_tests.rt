@@ -66,6 +66,7 @@ const CHECK: Command<'static> = Command::Check(CheckRequest {
     input: "run",
     tells_all: false,
     readies: Readies::Written,
+    assumes_ready: false,
     beginning: Beginning::Start,
     judges_bytes: false,
     form: TraceForm::Strict,

@@ -29,7 +29,22 @@ const SOURCES: [(&str, &str, usize); 11] = [
     ("rows 1\nbuffer 0\nbudget 5\ncmd 60\naddr 3 3\n", "A3", 5),
 ];
 
-// A command refuses this text at this line, and its words begin with file and line, end with the code, and have nothing for a terminal to do.
+// Words begin with file and line, end with the code, and have nothing for a terminal to do.
+fn expect_words(
+    rt: &(impl Abort + AllocGlobal),
+    words: &str,
+    code: &str,
+    line: usize,
+) -> Result<(), Fail> {
+    let begin = format!(in rt.alloc(); "in:{line}: ")?;
+    let end = format!(in rt.alloc(); " ({code})\n")?;
+    assert!(rt; words.starts_with(begin.as_str()), "{words}");
+    assert!(rt; words.ends_with(end.as_str()), "{words}");
+    assert!(rt; !words.contains('\u{1b}'), "{words}");
+    Ok(())
+}
+
+// A command refuses this text at this line, and says so in words.
 fn expect_line(
     rt: &(impl Abort + AllocGlobal),
     command: Command<'_>,
@@ -39,18 +54,9 @@ fn expect_line(
     let mut files = files_of(rt.alloc(), ONE_LUN, text.as_bytes())?;
     let seen = do_command(rt.alloc(), &mut files, command);
     let told = format!(in rt.alloc(); "refused {code} at {line}\n")?;
-    let begin = format!(in rt.alloc(); "in:{line}: ")?;
-    let end = format!(in rt.alloc(); " ({code})\n")?;
-    let (output, words) = seen.texts()?;
-    assert!(rt;
-        output == told.as_str() && seen.exit.status() == 1,
-        "{output}"
-    );
-    assert!(rt;
-        words.starts_with(begin.as_str()) && words.ends_with(end.as_str()),
-        "{words}"
-    );
-    assert!(rt; !words.contains('\u{1b}'), "{words}");
+    assert_eq!(rt; seen.exit.status(), 1);
+    assert_eq!(rt; str::from_utf8(seen.output.as_slice())?, told.as_str());
+    expect_words(rt, str::from_utf8(seen.errors.as_slice())?, code, line)?;
     Ok(files)
 }
 

@@ -57,6 +57,7 @@ pub(crate) const CHECK: Command<'static> = Command::Check(CheckRequest {
     input: "in",
     tells_all: false,
     readies: Readies::Written,
+    assumes_ready: false,
     beginning: Beginning::Start,
     judges_bytes: false,
     form: TraceForm::Strict,
@@ -233,6 +234,7 @@ fn check_of(targets: Targets) -> Command<'static> {
         input: "in",
         tells_all: false,
         readies: Readies::Written,
+        assumes_ready: false,
         beginning: Beginning::Start,
         judges_bytes: false,
         form: TraceForm::Strict,
@@ -272,13 +274,13 @@ const TRACES: &[(Parts, Input, &str, &str)] = &[
         ONE_LUN,
         Input::Text(OPENER),
         "refused F9 at 5\n",
-        "in:6: item 5, `0 C 60`: the LUN is busy (F9)\n",
+        "in:6: item 5, `0 C 60`: LUN 0 works since `d0` (line 5) (F9)\n",
     ),
     (
         TWO_LUNS,
         Input::Text(ROW),
         "refused F9 at 8\n",
-        "in:9: item 8, `0 A 00`: the LUN is busy (F9)\n",
+        "in:9: item 8, `0 A 00`: LUN 0 works since `d0` (line 5) (F9)\n",
     ),
 ];
 

@@ -6,13 +6,14 @@ use Rattle.onfi_cycle.specs.declared.item.Item.{Item}
 use Rattle.onfi_cycle.specs.declared.forbidden.Forbidden.{Forbidden}
 use Rattle.onfi_cycle.specs.Permitted.{is_legal, IsFirstBroken}
 use Rattle.trace_faults.specs.declared.broken_rule.BrokenRule.{BrokenRule}
+use Rattle.trace_faults.specs.declared.unshown.NotShown.{NotShown}
 use Rattle.trace_faults.specs.declared.readies.Readies.{Readies}
 use Rattle.trace_faults.specs.declared.readies.Readies.TheVariants.{Written, Shown}
-use Rattle.trace_faults.specs.Recovery.{gone_on}
+use Rattle.trace_faults.specs.Recovery.{fresh_for, gone_on}
 use Rattle.trace_faults.specs.Inside.{IsInside}
 use Rattle.trace_faults.specs.ShownReadies.{ready_before, array_ready_before, with_ready, with_readies, listed}
 use Rattle.trace_faults.specs.Unshown.{unshown, ready_taken}
-use Rattle.trace_faults.specs.Faults.{fresh, before_item, faults_of, not_shown_from, not_shown_of, completed_from, completed}
+use Rattle.trace_faults.specs.Faults.{before_item, faults_of, not_shown_from, not_shown_of, completed_from, completed}
 use Rattle.trace_faults.proofs.Inside.{ready_inside, array_ready_inside}
 use Rattle.trace_faults.proofs.Judged.{faultless_are_legal, first_broken_is_first}
 use Rattle.trace_faults.proofs.Shown.{taken_inside, completed_are_judged}
@@ -21,13 +22,13 @@ use Rattle.trace_text.specs.Checking.{TellsFirst}
 use Rattle.trace_text.specs.declared.checking.CheckRefusal.{CheckRefusal}
 use Rattle.trace_text.specs.declared.checking.CheckRefusal.TheVariants.{At}
 use Rattle.onfi_cycle.specs.declared.item.Item.TheVariants.{Cyc, Rdy, Ard}
-use Rattle.onfi_cycle.specs.State.{BusView}
+use Rattle.trace_faults.specs.declared.trace_state.TraceState.{TraceState}
 use Rattle.seq_files.specs.Store.{Store}
 use Rattle.trace_commands.specs.declared.check_request.CheckRequest.{CheckRequest}
 use Rattle.trace_commands.specs.Targets.{count_of}
 use Rattle.trace_faults.specs.declared.beginning.Beginning.{Beginning}
 use Rattle.trace_faults.specs.declared.beginning.Beginning.TheVariants.{Start, Middle}
-use Rattle.trace_commands.specs.Checks.{told_of, faults_as, judged_trace, IsJudged, IsLegalAs, IsLegalTrace, ArePrinted, fault_lines, TraceIsFaulty}
+use Rattle.trace_commands.specs.Checks.{told_of, faults_as, judged_trace, IsJudged, IsLegalAs, IsLegalTrace, IsPassed, ArePrinted, may_pass, legal_text, faulty_text, TraceIsFaulty}
 use Rattle.trace_commands.specs.declared.recording_fault.RecordingFault.{RecordingFault}
 
 -- nothing is told of a legal trace
@@ -44,12 +45,12 @@ pub told_at : (g : Parts) (m n : ℕ) (items : List Item) (refusal : CheckRefusa
 told_at g m n items refusal place rule same is tells = subst (λ k. IsFirstBroken g k items place rule) same (subst (TellsFirst g m items) is tells)
 
 -- where readies are written none is taken for granted
-none_taken : (items : List Item) (s : BusView) (k : ℕ) → not_shown_from Written s k items ≡ []
+none_taken : (items : List Item) (s : TraceState) (k : ℕ) → not_shown_from Written s k items ≡ []
 none_taken [] s k = refl
 none_taken (i ∷ items) s k = none_taken items (gone_on i s) (k + 1)
 
 pub none_not_shown : (g : Parts) (n : ℕ) (items : List Item) → not_shown_of Written g n items ≡ []
-none_not_shown g n items = none_taken items (fresh g n) 0
+none_not_shown g n items = none_taken items (fresh_for g n items) 0
 
 -- ---- the text of a trace with its readies can be written, where that of the trace can
 
@@ -74,16 +75,16 @@ inside_printable (Cyc c) p = p
 inside_printable (Rdy ce lun fail) p = p
 inside_printable (Ard ce lun) p = p
 
-ready_printable : (s : BusView) (i r : Item) → IsPrintable i → ready_before s i ≡ Some r → IsPrintable r
+ready_printable : (s : TraceState) (i r : Item) → IsPrintable i → ready_before s i ≡ Some r → IsPrintable r
 ready_printable s i r p is = inside_printable r (ready_inside s i r (printable_inside i p) is)
 
-array_ready_printable : (s : BusView) (i r : Item) → IsPrintable i → array_ready_before s i ≡ Some r → IsPrintable r
+array_ready_printable : (s : TraceState) (i r : Item) → IsPrintable i → array_ready_before s i ≡ Some r → IsPrintable r
 array_ready_printable s i r p is = inside_printable r (array_ready_inside s i r (printable_inside i p) is)
 
-taken_printable : (s : BusView) (i : Item) (later : List Item) (r : Item) → IsPrintable i → ready_taken (unshown s i later) ≡ Some r → IsPrintable r
+taken_printable : (s : TraceState) (i : Item) (later : List Item) (r : Item) → IsPrintable i → ready_taken (unshown s i later) ≡ Some r → IsPrintable r
 taken_printable s i later r p is = inside_printable r (taken_inside s i later r (printable_inside i p) is)
 
-completed_from_printable : (items : List Item) (s : BusView) → All IsPrintable items → All IsPrintable (completed_from s items)
+completed_from_printable : (items : List Item) (s : TraceState) → All IsPrintable items → All IsPrintable (completed_from s items)
 completed_from_printable [] s all = none_printable
 completed_from_printable (i ∷ items) s all =
     let here : IsPrintable i = all 0 i (omega arith) in
@@ -101,7 +102,7 @@ completed_from_printable (i ∷ items) s all =
     (more_printable i later here (completed_from_printable items next rest)))))
 
 pub completed_printable : (g : Parts) (n : ℕ) (items written : List Item) → All IsPrintable items → written ≡ completed g n items → All IsPrintable written
-completed_printable g n items written all is = subst (All IsPrintable) (sym is) (completed_from_printable items (fresh g n) all)
+completed_printable g n items written all is = subst (All IsPrintable) (sym is) (completed_from_printable items (fresh_for g n items) all)
 
 -- ---- a trace of which nothing is told is legal
 
@@ -121,11 +122,12 @@ faultless_as : (beginning : Beginning) (readies : Readies) (g : Parts) (n : ℕ)
 faultless_as Start readies g n items none = faultless readies g n items none
 faultless_as Middle readies g n items none = none
 
-pub legal_trace : (files later : Option Store) (request : CheckRequest) (told : List BrokenRule) → told ≡ [] → IsJudged files later request told → IsLegalTrace files later request
-legal_trace files later request told none j =
+pub legal_trace : (files later : Option Store) (request : CheckRequest) (told : List BrokenRule) (assumed : List NotShown) (passes : Bool) → told ≡ [] →
+    may_pass request assumed ≡ passes → IsJudged files later request told assumed → IsPassed files later request passes (legal_text assumed)
+legal_trace files later request told assumed passes none may j =
     let n = count_of request.targets in
     let nothing = none_of_all request.tells_all (faults_as request.beginning request.readies j.g n j.judged.items) (sym j.judged.told_is ∙ none) in
-    record {
+    let legal : IsLegalTrace files later request assumed = record {
       g = j.g;
       has_page = j.has_page;
       text = j.text;
@@ -133,11 +135,14 @@ legal_trace files later request told none j =
       items = j.judged.items;
       is_text = j.judged.is_text;
       legal = faultless_as request.beginning request.readies j.g n j.judged.items nothing;
+      assumed_is = j.judged.assumed_is;
       copied = j.judged.copied;
-    }
+    } in
+    record { assumed = assumed; legal = legal; may = may; lines = refl }
 
 -- a check that tells faults refuses the trace so
-pub refused_trace : (files later : Option Store) (request : CheckRequest) (told : List BrokenRule) (fault : RecordingFault) (printed : List ℕ) → IsJudged files later request told → ArePrinted told fault → printed ≡ fault_lines told → TraceIsFaulty files later request fault printed
-refused_trace files later request [] fault printed judged is lines = absurd is
-refused_trace files later request (first ∷ rest) fault printed judged is lines =
-    record { first = first; rest = rest; judged = judged; is_first = is; lines = lines }
+pub refused_trace : (files later : Option Store) (request : CheckRequest) (told : List BrokenRule) (assumed : List NotShown) (fault : RecordingFault) →
+    IsJudged files later request told assumed → ArePrinted told fault → TraceIsFaulty files later request fault (faulty_text told assumed)
+refused_trace files later request [] assumed fault judged is = absurd is
+refused_trace files later request (first ∷ rest) assumed fault judged is =
+    record { first = first; rest = rest; assumed = assumed; judged = judged; is_first = is; lines = refl }

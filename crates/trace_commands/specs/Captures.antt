@@ -1,5 +1,5 @@
 -- What a capture comes to: which trace is written.
-use Rattle.std.specs.Prelude.{◌≡◌, ◌⊎◌, ◌==◌, ℕ, Bool, true, false, List, [], map, Option, Some, None, Result, Ok, Err}
+use Rattle.std.specs.Prelude.{◌≡◌, ◌==◌, ℕ, Bool, true, false, List, [], map, Option, Some, None, Result, Ok, Err}
 use Rattle.std.specs.List.{before_first, after_first, slice_split}
 use Rattle.std.specs.Option.{option_map}
 use Rattle.seq_files.specs.Store.{Store, Holds, with_file}

@@ -1,5 +1,6 @@
 -- What a check comes to: which trace is judged, which of its faults are told, and what is written.
-use Rattle.std.specs.Prelude.{◌≡◌, ◌⊎◌, ◌++◌, [], ◌∷◌, ℕ, true, Bool, List, Option, Some, None, Err, reverse, take, if◌then◌else◌}
+use Rattle.std.specs.Prelude.{◌≡◌, ◌⊎◌, ◌++◌, [], ◌∷◌, ℕ, true, Bool, List, codes, Option, Some, None, Err, reverse, take, if◌then◌else◌}
+use Rattle.std.specs.Fmt.{decimal}
 use Rattle.std.specs.Option.{option_map}
 use Rattle.seq_files.specs.Store.{Store, Holds, with_file}
 use Rattle.nand_geometry.specs.declared.parts.Parts.{Parts}
@@ -52,6 +53,31 @@ abbrev pub fault_lines : List BrokenRule → List ℕ
 fault_lines [] = []
 fault_lines (fault ∷ faults) = fault_line (ItemAt fault.rule fault.item) ++ fault_lines faults
 
+-- ---- readies that are taken for granted
+
+-- `assumed ready at N`, and a line feed: before this item a LUN is taken for ready that nothing showed
+abbrev pub assumed_line : NotShown → List ℕ
+assumed_line told = codes "assumed ready at " ++ (decimal told.item ++ (10 ∷ []))
+
+abbrev pub assumed_lines : List NotShown → List ℕ
+assumed_lines [] = []
+assumed_lines (told ∷ assumed) = assumed_line told ++ assumed_lines assumed
+
+-- what is printed of a trace without a fault
+abbrev pub legal_text : List NotShown → List ℕ
+legal_text assumed = codes "legal\n" ++ assumed_lines assumed
+
+-- and of one that has these
+abbrev pub faulty_text : List BrokenRule → List NotShown → List ℕ
+faulty_text told assumed = fault_lines told ++ assumed_lines assumed
+
+-- nothing is taken for granted, or it may be
+abbrev pub may_pass : CheckRequest → List NotShown → Bool
+may_pass request [] = true
+may_pass request (told ∷ assumed) = request.assumes_ready
+
+-- ---- what is judged
+
 -- the text of a trace is written where a path is given for it
 abbrev pub with_copy : Option (List ℕ) → List Item → Option Store → Option Store
 with_copy None items files = files
@@ -62,28 +88,29 @@ abbrev pub IsCopied : (files later : Option Store) → CheckRequest → Parts �
 IsCopied files later request g items =
     later ≡ with_copy (option_map (λ path. path.now) request.copy) (judged_trace request.readies g (count_of request.targets) items) files
 
--- of the trace of a text these faults are told, and it is written where a path is given for it
-pub record IsJudgedText (files later : Option Store) (request : CheckRequest) (g : Parts) (bytes : List ℕ) (told : List BrokenRule) : Type 0 where
+-- of the trace of a text these faults are told, and these readies are taken for granted; and it is written where a path is given for it
+pub record IsJudgedText (files later : Option Store) (request : CheckRequest) (g : Parts) (bytes : List ℕ) (told : List BrokenRule) (assumed : List NotShown) : Type 0 where
   pub items : List Item
   pub is_text : IsTraceText request.form bytes items
   pub told_is : told ≡ told_faults request g items
+  pub assumed_is : assumed ≡ not_shown_as request.beginning request.readies g (count_of request.targets) items
   pub copied : IsCopied files later request g items
 
--- of the trace at the path these faults are told
-pub record IsJudged (files later : Option Store) (request : CheckRequest) (told : List BrokenRule) : Type 0 where
+-- the same of the trace at the path
+pub record IsJudged (files later : Option Store) (request : CheckRequest) (told : List BrokenRule) (assumed : List NotShown) : Type 0 where
   pub g : Parts
   pub has_page : HasPage files request.page.now g
   pub text : List ℕ
   pub is_there : Holds files request.input.now text
-  pub judged : IsJudgedText files later request g text told
+  pub judged : IsJudgedText files later request g text told assumed
 
 -- the trace is legal from its start; from the middle on, nothing in it is forbidden whatever was before
 abbrev pub IsLegalAs : Beginning → Readies → Parts → ℕ → List Item → Type 0
 IsLegalAs Start readies g targets items = is_legal g targets (reverse (judged_trace readies g targets items)) ≡ true
 IsLegalAs Middle readies g targets items = faults_as Middle readies g targets items ≡ []
 
--- the trace at the path is legal on a channel of so many targets
-pub record IsLegalTrace (files later : Option Store) (request : CheckRequest) : Type 0 where
+-- the trace at the path is legal on a channel of so many targets, with these readies that are taken for granted
+pub record IsLegalTrace (files later : Option Store) (request : CheckRequest) (assumed : List NotShown) : Type 0 where
   pub g : Parts
   pub has_page : HasPage files request.page.now g
   pub text : List ℕ
@@ -91,6 +118,7 @@ pub record IsLegalTrace (files later : Option Store) (request : CheckRequest) : 
   pub items : List Item
   pub is_text : IsTraceText request.form text items
   pub legal : IsLegalAs request.beginning request.readies g (count_of request.targets) items
+  pub assumed_is : assumed ≡ not_shown_as request.beginning request.readies g (count_of request.targets) items
   pub copied : IsCopied files later request g items
 
 -- the first fault of the text of a trace, which is to have this form
@@ -114,9 +142,10 @@ ArePrinted (first ∷ rest) fault = fault ≡ ItemAt first.rule first.item
 pub record TraceIsFaulty (files later : Option Store) (request : CheckRequest) (fault : RecordingFault) (printed : List ℕ) : Type 0 where
   pub first : BrokenRule
   pub rest : List BrokenRule
-  pub judged : IsJudged files later request (first ∷ rest)
+  pub assumed : List NotShown
+  pub judged : IsJudged files later request (first ∷ rest) assumed
   pub is_first : fault ≡ ItemAt first.rule first.item
-  pub lines : printed ≡ fault_lines (first ∷ rest)
+  pub lines : printed ≡ faulty_text (first ∷ rest) assumed
 
 -- what a check finds wrong with the text of a trace or with the trace, and what it prints and leaves then
 abbrev pub CheckRefuses : (files later : Option Store) → CheckRequest → RecordingFault → (printed : List ℕ) → Type 0
@@ -125,4 +154,11 @@ CheckRefuses files later request fault printed =
 
 -- files are as they were, or the trace that is judged is written
 abbrev pub CheckLeaves : (files later : Option Store) → CheckRequest → Type 0
-CheckLeaves files later request = (later ≡ files) ⊎ ((told : List BrokenRule) × IsJudged files later request told)
+CheckLeaves files later request = (later ≡ files) ⊎ ((told : List BrokenRule) × (assumed : List NotShown) × IsJudged files later request told assumed)
+
+-- the trace is legal, with readies that are taken for granted and may be, or may not
+pub record IsPassed (files later : Option Store) (request : CheckRequest) (passes : Bool) (printed : List ℕ) : Type 0 where
+  pub assumed : List NotShown
+  pub legal : IsLegalTrace files later request assumed
+  pub may : may_pass request assumed ≡ passes
+  pub lines : printed ≡ legal_text assumed

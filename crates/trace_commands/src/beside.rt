@@ -1,17 +1,20 @@
 //! What a check says beside the faults: what was judged, which readies nothing showed, what was taken for granted, and which status bytes contradict the
 //! trace.
 
+use crate::cause::Cause;
 use crate::check_request::CheckRequest;
 use crate::explaining::words_at_item;
 use crate::line_cursor::LineCursor;
 use crate::tally::Tally;
 use crate::telling::push_message;
-use onfi_cycle::Forbidden;
+use crate::trace_past::TracePast;
+use nand_geometry::Geometry;
+use onfi_cycle::{Forbidden, Item};
 use seq_inputs::{Place, Style, Told, Words, say_words};
 use std::alloc::{AllocError, Allocator};
 use std::fmt;
 use std::io::Write;
-use trace_faults::{Beginning, BrokenRule, DoubtedByte, NotShown, UnshownReady};
+use trace_faults::{Beginning, BrokenRule, DoubtedByte, NotShown, OutsideSequence, UnshownReady};
 
 // How many of a kind are said at most.
 const MOST_SAID: usize = 20;
@@ -35,14 +38,49 @@ impl<A: Allocator> Unknown<A> {
     }
 }
 
-/// What a check has found beside the faults.
+/// What a check has found beside the faults, and what it has judged.
 #[derive(Drop)]
 pub(crate) struct Beside<A: Allocator> {
+    pub(crate) geometry: Geometry,
+    pub(crate) items: Vec<Item, A>,
+    /// The sequences outside of the profile, where the recording begins at the start.
+    pub(crate) outside: Vec<OutsideSequence, A>,
     pub(crate) tally: Tally,
-    /// What is permitted with a ready that nothing showed.
-    pub(crate) not_shown: Vec<NotShown, A>,
     pub(crate) unknown: Unknown<A>,
     pub(crate) doubts: Vec<DoubtedByte, A>,
+}
+
+impl<A: Allocator> Beside<A> {
+    /// What no item has made yet of the channel that was judged.
+    pub(crate) fn past(&self, request: CheckRequest<'_>) -> TracePast {
+        TracePast::new(
+            self.geometry,
+            request.targets.count(),
+            request.readies,
+            self.items.as_slice(),
+        )
+    }
+
+    /// Why an item breaks a rule; of a recording that begins in the middle that isn't known.
+    pub(crate) fn explain(
+        &self,
+        past: &mut TracePast,
+        request: CheckRequest<'_>,
+        cursor: &mut LineCursor<'_>,
+        fault: BrokenRule,
+    ) -> Option<Cause> {
+        let BrokenRule { item, rule } = fault;
+        match request.beginning {
+            Beginning::Start => past.explain(
+                self.items.as_slice(),
+                self.outside.as_slice(),
+                cursor,
+                item,
+                rule,
+            ),
+            Beginning::Middle => None,
+        }
+    }
 }
 
 // A rule that would be broken, and is taken for granted.
@@ -232,13 +270,13 @@ fn words_beside<A: Allocator + Clone>(
     request: CheckRequest<'_>,
     text: &str,
     beside: &Beside<A>,
+    assumed: &[NotShown],
     faults: usize,
 ) -> Result<String<A>, AllocError> {
     let mut lines = String::new(alloc.clone()?);
     let doubts = beside.doubts.as_slice();
     push_doubts(&mut lines, alloc.clone()?, request, text, doubts)?;
-    let not_shown = beside.not_shown.as_slice();
-    push_not_shown(&mut lines, alloc.clone()?, request, text, not_shown)?;
+    push_not_shown(&mut lines, alloc.clone()?, request, text, assumed)?;
     push_unknown(&mut lines, alloc, request, text, &beside.unknown)?;
     push_summary(&mut lines, request, beside.tally, faults)?;
     Ok(lines)
@@ -251,10 +289,11 @@ pub(crate) fn say_beside<A: Allocator + Clone, E: Write>(
     request: CheckRequest<'_>,
     text: &[u8],
     beside: &Beside<A>,
+    assumed: &[NotShown],
     faults: usize,
 ) {
     if let Ok(text) = str::from_utf8(text) {
-        if let Ok(words) = words_beside(alloc, request, text, beside, faults) {
+        if let Ok(words) = words_beside(alloc, request, text, beside, assumed, faults) {
             say_words(errors, words.as_str());
         }
     }

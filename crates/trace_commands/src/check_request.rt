@@ -16,6 +16,8 @@ pub struct CheckRequest<'a> {
     /// Whether all faults are told, or the first alone.
     pub tells_all: bool,
     pub readies: Readies,
+    /// Whether a trace is done that is legal with LUNs taken for ready that nothing showed.
+    pub assumes_ready: bool,
     /// Where the recording of the trace begins.
     pub beginning: Beginning,
     /// Whether status bytes that contradict the trace are said on standard error.

@@ -1,5 +1,5 @@
 //! The command that checks a trace.
-ghost use Rattle.std.specs.Prelude.{◌≡◌, ℕ, List, [], take, IfOk, IfErr, OnOk, OnErr, codes};
+ghost use Rattle.std.specs.Prelude.{◌≡◌, ℕ, List, [], true, false, take, IfOk, IfErr, OnOk, OnErr};
 ghost use Rattle.std.specs.List.{All};
 ghost use Rattle.std.specs.Option.{option_map};
 ghost use Rattle.std.specs.Io.KnownBytes.{Appends};
@@ -13,27 +13,25 @@ ghost use Rattle.trace_commands.specs.declared.recording_fault.RecordingFault.{R
 ghost use Rattle.trace_commands.specs.Endings.{SaysOf};
 ghost use Rattle.trace_commands.specs.Targets.{count_of};
 ghost use Rattle.trace_faults.specs.declared.beginning.Beginning.TheVariants.{Middle};
-ghost use Rattle.trace_commands.specs.Checks.{told_of, faults_as, not_shown_as, told_faults, judged_trace, with_copy, IsJudgedText, IsJudged, RefusesTrace, TraceIsRefused, IsLegalTrace, ArePrinted, fault_lines, CheckRefuses, CheckLeaves};
+ghost use Rattle.trace_commands.specs.Checks.{told_of, faults_as, not_shown_as, told_faults, judged_trace, with_copy, IsJudgedText, IsJudged, RefusesTrace, TraceIsRefused, IsPassed, ArePrinted, legal_text, faulty_text, may_pass, CheckRefuses, CheckLeaves};
 
-use crate::beside::{Beside, Unknown, say_beside};
+use crate::beside::{Beside, Unknown};
 use crate::check_request::CheckRequest;
 use crate::ending::Ending;
 use crate::recording_stop::{RecordingStop, end_stopped};
 use crate::tally::Tally;
 use crate::targets::Targets;
-use crate::telling::tell_faults;
+use crate::telling::{tell_faults, tell_legal};
 use crate::traces::{items_of, put_items};
 use nand_geometry::Geometry;
 use onfi_cycle::Item;
 use seq_files::Files;
-use seq_inputs::{
-    Console, Exit, Stop, end_without_memory, finish, geometry_at, read_file, text_of,
-};
+use seq_inputs::{Console, Exit, Stop, end_without_memory, geometry_at, read_file, text_of};
 use std::alloc::{AllocError, Allocator};
 use std::io::Write;
 use trace_faults::{
-    Beginning, BrokenRule, DoubtedByte, MiddleFaults, NotShown, Readies, complete, find_faults,
-    find_faults_from_middle, find_not_shown, find_status_doubts,
+    Beginning, BrokenRule, DoubtedByte, MiddleFaults, NotShown, OutsideSequence, Readies, complete,
+    find_faults, find_faults_from_middle, find_not_shown, find_outside, find_status_doubts,
 };
 use trace_text::{CheckProgress, CheckRefusal, check_watched};
 
@@ -208,7 +206,25 @@ fn copy_trace<'p, A: Allocator + Clone, F: Files>(
 #[derive(Drop)]
 struct Judged<A: Allocator> {
     told: Vec<BrokenRule, A>,
+    assumed: Vec<NotShown, A>,
     beside: Beside<A>,
+}
+
+// The sequences outside of the profile that are passed over, where there are faults and the recording begins at the start.
+fn find_passed_over<A: Allocator + Clone>(
+    alloc: A,
+    request: CheckRequest<'_>,
+    geometry: &Geometry,
+    items: &[Item],
+    faults: &[BrokenRule],
+) -> Result<Vec<OutsideSequence, A>, AllocError> {
+    match (request.beginning, faults) {
+        (Beginning::Middle, _) | (Beginning::Start, []) => Ok(Vec::new(alloc)),
+        (Beginning::Start, [_, ..]) => {
+            let targets = request.targets.count();
+            find_outside(alloc, geometry, targets, items, request.readies)
+        }
+    }
 }
 
 // Judges the trace of a text, and copies it.
@@ -220,24 +236,29 @@ fn judge_text<'p, A: Allocator + Clone, F: Files, P: CheckProgress>(
     geometry: &Geometry,
     text: &str,
 ) -> Result<Judged<A>, RecordingStop<'p, A>>
-    ensures ok { IfOk result (λ found. IsJudgedText (F.store files.old) (F.store files.new) request.entry geometry.now text.now found.told.items) }
+    ensures ok { IfOk result (λ found. IsJudgedText (F.store files.old) (F.store files.new) request.entry geometry.now text.now found.told.items found.assumed.items) }
     ensures err { IfErr result (SaysOf (λ _. ⊥) (RefusesTrace request.entry.form text.now)) }
     ensures stays { OnErr result (F.store files.new ≡ F.store files.old) }
 {
-    let items = items_of(alloc.clone()?, request.input, text, request.form)?;
-    let items = items.as_slice();
+    let whole = items_of(alloc.clone()?, request.input, text, request.form)?;
+    let items = whole.as_slice();
     let Told {
         faults,
         not_shown,
         unknown,
     } = find_told(alloc.clone()?, progress, request, geometry, items)?;
     let doubts = find_doubts(alloc.clone()?, request, geometry, items)?;
+    let outside = find_passed_over(alloc.clone()?, request, geometry, items, faults.as_slice())?;
     copy_trace(alloc, files, request, geometry, items)?;
+    let tally = Tally::of(items);
     Ok(Judged {
         told: faults,
+        assumed: not_shown,
         beside: Beside {
-            tally: Tally::of(items),
-            not_shown,
+            geometry: *geometry,
+            items: whole,
+            outside,
+            tally,
             unknown,
             doubts,
         },
@@ -249,6 +270,7 @@ fn judge_text<'p, A: Allocator + Clone, F: Files, P: CheckProgress>(
 struct Found<A: Allocator> {
     text: Vec<u8, A>,
     told: Vec<BrokenRule, A>,
+    assumed: Vec<NotShown, A>,
     beside: Beside<A>,
 }
 
@@ -259,7 +281,7 @@ fn check_at<'p, A: Allocator + Clone, F: Files, P: CheckProgress>(
     progress: &mut P,
     request: CheckRequest<'p>,
 ) -> Result<Found<A>, RecordingStop<'p, A>>
-    ensures ok { IfOk result (λ found. IsJudged (F.store files.old) (F.store files.new) request.entry found.told.items) }
+    ensures ok { IfOk result (λ found. IsJudged (F.store files.old) (F.store files.new) request.entry found.told.items found.assumed.items) }
     ensures err { IfErr result (SaysOf (PageIsRefused (F.store files.old) request.entry.page.now)
         (TraceIsRefused (F.store files.old) request.entry.form request.entry.page.now request.entry.input.now)) }
     ensures stays { OnErr result (F.store files.new ≡ F.store files.old) }
@@ -267,10 +289,15 @@ fn check_at<'p, A: Allocator + Clone, F: Files, P: CheckProgress>(
     let geometry = geometry_at(alloc.clone()?, files, request.page)?;
     let bytes = read_file(alloc.clone()?, files, request.input)?;
     let text = text_of(request.input, bytes.as_slice())?;
-    let Judged { told, beside } = judge_text(alloc, files, progress, request, &geometry, text)?;
+    let Judged {
+        told,
+        assumed,
+        beside,
+    } = judge_text(alloc, files, progress, request, &geometry, text)?;
     Ok(Found {
         text: bytes,
         told,
+        assumed,
         beside,
     })
 }
@@ -282,18 +309,18 @@ fn tell_found<A: Allocator + Clone, W: Write, E: Write, P>(
     request: CheckRequest<'_>,
     found: &Found<A>,
 ) -> Ending
-    ensures done { result ≡ Ending.Exit Exit.Done → (found.now.told.items ≡ [])
-        × Appends (W.contents console.old.output) (W.contents console.new.output) (codes "legal\n") }
+    ensures done { result ≡ Ending.Exit Exit.Done → (found.now.told.items ≡ []) × (may_pass request.entry found.now.assumed.items ≡ true)
+        × Appends (W.contents console.old.output) (W.contents console.new.output) (legal_text found.now.assumed.items) }
+    ensures assumed { result ≡ Ending.Assumed → (found.now.told.items ≡ []) × (may_pass request.entry found.now.assumed.items ≡ false)
+        × Appends (W.contents console.old.output) (W.contents console.new.output) (legal_text found.now.assumed.items) }
     ensures refused { (refusal : Refusal) → result ≡ Ending.Exit (Exit.Refused refusal) → ⊥ }
     ensures faulty { (fault : RecordingFault) → result ≡ Ending.Faulty fault → ArePrinted found.now.told.items fault
-        × Appends (W.contents console.old.output) (W.contents console.new.output) (fault_lines found.now.told.items) }
+        × Appends (W.contents console.old.output) (W.contents console.new.output) (faulty_text found.now.told.items found.now.assumed.items) }
 {
     let text = found.text.as_slice();
+    let assumed = found.assumed.as_slice();
     match found.told.as_slice() {
-        [] => {
-            say_beside(alloc, &mut console.errors, request, text, &found.beside, 0);
-            Ending::Exit(finish(console, "legal\n"))
-        }
+        [] => tell_legal(alloc, console, request, text, &found.beside, assumed),
         [first, ..] => tell_faults(
             alloc,
             console,
@@ -302,15 +329,17 @@ fn tell_found<A: Allocator + Clone, W: Write, E: Write, P>(
             &found.beside,
             *first,
             found.told.as_slice(),
+            assumed,
         ),
     }
 }
 
 /// Checks whether the trace of a text is legal on a channel of so many targets of the geometry of a parameter page.
 ///
-/// `Done`: it is, and `legal` is printed. `Refused`: the line `refused NAME at N` is printed, a P fault of the page. `Faulty`: so is it: an X fault of the
+/// `Done`: it is, and `legal` is printed, and a line `assumed ready at N` for each item before which a LUN is taken for ready that nothing showed, where that is
+/// asked for. `Assumed`: so are they, where it isn't. `Refused`: the line `refused NAME at N` is printed, a P fault of the page. `Faulty`: so is it: an X fault of the
 /// text with its line; or the first item that isn't permitted after those before it, with the first rule that it breaks, and where all faults are
-/// asked for the line of each other one after it. The text is read after the page, if that has no fault. `FileFault`: a file couldn't be read or
+/// asked for the line of each other one after it, and behind these the lines of what is taken for ready. The text is read after the page, if that has no fault. `FileFault`: a file couldn't be read or
 /// written, the text isn't UTF-8, or the output couldn't be written. Where a path is given for it, the trace that is judged is written there before
 /// anything is printed, and no other file is. The console's progress is told at each million of items that are permitted, where the first fault
 /// ends the check of a trace that has its readies. On its errors stands what was taken for granted of a trace whose recording begins in the middle,
@@ -321,8 +350,12 @@ pub fn check_trace<A: Allocator + Clone, F: Files, W: Write, E: Write, P: CheckP
     console: &mut Console<W, E, P>,
     request: CheckRequest<'_>,
 ) -> Ending
-    ensures done { result ≡ Ending.Exit Exit.Done → IsLegalTrace (F.store files.old) (F.store files.new) request.entry
-        × Appends (W.contents console.old.output) (W.contents console.new.output) (codes "legal\n") }
+    ensures done { result ≡ Ending.Exit Exit.Done → (printed : List ℕ)
+        × IsPassed (F.store files.old) (F.store files.new) request.entry true printed
+        × Appends (W.contents console.old.output) (W.contents console.new.output) printed }
+    ensures assumed { result ≡ Ending.Assumed → (printed : List ℕ)
+        × IsPassed (F.store files.old) (F.store files.new) request.entry false printed
+        × Appends (W.contents console.old.output) (W.contents console.new.output) printed }
     ensures refused { (refusal : Refusal) → result ≡ Ending.Exit (Exit.Refused refusal)
         → Tells (PageIsRefused (F.store files.old) request.entry.page.now) refusal
         × (F.store files.new ≡ F.store files.old) × Appends (W.contents console.old.output) (W.contents console.new.output) (line_of refusal) }

@@ -12,6 +12,8 @@ pub enum Ending {
     Exit(Exit),
     /// The trace or the capture has this fault, which standard output says by its code, and standard error in words.
     Faulty(RecordingFault),
+    /// The trace is legal if the LUNs had become ready that nothing showed so; standard output names each item before which one is taken for ready.
+    Assumed,
 }
 
 impl Ending {
@@ -22,6 +24,7 @@ impl Ending {
         match self {
             Ending::Exit(exit) => exit.status(),
             Ending::Faulty(_) => 1,
+            Ending::Assumed => 5,
         }
     }
 }

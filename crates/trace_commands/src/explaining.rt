@@ -1,5 +1,6 @@
 //! What is wrong with a recording, in words for whoever made it.
 
+use crate::cause::Cause;
 use crate::line_cursor::ItemLine;
 use bus_capture::CaptureFault;
 use onfi_cycle::Forbidden;
@@ -7,6 +8,7 @@ use seq_inputs::Words;
 use shown_text::Shown;
 use std::alloc::Allocator;
 use std::fmt;
+use trace_faults::BrokenRule;
 use trace_text::{TraceFault, TraceForm, TraceMessage, TraceRefusal};
 
 /// What is wrong with a line of the text of a trace.
@@ -22,6 +24,14 @@ pub(crate) fn words_of_trace<'p, A: Allocator>(
     Words::at(path, Some(line), format!(in alloc; "{message}"))
 }
 
+// A line that begins as gzip begins its files, at the beginning of one.
+fn is_compressed(number: usize, line: Option<&[u8]>) -> bool {
+    match line {
+        Some([0x1f, 0x8b, ..]) => number == 1,
+        Some(_) | None => false,
+    }
+}
+
 /// What is wrong with a capture: of a line with the text of that line, where that is given and is UTF-8.
 pub(crate) fn words_of_capture<'p, A: Allocator>(
     alloc: A,
@@ -33,6 +43,12 @@ pub(crate) fn words_of_capture<'p, A: Allocator>(
     let CaptureFault::File(at) = fault else {
         return Words::at(path, None, format!(in alloc; "{fault} ({code})"));
     };
+    if is_compressed(at.line, line) {
+        let words = format!(in alloc;
+            "the capture is compressed by gzip: unpack it first ({code})"
+        );
+        return Words::at(path, Some(at.line), words);
+    }
     let text = match line.map(str::from_utf8) {
         Some(Ok(text)) => {
             let shown = Shown::line(text);
@@ -59,23 +75,30 @@ pub(crate) fn words_at_item<'p, A: Allocator, M: fmt::Display + Drop>(
     Words::at(path, Some(line.number), words)
 }
 
-// A rule with its code.
+// Why a rule is broken, where that has one cause that can be named, with its code.
 #[derive(Clone, Copy)]
-struct Coded(Forbidden);
+struct Coded {
+    rule: Forbidden,
+    cause: Option<Cause>,
+}
 
 impl fmt::Display for Coded {
     fn fmt<W: fmt::Write>(&self, f: &mut fmt::Formatter<W>) -> fmt::Result {
-        write!(f, "{} ({})", self.0, self.0.code())
+        match self.cause {
+            Some(cause) => write!(f, "{cause} ({})", self.rule.code()),
+            None => write!(f, "{} ({})", self.rule, self.rule.code()),
+        }
     }
 }
 
-/// Which rule an item of a trace breaks, which stands in this line.
+/// Which rule an item of a trace breaks, which stands in this line, and why.
 pub(crate) fn words_of_item<'p, A: Allocator>(
     alloc: A,
     path: &'p str,
     line: ItemLine<'_>,
-    rule: Forbidden,
-    item: usize,
+    fault: BrokenRule,
+    cause: Option<Cause>,
 ) -> Option<Words<'p, A>> {
-    words_at_item(alloc, path, line, item, Coded(rule))
+    let BrokenRule { item, rule } = fault;
+    words_at_item(alloc, path, line, item, Coded { rule, cause })
 }

@@ -1,12 +1,14 @@
 //! Telling the faults of a trace.
-ghost use Rattle.std.specs.Prelude.{◌≡◌, ◌∷◌, IfOk};
+ghost use Rattle.std.specs.Prelude.{◌≡◌, ◌∷◌, ◌++◌, true, false, IfOk, OnOk};
 ghost use Rattle.std.specs.String.{string_bytes};
 ghost use Rattle.std.specs.Io.KnownBytes.{Appends};
 ghost use Rattle.seq_inputs.specs.declared.refusal.Refusal.{Refusal};
+ghost use Rattle.trace_commands.specs.declared.recording_fault.RecordingFault.{RecordingFault};
 ghost use Rattle.trace_commands.specs.declared.recording_fault.RecordingFault.TheVariants.{Item as ItemAt};
-ghost use Rattle.trace_commands.specs.Checks.{fault_lines};
+ghost use Rattle.trace_commands.specs.Checks.{fault_lines, assumed_line, assumed_lines, legal_text, faulty_text, may_pass};
 
 use crate::beside::{Beside, say_beside};
+use crate::cause::Cause;
 use crate::check_request::CheckRequest;
 use crate::ending::Ending;
 use crate::explaining::words_of_item;
@@ -15,7 +17,7 @@ use crate::recording_fault::RecordingFault;
 use seq_inputs::{Console, Exit, Style, Told, end_without_memory, finish, say_words};
 use std::alloc::{AllocError, Allocator};
 use std::io::Write;
-use trace_faults::BrokenRule;
+use trace_faults::{BrokenRule, NotShown};
 
 // How many faults are said in words at most; the lines of the output name all.
 const MOST_SAID: usize = 100;
@@ -46,8 +48,9 @@ fn push_words<A: Allocator>(
     request: CheckRequest<'_>,
     line: ItemLine<'_>,
     fault: BrokenRule,
+    cause: Option<Cause>,
 ) -> Result<(), AllocError> {
-    match words_of_item(alloc, request.input, line, fault.rule, fault.item) {
+    match words_of_item(alloc, request.input, line, fault, cause) {
         None => Err(AllocError),
         Some(words) => match request.style {
             Style::Plain => writeln!(lines, "{words}"),
@@ -84,13 +87,16 @@ fn words_of<A: Allocator + Clone>(
     alloc: A,
     request: CheckRequest<'_>,
     text: &str,
+    beside: &Beside<A>,
     told: &[BrokenRule],
 ) -> Result<String<A>, AllocError> {
     let mut lines = String::new(alloc.clone()?);
     let mut cursor = LineCursor::new(text, request.form);
+    let mut past = beside.past(request);
     for fault in told.iter().take(MOST_SAID) {
+        let cause = beside.explain(&mut past, request, &mut cursor, *fault);
         let line = cursor.find(fault.item);
-        push_words(&mut lines, alloc.clone()?, request, line, *fault)?;
+        push_words(&mut lines, alloc.clone()?, request, line, *fault, cause)?;
     }
     if MOST_SAID < told.len() {
         push_more(&mut lines, alloc, request.style, told.len() - MOST_SAID)?;
@@ -104,10 +110,11 @@ fn say_faults<A: Allocator + Clone, E: Write>(
     errors: &mut E,
     request: CheckRequest<'_>,
     text: &[u8],
+    beside: &Beside<A>,
     told: &[BrokenRule],
 ) {
     if let Ok(text) = str::from_utf8(text) {
-        if let Ok(words) = words_of(alloc, request, text, told) {
+        if let Ok(words) = words_of(alloc, request, text, beside, told) {
             say_words(errors, words.as_str());
         }
     }
@@ -121,10 +128,105 @@ fn say_told<A: Allocator + Clone, E: Write>(
     text: &[u8],
     beside: &Beside<A>,
     told: &[BrokenRule],
+    assumed: &[NotShown],
 ) {
     if let Ok(copy) = alloc.clone() {
-        say_faults(copy, errors, request, text, told);
-        say_beside(alloc, errors, request, text, beside, told.len());
+        say_faults(copy, errors, request, text, beside, told);
+        say_beside(alloc, errors, request, text, beside, assumed, told.len());
+    }
+}
+
+// Adds the line of an item before which a LUN is taken for ready.
+fn push_assumed_line<A: Allocator>(lines: &mut String<A>, told: NotShown) -> Result<(), AllocError>
+    ensures { OnOk result (string_bytes lines.new ≡ string_bytes lines.old ++ assumed_line told) }
+{
+    writeln!(lines, "assumed ready at {}", told.item)
+}
+
+// Adds the lines of all such items.
+fn push_assumed<A: Allocator>(lines: &mut String<A>, assumed: &[NotShown]) -> Result<(), AllocError>
+    ensures { OnOk result (string_bytes lines.new ≡ string_bytes lines.old ++ assumed_lines assumed.now) }
+{
+    for told in assumed {
+        push_assumed_line(lines, *told)?;
+    }
+    Ok(())
+}
+
+// What is printed of a trace that has faults.
+fn faulty_text<A: Allocator>(
+    alloc: A,
+    told: &[BrokenRule],
+    assumed: &[NotShown],
+) -> Result<String<A>, AllocError>
+    ensures { IfOk result (λ text. string_bytes text ≡ faulty_text told.now assumed.now) }
+{
+    let mut text = lines_of(alloc, told)?;
+    push_assumed(&mut text, assumed)?;
+    Ok(text)
+}
+
+// What is printed of a trace that has none.
+fn legal_text<A: Allocator>(alloc: A, assumed: &[NotShown]) -> Result<String<A>, AllocError>
+    ensures { IfOk result (λ text. string_bytes text ≡ legal_text assumed.now) }
+{
+    let mut text = String::new(alloc);
+    text.push_str("legal\n")?;
+    push_assumed(&mut text, assumed)?;
+    Ok(text)
+}
+
+// Nothing is taken for granted, or it may be.
+fn may_pass(request: CheckRequest<'_>, assumed: &[NotShown]) -> bool
+    ensures { result ≡ may_pass request.entry assumed.now }
+{
+    match assumed {
+        [] => true,
+        [_, ..] => request.assumes_ready,
+    }
+}
+
+/// Ends a check of a text that has no fault: `legal` is printed, and a line for each item before which a LUN is taken for ready.
+pub(crate) fn tell_legal<A: Allocator + Clone, W: Write, E: Write, P>(
+    alloc: A,
+    console: &mut Console<W, E, P>,
+    request: CheckRequest<'_>,
+    text: &[u8],
+    beside: &Beside<A>,
+    assumed: &[NotShown],
+) -> Ending
+    ensures done { result ≡ Ending.Exit Exit.Done → (may_pass request.entry assumed.now ≡ true)
+        × Appends (W.contents console.old.output) (W.contents console.new.output) (legal_text assumed.now) }
+    ensures assumed { result ≡ Ending.Assumed → (may_pass request.entry assumed.now ≡ false)
+        × Appends (W.contents console.old.output) (W.contents console.new.output) (legal_text assumed.now) }
+    ensures refused { (refusal : Refusal) → result ≡ Ending.Exit (Exit.Refused refusal) → ⊥ }
+    ensures faulty { (fault : RecordingFault) → result ≡ Ending.Faulty fault → ⊥ }
+{
+    let copy = match alloc.clone() {
+        Ok(copy) => copy,
+        Err(_) => return Ending::Exit(end_without_memory(console)),
+    };
+    let Ok(lines) = legal_text(copy, assumed) else {
+        return Ending::Exit(end_without_memory(console));
+    };
+    match finish(console, lines.as_str()) {
+        Exit::Done => {
+            say_beside(
+                alloc,
+                &mut console.errors,
+                request,
+                text,
+                beside,
+                assumed,
+                0,
+            );
+            if may_pass(request, assumed) {
+                Ending::Exit(Exit::Done)
+            } else {
+                Ending::Assumed
+            }
+        }
+        exit => Ending::Exit(exit),
     }
 }
 
@@ -138,22 +240,32 @@ pub(crate) fn tell_faults<A: Allocator + Clone, W: Write, E: Write, P>(
     beside: &Beside<A>,
     first: BrokenRule,
     told: &[BrokenRule],
+    assumed: &[NotShown],
 ) -> Ending
     ensures done { result ≡ Ending.Exit Exit.Done → ⊥ }
+    ensures assumed { result ≡ Ending.Assumed → ⊥ }
     ensures refused { (refusal : Refusal) → result ≡ Ending.Exit (Exit.Refused refusal) → ⊥ }
     ensures faulty { (fault : RecordingFault) → result ≡ Ending.Faulty fault → (fault ≡ ItemAt first.rule first.item)
-        × Appends (W.contents console.old.output) (W.contents console.new.output) (fault_lines told.now) }
+        × Appends (W.contents console.old.output) (W.contents console.new.output) (faulty_text told.now assumed.now) }
 {
     let copy = match alloc.clone() {
         Ok(copy) => copy,
         Err(_) => return Ending::Exit(end_without_memory(console)),
     };
-    let Ok(lines) = lines_of(copy, told) else {
+    let Ok(lines) = faulty_text(copy, told, assumed) else {
         return Ending::Exit(end_without_memory(console));
     };
     match finish(console, lines.as_str()) {
         Exit::Done => {
-            say_told(alloc, &mut console.errors, request, text, beside, told);
+            say_told(
+                alloc,
+                &mut console.errors,
+                request,
+                text,
+                beside,
+                told,
+                assumed,
+            );
             Ending::Faulty(fault_of(first))
         }
         exit => Ending::Exit(exit),

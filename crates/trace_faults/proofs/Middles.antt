@@ -1,7 +1,7 @@
 -- Going on by an item of a trace whose recording began in the middle.
 use Rattle.std.proofs.Common.{◌≡◌, Bool, true, cond, List, [], ◌∷◌, ◌++◌, Option, Some, None, refl, sym, ap, ◌∙◌, append_assoc}
 use Rattle.onfi_cycle.specs.declared.item.Item.{Item}
-use Rattle.onfi_cycle.specs.State.{BusView}
+use Rattle.trace_faults.specs.declared.trace_state.TraceState.{TraceState}
 use Rattle.trace_faults.specs.declared.known.Known.{Known}
 use Rattle.trace_faults.specs.declared.unshown.UnshownReady.{UnshownReady}
 use Rattle.trace_faults.specs.declared.verdict.Verdict.{Verdict}
@@ -22,7 +22,7 @@ still_granted (Some ready) (NotShown other) h = refl
 
 pub granted_said : (readies : Readies) (seen : Seen) (i : Item) (later : List Item) → is_granted_here readies seen i ≡ true → said_of readies seen i later ≡ verdict_here (shown_here readies seen i) i
 granted_said readies seen i later granted =
-    let with : Bool → BusView = λ b. cond b (before_taken readies seen.state i) (before_item readies seen.state i later) in
+    let with : Bool → TraceState = λ b. cond b (before_taken readies seen.state i) (before_item readies seen.state i later) in
     let ready = taken_on readies (before_taken readies seen.state i) i later in
     ap (λ (b : Bool). with_ready_taken ready (verdict_here (record { state = with b; known = seen.known }) i)) granted
     ∙ still_granted ready (verdict_here (shown_here readies seen i) i) granted
@@ -38,7 +38,7 @@ with_next readies seen next i items v said left =
 
 same_seen : (next seen : Seen) → next.state ≡ seen.state → next.known ≡ seen.known → next ≡ seen
 same_seen next seen state known =
-    ap (λ (s : BusView). record { state = s; known = next.known }) state ∙ ap (λ (k : List Known). record { state = seen.state; known = k }) known
+    ap (λ (s : TraceState). record { state = s; known = next.known }) state ∙ ap (λ (k : List Known). record { state = seen.state; known = k }) known
 
 -- what is said so far and of the rest is what is said of all
 pub goes_on : (readies : Readies) (all done later : List Verdict) (rest : List Item) (i : Item) (items : List Item) (seen next : Seen) (v : Verdict) →

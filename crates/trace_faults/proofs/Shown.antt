@@ -13,22 +13,25 @@ use Rattle.onfi_cycle.specs.declared.lun_state.LunState.{LunState}
 use Rattle.onfi_cycle.specs.LunView.{LunView}
 use Rattle.onfi_cycle.specs.Rules.{breaks_not_there, lun_is, is_some_and}
 use Rattle.onfi_cycle.specs.Effect.{names_lun}
-use Rattle.onfi_cycle.specs.State.{BusView, TargetView, judged, judged_on, bus_after}
+use Rattle.onfi_cycle.specs.State.{BusView, TargetView, judged, judged_on}
 use Rattle.onfi_cycle.specs.Look.{looked, look_on, look_at_some, look_at}
 use Rattle.trace_faults.specs.declared.broken_rule.BrokenRule.{BrokenRule}
 use Rattle.trace_faults.specs.declared.readies.Readies.{Readies}
 use Rattle.trace_faults.specs.declared.readies.Readies.TheVariants.{Written, Shown}
-use Rattle.trace_faults.specs.Recovery.{is_opening, gone_on, gone_on_by}
+use Rattle.trace_faults.specs.declared.trace_state.TraceState.{TraceState}
+use Rattle.trace_faults.specs.Outside.{is_opening, is_status}
+use Rattle.trace_faults.specs.Denied.{lun_drives, driving_lun, has_ready, is_denied}
+use Rattle.trace_faults.specs.Recovery.{fresh_for, judged_here, gone_on}
 use Rattle.trace_faults.specs.RowAhead.{given_row}
-use Rattle.trace_faults.specs.ShownReadies.{ready_before, array_ready_before, ready_at, array_ready_at, ready_of, array_ready_of, with_ready, with_readies, gone_on_some, listed, driving_lun, lun_drives, is_status, has_ready, has_array_ready, has_fail, is_output}
+use Rattle.trace_faults.specs.ShownReadies.{ready_before, array_ready_before, ready_at, array_ready_at, ready_of, array_ready_of, with_ready, with_readies, gone_on_some, listed, has_array_ready, has_fail, is_output_inside}
 use Rattle.trace_faults.specs.declared.unshown.UnshownReady.{UnshownReady}
 use Rattle.trace_faults.specs.declared.unshown.NotShown.{NotShown}
-use Rattle.trace_faults.specs.Unshown.{is_working, works, first_of, first_working, is_named, named_working, if_working, driving_working, or_else, to_begin, wanted_by, unshown_of, unshown, ready_for, ready_taken, rule_without}
-use Rattle.trace_faults.specs.Faults.{fresh, before_item, fault_at, faults_from, not_shown_by, completed_from, completed}
+use Rattle.trace_faults.specs.Unshown.{is_working, may_be_done, first_of, first_done, is_named, named_done, if_may_be_done, driving_done, or_else, to_begin, wanted_by, unshown_of, unshown, ready_for, ready_taken, rule_without}
+use Rattle.trace_faults.specs.Faults.{before_item, fault_at, faults_from, not_shown_by, completed_from, completed}
 use Rattle.trace_faults.specs.Laws.{CompletedAreJudged, WorksThere, TakenAtWork, IsNotShown, NotShownArePermitted}
 use Rattle.trace_faults.specs.Inside.{IsInside}
 use Rattle.trace_faults.proofs.Inside.{only_four}
-use Rattle.trace_faults.proofs.Judged.{faultless_are_legal}
+use Rattle.trace_faults.proofs.Judged.{fresh_is_on, faultless_from}
 
 -- ---- 1. a ready that is shown is permitted
 
@@ -85,37 +88,37 @@ given : (b : Bool) (x r : Item) → cond b (Some x) None ≡ Some r → IsGiven 
 given true x r h = record { holds = refl; same = cc }
 given false x r h = cc
 
-ready_is_permitted : (s : BusView) (i r : Item) → ready_before s i ≡ Some r → judged s r ≡ None
-ready_is_permitted s (Cyc c) r h = at (driving_lun s c.ce) (only_then (is_output c.kind) (ready_at s c.ce (driving_lun s c.ce) c.byte) r h)
+ready_is_permitted : (s : TraceState) (i r : Item) → ready_before s i ≡ Some r → judged_here s r ≡ None
+ready_is_permitted s (Cyc c) r h = at (driving_lun s.bus c.ce) (only_then (is_output_inside s c) (ready_at s.bus c.ce (driving_lun s.bus c.ce) c.byte) r h)
   where
-    of : (number : ℕ) (o : Option LunState) → looked s (record { ce = c.ce; lun = number }) ≡ o → ready_of o c.ce number c.byte ≡ Some r → judged s r ≡ None
+    of : (number : ℕ) (o : Option LunState) → looked s.bus (record { ce = c.ce; lun = number }) ≡ o → ready_of o c.ce number c.byte ≡ Some r → judged_here s r ≡ None
     of number None e g = cc
     of number (Some lun) e g =
         let is = given (is_status lun.latch && (lun.busy && has_ready c.byte)) (Rdy c.ce number (has_fail c.byte)) r g in
         let busy = (and_parts lun.busy (has_ready c.byte) (and_parts (is_status lun.latch) (lun.busy && has_ready c.byte) is.holds).1).0 in
-        subst (λ (x : Item). judged s x ≡ None) is.same (busy_there s c.ce number (has_fail c.byte) lun (seen_there s c.ce number lun e) busy)
+        subst (λ (x : Item). judged_here s x ≡ None) is.same (busy_there s.bus c.ce number (has_fail c.byte) lun (seen_there s.bus c.ce number lun e) busy)
 
-    at : (o : Option ℕ) → ready_at s c.ce o c.byte ≡ Some r → judged s r ≡ None
+    at : (o : Option ℕ) → ready_at s.bus c.ce o c.byte ≡ Some r → judged_here s r ≡ None
     at None g = cc
-    at (Some number) g = of number (looked s (record { ce = c.ce; lun = number })) refl g
+    at (Some number) g = of number (looked s.bus (record { ce = c.ce; lun = number })) refl g
 ready_is_permitted s (Rdy ce lun fail) r h = cc
 ready_is_permitted s (Ard ce lun) r h = cc
 
-array_ready_is_permitted : (s : BusView) (i r : Item) → array_ready_before s i ≡ Some r → judged s r ≡ None
-array_ready_is_permitted s (Cyc c) r h = at (driving_lun s c.ce) (only_then (is_output c.kind) (array_ready_at s c.ce (driving_lun s c.ce) c.byte) r h)
+array_ready_is_permitted : (s : TraceState) (i r : Item) → array_ready_before s i ≡ Some r → judged_here s r ≡ None
+array_ready_is_permitted s (Cyc c) r h = at (driving_lun s.bus c.ce) (only_then (is_output_inside s c) (array_ready_at s.bus c.ce (driving_lun s.bus c.ce) c.byte) r h)
   where
-    of : (number : ℕ) (o : Option LunState) → looked s (record { ce = c.ce; lun = number }) ≡ o → array_ready_of o c.ce number c.byte ≡ Some r → judged s r ≡ None
+    of : (number : ℕ) (o : Option LunState) → looked s.bus (record { ce = c.ce; lun = number }) ≡ o → array_ready_of o c.ce number c.byte ≡ Some r → judged_here s r ≡ None
     of number None e g = cc
     of number (Some lun) e g =
         let shows = has_ready c.byte && has_array_ready c.byte in
         let is = given (is_status lun.latch && (not lun.busy && (lun.array_busy && shows))) (Ard c.ce number) r g in
         let rest = (and_parts (is_status lun.latch) (not lun.busy && (lun.array_busy && shows)) is.holds).1 in
         let busy = (and_parts lun.array_busy shows (and_parts (not lun.busy) (lun.array_busy && shows) rest).1).0 in
-        subst (λ (x : Item). judged s x ≡ None) is.same (array_busy_there s c.ce number lun (seen_there s c.ce number lun e) busy)
+        subst (λ (x : Item). judged_here s x ≡ None) is.same (array_busy_there s.bus c.ce number lun (seen_there s.bus c.ce number lun e) busy)
 
-    at : (o : Option ℕ) → array_ready_at s c.ce o c.byte ≡ Some r → judged s r ≡ None
+    at : (o : Option ℕ) → array_ready_at s.bus c.ce o c.byte ≡ Some r → judged_here s r ≡ None
     at None g = cc
-    at (Some number) g = of number (looked s (record { ce = c.ce; lun = number })) refl g
+    at (Some number) g = of number (looked s.bus (record { ce = c.ce; lun = number })) refl g
 array_ready_is_permitted s (Rdy ce lun fail) r h = cc
 array_ready_is_permitted s (Ard ce lun) r h = cc
 
@@ -126,15 +129,15 @@ parted : (k m : ℕ) (o : Option Forbidden) (xs ys : List BrokenRule) → fault_
 parted k m None xs ys h more = more h
 parted k m (Some rule) xs ys h more = cc
 
-counted_from : (readies : Readies) (items : List Item) (s : BusView) (k m : ℕ) → faults_from readies s k items ≡ [] → faults_from readies s m items ≡ []
+counted_from : (readies : Readies) (items : List Item) (s : TraceState) (k m : ℕ) → faults_from readies s k items ≡ [] → faults_from readies s m items ≡ []
 counted_from readies [] s k m h = refl
 counted_from readies (i ∷ items) s k m h =
     let b = before_item readies s i items in
-    parted k m (judged b i) (faults_from readies (gone_on i b) (k + 1) items) (faults_from readies (gone_on i b) (m + 1) items) h
+    parted k m (judged_here b i) (faults_from readies (gone_on i b) (k + 1) items) (faults_from readies (gone_on i b) (m + 1) items) h
     (λ none. counted_from readies items (gone_on i b) (k + 1) (m + 1) none)
 
 -- a ready that is permitted is passed over
-passed : (s : BusView) (o : Option Item) (rest : List Item) (k m : ℕ) → ((x : Item) → o ≡ Some x → judged s x ≡ None) → (faults_from Written s k (listed o ++ rest) ≡ []) ↔ (faults_from Written (gone_on_some o s) m rest ≡ [])
+passed : (s : TraceState) (o : Option Item) (rest : List Item) (k m : ℕ) → ((x : Item) → o ≡ Some x → judged_here s x ≡ None) → (faults_from Written s k (listed o ++ rest) ≡ []) ↔ (faults_from Written (gone_on_some o s) m rest ≡ [])
 passed s None rest k m permitted = (λ h. counted_from Written rest s k m h, λ h. counted_from Written rest s m k h)
 passed s (Some x) rest k m permitted =
     let one : faults_from Written s k (x ∷ rest) ≡ faults_from Written (gone_on x s) (k + 1) rest =
@@ -145,20 +148,21 @@ passed s (Some x) rest k m permitted =
 
 -- ---- 3. a ready that is taken for granted is permitted
 
-working_is_permitted : (s : BusView) (ce number : ℕ) → works s ce number ≡ true → judged s (Rdy ce number false) ≡ None
-working_is_permitted s ce number h = at (looked s (record { ce = ce; lun = number })) refl h
+working_is_permitted : (s : TraceState) (ce number : ℕ) → may_be_done s ce number ≡ true → judged_here s (Rdy ce number false) ≡ None
+working_is_permitted s ce number h =
+    at (looked s.bus (record { ce = ce; lun = number })) refl (and_parts (is_working (looked s.bus (record { ce = ce; lun = number }))) (not (is_denied s ce number)) h).0
   where
-    at : (o : Option LunState) → looked s (record { ce = ce; lun = number }) ≡ o → is_working o ≡ true → judged s (Rdy ce number false) ≡ None
+    at : (o : Option LunState) → looked s.bus (record { ce = ce; lun = number }) ≡ o → is_working o ≡ true → judged_here s (Rdy ce number false) ≡ None
     at None e g = cc
-    at (Some lun) e g = busy_there s ce number false lun (seen_there s ce number lun e) g
+    at (Some lun) e g = busy_there s.bus ce number false lun (seen_there s.bus ce number lun e) g
 
 -- a LUN that works, and that a target may have
-record WorksHere (s : BusView) (ce number : ℕ) : Type 0 where
-  works : works s ce number ≡ true
+record WorksHere (s : TraceState) (ce number : ℕ) : Type 0 where
+  works : may_be_done s ce number ≡ true
   few : number ≤ 3
 
 -- a number that is found is that of such a LUN
-abbrev Works : BusView → ℕ → Option ℕ → Type 0
+abbrev Works : TraceState → ℕ → Option ℕ → Type 0
 Works s ce found = (number : ℕ) → found ≡ Some number → WorksHere s ce number
 
 same_number : (m n : ℕ) → Some m ≡ Some n → m ≡ n
@@ -181,43 +185,43 @@ first_is p number h = four (p 0) (p 1) (p 2) (p 3) refl refl refl refl h
     four false false false true e0 e1 e2 e3 g = found 3 (omega arith) e3 g
     four false false false false e0 e1 e2 e3 g = cc
 
-first_works : (s : BusView) (ce : ℕ) → Works s ce (first_working s ce)
+first_works : (s : TraceState) (ce : ℕ) → Works s ce (first_done s ce)
 first_works s ce number h =
-    let first = first_is (λ n. works s ce n) number h in
+    let first = first_is (λ n. may_be_done s ce n) number h in
     record { works = first.is; few = first.few }
 
-named_works : (s : BusView) (ce : ℕ) (row : Option ℕ) → Works s ce (named_working s ce row)
+named_works : (s : TraceState) (ce : ℕ) (row : Option ℕ) → Works s ce (named_done s ce row)
 named_works s ce None number h = cc
 named_works s ce (Some row) number h =
     let first = first_is (λ n. is_named s ce row n) number h in
-    record { works = (and_parts (names_lun s.geometry row number) (works s ce number) first.is).1; few = first.few }
+    record { works = (and_parts (names_lun s.bus.geometry row number) (may_be_done s ce number) first.is).1; few = first.few }
 
-driving_works : (s : BusView) (ce : ℕ) → Works s ce (driving_working s ce)
-driving_works s ce number h = at (driving_lun s ce) refl h
+driving_works : (s : TraceState) (ce : ℕ) → Works s ce (driving_done s ce)
+driving_works s ce number h = at (driving_lun s.bus ce) refl h
   where
-    one : (m : ℕ) → m ≤ 3 → (b : Bool) → works s ce m ≡ b → cond b (Some m) None ≡ Some number → WorksHere s ce number
+    one : (m : ℕ) → m ≤ 3 → (b : Bool) → may_be_done s ce m ≡ b → cond b (Some m) None ≡ Some number → WorksHere s ce number
     one m few true e g = subst (WorksHere s ce) (same_number m number g) (record { works = e; few = few })
     one m few false e g = cc
 
-    at : (o : Option ℕ) → driving_lun s ce ≡ o → if_working s ce o ≡ Some number → WorksHere s ce number
+    at : (o : Option ℕ) → driving_lun s.bus ce ≡ o → if_may_be_done s ce o ≡ Some number → WorksHere s ce number
     at None e g = cc
-    at (Some m) e g = one m (only_four (lun_drives s ce 0) (lun_drives s ce 1) (lun_drives s ce 2) (lun_drives s ce 3) m e) (works s ce m) refl g
+    at (Some m) e g = one m (only_four (lun_drives s.bus ce 0) (lun_drives s.bus ce 1) (lun_drives s.bus ce 2) (lun_drives s.bus ce 3) m e) (may_be_done s ce m) refl g
 
-or_works : (s : BusView) (ce : ℕ) (o other : Option ℕ) → Works s ce o → Works s ce other → Works s ce (or_else o other)
+or_works : (s : TraceState) (ce : ℕ) (o other : Option ℕ) → Works s ce o → Works s ce other → Works s ce (or_else o other)
 or_works s ce None other here there = there
 or_works s ce (Some m) other here there = here
 
-begin_works : (s : BusView) (c : Cycle) (later : List Item) → Works s c.ce (to_begin s c later)
-begin_works s c later = or_works s c.ce (named_working s c.ce (given_row c later)) (first_working s c.ce) (named_works s c.ce (given_row c later)) (first_works s c.ce)
+begin_works : (s : TraceState) (c : Cycle) (later : List Item) → Works s c.ce (to_begin s c later)
+begin_works s c later = or_works s c.ce (named_done s c.ce (given_row c later)) (first_done s c.ce) (named_works s c.ce (given_row c later)) (first_works s c.ce)
 
-none_works : (s : BusView) (ce : ℕ) → Works s ce None
+none_works : (s : TraceState) (ce : ℕ) → Works s ce None
 none_works s ce number h = cc
 
-where_works : (s : BusView) (ce : ℕ) (b : Bool) (o : Option ℕ) → Works s ce o → Works s ce (cond b o None)
+where_works : (s : TraceState) (ce : ℕ) (b : Bool) (o : Option ℕ) → Works s ce o → Works s ce (cond b o None)
 where_works s ce true o here = here
 where_works s ce false o here = none_works s ce
 
-wanted_works : (rule : Option Forbidden) (s : BusView) (c : Cycle) (later : List Item) → Works s c.ce (wanted_by rule s c later)
+wanted_works : (rule : Option Forbidden) (s : TraceState) (c : Cycle) (later : List Item) → Works s c.ce (wanted_by rule s c later)
 wanted_works None s c later = named_works s c.ce (given_row c later)
 wanted_works (Some NotThere) s c later = none_works s c.ce
 wanted_works (Some CommandUnknown) s c later = none_works s c.ce
@@ -233,52 +237,52 @@ wanted_works (Some InputMisplaced) s c later = none_works s c.ce
 wanted_works (Some NoSoleDriver) s c later = none_works s c.ce
 wanted_works (Some DataNotReady) s c later = driving_works s c.ce
 wanted_works (Some ColumnOutside) s c later = none_works s c.ce
-wanted_works (Some CacheReadMisplaced) s c later = where_works s c.ce (is_opening (Cyc c)) (driving_working s c.ce) (driving_works s c.ce)
+wanted_works (Some CacheReadMisplaced) s c later = where_works s c.ce (is_opening (Cyc c)) (driving_done s c.ce) (driving_works s c.ce)
 
 pub taken_at_work : TakenAtWork
-taken_at_work s (Cyc c) later ready h = at (wanted_by (judged s (Cyc c)) s c later) refl h
+taken_at_work s (Cyc c) later ready h = at (wanted_by (judged_here s (Cyc c)) s c later) refl h
   where
     same_ready : (x y : UnshownReady) → Some x ≡ Some y → x ≡ y
     same_ready x y g = cc
 
-    at : (o : Option ℕ) → wanted_by (judged s (Cyc c)) s c later ≡ o → unshown_of c.ce (rule_without (judged s (Cyc c))) o ≡ Some ready → WorksThere s (Cyc c) ready
+    at : (o : Option ℕ) → wanted_by (judged_here s (Cyc c)) s c later ≡ o → unshown_of c.ce (rule_without (judged_here s (Cyc c))) o ≡ Some ready → WorksThere s (Cyc c) ready
     at None e g = cc
     at (Some number) e g =
-        let same = same_ready (record { lun = record { ce = c.ce; lun = number }; rule = rule_without (judged s (Cyc c)) }) ready g in
-        subst (WorksThere s (Cyc c)) same (record { target = refl; works = working_is_permitted s c.ce number (wanted_works (judged s (Cyc c)) s c later number e).works })
+        let same = same_ready (record { lun = record { ce = c.ce; lun = number }; rule = rule_without (judged_here s (Cyc c)) }) ready g in
+        subst (WorksThere s (Cyc c)) same (record { target = refl; works = working_is_permitted s c.ce number (wanted_works (judged_here s (Cyc c)) s c later number e).works })
 taken_at_work s (Rdy ce lun fail) later ready h = cc
 taken_at_work s (Ard ce lun) later ready h = cc
 
 -- its ready is of the item's target, and of one of four LUNs
-pub taken_inside : (s : BusView) (i : Item) (later : List Item) (r : Item) → IsInside i → ready_taken (unshown s i later) ≡ Some r → IsInside r
-taken_inside s (Cyc c) later r p h = at (wanted_by (judged s (Cyc c)) s c later) refl h
+pub taken_inside : (s : TraceState) (i : Item) (later : List Item) (r : Item) → IsInside i → ready_taken (unshown s i later) ≡ Some r → IsInside r
+taken_inside s (Cyc c) later r p h = at (wanted_by (judged_here s (Cyc c)) s c later) refl h
   where
     same_item : (y : Item) → Some y ≡ Some r → y ≡ r
     same_item y g = cc
 
-    at : (o : Option ℕ) → wanted_by (judged s (Cyc c)) s c later ≡ o → ready_taken (unshown_of c.ce (rule_without (judged s (Cyc c))) o) ≡ Some r → IsInside r
+    at : (o : Option ℕ) → wanted_by (judged_here s (Cyc c)) s c later ≡ o → ready_taken (unshown_of c.ce (rule_without (judged_here s (Cyc c))) o) ≡ Some r → IsInside r
     at None e g = cc
-    at (Some number) e g = subst IsInside (same_item (Rdy c.ce number false) g) (p, (wanted_works (judged s (Cyc c)) s c later number e).few)
+    at (Some number) e g = subst IsInside (same_item (Rdy c.ce number false) g) (p, (wanted_works (judged_here s (Cyc c)) s c later number e).few)
 taken_inside s (Rdy ce lun fail) later r p h = cc
 taken_inside s (Ard ce lun) later r p h = cc
 
-taken_is_permitted : (s : BusView) (i : Item) (later : List Item) (x : Item) → ready_taken (unshown s i later) ≡ Some x → judged s x ≡ None
+taken_is_permitted : (s : TraceState) (i : Item) (later : List Item) (x : Item) → ready_taken (unshown s i later) ≡ Some x → judged_here s x ≡ None
 taken_is_permitted s i later x h = at (unshown s i later) refl h
   where
     same_item : (y : Item) → Some y ≡ Some x → y ≡ x
     same_item y g = cc
 
-    at : (o : Option UnshownReady) → unshown s i later ≡ o → ready_taken o ≡ Some x → judged s x ≡ None
+    at : (o : Option UnshownReady) → unshown s i later ≡ o → ready_taken o ≡ Some x → judged_here s x ≡ None
     at None e g = cc
-    at (Some ready) e g = subst (λ (y : Item). judged s y ≡ None) (same_item (ready_for ready) g) (taken_at_work s i later ready e).works
+    at (Some ready) e g = subst (λ (y : Item). judged_here s y ≡ None) (same_item (ready_for ready) g) (taken_at_work s i later ready e).works
 
 -- ---- 4. what is told as not shown is permitted
 
 pub not_shown_are_permitted : NotShownArePermitted
 not_shown_are_permitted state n i later told more h =
-    at (unshown (with_readies state i) i later) (judged (before_item Shown state i later) i) refl refl h
+    at (unshown (with_readies state i) i later) (judged_here (before_item Shown state i later) i) refl refl h
   where
-    s : BusView
+    s : TraceState
     s = with_readies state i
 
     same_told : (x y : NotShown) → x ∷ [] ≡ y ∷ more → x ≡ y
@@ -287,12 +291,10 @@ not_shown_are_permitted state n i later told more h =
     no_more : (x y : NotShown) → x ∷ [] ≡ y ∷ more → more ≡ []
     no_more x y g = cc
 
-    with : (ready : UnshownReady) → unshown s i later ≡ Some ready → WorksThere s i ready → before_item Shown state i later ≡ bus_after (ready_for ready) s
-    with ready e w =
-        ap (λ (o : Option UnshownReady). gone_on_some (ready_taken o) s) e
-        ∙ ap (λ (o : Option Forbidden). gone_on_by o (ready_for ready) s) w.works
+    with : (ready : UnshownReady) → unshown s i later ≡ Some ready → before_item Shown state i later ≡ gone_on (ready_for ready) s
+    with ready e = ap (λ (o : Option UnshownReady). gone_on_some (ready_taken o) s) e
 
-    at : (o : Option UnshownReady) (rule : Option Forbidden) → unshown s i later ≡ o → judged (before_item Shown state i later) i ≡ rule → not_shown_by n o rule ≡ told ∷ more → (more ≡ []) × IsNotShown state n i told
+    at : (o : Option UnshownReady) (rule : Option Forbidden) → unshown s i later ≡ o → judged_here (before_item Shown state i later) i ≡ rule → not_shown_by n o rule ≡ told ∷ more → (more ≡ []) × IsNotShown state n i told
     at None rule e is g = cc
     at (Some ready) (Some rule) e is g = cc
     at (Some ready) None e is g =
@@ -300,12 +302,12 @@ not_shown_are_permitted state n i later told more h =
         let one : NotShown = record { item = n; ready = ready } in (
           no_more one told g,
           subst (IsNotShown state n i) (same_told one told g)
-              (record { number = refl; target = w.target; works = w.works; permitted = sym (ap (λ (b : BusView). judged b i) (with ready e w)) ∙ is }),
+              (record { number = refl; target = w.target; works = w.works; permitted = sym (ap (λ (b : TraceState). judged_here b i) (with ready e)) ∙ is }),
         )
 
 -- ---- 5. the law
 
-same_from : (items : List Item) (s : BusView) (k m : ℕ) → (faults_from Shown s k items ≡ []) ↔ (faults_from Written s m (completed_from s items) ≡ [])
+same_from : (items : List Item) (s : TraceState) (k m : ℕ) → (faults_from Shown s k items ≡ []) ↔ (faults_from Written s m (completed_from s items) ≡ [])
 same_from [] s k m = (λ h. refl, λ h. refl)
 same_from (i ∷ items) s k m =
     let r = ready_before s i in
@@ -319,14 +321,14 @@ same_from (i ∷ items) s k m =
     let third = passed shown t (i ∷ rest) 0 0 (taken_is_permitted shown i items) in
     let later = same_from items (gone_on i whole) (k + 1) (0 + 1) in
     let grouped = ap (λ (is : List Item). faults_from Written s m is) (append_assoc (listed r ++ listed a) (listed t) (i ∷ rest) ∙ append_assoc (listed r) (listed a) (listed t ++ (i ∷ rest))) in (
-      λ h. grouped ∙ first.1 (second.1 (third.1 (parted k 0 (judged whole i) (faults_from Shown (gone_on i whole) (k + 1) items) (faults_from Written (gone_on i whole) (0 + 1) rest) h later.0))),
-      λ h. parted 0 k (judged whole i) (faults_from Written (gone_on i whole) (0 + 1) rest) (faults_from Shown (gone_on i whole) (k + 1) items) (third.0 (second.0 (first.0 (sym grouped ∙ h)))) later.1,
+      λ h. grouped ∙ first.1 (second.1 (third.1 (parted k 0 (judged_here whole i) (faults_from Shown (gone_on i whole) (k + 1) items) (faults_from Written (gone_on i whole) (0 + 1) rest) h later.0))),
+      λ h. parted 0 k (judged_here whole i) (faults_from Written (gone_on i whole) (0 + 1) rest) (faults_from Shown (gone_on i whole) (k + 1) items) (third.0 (second.0 (first.0 (sym grouped ∙ h)))) later.1,
     )
 
 pub completed_are_judged : CompletedAreJudged
 completed_are_judged g n items =
-    let same = same_from items (fresh g n) 0 0 in
-    let legal = faultless_are_legal g n (completed g n items) in (
+    let same = same_from items (fresh_for g n items) 0 0 in
+    let legal = faultless_from g n (completed g n items) (fresh_for g n items) (fresh_is_on g n items) in (
       λ h. legal.0 (same.0 h),
       λ h. same.1 (legal.1 h),
     )

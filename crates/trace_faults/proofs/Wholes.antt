@@ -4,14 +4,14 @@ use Rattle.onfi_cycle.specs.declared.item.Item.{Item}
 use Rattle.onfi_cycle.specs.declared.item.Item.TheVariants.{Cyc, Rdy, Ard}
 use Rattle.onfi_cycle.specs.declared.forbidden.Forbidden.{Forbidden}
 use Rattle.onfi_cycle.specs.Sequence.{target_of}
-use Rattle.onfi_cycle.specs.State.{BusView, judged}
+use Rattle.trace_faults.specs.declared.trace_state.TraceState.{TraceState}
 use Rattle.trace_faults.specs.declared.known.Known.{Known}
 use Rattle.trace_faults.specs.declared.verdict.Verdict.{Verdict}
 use Rattle.trace_faults.specs.declared.verdict.Verdict.TheVariants.{Permitted, PassedOver, Granted, Broken, NotShown}
 use Rattle.trace_faults.specs.declared.unshown.UnshownReady.{UnshownReady}
 use Rattle.trace_faults.specs.declared.broken_rule.BrokenRule.{BrokenRule}
 use Rattle.trace_faults.specs.declared.readies.Readies.{Readies}
-use Rattle.trace_faults.specs.Recovery.{gone_on}
+use Rattle.trace_faults.specs.Recovery.{judged_here, gone_on}
 use Rattle.trace_faults.specs.Faults.{fault_at, before_taken, before_item, taken_on, faults_from}
 use Rattle.trace_faults.proofs.Middles.{still_granted}
 use Rattle.trace_faults.specs.Middle.{Seen, known_of, doubts, doubts_ready, hangs_on_before, of_cycle, of_ready, verdict_on, verdict_here, is_passed_over, is_granted, is_granted_here, shown_here, here, with_ready_taken, said_of, seen_by, verdicts_from, broken_in, granted_in, one_passed_over, all_broken, all_granted, count_passed_over, first_seen}
@@ -37,10 +37,10 @@ ready_says : (doubted : Bool) (rule : Option Forbidden) → Says (of_ready doubt
 ready_says doubted None = refl
 ready_says doubted (Some rule) = chosen doubted rule
 
-says : (state : BusView) (k : Known) (i : Item) → Says (verdict_on state k i) (judged state i)
-says state k (Cyc c) = cycle_says (doubts state k c.ce) (judged state (Cyc c))
-says state k (Rdy ce lun fail) = ready_says (doubts_ready state k ce lun) (judged state (Rdy ce lun fail))
-says state k (Ard ce lun) = ready_says (doubts_ready state k ce lun) (judged state (Ard ce lun))
+says : (state : TraceState) (k : Known) (i : Item) → Says (verdict_on state k i) (judged_here state i)
+says state k (Cyc c) = cycle_says (doubts state.bus k c.ce) (judged_here state (Cyc c))
+says state k (Rdy ce lun fail) = ready_says (doubts_ready state.bus k ce lun) (judged_here state (Rdy ce lun fail))
+says state k (Ard ce lun) = ready_says (doubts_ready state.bus k ce lun) (judged_here state (Ard ce lun))
 
 with_says : (o : Option UnshownReady) (v : Verdict) (rule : Option Forbidden) → Says v rule → Says (with_ready_taken o v) rule
 with_says None v rule said = said
@@ -89,7 +89,7 @@ by_granted : (readies : Readies) (n : ℕ) (i : Item) (items : List Item) (seen 
     one_passed_over (said_by readies seen i items b) + count_passed_over (verdicts_from readies (seen_by (said_by readies seen i items b) i (on_by readies seen i items b)) items) ≡ 0 →
     granted_in n (said_by readies seen i items b) ++ all_granted (n + 1) (verdicts_from readies (seen_by (said_by readies seen i items b) i (on_by readies seen i items b)) items) ≡ [] →
     broken_in n (said_by readies seen i items b) ++ all_broken (n + 1) (verdicts_from readies (seen_by (said_by readies seen i items b) i (on_by readies seen i items b)) items)
-    ≡ fault_at n (judged (before_item readies seen.state i items) i) ++ faults_from readies (gone_on i (before_item readies seen.state i items)) (n + 1) items
+    ≡ fault_at n (judged_here (before_item readies seen.state i items) i) ++ faults_from readies (gone_on i (before_item readies seen.state i items)) (n + 1) items
 by_granted readies n i items seen true granted later none nothing =
     let v = verdict_here (shown_here readies seen i) i in
     let more = all_granted (n + 1) (verdicts_from readies (seen_by (said_by readies seen i items true) i (on_by readies seen i items true)) items) in
@@ -97,15 +97,15 @@ by_granted readies n i items seen true granted later none nothing =
     absurd (not_nothing n v more granted (sym (ap (λ (x : Verdict). granted_in n x ++ more) same) ∙ nothing))
 by_granted readies n i items seen false granted later none nothing =
     let v = verdict_here (on_by readies seen i items false) i in
-    by_verdict readies n i items (on_by readies seen i items false) (said_by readies seen i items false) (judged (before_item readies seen.state i items) i)
-    (with_says (taken_on readies (before_taken readies seen.state i) i items) v (judged (before_item readies seen.state i items) i)
+    by_verdict readies n i items (on_by readies seen i items false) (said_by readies seen i items false) (judged_here (before_item readies seen.state i items) i)
+    (with_says (taken_on readies (before_taken readies seen.state i) i items) v (judged_here (before_item readies seen.state i items) i)
     (says (before_item readies seen.state i items) (known_of seen.known (target_of i)) i)) later none nothing
 
 by_place : (readies : Readies) (n : ℕ) (i : Item) (items : List Item) (seen : Seen) (b : Bool) → Judges readies (n + 1) items →
     one_passed_over (cond b PassedOver (said_of readies seen i items)) + count_passed_over (verdicts_from readies (cond b seen (seen_by (said_of readies seen i items) i (here readies seen i items))) items) ≡ 0 →
     granted_in n (cond b PassedOver (said_of readies seen i items)) ++ all_granted (n + 1) (verdicts_from readies (cond b seen (seen_by (said_of readies seen i items) i (here readies seen i items))) items) ≡ [] →
     broken_in n (cond b PassedOver (said_of readies seen i items)) ++ all_broken (n + 1) (verdicts_from readies (cond b seen (seen_by (said_of readies seen i items) i (here readies seen i items))) items)
-    ≡ fault_at n (judged (before_item readies seen.state i items) i) ++ faults_from readies (gone_on i (before_item readies seen.state i items)) (n + 1) items
+    ≡ fault_at n (judged_here (before_item readies seen.state i items) i) ++ faults_from readies (gone_on i (before_item readies seen.state i items)) (n + 1) items
 by_place readies n i items seen true later none nothing = absurd (omega (arith, none))
 by_place readies n i items seen false later none nothing = by_granted readies n i items seen (is_granted_here readies seen i) refl later none nothing
 
@@ -115,4 +115,4 @@ judges readies n (i ∷ items) seen none nothing =
     by_place readies n i items seen (is_passed_over (known_of seen.known (target_of i)) i) (judges readies (n + 1) items) none nothing
 
 pub whole_are_judged_whole : WholeAreJudgedWhole
-whole_are_judged_whole readies g targets items none nothing = judges readies 0 items (first_seen g targets) none nothing
+whole_are_judged_whole readies g targets items none nothing = judges readies 0 items (first_seen g targets items) none nothing

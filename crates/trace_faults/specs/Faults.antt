@@ -3,36 +3,32 @@ use Rattle.std.specs.Prelude.{ℕ, ◌+◌, List, [], ◌∷◌, ◌++◌, Optio
 use Rattle.nand_geometry.specs.declared.parts.Parts.{Parts}
 use Rattle.onfi_cycle.specs.declared.item.Item.{Item}
 use Rattle.onfi_cycle.specs.declared.forbidden.Forbidden.{Forbidden}
-use Rattle.onfi_cycle.specs.State.{BusView, judged, targets_from, bus}
 use Rattle.trace_faults.specs.declared.broken_rule.BrokenRule.{BrokenRule}
 use Rattle.trace_faults.specs.declared.readies.Readies.{Readies}
 use Rattle.trace_faults.specs.declared.readies.Readies.TheVariants.{Written, Shown}
-use Rattle.trace_faults.specs.Recovery.{gone_on}
+use Rattle.trace_faults.specs.declared.trace_state.TraceState.{TraceState}
+use Rattle.trace_faults.specs.Recovery.{fresh_for, judged_here, gone_on}
 use Rattle.trace_faults.specs.declared.unshown.UnshownReady.{UnshownReady}
 use Rattle.trace_faults.specs.declared.unshown.NotShown.{NotShown}
 use Rattle.trace_faults.specs.ShownReadies.{with_readies, shown_readies, listed, gone_on_some}
 use Rattle.trace_faults.specs.Unshown.{unshown, ready_taken}
 
--- a channel of so many targets to which nothing has happened
-abbrev pub fresh : Parts → ℕ → BusView
-fresh g targets = bus g (targets_from g [] targets 0)
-
 -- the channel with the readies that an item shows, where they aren't written in the trace
-abbrev pub before_taken : Readies → BusView → Item → BusView
+abbrev pub before_taken : Readies → TraceState → Item → TraceState
 before_taken Written state i = state
 before_taken Shown state i = with_readies state i
 
 -- the ready that an item needs besides, where readies aren't written; later items may tell of which LUN
-abbrev pub taken_on : Readies → BusView → Item → (later : List Item) → Option UnshownReady
+abbrev pub taken_on : Readies → TraceState → Item → (later : List Item) → Option UnshownReady
 taken_on Written state i later = None
 taken_on Shown state i later = unshown state i later
 
 -- the channel with that ready
-abbrev pub with_taken : Readies → BusView → Item → (later : List Item) → BusView
+abbrev pub with_taken : Readies → TraceState → Item → (later : List Item) → TraceState
 with_taken readies state i later = gone_on_some (ready_taken (taken_on readies state i later)) state
 
 -- the channel on which an item is judged: where readies aren't written in the trace, with those that the item shows and the one that it needs besides
-abbrev pub before_item : Readies → BusView → Item → (later : List Item) → BusView
+abbrev pub before_item : Readies → TraceState → Item → (later : List Item) → TraceState
 before_item readies state i later = with_taken readies (before_taken readies state i) i later
 
 abbrev pub fault_at : ℕ → Option Forbidden → List BrokenRule
@@ -40,14 +36,14 @@ fault_at n None = []
 fault_at n (Some rule) = record { item = n; rule = rule } ∷ []
 
 -- the faults of items, counted from this number: each is judged on what those before it leave, permitted or not
-abbrev pub faults_from : Readies → BusView → ℕ → List Item → List BrokenRule
+abbrev pub faults_from : Readies → TraceState → ℕ → List Item → List BrokenRule
 faults_from readies state n [] = []
 faults_from readies state n (i ∷ items) =
-    fault_at n (judged (before_item readies state i items) i) ++ faults_from readies (gone_on i (before_item readies state i items)) (n + 1) items
+    fault_at n (judged_here (before_item readies state i items) i) ++ faults_from readies (gone_on i (before_item readies state i items)) (n + 1) items
 
 -- each fault of a trace
 abbrev pub faults_of : Readies → Parts → ℕ → List Item → List BrokenRule
-faults_of readies g targets items = faults_from readies (fresh g targets) 0 items
+faults_of readies g targets items = faults_from readies (fresh_for g targets items) 0 items
 
 -- ---- what is told beside the faults
 
@@ -57,29 +53,29 @@ not_shown_by n None rule = []
 not_shown_by n (Some ready) None = record { item = n; ready = ready } ∷ []
 not_shown_by n (Some ready) (Some rule) = []
 
-abbrev pub not_shown_at : Readies → BusView → ℕ → Item → (later : List Item) → List NotShown
-not_shown_at readies state n i later = not_shown_by n (taken_on readies (before_taken readies state i) i later) (judged (before_item readies state i later) i)
+abbrev pub not_shown_at : Readies → TraceState → ℕ → Item → (later : List Item) → List NotShown
+not_shown_at readies state n i later = not_shown_by n (taken_on readies (before_taken readies state i) i later) (judged_here (before_item readies state i later) i)
 
-abbrev pub not_shown_from : Readies → BusView → ℕ → List Item → List NotShown
+abbrev pub not_shown_from : Readies → TraceState → ℕ → List Item → List NotShown
 not_shown_from readies state n [] = []
 not_shown_from readies state n (i ∷ items) =
     not_shown_at readies state n i items ++ not_shown_from readies (gone_on i (before_item readies state i items)) (n + 1) items
 
 -- each item of a trace before which a LUN is taken for ready that nothing showed, and that is permitted then
 abbrev pub not_shown_of : Readies → Parts → ℕ → List Item → List NotShown
-not_shown_of readies g targets items = not_shown_from readies (fresh g targets) 0 items
+not_shown_of readies g targets items = not_shown_from readies (fresh_for g targets items) 0 items
 
 -- ---- the trace that is judged
 
 -- the readies before an item: those that it shows, and the one that it needs besides
-abbrev pub readies_before : BusView → Item → (later : List Item) → List Item
+abbrev pub readies_before : TraceState → Item → (later : List Item) → List Item
 readies_before state i later = shown_readies state i ++ listed (ready_taken (unshown (with_readies state i) i later))
 
 -- items with their readies, each before its item
-abbrev pub completed_from : BusView → List Item → List Item
+abbrev pub completed_from : TraceState → List Item → List Item
 completed_from state [] = []
 completed_from state (i ∷ items) = readies_before state i items ++ (i ∷ completed_from (gone_on i (before_item Shown state i items)) items)
 
 -- a trace with the readies that its status outputs show, and those that are taken for granted
 abbrev pub completed : Parts → ℕ → List Item → List Item
-completed g targets items = completed_from (fresh g targets) items
+completed g targets items = completed_from (fresh_for g targets items) items

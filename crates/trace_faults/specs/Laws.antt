@@ -8,7 +8,8 @@ use Rattle.trace_faults.specs.declared.broken_rule.BrokenRule.{BrokenRule}
 use Rattle.trace_faults.specs.declared.readies.Readies.TheVariants.{Written, Shown}
 use Rattle.trace_faults.specs.declared.readies.Readies.{Readies}
 use Rattle.onfi_cycle.specs.Sequence.{target_of}
-use Rattle.onfi_cycle.specs.State.{BusView, judged, bus_after}
+use Rattle.trace_faults.specs.declared.trace_state.TraceState.{TraceState}
+use Rattle.trace_faults.specs.Recovery.{judged_here, gone_on}
 use Rattle.trace_faults.specs.declared.unshown.UnshownReady.{UnshownReady}
 use Rattle.trace_faults.specs.declared.unshown.NotShown.{NotShown}
 use Rattle.trace_faults.specs.ShownReadies.{with_readies}
@@ -37,25 +38,25 @@ abbrev pub CompletedAreJudged : Type 0
 CompletedAreJudged = (g : Parts) (targets : ℕ) (items : List Item) → (faults_of Shown g targets items ≡ []) ↔ (is_legal g targets (reverse (completed g targets items)) ≡ true)
 
 -- a LUN of the item's target, whose ready is permitted: it is there, and works
-pub record WorksThere (state : BusView) (i : Item) (ready : UnshownReady) : Type 0 where
+pub record WorksThere (state : TraceState) (i : Item) (ready : UnshownReady) : Type 0 where
   pub target : ready.lun.ce ≡ target_of i
-  pub works : judged state (ready_for ready) ≡ None
+  pub works : judged_here state (ready_for ready) ≡ None
 
 -- a LUN that is taken for ready before an item is of its target, and works
 abbrev pub TakenAtWork : Type 0
-TakenAtWork = (state : BusView) (i : Item) (later : List Item) (ready : UnshownReady) → unshown state i later ≡ Some ready → WorksThere state i ready
+TakenAtWork = (state : TraceState) (i : Item) (later : List Item) (ready : UnshownReady) → unshown state i later ≡ Some ready → WorksThere state i ready
 
 -- of the item of this number is told that a ready wasn't shown: that of one LUN of its target, which works after what was shown, and after which the item is permitted
-pub record IsNotShown (state : BusView) (n : ℕ) (i : Item) (told : NotShown) : Type 0 where
+pub record IsNotShown (state : TraceState) (n : ℕ) (i : Item) (told : NotShown) : Type 0 where
   pub number : told.item ≡ n
   pub target : told.ready.lun.ce ≡ target_of i
-  pub works : judged (with_readies state i) (ready_for told.ready) ≡ None
-  pub permitted : judged (bus_after (ready_for told.ready) (with_readies state i)) i ≡ None
+  pub works : judged_here (with_readies state i) (ready_for told.ready) ≡ None
+  pub permitted : judged_here (gone_on (ready_for told.ready) (with_readies state i)) i ≡ None
 
 -- an item that is told as not shown ready is permitted after the ready of a LUN that works, of its own target, and that is all that is told of it
 abbrev pub NotShownArePermitted : Type 0
 NotShownArePermitted =
-    (state : BusView) (n : ℕ) (i : Item) (later : List Item) (told : NotShown) (more : List NotShown) →
+    (state : TraceState) (n : ℕ) (i : Item) (later : List Item) (told : NotShown) (more : List NotShown) →
     not_shown_at Shown state n i later ≡ told ∷ more → (more ≡ []) × IsNotShown state n i told
 
 -- a trace of which nothing is passed over or taken for granted has the same faults, wherever its recording began

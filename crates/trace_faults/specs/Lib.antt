@@ -1,9 +1,12 @@
+pub mod Outside
+pub mod Denied
 pub mod Recovery
 pub mod ShownReadies
 pub mod RowAhead
 pub mod Unshown
 pub mod Faults
 pub mod Middle
+pub mod OutsideSequences
 pub mod StatusBytes
 pub mod Laws
 pub mod Inside

@@ -11,7 +11,7 @@ use Rattle.onfi_cycle.specs.declared.target_cycle.TargetCycle.{TargetCycle}
 use Rattle.onfi_cycle.specs.declared.target_cycle.TargetCycle.TheVariants.{CommandCycle}
 use Rattle.onfi_cycle.specs.Sequence.{target_of, target_cycle}
 use Rattle.onfi_cycle.specs.Effect.{is_off}
-use Rattle.onfi_cycle.specs.State.{BusView, judged, bus_without}
+use Rattle.onfi_cycle.specs.State.{BusView}
 use Rattle.onfi_cycle.specs.Look.{looked}
 use Rattle.trace_faults.specs.declared.known.Known.{Known}
 use Rattle.trace_faults.specs.declared.looks.Looks.{Looks}
@@ -21,10 +21,12 @@ use Rattle.trace_faults.specs.declared.verdict.Verdict.{Verdict}
 use Rattle.trace_faults.specs.declared.verdict.Verdict.TheVariants.{Permitted, PassedOver, Granted, Broken, NotShown as WithoutReady}
 use Rattle.trace_faults.specs.declared.broken_rule.BrokenRule.{BrokenRule}
 use Rattle.trace_faults.specs.declared.readies.Readies.{Readies}
-use Rattle.trace_faults.specs.Recovery.{is_opening, gone_on}
+use Rattle.trace_faults.specs.declared.trace_state.TraceState.{TraceState}
+use Rattle.trace_faults.specs.Outside.{is_opening}
+use Rattle.trace_faults.specs.Recovery.{fresh_for, judged_here, gone_on, without_sequence}
 use Rattle.trace_faults.specs.declared.unshown.UnshownReady.{UnshownReady}
 use Rattle.trace_faults.specs.declared.unshown.NotShown.{NotShown}
-use Rattle.trace_faults.specs.Faults.{fresh, before_taken, before_item, taken_on}
+use Rattle.trace_faults.specs.Faults.{before_taken, before_item, taken_on}
 
 -- ---- what is known
 
@@ -163,10 +165,10 @@ abbrev pub of_ready : (doubted : Bool) → Option Forbidden → Verdict
 of_ready doubted None = Permitted
 of_ready doubted (Some rule) = if doubted then Granted rule else Broken rule
 
-abbrev pub verdict_on : BusView → Known → Item → Verdict
-verdict_on state k (Cyc c) = of_cycle (doubts state k c.ce) (judged state (Cyc c))
-verdict_on state k (Rdy ce lun fail) = of_ready (doubts_ready state k ce lun) (judged state (Rdy ce lun fail))
-verdict_on state k (Ard ce lun) = of_ready (doubts_ready state k ce lun) (judged state (Ard ce lun))
+abbrev pub verdict_on : TraceState → Known → Item → Verdict
+verdict_on t k (Cyc c) = of_cycle (doubts t.bus k c.ce) (judged_here t (Cyc c))
+verdict_on t k (Rdy ce lun fail) = of_ready (doubts_ready t.bus k ce lun) (judged_here t (Rdy ce lun fail))
+verdict_on t k (Ard ce lun) = of_ready (doubts_ready t.bus k ce lun) (judged_here t (Ard ce lun))
 
 -- an item that belongs to a sequence whose opener wasn't seen: a cycle of a target before its first opener
 abbrev pub is_passed_over : Known → Item → Bool
@@ -177,12 +179,12 @@ is_passed_over k (Ard _ _) = false
 -- ---- one item after another
 
 pub record Seen : Type 0 where
-  pub state : BusView
+  pub state : TraceState
   pub known : List Known
 
 -- a cycle that is taken for granted leaves nothing known of its target, up to the next opener; a ready leaves all as it was
 abbrev pub granted_to : Item → Seen → Seen
-granted_to (Cyc c) seen = record { state = bus_without c.ce seen.state; known = slice_set seen.known c.ce nothing_known }
+granted_to (Cyc c) seen = record { state = without_sequence c.ce seen.state; known = slice_set seen.known c.ce nothing_known }
 granted_to (Rdy _ _ _) seen = seen
 granted_to (Ard _ _) seen = seen
 
@@ -192,7 +194,7 @@ judged_on i seen = record {
   state = gone_on i seen.state;
   known =
       slice_set seen.known (target_of i)
-      (learned i (looks_of seen.state (target_of i)) (looks_of (gone_on i seen.state) (target_of i)) (known_of seen.known (target_of i)));
+      (learned i (looks_of seen.state.bus (target_of i)) (looks_of (gone_on i seen.state).bus (target_of i)) (known_of seen.known (target_of i)));
 }
 
 abbrev pub seen_by : Verdict → Item → Seen → Seen
@@ -221,7 +223,7 @@ abbrev pub is_granted_here : Readies → Seen → Item → Bool
 is_granted_here readies seen i = is_granted (verdict_here (shown_here readies seen i) i)
 
 -- where an item is judged that isn't passed over: with the ready that it needs besides, where it isn't taken for granted
-abbrev pub state_here : Readies → Seen → Item → (later : List Item) → BusView
+abbrev pub state_here : Readies → Seen → Item → (later : List Item) → TraceState
 state_here readies seen i later = if is_granted_here readies seen i then before_taken readies seen.state i else before_item readies seen.state i later
 
 abbrev pub here : Readies → Seen → Item → (later : List Item) → Seen
@@ -252,8 +254,8 @@ seen_after readies seen i later =
 
 -- ---- a trace
 
-abbrev pub first_seen : Parts → ℕ → Seen
-first_seen g targets = record { state = fresh g targets; known = all_first_known targets }
+abbrev pub first_seen : Parts → ℕ → List Item → Seen
+first_seen g targets items = record { state = fresh_for g targets items; known = all_first_known targets }
 
 abbrev pub verdicts_from : Readies → Seen → List Item → List Verdict
 verdicts_from readies seen [] = []
@@ -261,7 +263,7 @@ verdicts_from readies seen (i ∷ items) = verdict readies seen i items ∷ verd
 
 -- what is said of each item of a trace
 abbrev pub verdicts_of : Readies → Parts → ℕ → List Item → List Verdict
-verdicts_of readies g targets items = verdicts_from readies (first_seen g targets) items
+verdicts_of readies g targets items = verdicts_from readies (first_seen g targets items) items
 
 abbrev pub broken_in : ℕ → Verdict → List BrokenRule
 broken_in n Permitted = []

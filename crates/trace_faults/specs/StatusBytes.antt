@@ -10,9 +10,12 @@ use Rattle.trace_faults.specs.declared.status_doubt.StatusDoubt.{StatusDoubt}
 use Rattle.trace_faults.specs.declared.status_doubt.StatusDoubt.TheVariants.{ShowsReady, ShowsBusy, ShowsArrayReady, ShowsArrayBusy}
 use Rattle.trace_faults.specs.declared.status_doubt.DoubtedByte.{DoubtedByte}
 use Rattle.trace_faults.specs.declared.readies.Readies.{Readies}
-use Rattle.trace_faults.specs.Recovery.{gone_on}
-use Rattle.trace_faults.specs.ShownReadies.{driving_lun, has_ready, has_array_ready, is_output, is_status}
-use Rattle.trace_faults.specs.Faults.{fresh, before_item}
+use Rattle.trace_faults.specs.declared.trace_state.TraceState.{TraceState}
+use Rattle.trace_faults.specs.Outside.{is_status}
+use Rattle.trace_faults.specs.Denied.{driving_lun, has_ready}
+use Rattle.trace_faults.specs.Recovery.{fresh_for, gone_on}
+use Rattle.trace_faults.specs.ShownReadies.{has_array_ready, is_output_inside}
+use Rattle.trace_faults.specs.Faults.{before_item}
 
 -- what is wrong with the array's bit of a LUN that has no work of its own: it is to show whether a cache read goes on in the array
 abbrev pub array_doubt : (array_busy shows : Bool) → Option StatusDoubt
@@ -38,8 +41,8 @@ doubt_at state ce None byte = None
 doubt_at state ce (Some number) byte = doubt_of (looked state (record { ce = ce; lun = number })) byte
 
 -- what is wrong with the byte of an item, if that is a status
-abbrev pub byte_doubt : BusView → Item → Option StatusDoubt
-byte_doubt state (Cyc c) = if is_output c.kind then doubt_at state c.ce (driving_lun state c.ce) c.byte else None
+abbrev pub byte_doubt : TraceState → Item → Option StatusDoubt
+byte_doubt t (Cyc c) = if is_output_inside t c then doubt_at t.bus c.ce (driving_lun t.bus c.ce) c.byte else None
 byte_doubt state (Rdy _ _ _) = None
 byte_doubt state (Ard _ _) = None
 
@@ -48,11 +51,11 @@ doubted_at n None = []
 doubted_at n (Some doubt) = record { item = n; doubt = doubt } ∷ []
 
 -- the status bytes that contradict what stands before them, counted from this number
-abbrev pub doubts_from : Readies → BusView → ℕ → List Item → List DoubtedByte
+abbrev pub doubts_from : Readies → TraceState → ℕ → List Item → List DoubtedByte
 doubts_from readies state n [] = []
 doubts_from readies state n (i ∷ items) =
     doubted_at n (byte_doubt (before_item readies state i items) i) ++ doubts_from readies (gone_on i (before_item readies state i items)) (n + 1) items
 
 -- all of a trace
 abbrev pub doubts_of : Readies → Parts → ℕ → List Item → List DoubtedByte
-doubts_of readies g targets items = doubts_from readies (fresh g targets) 0 items
+doubts_of readies g targets items = doubts_from readies (fresh_for g targets items) 0 items

@@ -1,5 +1,5 @@
 -- The readies that nothing shows: of a LUN that a cycle needs, whose host waited by R/B# or by the clock.
-use Rattle.std.specs.Prelude.{ℕ, Bool, false, ◌&&◌, List, Option, Some, None, if◌then◌else◌}
+use Rattle.std.specs.Prelude.{ℕ, Bool, false, not, ◌&&◌, List, Option, Some, None, if◌then◌else◌}
 use Rattle.onfi_cycle.specs.declared.item.Cycle.{Cycle}
 use Rattle.onfi_cycle.specs.declared.item.Item.{Item}
 use Rattle.onfi_cycle.specs.declared.item.Item.TheVariants.{Cyc, Rdy, Ard}
@@ -7,47 +7,49 @@ use Rattle.onfi_cycle.specs.declared.forbidden.Forbidden.{Forbidden}
 use Rattle.onfi_cycle.specs.declared.forbidden.Forbidden.TheVariants.{NotThere, CommandUnknown, SequenceOpen, SeveralLuns, NoColumnToChange, CommandMisplaced, AddressMisplaced, RowOutside, LunBusy, QueueClash, InputMisplaced, NoSoleDriver, DataNotReady, ColumnOutside, CacheReadMisplaced}
 use Rattle.onfi_cycle.specs.declared.lun_state.LunState.{LunState}
 use Rattle.onfi_cycle.specs.Effect.{names_lun}
-use Rattle.onfi_cycle.specs.State.{BusView, judged}
 use Rattle.onfi_cycle.specs.Look.{looked}
 use Rattle.trace_faults.specs.declared.unshown.UnshownReady.{UnshownReady}
-use Rattle.trace_faults.specs.Recovery.{is_opening}
-use Rattle.trace_faults.specs.ShownReadies.{driving_lun}
+use Rattle.trace_faults.specs.declared.trace_state.TraceState.{TraceState}
+use Rattle.trace_faults.specs.Outside.{is_opening}
+use Rattle.trace_faults.specs.Denied.{driving_lun, is_denied}
+use Rattle.trace_faults.specs.Recovery.{judged_here}
 use Rattle.trace_faults.specs.RowAhead.{given_row}
 
--- ---- which LUNs work
+-- ---- which LUNs work, and may be done
 
 -- a LUN that is there, and works
 abbrev pub is_working : Option LunState → Bool
 is_working None = false
 is_working (Some lun) = lun.busy
 
-abbrev pub works : BusView → (ce number : ℕ) → Bool
-works state ce number = is_working (looked state (record { ce = ce; lun = number }))
+-- the LUN of this number works, and the recording doesn't deny that it is done
+abbrev pub may_be_done : TraceState → (ce number : ℕ) → Bool
+may_be_done t ce number = is_working (looked t.bus (record { ce = ce; lun = number })) && not (is_denied t ce number)
 
 -- the first of four that is meant
 abbrev pub first_of : (zeroth first second third : Bool) → Option ℕ
 first_of zeroth first second third =
     if zeroth then Some 0 else (if first then Some 1 else (if second then Some 2 else (if third then Some 3 else None)))
 
--- the first LUN of a target that works
-abbrev pub first_working : BusView → ℕ → Option ℕ
-first_working state ce = first_of (works state ce 0) (works state ce 1) (works state ce 2) (works state ce 3)
+-- the first LUN of a target that may be done
+abbrev pub first_done : TraceState → ℕ → Option ℕ
+first_done state ce = first_of (may_be_done state ce 0) (may_be_done state ce 1) (may_be_done state ce 2) (may_be_done state ce 3)
 
-abbrev pub is_named : BusView → (ce row number : ℕ) → Bool
-is_named state ce row number = names_lun state.geometry row number && works state ce number
+abbrev pub is_named : TraceState → (ce row number : ℕ) → Bool
+is_named state ce row number = names_lun state.bus.geometry row number && may_be_done state ce number
 
--- the LUN that a row names, where it works
-abbrev pub named_working : BusView → ℕ → Option ℕ → Option ℕ
-named_working state ce None = None
-named_working state ce (Some row) = first_of (is_named state ce row 0) (is_named state ce row 1) (is_named state ce row 2) (is_named state ce row 3)
+-- the LUN that a row names, where it may be done
+abbrev pub named_done : TraceState → ℕ → Option ℕ → Option ℕ
+named_done state ce None = None
+named_done state ce (Some row) = first_of (is_named state ce row 0) (is_named state ce row 1) (is_named state ce row 2) (is_named state ce row 3)
 
-abbrev pub if_working : BusView → ℕ → Option ℕ → Option ℕ
-if_working state ce None = None
-if_working state ce (Some number) = if works state ce number then Some number else None
+abbrev pub if_may_be_done : TraceState → ℕ → Option ℕ → Option ℕ
+if_may_be_done state ce None = None
+if_may_be_done state ce (Some number) = if may_be_done state ce number then Some number else None
 
--- the LUN that drives the bus when the target is read, where it works
-abbrev pub driving_working : BusView → ℕ → Option ℕ
-driving_working state ce = if_working state ce (driving_lun state ce)
+-- the LUN that drives the bus when the target is read, where it may be done
+abbrev pub driving_done : TraceState → ℕ → Option ℕ
+driving_done state ce = if_may_be_done state ce (driving_lun state.bus ce)
 
 abbrev pub or_else : Option ℕ → Option ℕ → Option ℕ
 or_else None other = other
@@ -55,19 +57,19 @@ or_else (Some number) other = Some number
 
 -- ---- which of them a cycle needs
 
--- the LUN that the opener's row names; where no row comes, and where that LUN isn't there or doesn't work, the first that works
-abbrev pub to_begin : BusView → Cycle → List Item → Option ℕ
-to_begin state c later = or_else (named_working state c.ce (given_row c later)) (first_working state c.ce)
+-- the LUN that the opener's row names; where no row comes, and where that LUN isn't there or can't be done, the first that may be
+abbrev pub to_begin : TraceState → Cycle → List Item → Option ℕ
+to_begin state c later = or_else (named_done state c.ce (given_row c later)) (first_done state c.ce)
 
 -- the LUN whose ready a cycle wants that breaks this rule first, or none: F9 of an opener, F5, F13 and F15 of the LUN that drives the bus; and an
 -- opener that breaks none wants the ready of the LUN that its row will name
-abbrev pub wanted_by : Option Forbidden → BusView → Cycle → List Item → Option ℕ
-wanted_by None state c later = named_working state c.ce (given_row c later)
+abbrev pub wanted_by : Option Forbidden → TraceState → Cycle → List Item → Option ℕ
+wanted_by None state c later = named_done state c.ce (given_row c later)
 wanted_by (Some NotThere) state c later = None
 wanted_by (Some CommandUnknown) state c later = None
 wanted_by (Some SequenceOpen) state c later = None
 wanted_by (Some SeveralLuns) state c later = None
-wanted_by (Some NoColumnToChange) state c later = driving_working state c.ce
+wanted_by (Some NoColumnToChange) state c later = driving_done state c.ce
 wanted_by (Some CommandMisplaced) state c later = None
 wanted_by (Some AddressMisplaced) state c later = None
 wanted_by (Some RowOutside) state c later = None
@@ -75,9 +77,9 @@ wanted_by (Some LunBusy) state c later = if is_opening (Cyc c) then to_begin sta
 wanted_by (Some QueueClash) state c later = None
 wanted_by (Some InputMisplaced) state c later = None
 wanted_by (Some NoSoleDriver) state c later = None
-wanted_by (Some DataNotReady) state c later = driving_working state c.ce
+wanted_by (Some DataNotReady) state c later = driving_done state c.ce
 wanted_by (Some ColumnOutside) state c later = None
-wanted_by (Some CacheReadMisplaced) state c later = if is_opening (Cyc c) then driving_working state c.ce else None
+wanted_by (Some CacheReadMisplaced) state c later = if is_opening (Cyc c) then driving_done state c.ce else None
 
 -- the rule that is broken without that ready: of an opener that breaks none, F9 at its last address
 abbrev pub rule_without : Option Forbidden → Forbidden
@@ -89,8 +91,8 @@ unshown_of ce rule None = None
 unshown_of ce rule (Some number) = Some (record { lun = record { ce = ce; lun = number }; rule = rule })
 
 -- the LUN that is taken for ready before an item, since that needs it and nothing showed it; only cycles show what their host holds for ready
-abbrev pub unshown : BusView → Item → (later : List Item) → Option UnshownReady
-unshown state (Cyc c) later = unshown_of c.ce (rule_without (judged state (Cyc c))) (wanted_by (judged state (Cyc c)) state c later)
+abbrev pub unshown : TraceState → Item → (later : List Item) → Option UnshownReady
+unshown state (Cyc c) later = unshown_of c.ce (rule_without (judged_here state (Cyc c))) (wanted_by (judged_here state (Cyc c)) state c later)
 unshown state (Rdy _ _ _) later = None
 unshown state (Ard _ _) later = None
 

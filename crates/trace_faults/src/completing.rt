@@ -4,11 +4,11 @@ ghost use Rattle.trace_faults.specs.ShownReadies.{listed};
 ghost use Rattle.trace_faults.specs.Faults.{completed};
 
 use crate::readies::Readies;
-use crate::recovery::go_on;
 use crate::shown_readies::go_on_by_readies;
+use crate::trace_state::TraceState;
 use crate::unshown::ready_taken;
 use nand_geometry::Geometry;
-use onfi_cycle::{BusState, Item};
+use onfi_cycle::Item;
 use std::alloc::{AllocError, Allocator};
 
 // Adds an item, if there is one.
@@ -32,7 +32,7 @@ pub fn complete<A: Allocator>(
     requires { targets ≤ 4 }
     ensures { IfOk result (λ whole. whole.items ≡ completed geometry.now targets items.now) }
 {
-    let mut state = BusState::new(*geometry, targets);
+    let mut state = TraceState::before(geometry, targets, items);
     let mut whole = Vec::new(alloc);
     let mut rest = items;
     'rest: while let Some((first, later)) = rest.split_first() {
@@ -43,7 +43,7 @@ pub fn complete<A: Allocator>(
         push_some(&mut whole, array_ready)?;
         push_some(&mut whole, ready_taken(taken))?;
         whole.push(item)?;
-        let _ = go_on(&mut state, item);
+        let _ = state.go_on(item);
         rest = later;
     }
     Ok(whole)

@@ -4,10 +4,10 @@ ghost use Rattle.trace_faults.specs.Faults.{faults_of, not_shown_of, not_shown_b
 
 use crate::broken_rule::BrokenRule;
 use crate::readies::Readies;
-use crate::recovery::go_on;
+use crate::trace_state::TraceState;
 use crate::unshown::{NotShown, UnshownReady};
 use nand_geometry::Geometry;
-use onfi_cycle::{BusState, Forbidden, Item};
+use onfi_cycle::{Forbidden, Item};
 use std::alloc::{AllocError, Allocator};
 
 /// Each fault of a trace on a channel of so many targets of this geometry, 4 at most, in the order of time. An item is judged on what those before it
@@ -23,14 +23,14 @@ pub fn find_faults<A: Allocator>(
     requires { targets ≤ 4 }
     ensures { IfOk result (λ faults. faults.items ≡ faults_of readies geometry.now targets items.now) }
 {
-    let mut state = BusState::new(*geometry, targets);
+    let mut state = TraceState::before(geometry, targets, items);
     let mut faults = Vec::new(alloc);
     let mut place = 0;
     let mut rest = items;
     'rest: while let Some((first, later)) = rest.split_first() {
         let item = *first;
         let _ = readies.go_on_to(&mut state, item, later);
-        if let Some(rule) = go_on(&mut state, item) {
+        if let Some(rule) = state.go_on(item) {
             faults.push(BrokenRule { item: place, rule })?;
         }
         place += 1;
@@ -67,14 +67,14 @@ pub fn find_not_shown<A: Allocator>(
     requires { targets ≤ 4 }
     ensures { IfOk result (λ told. told.items ≡ not_shown_of readies geometry.now targets items.now) }
 {
-    let mut state = BusState::new(*geometry, targets);
+    let mut state = TraceState::before(geometry, targets, items);
     let mut told = Vec::new(alloc);
     let mut place = 0;
     let mut rest = items;
     'rest: while let Some((first, later)) = rest.split_first() {
         let item = *first;
         let ready = readies.go_on_to(&mut state, item, later);
-        let rule = go_on(&mut state, item);
+        let rule = state.go_on(item);
         push_not_shown(&mut told, place, ready, rule)?;
         place += 1;
         rest = later;

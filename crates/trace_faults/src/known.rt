@@ -4,7 +4,7 @@ ghost use Rattle.trace_faults.specs.Middle.{nothing_known, all_known, first_know
 
 use crate::looks::Looks;
 use crate::lun_known::LunKnown;
-use crate::recovery::is_opening;
+use crate::outside::is_opening;
 use onfi_cycle::{BusState, Item, Lun, LunState};
 
 /// How many targets a channel has at most.

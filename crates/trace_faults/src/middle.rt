@@ -1,15 +1,16 @@
 //! Going on with a trace whose recording began in the middle.
-ghost use Rattle.std.specs.Prelude.{◌≡◌};
-ghost use Rattle.trace_faults.specs.Middle.{Seen, verdict_on, verdict_here, is_passed_over, granted_to, judged_on, seen_by, said_of, here, verdict, seen_after, known_of};
+ghost use Rattle.std.specs.Prelude.{◌≡◌, slice_set};
+ghost use Rattle.trace_faults.specs.Middle.{Seen, verdict_on, verdict_here, is_passed_over, granted_to, judged_on, seen_by, said_of, here, verdict, seen_after, learned, known_of};
 ghost use Rattle.trace_faults.specs.Recovery.{gone_on};
 ghost use Rattle.onfi_cycle.specs.Sequence.{target_of};
 
 use crate::known::{AllKnown, Known, known_of, note_known};
 use crate::looks::Looks;
+use crate::outside::is_opening;
 use crate::readies::Readies;
-use crate::recovery::{go_on, is_opening};
+use crate::trace_state::TraceState;
 use crate::verdict::Verdict;
-use onfi_cycle::{BusState, Item};
+use onfi_cycle::Item;
 
 // Whether an item belongs to a sequence whose opener wasn't seen.
 fn is_passed_over(known: Known, item: Item) -> bool
@@ -22,26 +23,29 @@ fn is_passed_over(known: Known, item: Item) -> bool
 }
 
 // What is said of an item that is judged on this state, of whose target this is known.
-fn verdict_on(state: &BusState, known: Known, item: Item) -> Verdict
+fn verdict_on(state: &TraceState, known: Known, item: Item) -> Verdict
     ensures { result ≡ verdict_on state.now known item }
 {
     let rule = state.judge(item);
     match item {
-        Item::Cyc(cycle) => Verdict::of_cycle(known.doubts(state, cycle.ce), rule),
-        Item::Rdy { ce, lun, .. } => Verdict::of_ready(known.doubts_ready(state, ce, lun), rule),
-        Item::Ard { ce, lun } => Verdict::of_ready(known.doubts_ready(state, ce, lun), rule),
+        Item::Cyc(cycle) => Verdict::of_cycle(known.doubts(&state.bus, cycle.ce), rule),
+        Item::Rdy { ce, lun, .. } => Verdict::of_ready(
+            known.doubts_ready(&state.bus, ce, lun),
+            rule,
+        ),
+        Item::Ard { ce, lun } => Verdict::of_ready(known.doubts_ready(&state.bus, ce, lun), rule),
     }
 }
 
 // What is said of an item that is judged on this state.
-fn verdict_here(state: &BusState, known: &AllKnown, item: Item) -> Verdict
+fn verdict_here(state: &TraceState, known: &AllKnown, item: Item) -> Verdict
     ensures { result ≡ verdict_here (record { state = state.now; known = known.now }) item }
 {
     verdict_on(state, known_of(known, item.target()), item)
 }
 
 // Takes an item for granted.
-fn grant(state: &mut BusState, known: &mut AllKnown, item: Item)
+fn grant(state: &mut TraceState, known: &mut AllKnown, item: Item)
     ensures state { state.new ≡ (granted_to item (record { state = state.old; known = known.old })).state }
     ensures known { known.new ≡ (granted_to item (record { state = state.old; known = known.old })).known }
 {
@@ -54,20 +58,27 @@ fn grant(state: &mut BusState, known: &mut AllKnown, item: Item)
     }
 }
 
-// Goes on after an item that was judged.
-fn go_on_judged(state: &mut BusState, known: &mut AllKnown, item: Item)
-    ensures state { state.new ≡ gone_on item state.old }
-    ensures known { known.new ≡ (judged_on item (record { state = state.old; known = known.old })).known }
+// Writes down what an item shows of its target, with a look at its LUNs before it and one after it.
+fn note_learned(known: &mut AllKnown, item: Item, before: Looks, after: Looks)
+    ensures { known.new ≡ slice_set known.old (target_of item) (learned item before after (known_of known.old (target_of item))) }
 {
     let target = item.target();
-    let before = Looks::of(state, target);
-    let _ = go_on(state, item);
-    let now = known_of(known, target).learned(item, before, Looks::of(state, target));
+    let now = known_of(known, target).learned(item, before, after);
     note_known(known, target, now);
 }
 
+// Goes on after an item that was judged.
+fn go_on_judged(state: &mut TraceState, known: &mut AllKnown, item: Item)
+    ensures state { state.new ≡ gone_on item state.old }
+    ensures known { known.new ≡ (judged_on item (record { state = state.old; known = known.old })).known }
+{
+    let before = Looks::of(&state.bus, item.target());
+    let _ = state.go_on(item);
+    note_learned(known, item, before, Looks::of(&state.bus, item.target()));
+}
+
 // Goes on after an item of which this is said.
-fn go_on_by(state: &mut BusState, known: &mut AllKnown, item: Item, said: Verdict)
+fn go_on_by(state: &mut TraceState, known: &mut AllKnown, item: Item, said: Verdict)
     ensures state { state.new ≡ (seen_by said item (record { state = state.old; known = known.old })).state }
     ensures known { known.new ≡ (seen_by said item (record { state = state.old; known = known.old })).known }
 {
@@ -82,7 +93,7 @@ fn go_on_by(state: &mut BusState, known: &mut AllKnown, item: Item, said: Verdic
 
 // Goes on to where an item is judged that isn't passed over, and tells what is said of it.
 fn go_on_to(
-    state: &mut BusState,
+    state: &mut TraceState,
     known: &AllKnown,
     readies: Readies,
     item: Item,
@@ -102,7 +113,7 @@ fn go_on_to(
 
 /// Goes on by an item, and tells what is said of it.
 pub(crate) fn go_on_from_middle(
-    state: &mut BusState,
+    state: &mut TraceState,
     known: &mut AllKnown,
     readies: Readies,
     item: Item,

@@ -6,10 +6,11 @@ use crate::broken_rule::BrokenRule;
 use crate::known::all_at_first;
 use crate::middle::go_on_from_middle;
 use crate::readies::Readies;
+use crate::trace_state::TraceState;
 use crate::unshown::NotShown;
 use crate::verdict::Verdict;
 use nand_geometry::Geometry;
-use onfi_cycle::{BusState, Item};
+use onfi_cycle::Item;
 use std::alloc::{AllocError, Allocator, Global};
 
 /// What comes of a trace whose recording began in the middle.
@@ -36,7 +37,7 @@ fn verdicts_of<A: Allocator>(
     requires { targets ≤ 4 }
     ensures { IfOk result (λ verdicts. verdicts.items ≡ verdicts_of readies geometry.now targets items.now) }
 {
-    let mut state = BusState::new(*geometry, targets);
+    let mut state = TraceState::before(geometry, targets, items);
     let mut known = all_at_first(targets);
     let mut verdicts = Vec::new(alloc);
     let mut rest = items;

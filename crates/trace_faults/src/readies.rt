@@ -3,8 +3,9 @@ ghost use Rattle.std.specs.Prelude.{◌≡◌};
 ghost use Rattle.trace_faults.specs.Faults.{before_taken, taken_on, with_taken, before_item};
 
 use crate::shown_readies::{go_on_by_readies, go_on_by_some};
+use crate::trace_state::TraceState;
 use crate::unshown::{UnshownReady, ready_taken, unshown};
-use onfi_cycle::{BusState, Item};
+use onfi_cycle::Item;
 
 /// Where the readies of a trace are.
 #[derive(Clone, Copy, Debug, PartialEq, Eq)]
@@ -18,7 +19,7 @@ pub enum Readies {
 
 impl Readies {
     /// Goes on by the readies that an item shows, where they aren't written.
-    pub(crate) fn go_on_by_shown(self, state: &mut BusState, item: Item)
+    pub(crate) fn go_on_by_shown(self, state: &mut TraceState, item: Item)
         ensures { state.new ≡ before_taken self state.old item }
     {
         match self {
@@ -30,7 +31,7 @@ impl Readies {
     }
 
     // The ready that an item needs besides, where readies aren't written.
-    fn taken_on(self, state: &BusState, item: Item, later: &[Item]) -> Option<UnshownReady>
+    fn taken_on(self, state: &TraceState, item: Item, later: &[Item]) -> Option<UnshownReady>
         ensures { result ≡ taken_on self state.now item later.now }
     {
         match self {
@@ -42,7 +43,7 @@ impl Readies {
     /// Goes on by the ready that an item needs besides, where readies aren't written, and tells it.
     pub(crate) fn go_on_by_taken(
         self,
-        state: &mut BusState,
+        state: &mut TraceState,
         item: Item,
         later: &[Item],
     ) -> Option<UnshownReady>
@@ -55,9 +56,9 @@ impl Readies {
     }
 
     /// Goes on to where an item is judged: by the readies that it shows, where they aren't written, and the one that it needs besides, which it tells.
-    pub(crate) fn go_on_to(
+    pub fn go_on_to(
         self,
-        state: &mut BusState,
+        state: &mut TraceState,
         item: Item,
         later: &[Item],
     ) -> Option<UnshownReady>

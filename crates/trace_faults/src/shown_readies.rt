@@ -1,47 +1,12 @@
 //! The readies that a status output shows.
 ghost use Rattle.std.specs.Prelude.{◌≡◌};
 ghost use Rattle.onfi_cycle.specs.Look.{looked};
-ghost use Rattle.trace_faults.specs.ShownReadies.{drives, lun_drives, driving_lun, ready_of, array_ready_of, ready_before, array_ready_before, gone_on_some, with_ready, with_readies, is_status, has_array_ready};
+ghost use Rattle.trace_faults.specs.ShownReadies.{ready_of, array_ready_of, is_output_inside, ready_before, array_ready_before, gone_on_some, with_ready, with_readies, has_array_ready};
 
-use crate::recovery::go_on;
-use onfi_cycle::{BusState, Item, Kind, Latch, Lun, LunState, Status};
-
-// Whether the LUN of this number drives the bus when its target is read.
-fn lun_drives(state: &BusState, ce: u8, number: u8) -> bool
-    ensures { result ≡ lun_drives state.now ce number }
-{
-    match state.lun_state(Lun { ce, lun: number }) {
-        None => false,
-        Some(lun) => !lun.latch.is_off(),
-    }
-}
-
-/// The number of the one LUN of a target that drives the bus.
-pub(crate) fn find_driver(state: &BusState, ce: u8) -> Option<u8>
-    ensures { result ≡ driving_lun state.now ce }
-{
-    let zeroth = lun_drives(state, ce, 0);
-    let first = lun_drives(state, ce, 1);
-    let second = lun_drives(state, ce, 2);
-    let third = lun_drives(state, ce, 3);
-    match (zeroth, first, second, third) {
-        (true, false, false, false) => Some(0),
-        (false, true, false, false) => Some(1),
-        (false, false, true, false) => Some(2),
-        (false, false, false, true) => Some(3),
-        _ => None,
-    }
-}
-
-/// The LUN shows its status when its target is read.
-pub(crate) fn is_status(latch: Latch) -> bool
-    ensures { result ≡ is_status latch }
-{
-    match latch {
-        Latch::Status => true,
-        Latch::Off | Latch::Data => false,
-    }
-}
+use crate::denied::find_driver;
+use crate::outside::{is_output, is_status};
+use crate::trace_state::TraceState;
+use onfi_cycle::{Cycle, Item, Lun, LunState, Status};
 
 // The ready that a byte of a LUN shows.
 fn ready_of(lun: Option<LunState>, ce: u8, number: u8, byte: u8) -> Option<Item>
@@ -83,57 +48,60 @@ fn array_ready_of(lun: Option<LunState>, ce: u8, number: u8, byte: u8) -> Option
     None
 }
 
+/// An output of the profile.
+pub(crate) fn is_output_inside(state: &TraceState, cycle: Cycle) -> bool
+    ensures { result ≡ is_output_inside state.now cycle }
+{
+    is_output(cycle.kind) && !state.is_outside(Item::Cyc(cycle))
+}
+
 // The ready that an item shows.
-fn ready_before(state: &BusState, item: Item) -> Option<Item>
+fn ready_before(state: &TraceState, item: Item) -> Option<Item>
     ensures { result ≡ ready_before state.now item }
 {
     let Item::Cyc(cycle) = item else {
         return None;
     };
-    match cycle.kind {
-        Kind::Cmd | Kind::Adr | Kind::Din => None,
-        Kind::Dout => {
-            let number = find_driver(state, cycle.ce)?;
-            let lun = Lun {
-                ce: cycle.ce,
-                lun: number,
-            };
-            ready_of(state.lun_state(lun), cycle.ce, number, cycle.byte)
-        }
+    if !is_output_inside(state, cycle) {
+        return None;
     }
+    let number = find_driver(&state.bus, cycle.ce)?;
+    let lun = Lun {
+        ce: cycle.ce,
+        lun: number,
+    };
+    ready_of(state.bus.lun_state(lun), cycle.ce, number, cycle.byte)
 }
 
 // The ready of an array that an item shows.
-fn array_ready_before(state: &BusState, item: Item) -> Option<Item>
+fn array_ready_before(state: &TraceState, item: Item) -> Option<Item>
     ensures { result ≡ array_ready_before state.now item }
 {
     let Item::Cyc(cycle) = item else {
         return None;
     };
-    match cycle.kind {
-        Kind::Cmd | Kind::Adr | Kind::Din => None,
-        Kind::Dout => {
-            let number = find_driver(state, cycle.ce)?;
-            let lun = Lun {
-                ce: cycle.ce,
-                lun: number,
-            };
-            array_ready_of(state.lun_state(lun), cycle.ce, number, cycle.byte)
-        }
+    if !is_output_inside(state, cycle) {
+        return None;
     }
+    let number = find_driver(&state.bus, cycle.ce)?;
+    let lun = Lun {
+        ce: cycle.ce,
+        lun: number,
+    };
+    array_ready_of(state.bus.lun_state(lun), cycle.ce, number, cycle.byte)
 }
 
 /// Goes on by a ready, if there is one.
-pub(crate) fn go_on_by_some(state: &mut BusState, ready: Option<Item>)
+pub(crate) fn go_on_by_some(state: &mut TraceState, ready: Option<Item>)
     ensures { state.new ≡ gone_on_some ready state.old }
 {
     if let Some(item) = ready {
-        let _ = go_on(state, item);
+        let _ = state.go_on(item);
     }
 }
 
 /// Goes on by the readies that an item shows, in their order: that of the LUN that gives the output, and that of its array.
-pub fn go_on_by_readies(state: &mut BusState, item: Item) -> (Option<Item>, Option<Item>)
+pub fn go_on_by_readies(state: &mut TraceState, item: Item) -> (Option<Item>, Option<Item>)
     ensures ready { result.0 ≡ ready_before state.old item }
     ensures array { result.1 ≡ array_ready_before (with_ready state.old item) item }
     ensures state { state.new ≡ with_readies state.old item }

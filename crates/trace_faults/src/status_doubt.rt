@@ -2,11 +2,13 @@
 ghost use Rattle.std.specs.Prelude.{◌≡◌, ◌≤◌, ◌++◌, IfOk, OnOk};
 ghost use Rattle.trace_faults.specs.StatusBytes.{array_doubt, lun_doubt, doubt_of, byte_doubt, doubted_at, doubts_of};
 
+use crate::denied::find_driver;
+use crate::outside::is_status;
 use crate::readies::Readies;
-use crate::recovery::go_on;
-use crate::shown_readies::{find_driver, is_status, shows_array_ready};
+use crate::shown_readies::{is_output_inside, shows_array_ready};
+use crate::trace_state::TraceState;
 use nand_geometry::Geometry;
-use onfi_cycle::{BusState, Item, Kind, Lun, LunState, Status};
+use onfi_cycle::{Item, Lun, LunState, Status};
 use std::alloc::{AllocError, Allocator};
 use std::fmt;
 
@@ -89,23 +91,20 @@ fn doubt_of(lun: Option<LunState>, byte: u8) -> Option<StatusDoubt>
 }
 
 // What is wrong with the byte of an item, if that is a status.
-fn byte_doubt(state: &BusState, item: Item) -> Option<StatusDoubt>
+fn byte_doubt(state: &TraceState, item: Item) -> Option<StatusDoubt>
     ensures { result ≡ byte_doubt state.now item }
 {
     let Item::Cyc(cycle) = item else {
         return None;
     };
-    match cycle.kind {
-        Kind::Cmd | Kind::Adr | Kind::Din => None,
-        Kind::Dout => {
-            let number = find_driver(state, cycle.ce)?;
-            let lun = Lun {
-                ce: cycle.ce,
-                lun: number,
-            };
-            doubt_of(state.lun_state(lun), cycle.byte)
-        }
+    if !is_output_inside(state, cycle) {
+        return None;
     }
+    let lun = Lun {
+        ce: cycle.ce,
+        lun: find_driver(&state.bus, cycle.ce)?,
+    };
+    doubt_of(state.bus.lun_state(lun), cycle.byte)
 }
 
 // Adds what is wrong with the byte of an item, if something is.
@@ -134,7 +133,7 @@ pub fn find_status_doubts<A: Allocator>(
     requires { targets ≤ 4 }
     ensures { IfOk result (λ doubts. doubts.items ≡ doubts_of readies geometry.now targets items.now) }
 {
-    let mut state = BusState::new(*geometry, targets);
+    let mut state = TraceState::before(geometry, targets, items);
     let mut doubts = Vec::new(alloc);
     let mut place = 0;
     let mut rest = items;
@@ -142,7 +141,7 @@ pub fn find_status_doubts<A: Allocator>(
         let item = *first;
         let _ = readies.go_on_to(&mut state, item, later);
         push_doubt(&mut doubts, place, byte_doubt(&state, item))?;
-        let _ = go_on(&mut state, item);
+        let _ = state.go_on(item);
         place += 1;
         rest = later;
     }

@@ -1,13 +1,14 @@
 //! The readies that nothing shows: of a LUN that a cycle needs, whose host waited by R/B# or by the clock.
 ghost use Rattle.std.specs.Prelude.{◌≡◌};
 ghost use Rattle.onfi_cycle.specs.Look.{looked};
-ghost use Rattle.onfi_cycle.specs.State.{judged};
-ghost use Rattle.trace_faults.specs.Unshown.{is_working, works, first_of, first_working, is_named, named_working, driving_working, to_begin, wanted_by, rule_without, unshown_of, unshown, ready_for, ready_taken};
+ghost use Rattle.trace_faults.specs.Recovery.{judged_here};
+ghost use Rattle.trace_faults.specs.Unshown.{is_working, may_be_done, first_of, first_done, is_named, named_done, driving_done, to_begin, wanted_by, rule_without, unshown_of, unshown, ready_for, ready_taken};
 
-use crate::recovery::is_opening;
+use crate::denied::{find_driver, is_denied};
+use crate::outside::is_opening;
 use crate::row_ahead::given_row;
-use crate::shown_readies::find_driver;
-use onfi_cycle::{BusState, Cycle, Forbidden, Item, Lun, LunState};
+use crate::trace_state::TraceState;
+use onfi_cycle::{Cycle, Forbidden, Item, Lun, LunState};
 
 /// A LUN that is taken for ready before an item, since that needs it and nothing showed it, and the rule that is broken without that.
 #[derive(Clone, Copy, Debug, PartialEq, Eq)]
@@ -33,11 +34,11 @@ fn is_working(lun: Option<LunState>) -> bool
     }
 }
 
-/// Whether the LUN of this number of a target works.
-pub(crate) fn works(state: &BusState, ce: u8, lun: u8) -> bool
-    ensures { result ≡ works state.now ce lun }
+// Whether the LUN of this number of a target works, and the recording doesn't deny that it is done.
+fn may_be_done(state: &TraceState, ce: u8, lun: u8) -> bool
+    ensures { result ≡ may_be_done state.now ce lun }
 {
-    is_working(state.lun_state(Lun { ce, lun }))
+    is_working(state.bus.lun_state(Lun { ce, lun })) && !is_denied(state, ce, lun)
 }
 
 // The first of four that is meant.
@@ -53,28 +54,28 @@ fn first_of(zeroth: bool, first: bool, second: bool, third: bool) -> Option<u8>
     }
 }
 
-// The first LUN of a target that works.
-fn first_working(state: &BusState, ce: u8) -> Option<u8>
-    ensures { result ≡ first_working state.now ce }
+// The first LUN of a target that may be done.
+fn first_done(state: &TraceState, ce: u8) -> Option<u8>
+    ensures { result ≡ first_done state.now ce }
 {
     first_of(
-        works(state, ce, 0),
-        works(state, ce, 1),
-        works(state, ce, 2),
-        works(state, ce, 3),
+        may_be_done(state, ce, 0),
+        may_be_done(state, ce, 1),
+        may_be_done(state, ce, 2),
+        may_be_done(state, ce, 3),
     )
 }
 
-// Whether a row names the LUN of this number of a target, and that works.
-fn is_named(state: &BusState, ce: u8, row: u32, number: u8) -> bool
+// Whether a row names the LUN of this number of a target, and that may be done.
+fn is_named(state: &TraceState, ce: u8, row: u32, number: u8) -> bool
     ensures { result ≡ is_named state.now ce row number }
 {
-    state.geometry().parts_of(row).lun == u32::from(number) && works(state, ce, number)
+    state.bus.geometry().parts_of(row).lun == u32::from(number) && may_be_done(state, ce, number)
 }
 
-// The LUN of a target that a row names, where it works.
-fn named_working(state: &BusState, ce: u8, row: Option<u32>) -> Option<u8>
-    ensures { result ≡ named_working state.now ce row }
+// The LUN of a target that a row names, where it may be done.
+fn named_done(state: &TraceState, ce: u8, row: Option<u32>) -> Option<u8>
+    ensures { result ≡ named_done state.now ce row }
 {
     let row = row?;
     first_of(
@@ -85,34 +86,39 @@ fn named_working(state: &BusState, ce: u8, row: Option<u32>) -> Option<u8>
     )
 }
 
-// The LUN that drives the bus when the target is read, where it works.
-fn driving_working(state: &BusState, ce: u8) -> Option<u8>
-    ensures { result ≡ driving_working state.now ce }
+// The LUN that drives the bus when the target is read, where it may be done.
+fn driving_done(state: &TraceState, ce: u8) -> Option<u8>
+    ensures { result ≡ driving_done state.now ce }
 {
-    let number = find_driver(state, ce)?;
-    if works(state, ce, number) {
+    let number = find_driver(&state.bus, ce)?;
+    if may_be_done(state, ce, number) {
         Some(number)
     } else {
         None
     }
 }
 
-// The LUN that an opener's row names; where no row comes, and where that LUN isn't there or doesn't work, the first that works.
-fn to_begin(state: &BusState, cycle: Cycle, later: &[Item]) -> Option<u8>
+// The LUN that an opener's row names; where no row comes, and where that LUN isn't there or can't be done, the first that may be.
+fn to_begin(state: &TraceState, cycle: Cycle, later: &[Item]) -> Option<u8>
     ensures { result ≡ to_begin state.now cycle later.now }
 {
-    match named_working(state, cycle.ce, given_row(cycle, later)) {
+    match named_done(state, cycle.ce, given_row(cycle, later)) {
         Some(number) => Some(number),
-        None => first_working(state, cycle.ce),
+        None => first_done(state, cycle.ce),
     }
 }
 
 // The LUN whose ready a cycle wants that breaks this rule first, or none.
-fn wanted_by(rule: Option<Forbidden>, state: &BusState, cycle: Cycle, later: &[Item]) -> Option<u8>
+fn wanted_by(
+    rule: Option<Forbidden>,
+    state: &TraceState,
+    cycle: Cycle,
+    later: &[Item],
+) -> Option<u8>
     ensures { result ≡ wanted_by rule state.now cycle later.now }
 {
     match rule {
-        None => named_working(state, cycle.ce, given_row(cycle, later)),
+        None => named_done(state, cycle.ce, given_row(cycle, later)),
         Some(Forbidden::LunBusy) => {
             if is_opening(Item::Cyc(cycle)) {
                 to_begin(state, cycle, later)
@@ -121,11 +127,11 @@ fn wanted_by(rule: Option<Forbidden>, state: &BusState, cycle: Cycle, later: &[I
             }
         }
         Some(Forbidden::NoColumnToChange | Forbidden::DataNotReady) => {
-            driving_working(state, cycle.ce)
+            driving_done(state, cycle.ce)
         }
         Some(Forbidden::CacheReadMisplaced) => {
             if is_opening(Item::Cyc(cycle)) {
-                driving_working(state, cycle.ce)
+                driving_done(state, cycle.ce)
             } else {
                 None
             }
@@ -165,7 +171,7 @@ fn unshown_of(ce: u8, rule: Forbidden, number: Option<u8>) -> Option<UnshownRead
 }
 
 /// The LUN that is taken for ready before an item.
-pub(crate) fn unshown(state: &BusState, item: Item, later: &[Item]) -> Option<UnshownReady>
+pub(crate) fn unshown(state: &TraceState, item: Item, later: &[Item]) -> Option<UnshownReady>
     ensures { result ≡ unshown state.now item later.now }
 {
     let Item::Cyc(cycle) = item else {

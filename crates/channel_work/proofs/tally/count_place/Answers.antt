@@ -1,14 +1,10 @@
 use Rattle.std.proofs.Common.{arith}
-use Rattle.channel_work.proofs.Recounting.{counts_few, item_counted, repeated_counted}
+use Rattle.channel_work.proofs.Recounting.{counts_few, item_counted}
 use Rattle.channel_work.proofs.tally.count_place.Goals as goal
 
 pub count_on_target-requires : goal.count_on_target-requires
 count_on_target-requires c =
     counts_few c.args.geometry.now c.args.trace.now c.args.counts.now c.args.place c.requires.counts c.requires.place (omega arith)
-
-pub returns-then-repeats_at : goal.returns-then-repeats_at
-returns-then-repeats_at c =
-    repeated_counted c.args.geometry.now c.args.trace.now c.args.place c.args.counts.now c.requires.place c.told-counts c.requires.counts (c.repeats_at.ensures c.if-repeats_at.true)
 
 pub returns : goal.returns
 returns c =

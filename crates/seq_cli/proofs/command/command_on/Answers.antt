@@ -115,3 +115,24 @@ returns-in-Check-clause-refused g c = λ refusal is.
       subst (λ (m : Command). MayRefuse m (g.R.Read.remaining c.args.input.now) (g.F.Files.store c.args.files.now) (g.F.Files.store c.check_trace.new.files) refusal (line_of refusal)) (sym c.in-Check.is) (k.0, k.1, refl),
       k.2,
     )
+
+pub returns-in-MakePage-clause-refused : goal.returns-in-MakePage-clause-refused
+returns-in-MakePage-clause-refused g c = λ refusal is.
+    let k = c.make_page.ensures.refused refusal (exit_is c.make_page.result (exit.Refused refusal) is) in (
+      line_of refusal,
+      subst (λ (m : Command). MayRefuse m (g.R.Read.remaining c.args.input.now) (g.F.Files.store c.args.files.now) (g.F.Files.store c.make_page.new.files) refusal (line_of refusal)) (sym c.in-MakePage.is) (k.0, k.1, refl),
+      k.2,
+    )
+
+pub returns-in-ShowPage-clause-done : goal.returns-in-ShowPage-clause-done
+returns-in-ShowPage-clause-done g c = λ is.
+    let k = c.show_page.ensures.done (exit_is c.show_page.result exit.Done is) in
+    (k.1.0, subst (λ (m : Command). IsDone m (g.R.Read.remaining c.args.input.now) (g.F.Files.store c.args.files.now) (g.F.Files.store c.show_page.new.files) k.1.0) (sym c.in-ShowPage.is) (k.0, c.show_page.ensures.stays), k.1.1)
+
+pub returns-in-ShowPage-clause-refused : goal.returns-in-ShowPage-clause-refused
+returns-in-ShowPage-clause-refused g c = λ refusal is.
+    let k = c.show_page.ensures.refused refusal (exit_is c.show_page.result (exit.Refused refusal) is) in (
+      line_of refusal,
+      subst (λ (m : Command). MayRefuse m (g.R.Read.remaining c.args.input.now) (g.F.Files.store c.args.files.now) (g.F.Files.store c.show_page.new.files) refusal (line_of refusal)) (sym c.in-ShowPage.is) (k.0, c.show_page.ensures.stays, refl),
+      k.1,
+    )

@@ -7,7 +7,7 @@ use Rattle.bus_capture.proofs.inferring.Inferring.infer_release.Goals as goal
 
 pub returns-in_ok-push_some-in-Some-clause-inside : goal.returns-in_ok-push_some-in-Some-clause-inside
 returns-in_ok-push_some-in-Some-clause-inside g c = λ yes few inside.
-    let ready : release_of c.args.self.now.sure c.args.self.now.state c.args.self.now.luns c.args.ce (c.args.later.now ++ []) ≡ c.in-Some.ready = c.in-Some.ensures.known [] (follows_none c.args.is_last) in
+    let ready : release_of c.args.self.now.infers c.args.self.now.state c.args.self.now.luns c.args.ce (c.args.later.now ++ []) ≡ c.in-Some.ready = c.in-Some.ensures.known [] (follows_none c.args.is_last) in
     let pushed : c.push_some.new.stamped.items ≡ c.args.stamped.now.items ++ stamps c.args.time c.in-Some.ready = search rules in
     subst AreInside (sym (pushed ∙ ap (λ r. c.args.stamped.now.items ++ stamps c.args.time r) (sym ready)))
-    (released_inside c.args.self.now.sure c.args.self.now.state c.args.self.now.luns c.args.ce c.args.time (c.args.later.now ++ []) c.args.stamped.now.items few inside)
+    (released_inside c.args.self.now.infers c.args.self.now.state c.args.self.now.luns c.args.ce c.args.time (c.args.later.now ++ []) c.args.stamped.now.items few inside)

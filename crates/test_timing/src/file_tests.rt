@@ -1,0 +1,66 @@
+use std::test::Fail;
+use trace_timing::{TimingFileRefusal, read_timings, timings_of};
+
+// A timing file that is refused, with its code and its line.
+const REFUSED: [(&str, &str, usize); 9] = [
+    ("mode 4\ntXYZ 5\n", "D1", 2),
+    ("tADL 70 ns\ntADL 80\n", "D3", 2),
+    ("tADL -3\n", "D2", 1),
+    ("tADL 70\nmode 3\n", "D3", 2),
+    ("mode 3\nmode 3\n", "D3", 2),
+    ("mode 6\n", "D2", 1),
+    ("# none\n\ntADL 70 ns more\n", "D1", 3),
+    ("tADL 1.2345678\n", "D2", 1),
+    ("tADL 5000 s\n", "D2", 1),
+];
+
+#[test]
+fn refused(rt: HostRuntime) -> Result<(), Fail> {
+    for (text, code, line) in REFUSED {
+        match read_timings(text) {
+            Ok(_) => assert!(rt; false, "{text}"),
+            Err(TimingFileRefusal { fault, line: at }) => {
+                assert_eq!(rt; (fault.code(), at), (code, line));
+            }
+        }
+    }
+    Ok(())
+}
+
+// A file that is taken, the mode that it stands on, and its tADL, tWHR and tWC in femtoseconds.
+const TAKEN: [(&str, u8, u64, u64, u64); 4] = [
+    ("", 0, 400_000_000, 120_000_000, 100_000_000),
+    (
+        "# a chip of ONFI 2\nmode 4\ntADL 70\n",
+        4,
+        70_000_000,
+        80_000_000,
+        25_000_000,
+    ),
+    (
+        "tWHR\t60.5 # ns\ntWC 0.1 us\ntR 25 us\n",
+        0,
+        400_000_000,
+        60_500_000,
+        100_000_000,
+    ),
+    (
+        "mode 5\ntADL 70000 ps\n",
+        5,
+        70_000_000,
+        80_000_000,
+        20_000_000,
+    ),
+];
+
+#[test]
+fn taken(rt: HostRuntime) -> Result<(), Fail> {
+    for (text, mode, t_adl, t_whr, t_wc) in TAKEN {
+        let read = read_timings(text).ok();
+        let kept = read.map(|timings| (timings.t_adl, timings.t_whr, timings.t_wc));
+        assert_eq!(rt; kept, Some((t_adl, t_whr, t_wc)));
+        let same = read.map(|timings| timings.t_wb);
+        assert_eq!(rt; same, timings_of(mode).map(|timings| timings.t_wb));
+    }
+    Ok(())
+}

@@ -1,0 +1,176 @@
+use onfi_cycle::Item;
+use std::alloc::Global;
+use std::process::Abort;
+use std::test::Fail;
+use trace_text::parse;
+use trace_timing::{Ruler, TimedItem, Timings, find_violations, timings_of};
+
+// Femtoseconds in a picosecond and in a nanosecond.
+const PICOSECOND: u64 = 1_000;
+
+const NANOSECOND: u64 = 1_000_000;
+
+// How a row is judged: by a mode, in a unit, with a slack of so many units.
+#[derive(Clone, Copy)]
+struct Judged {
+    mode: u8,
+    unit: u64,
+    slack: u64,
+}
+
+const MODE_0: Judged = Judged {
+    mode: 0,
+    unit: NANOSECOND,
+    slack: 0,
+};
+
+const MODE_1: Judged = Judged {
+    mode: 1,
+    unit: NANOSECOND,
+    slack: 0,
+};
+
+const MODE_4: Judged = Judged {
+    mode: 4,
+    unit: NANOSECOND,
+    slack: 0,
+};
+
+const MODE_5: Judged = Judged {
+    mode: 5,
+    unit: NANOSECOND,
+    slack: 0,
+};
+
+// A recorded trace on targets of one LUN, and what is told of it: each code with its item.
+type Row = (&'static str, Judged, &'static [(&'static str, usize)]);
+
+const ROWS: [Row; 12] = [
+    // Each pause of a program to the nanosecond.
+    (
+        "@0 0 C 80\n@20 0 A 00\n@40 0 A 00\n@60 0 A 00\n@80 0 A 00\n@100 0 A 00\n@500 0 I 5a\n@520 0 C 10\n@620 0 C 70\n@710 0 O 80\n",
+        MODE_5,
+        &[],
+    ),
+    // The same in a slower mode, where each cycle comes too soon.
+    ("@0 0 C 80\n@20 0 A 00\n@45 0 A 00\n", MODE_4, &[("T1", 1)]),
+    (
+        "@0 0 C 80\n@25 0 A 00\n@50 0 A 00\n@75 0 A 00\n@100 0 A 00\n@125 0 A 00\n@170 0 I 5a\n@195 0 C 10\n",
+        MODE_4,
+        &[("T3", 6)],
+    ),
+    // A column change, in picoseconds: the data come 214.9 ns after E0h.
+    (
+        "@0 0 C 05\n@30000 0 A 00\n@60000 0 A 02\n@90000 0 C e0\n@304900 0 O 01\n@334900 0 O 02\n",
+        Judged {
+            mode: 3,
+            unit: PICOSECOND,
+            slack: 0,
+        },
+        &[("T5", 4)],
+    ),
+    // Data straight after the ready.
+    (
+        "@0 0 C 00\n@100 0 A 00\n@200 0 A 00\n@300 0 A 00\n@400 0 A 00\n@500 0 A 00\n@600 0 C 30\n@20600 0 R 0 0\n@20689 0 O 01\n@20789 0 O 02\n",
+        MODE_0,
+        &[("T7", 8)],
+    ),
+    // A status too soon after D0h, and the bus turned round too soon.
+    (
+        "@0 0 C 60\n@50 0 A 04\n@100 0 A 00\n@150 0 A 00\n@200 0 C d0\n@299 0 C 70\n@410 0 O 80\n@534 0 C 70\n@640 0 O e0\n",
+        MODE_1,
+        &[("T8", 5), ("T6", 7)],
+    ),
+    // No times, and one time alone.
+    ("0 C 60\n0 A 04\n@5 0 A 00\n0 C d0\n", MODE_1, &[("T0", 0)]),
+    // A time goes back; what has none isn't judged.
+    (
+        "@1000 0 C 60\n0 A 04\n@1200 0 A 00\n@1100 0 A 00\n@1110 0 C d0\n",
+        MODE_1,
+        &[("T10", 3), ("T1", 4)],
+    ),
+    // Each target has pairs of its own.
+    (
+        "@0 0 C 70\n@40 1 C 70\n@145 1 O e0\n@400 0 O e0\n",
+        MODE_1,
+        &[],
+    ),
+    ("@0 0 C 70\n@100 0 O e0\n", MODE_1, &[("T4", 1)]),
+    // An analyzer that samples each 10 ns.
+    (
+        "@0 0 C 70\n@100 0 O e0\n",
+        Judged {
+            mode: 1,
+            unit: NANOSECOND,
+            slack: 10,
+        },
+        &[],
+    ),
+    // A status is read while the ready comes: tWHR is judged and no tRR.
+    (
+        "@0 0 C 60\n@50 0 A 04\n@100 0 A 00\n@150 0 A 00\n@200 0 C d0\n@300 0 C 70\n@390 0 R 0 0\n@410 0 O e0\n",
+        MODE_1,
+        &[],
+    ),
+];
+
+const NOTHING: TimedItem = TimedItem {
+    time: None,
+    item: Item::Ard { ce: 0, lun: 0 },
+};
+
+// The times of a row: those of its mode, with a tCCS of 200 ns.
+fn timings_by(judged: Judged) -> Option<Timings> {
+    Some(Timings {
+        t_ccs: 200 * NANOSECOND,
+        ..timings_of(judged.mode)?
+    })
+}
+
+// The item of a line, with its time.
+fn read_line(alloc: Global, line: &str) -> Option<TimedItem> {
+    let (time, text) = match line.strip_prefix('@') {
+        Some(timed) => {
+            let (time, text) = timed.split_once(' ')?;
+            (Some(u64::from_str_radix(time, 10).ok()?), text)
+        }
+        None => (None, line),
+    };
+    let whole = format!(in alloc; "{text}\n").ok()?;
+    let items: Vec<Item> = parse(alloc, whole.as_str()).ok()?;
+    let item = *items.first()?;
+    Some(TimedItem { time, item })
+}
+
+// The items of a trace, each with its time.
+fn read_lines(rt: &(impl Abort + AllocGlobal), text: &str) -> Result<Vec<TimedItem>, Fail> {
+    let mut items = Vec::new(rt.alloc());
+    for line in text.lines() {
+        let item = read_line(rt.alloc(), line);
+        assert!(rt; item.is_some(), "{line}");
+        items.push(item.unwrap_or(NOTHING))?;
+    }
+    Ok(items)
+}
+
+#[test]
+fn pauses(rt: HostRuntime) -> Result<(), Fail> {
+    for (text, judged, told) in ROWS {
+        let items = read_lines(&rt, text)?;
+        let Some(timings) = timings_by(judged) else {
+            return Err(Fail::from("no such mode"));
+        };
+        let ruler = Ruler {
+            timings,
+            unit: judged.unit,
+            slack: judged.slack.saturating_mul(judged.unit),
+            one_lun: true,
+        };
+        let found = find_violations(rt.alloc(), ruler, items.as_slice())?;
+        assert_eq!(rt; found.len(), told.len());
+        for (violation, told) in found.iter().zip(told) {
+            assert_eq!(rt; (violation.fault.code(), violation.item), *told);
+        }
+    }
+    Ok(())
+}

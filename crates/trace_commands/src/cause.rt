@@ -1,0 +1,215 @@
+//! Why an item of a trace isn't permitted: one cause.
+
+use crate::open_sequence::{CommandAt, OpenSequence};
+use std::fmt;
+
+/// Which part of a row isn't in the geometry.
+#[derive(Clone, Copy)]
+pub(crate) enum RowPart {
+    Lun,
+    Block,
+    Page,
+}
+
+impl fmt::Display for RowPart {
+    fn fmt<W: fmt::Write>(&self, f: &mut fmt::Formatter<W>) -> fmt::Result {
+        f.write_str(match self {
+            RowPart::Lun => "LUN",
+            RowPart::Block => "block",
+            RowPart::Page => "page",
+        })
+    }
+}
+
+/// What a cycle is that its target doesn't want.
+#[derive(Clone, Copy)]
+pub(crate) enum Unwanted {
+    Command(u8),
+    Address,
+    Data,
+}
+
+impl fmt::Display for Unwanted {
+    fn fmt<W: fmt::Write>(&self, f: &mut fmt::Formatter<W>) -> fmt::Result {
+        match *self {
+            Unwanted::Command(byte) => write!(f, "`{byte:02x}` isn't wanted"),
+            Unwanted::Address => f.write_str("no address is wanted"),
+            Unwanted::Data => f.write_str("no data is wanted"),
+        }
+    }
+}
+
+/// Where a column is to be.
+#[derive(Clone, Copy)]
+pub(crate) enum Columns {
+    Page,
+    Register,
+}
+
+impl fmt::Display for Columns {
+    fn fmt<W: fmt::Write>(&self, f: &mut fmt::Formatter<W>) -> fmt::Result {
+        f.write_str(match self {
+            Columns::Page => "page",
+            Columns::Register => "register",
+        })
+    }
+}
+
+/// Why an item of a trace isn't permitted.
+#[derive(Clone, Copy)]
+pub(crate) enum Cause {
+    /// It begins a sequence outside of the profile, of which so many cycles are passed over.
+    Outside {
+        cycles: usize,
+    },
+    /// The same at an address of 90 or EC that the profile hasn't.
+    OtherAddress {
+        opener: CommandAt,
+        cycles: usize,
+    },
+    /// A sequence is open on the target.
+    Open(OpenSequence),
+    /// The command is for a target with one LUN.
+    SeveralLuns {
+        command: u8,
+        luns: u8,
+    },
+    /// The target wants something else.
+    Other {
+        cycle: Unwanted,
+        open: OpenSequence,
+    },
+    /// The target wants nothing, and the command ends a sequence of this opener.
+    Unopened {
+        command: u8,
+        opener: u8,
+    },
+    /// The target wants nothing.
+    Nothing(Unwanted),
+    /// A part of the row is past the last one.
+    RowOutside {
+        part: RowPart,
+        number: u32,
+        last: u32,
+    },
+    /// A LUN works since a command.
+    Works {
+        lun: u32,
+        since: CommandAt,
+    },
+    /// All LUNs of the target work, the first of them since a command.
+    AllWork {
+        luns: u8,
+        since: CommandAt,
+    },
+    /// No LUN drives the bus: since a reset, or from the beginning.
+    NoDriver {
+        reset: Option<CommandAt>,
+    },
+    /// So many LUNs drive the bus.
+    Drivers {
+        count: usize,
+    },
+    /// The LUN holds nothing that can be read.
+    NoData {
+        lun: u8,
+    },
+    /// The column was lost when the status was asked for.
+    ColumnLost {
+        lun: u8,
+        asked: CommandAt,
+    },
+    /// The column is past the last one.
+    ColumnOutside {
+        column: u64,
+        of: Columns,
+        length: u32,
+    },
+}
+
+// Of a sequence outside of the profile.
+fn write_outside<W: fmt::Write>(f: &mut fmt::Formatter<W>, cycles: usize) -> fmt::Result {
+    match cycles {
+        1 => f.write_str("outside of the profile, 1 cycle passed over"),
+        _ => write!(f, "outside of the profile, {cycles} cycles passed over"),
+    }
+}
+
+// Of a command for a target with one LUN.
+fn write_several_luns<W: fmt::Write>(
+    f: &mut fmt::Formatter<W>,
+    command: u8,
+    luns: u8,
+) -> fmt::Result {
+    write!(
+        f,
+        "`{command:02x}` is for a target with one LUN, and this one has {luns}"
+    )?;
+    if command == 0x70 {
+        f.write_str(": `78` asks one LUN of it for its status")?;
+    }
+    Ok(())
+}
+
+// Of a target that no LUN drives.
+fn write_no_driver<W: fmt::Write>(
+    f: &mut fmt::Formatter<W>,
+    reset: Option<CommandAt>,
+) -> fmt::Result {
+    match reset {
+        Some(reset) => write!(f, "no LUN drives the bus since {reset}"),
+        None => f.write_str("no LUN drives the bus: nothing was read yet"),
+    }
+}
+
+// Of a column.
+fn write_column<W: fmt::Write>(
+    f: &mut fmt::Formatter<W>,
+    column: u64,
+    of: Columns,
+    length: u32,
+) -> fmt::Result {
+    match length.checked_sub(1) {
+        Some(last) => write!(f, "column {column} is past the {of}, whose last is {last}"),
+        None => write!(f, "column {column} is past the {of}, which is empty"),
+    }
+}
+
+impl fmt::Display for Cause {
+    fn fmt<W: fmt::Write>(&self, f: &mut fmt::Formatter<W>) -> fmt::Result {
+        match *self {
+            Cause::Outside { cycles } => write_outside(f, cycles),
+            Cause::OtherAddress { opener, cycles } => {
+                let address = if opener.byte == 0x90 { "20" } else { "00" };
+                write!(f, "{opener} is modelled with address {address} alone: ")?;
+                write_outside(f, cycles)
+            }
+            Cause::Open(open) => write!(f, "a sequence is open: {open}"),
+            Cause::SeveralLuns { command, luns } => write_several_luns(f, command, luns),
+            Cause::Other { cycle, open } => write!(f, "{cycle}: {open}"),
+            Cause::Unopened { command, opener } => write!(
+                f,
+                "`{command:02x}` isn't wanted: no `{opener:02x}` is open before it"
+            ),
+            Cause::Nothing(cycle) => write!(f, "{cycle}: no sequence is open"),
+            Cause::RowOutside { part, number, last } => {
+                write!(
+                    f,
+                    "{part} {number} of the row isn't there: the last is {last}"
+                )
+            }
+            Cause::Works { lun, since } => write!(f, "LUN {lun} works since {since}"),
+            Cause::AllWork { luns, since } => {
+                write!(f, "all {luns} LUNs work, the first of them since {since}")
+            }
+            Cause::NoDriver { reset } => write_no_driver(f, reset),
+            Cause::Drivers { count } => write!(f, "{count} LUNs drive the bus at once"),
+            Cause::NoData { lun } => write!(f, "LUN {lun} holds no data: no page was read into it"),
+            Cause::ColumnLost { lun, asked } => write!(
+                f,
+                "the column of LUN {lun} is lost since {asked}: `05` gives it a new one"
+            ),
+            Cause::ColumnOutside { column, of, length } => write_column(f, column, of, length),
+        }
+    }
+}

@@ -1,0 +1,87 @@
+//! The sequence that is open on a target, in words.
+
+use onfi_cycle::{Command, DataPhase, Opening, TailFacts};
+use std::fmt;
+
+/// What the sequence of a target wants next.
+#[derive(Clone, Copy)]
+pub(crate) enum Wanted {
+    /// An address, of so many that follow its opener.
+    Address { number: usize, count: usize },
+    /// The command that closes it.
+    Closer(u8),
+    /// The data of a program.
+    Data,
+    /// One of the two bytes of a column.
+    Column { number: u8 },
+}
+
+// What an opener with these addresses wants next, if it wants anything.
+fn wanted_by(opening: Opening) -> Option<Wanted> {
+    let count = opening.opener.address_cycles();
+    if opening.addresses < count {
+        return Some(Wanted::Address {
+            number: opening.addresses + 1,
+            count,
+        });
+    }
+    match opening.opener {
+        Command::Read => Some(Wanted::Closer(0x30)),
+        Command::ChangeReadColumn => Some(Wanted::Closer(0xe0)),
+        Command::BlockErase => Some(Wanted::Closer(0xd0)),
+        _ => None,
+    }
+}
+
+impl Wanted {
+    /// What a target wants next whose tail has these facts, if it wants anything.
+    pub(crate) fn of(tail: TailFacts) -> Option<Wanted> {
+        match tail.phase {
+            DataPhase::Inputs => Some(Wanted::Data),
+            DataPhase::FirstColumn => Some(Wanted::Column { number: 1 }),
+            DataPhase::SecondColumn => Some(Wanted::Column { number: 2 }),
+            DataPhase::Outside => wanted_by(tail.opening?),
+        }
+    }
+}
+
+impl fmt::Display for Wanted {
+    fn fmt<W: fmt::Write>(&self, f: &mut fmt::Formatter<W>) -> fmt::Result {
+        match *self {
+            Wanted::Address { number, count } => {
+                write!(f, "wants address {number} of {count} next")
+            }
+            Wanted::Closer(byte) => write!(f, "wants `{byte:02x}` next"),
+            Wanted::Data => f.write_str("takes data up to its `10`"),
+            Wanted::Column { number } => write!(f, "wants byte {number} of a column next"),
+        }
+    }
+}
+
+/// A command of a trace, and the line in which it stands.
+#[derive(Clone, Copy)]
+pub(crate) struct CommandAt {
+    pub(crate) byte: u8,
+    pub(crate) line: usize,
+}
+
+impl fmt::Display for CommandAt {
+    fn fmt<W: fmt::Write>(&self, f: &mut fmt::Formatter<W>) -> fmt::Result {
+        let CommandAt { byte, line } = *self;
+        write!(f, "`{byte:02x}` (line {line})")
+    }
+}
+
+/// The sequence that a target is in: its opener, and what it wants next.
+#[derive(Clone, Copy)]
+pub(crate) struct OpenSequence {
+    pub(crate) opener: CommandAt,
+    pub(crate) wanted: Wanted,
+}
+
+impl fmt::Display for OpenSequence {
+    fn fmt<W: fmt::Write>(&self, f: &mut fmt::Formatter<W>) -> fmt::Result {
+        let OpenSequence { opener, wanted } = *self;
+        write!(f, "{opener} {wanted}")
+    }
+}

@@ -1,0 +1,94 @@
+-- Readies that a recording denies: what isn't taken for granted where readies aren't written.
+use Rattle.std.specs.Prelude.{ℕ, ◌+◌, ◌*◌, ◌==◌, Bool, true, false, not, ◌&&◌, ◌||◌, List, [], ◌∷◌, Option, Some, None, get_or, slice_set, if◌then◌else◌}
+use Rattle.std.specs.Int.RustNames.{bit_and}
+use Rattle.onfi_cycle.specs.declared.item.Item.{Item}
+use Rattle.onfi_cycle.specs.declared.item.Item.TheVariants.{Cyc, Rdy, Ard}
+use Rattle.onfi_cycle.specs.declared.item.Cycle.{Cycle}
+use Rattle.onfi_cycle.specs.declared.command.Command.TheVariants.{Reset}
+use Rattle.onfi_cycle.specs.declared.target_cycle.TargetCycle.{TargetCycle}
+use Rattle.onfi_cycle.specs.declared.target_cycle.TargetCycle.TheVariants.{CommandCycle, AddressCycle, InputCycle, OutputCycle}
+use Rattle.onfi_cycle.specs.declared.lun_state.LunState.{LunState}
+use Rattle.onfi_cycle.specs.Effect.{is_off}
+use Rattle.onfi_cycle.specs.Sequence.{target_cycle}
+use Rattle.onfi_cycle.specs.State.{BusView}
+use Rattle.onfi_cycle.specs.Look.{looked}
+use Rattle.trace_faults.specs.declared.trace_state.TraceState.{TraceState}
+use Rattle.trace_faults.specs.Outside.{is_status}
+
+-- ---- the one LUN of a target that is read
+
+-- the LUN is there, and drives the bus when its target is read
+abbrev pub drives : Option LunState → Bool
+drives None = false
+drives (Some lun) = not (is_off lun.latch)
+
+-- which one of four it is, if it is only one
+abbrev pub only_one : (zeroth first second third : Bool) → Option ℕ
+only_one true false false false = Some 0
+only_one false true false false = Some 1
+only_one false false true false = Some 2
+only_one false false false true = Some 3
+only_one _ _ _ _ = None
+
+abbrev pub lun_drives : BusView → (ce number : ℕ) → Bool
+lun_drives bus ce number = drives (looked bus (record { ce = ce; lun = number }))
+
+-- the number of the one LUN of a target that drives the bus
+abbrev pub driving_lun : BusView → ℕ → Option ℕ
+driving_lun bus ce = only_one (lun_drives bus ce 0) (lun_drives bus ce 1) (lun_drives bus ce 2) (lun_drives bus ce 3)
+
+-- the bit of a status byte that says ready (RDY)
+abbrev pub has_ready : ℕ → Bool
+has_ready byte = bit_and byte 64 == 64
+
+-- ---- a status that says busy
+
+-- the place of a LUN among the 16 of a channel
+abbrev pub place_of : (ce number : ℕ) → ℕ
+place_of ce number = 4 * ce + number
+
+-- a LUN that works, and shows a status without RDY
+abbrev pub says_busy : Option LunState → ℕ → Bool
+says_busy None byte = false
+says_busy (Some lun) byte = is_status lun.latch && (lun.busy && not (has_ready byte))
+
+abbrev pub busy_at : BusView → (ce : ℕ) → Option ℕ → (byte : ℕ) → List Bool → List Bool
+busy_at bus ce None byte shown = shown
+busy_at bus ce (Some number) byte shown =
+    if says_busy (looked bus (record { ce = ce; lun = number })) byte then slice_set shown (place_of ce number) true else shown
+
+-- a reset begins work anew, of which no status was shown; it is for a target of one LUN
+abbrev pub busy_by : BusView → Cycle → TargetCycle → List Bool → List Bool
+busy_by bus c (CommandCycle Reset) shown = slice_set shown (place_of c.ce 0) false
+busy_by bus c (CommandCycle _) shown = shown
+busy_by bus c (AddressCycle byte) shown = shown
+busy_by bus c (InputCycle byte) shown = shown
+busy_by bus c OutputCycle shown = busy_at bus c.ce (driving_lun bus c.ce) c.byte shown
+
+-- of which LUNs the last status since they began their work says that they work, after an item on this channel
+abbrev pub shown_busy_after : BusView → Item → List Bool → List Bool
+shown_busy_after bus (Cyc c) shown = busy_by bus c (target_cycle c.kind c.byte) shown
+shown_busy_after bus (Rdy ce lun fail) shown = slice_set shown (place_of ce lun) false
+shown_busy_after bus (Ard _ _) shown = shown
+
+-- ---- readies that are written
+
+abbrev pub is_ready_of : ℕ → Item → Bool
+is_ready_of ce (Cyc _) = false
+is_ready_of ce (Rdy other _ _) = other == ce
+is_ready_of ce (Ard _ _) = false
+
+-- items tell when a LUN of this target becomes ready
+abbrev pub tells_readies : ℕ → List Item → Bool
+tells_readies ce [] = false
+tells_readies ce (i ∷ items) = is_ready_of ce i || tells_readies ce items
+
+-- the same of each of four targets
+abbrev pub told_in : List Item → List Bool
+told_in items = tells_readies 0 items ∷ (tells_readies 1 items ∷ (tells_readies 2 items ∷ (tells_readies 3 items ∷ [])))
+
+-- ---- what is denied
+
+-- the LUN can't be taken for ready: the recording tells the readies of its target, or the last status since it began its work says that it works
+abbrev pub is_denied : TraceState → (ce number : ℕ) → Bool
+is_denied t ce number = get_or t.told ce false || get_or t.shown_busy (place_of ce number) false

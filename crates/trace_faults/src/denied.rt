@@ -1,0 +1,145 @@
+//! Readies that a recording denies.
+ghost use Rattle.std.specs.Prelude.{◌≡◌, false, get_or, slice_set};
+ghost use Rattle.onfi_cycle.specs.Look.{looked};
+ghost use Rattle.trace_faults.specs.Denied.{drives, lun_drives, driving_lun, place_of, says_busy, busy_at, busy_by, shown_busy_after, is_ready_of, tells_readies, told_in, is_denied};
+
+use crate::outside::is_status;
+use crate::trace_state::TraceState;
+use onfi_cycle::{BusState, Command, Cycle, Item, Lun, LunState, Status, TargetCycle};
+
+// Whether the LUN of this number drives the bus when its target is read.
+fn lun_drives(bus: &BusState, ce: u8, number: u8) -> bool
+    ensures { result ≡ lun_drives bus.now ce number }
+{
+    match bus.lun_state(Lun { ce, lun: number }) {
+        None => false,
+        Some(lun) => !lun.latch.is_off(),
+    }
+}
+
+/// The number of the one LUN of a target that drives the bus.
+pub(crate) fn find_driver(bus: &BusState, ce: u8) -> Option<u8>
+    ensures { result ≡ driving_lun bus.now ce }
+{
+    let zeroth = lun_drives(bus, ce, 0);
+    let first = lun_drives(bus, ce, 1);
+    let second = lun_drives(bus, ce, 2);
+    let third = lun_drives(bus, ce, 3);
+    match (zeroth, first, second, third) {
+        (true, false, false, false) => Some(0),
+        (false, true, false, false) => Some(1),
+        (false, false, true, false) => Some(2),
+        (false, false, false, true) => Some(3),
+        _ => None,
+    }
+}
+
+// The place of a LUN among the 16 of a channel.
+fn place_of(ce: u8, lun: u8) -> usize
+    ensures { result ≡ place_of ce lun }
+{
+    4 * usize::from(ce) + usize::from(lun)
+}
+
+// Whether a LUN works, and shows a status without RDY.
+fn says_busy(lun: Option<LunState>, byte: u8) -> bool
+    ensures { result ≡ says_busy lun byte }
+{
+    match lun {
+        None => false,
+        Some(lun) => is_status(lun.latch) && lun.busy && !Status(byte).is_ready(),
+    }
+}
+
+// Writes down at the place of a LUN whether its status says that it works.
+fn note(shown: &mut [bool; 16], place: usize, busy: bool)
+    ensures { shown.new ≡ slice_set shown.old place busy }
+{
+    if place < 16 {
+        shown[place] = busy;
+    }
+}
+
+// Goes on by an output of a target.
+fn note_output(shown: &mut [bool; 16], bus: &BusState, ce: u8, byte: u8)
+    ensures { shown.new ≡ busy_at bus.now ce (driving_lun bus.now ce) byte shown.old }
+{
+    if let Some(number) = find_driver(bus, ce) {
+        if says_busy(bus.lun_state(Lun { ce, lun: number }), byte) {
+            note(shown, place_of(ce, number), true);
+        }
+    }
+}
+
+// Goes on by a cycle.
+fn note_cycle(shown: &mut [bool; 16], bus: &BusState, cycle: Cycle)
+    ensures { shown.new ≡ shown_busy_after bus.now (Item.Cyc cycle) shown.old }
+{
+    match TargetCycle::of(cycle.kind, cycle.byte) {
+        TargetCycle::CommandCycle(Command::Reset) => note(shown, place_of(cycle.ce, 0), false),
+        TargetCycle::OutputCycle => note_output(shown, bus, cycle.ce, cycle.byte),
+        TargetCycle::CommandCycle(_) | TargetCycle::AddressCycle(_) | TargetCycle::InputCycle(_) =>
+            {}
+    }
+}
+
+/// Goes on by an item on this channel: of which LUNs the last status since they began their work says that they work.
+pub(crate) fn note_busy(shown: &mut [bool; 16], bus: &BusState, item: Item)
+    ensures { shown.new ≡ shown_busy_after bus.now item shown.old }
+{
+    match item {
+        Item::Cyc(cycle) => note_cycle(shown, bus, cycle),
+        Item::Rdy { ce, lun, .. } => note(shown, place_of(ce, lun), false),
+        Item::Ard { .. } => {}
+    }
+}
+
+fn is_ready_of(ce: u8, item: Item) -> bool
+    ensures { result ≡ is_ready_of ce item }
+{
+    match item {
+        Item::Rdy { ce: other, .. } => other == ce,
+        Item::Cyc(_) | Item::Ard { .. } => false,
+    }
+}
+
+// Whether items tell when a LUN of this target becomes ready.
+fn tells_readies(ce: u8, items: &[Item]) -> bool
+    ensures { result ≡ tells_readies ce items.now }
+{
+    for item in items {
+        if is_ready_of(ce, *item) {
+            return true;
+        }
+    }
+    false
+}
+
+/// The targets whose readies items tell.
+pub(crate) fn told_in(items: &[Item]) -> [bool; 4]
+    ensures { result ≡ told_in items.now }
+{
+    [
+        tells_readies(0, items),
+        tells_readies(1, items),
+        tells_readies(2, items),
+        tells_readies(3, items),
+    ]
+}
+
+// What stands at a place; false where nothing does.
+fn is_set(flags: &[bool], place: usize) -> bool
+    ensures { result ≡ get_or flags.now place false }
+{
+    match flags.get(place) {
+        Some(flag) => *flag,
+        None => false,
+    }
+}
+
+/// Whether a LUN can't be taken for ready.
+pub(crate) fn is_denied(state: &TraceState, ce: u8, lun: u8) -> bool
+    ensures { result ≡ is_denied state.now ce lun }
+{
+    is_set(&state.told, usize::from(ce)) || is_set(&state.shown_busy, place_of(ce, lun))
+}

@@ -1,0 +1,4 @@
+pub mod Wanted
+pub mod Clock
+pub mod Watch
+pub mod Codes
