@@ -18,7 +18,7 @@ mod trial;
 
 pub use bus::{DAMAGED, OnfiseqBus, begin, is_bus, push, push_item, push_numbers};
 pub use item::OnfiseqItem;
-pub use look::{OnfiseqLook, ask, copy_of, geometry_of, has_lun, look_at_lun, no_look};
+pub use look::{OnfiseqLook, ask, geometry_of, has_lun, look_at_lun, no_look};
 pub use many::push_all;
 pub use run::{push_inputs, push_outputs};
 pub use target_record::{OnfiseqGeometry, OnfiseqLun, OnfiseqQueued, OnfiseqTarget};

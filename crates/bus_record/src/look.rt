@@ -144,15 +144,3 @@ pub fn has_lun(bus: &OnfiseqBus, lun: Lun) -> bool
 {
     usize::from(lun.ce) < bus.count && lun.lun < bus.geometry.luns
 }
-
-/// The same channel in a record of its own.
-pub fn copy_of(bus: &OnfiseqBus) -> OnfiseqBus
-    ensures { result ≡ bus.now }
-{
-    OnfiseqBus {
-        magic: bus.magic,
-        geometry: bus.geometry,
-        count: bus.count,
-        targets: bus.targets,
-    }
-}
