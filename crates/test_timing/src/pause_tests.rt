@@ -3,41 +3,41 @@ use std::alloc::Global;
 use std::process::Abort;
 use std::test::Fail;
 use trace_text::parse;
-use trace_timing::{Ruler, TimedItem, Timings, find_violations, timings_of};
+use trace_timing::{Ruler, TimedItem, find_violations, read_timings};
 
 // Femtoseconds in a picosecond and in a nanosecond.
 const PICOSECOND: u64 = 1_000;
 
 const NANOSECOND: u64 = 1_000_000;
 
-// How a row is judged: by a mode, in a unit, with a slack of so many units.
+// How a row is judged: by a timing file, in a unit, with a slack of so many units.
 #[derive(Clone, Copy)]
 struct Judged {
-    mode: u8,
+    timings: &'static str,
     unit: u64,
     slack: u64,
 }
 
 const MODE_0: Judged = Judged {
-    mode: 0,
+    timings: "mode 0\ntCCS 200\n",
     unit: NANOSECOND,
     slack: 0,
 };
 
 const MODE_1: Judged = Judged {
-    mode: 1,
+    timings: "mode 1\ntCCS 200\n",
     unit: NANOSECOND,
     slack: 0,
 };
 
 const MODE_4: Judged = Judged {
-    mode: 4,
+    timings: "mode 4\ntCCS 200\n",
     unit: NANOSECOND,
     slack: 0,
 };
 
 const MODE_5: Judged = Judged {
-    mode: 5,
+    timings: "mode 5\ntCCS 200\n",
     unit: NANOSECOND,
     slack: 0,
 };
@@ -63,7 +63,7 @@ const ROWS: [Row; 12] = [
     (
         "@0 0 C 05\n@30000 0 A 00\n@60000 0 A 02\n@90000 0 C e0\n@304900 0 O 01\n@334900 0 O 02\n",
         Judged {
-            mode: 3,
+            timings: "mode 3\ntCCS 200\n",
             unit: PICOSECOND,
             slack: 0,
         },
@@ -100,7 +100,7 @@ const ROWS: [Row; 12] = [
     (
         "@0 0 C 70\n@100 0 O e0\n",
         Judged {
-            mode: 1,
+            timings: "mode 1\ntCCS 200\n",
             unit: NANOSECOND,
             slack: 10,
         },
@@ -118,14 +118,6 @@ const NOTHING: TimedItem = TimedItem {
     time: None,
     item: Item::Ard { ce: 0, lun: 0 },
 };
-
-// The times of a row: those of its mode, with a tCCS of 200 ns.
-fn timings_by(judged: Judged) -> Option<Timings> {
-    Some(Timings {
-        t_ccs: 200 * NANOSECOND,
-        ..timings_of(judged.mode)?
-    })
-}
 
 // The item of a line, with its time.
 fn read_line(alloc: Global, line: &str) -> Option<TimedItem> {
@@ -153,24 +145,35 @@ fn read_lines(rt: &(impl Abort + AllocGlobal), text: &str) -> Result<Vec<TimedIt
     Ok(items)
 }
 
+// Judges a recorded trace, and compares what is told of it.
+fn compare_told(
+    rt: &(impl Abort + AllocGlobal),
+    judged: Judged,
+    items: &[TimedItem],
+    told: &[(&str, usize)],
+) -> Result<(), Fail> {
+    let Ok(timings) = read_timings(judged.timings) else {
+        return Err(Fail::from("the timing file is refused"));
+    };
+    let ruler = Ruler {
+        timings,
+        unit: judged.unit,
+        slack: judged.slack.saturating_mul(judged.unit),
+        one_lun: true,
+    };
+    let found = find_violations(rt.alloc(), ruler, items)?;
+    assert_eq!(rt; found.len(), told.len());
+    for (violation, told) in found.iter().zip(told) {
+        assert_eq!(rt; (violation.fault.code(), violation.item), *told);
+    }
+    Ok(())
+}
+
 #[test]
 fn pauses(rt: HostRuntime) -> Result<(), Fail> {
     for (text, judged, told) in ROWS {
         let items = read_lines(&rt, text)?;
-        let Some(timings) = timings_by(judged) else {
-            return Err(Fail::from("no such mode"));
-        };
-        let ruler = Ruler {
-            timings,
-            unit: judged.unit,
-            slack: judged.slack.saturating_mul(judged.unit),
-            one_lun: true,
-        };
-        let found = find_violations(rt.alloc(), ruler, items.as_slice())?;
-        assert_eq!(rt; found.len(), told.len());
-        for (violation, told) in found.iter().zip(told) {
-            assert_eq!(rt; (violation.fault.code(), violation.item), *told);
-        }
+        compare_told(&rt, judged, items.as_slice(), told)?;
     }
     Ok(())
 }
