@@ -189,6 +189,34 @@ def compare_words():
     return "%s hasn't its words" % wrong[0] if wrong or len(known) < 55 else None
 
 
+def try_ranges():
+    """Whether the module for Python refuses what no byte holds, in place of judging another cycle."""
+    import onfiseq
+
+    lib = onfiseq.load(SHARED)
+    with open(CHIP, "rb") as file:
+        page = file.read()
+    monitor = onfiseq.Monitor(lib, page)
+    for name, call in (
+        ("a byte of 160h", lambda: monitor.command(0, 0x160)),
+        ("target 256", lambda: monitor.command(256, 0x60)),
+        ("a byte below 0", lambda: monitor.input(0, -1)),
+        ("257 targets", lambda: onfiseq.Monitor(lib, page, targets=257)),
+        ("a look at target 256", lambda: monitor.look(256, 0)),
+    ):
+        try:
+            call()
+        except ValueError:
+            continue
+        return "%s is taken" % name
+    monitor.command(0, 0x60)
+    try:
+        monitor.command(0, 0x60)
+    except AssertionError:
+        return None
+    return "a second opener is taken"
+
+
 def run_bench():
     """Runs the test bench of examples/systemverilog, whose second erase comes too soon, and says what differs."""
     room, here = OUT + "/verilator", os.getcwd()
@@ -218,6 +246,7 @@ def main():
         return subprocess.run([OUT + "/fuzz", sys.argv[2], str(int(time.time())), CHIP]).returncode
     found = {name: run_user(name, *how) for name, *how in USERS}
     found["words"] = compare_words()
+    found["python_ranges"] = try_ranges()
     if shutil.which("rustc"):
         words = ["rustc", "-O", "-D", "warnings", "examples/rust/monitor.rs", "-L", "crates/onfiseq_c/out", "-l", "static=onfiseq_c"]
         subprocess.run(words + ["-o", OUT + "/monitor_rs"], check=True)

@@ -95,8 +95,15 @@ class Refused(Exception):
         self.code, self.at, self.run = "%s%d" % (letter, number), at, run
 
 
-class Broken(Exception):
-    """A cycle, or a ready, breaks a rule of the channel."""
+def in_byte(name, number):
+    """The number, if a byte holds it; else a ValueError: ctypes would cut it off, and another cycle would be judged."""
+    if not 0 <= number <= 255:
+        raise ValueError("%s is 0 to 255, and not %d" % (name, number))
+    return number
+
+
+class Broken(AssertionError):
+    """A cycle, or a ready, breaks a rule of the channel. Test frameworks count it as a failed assertion."""
 
     def __init__(self, lib, number, count, item):
         said = "item %d, %d %s %02x: " % (count, item.ce, chr(item.kind), item.byte)
@@ -109,6 +116,7 @@ class Monitor:
     taken from the status outputs that show them."""
 
     def __init__(self, lib, page, targets=1, sees_ready=True):
+        in_byte("targets", targets)
         read = lib.onfiseq_page(page, len(page))
         if read.fault:
             raise Refused(lib, "P", read.fault)
@@ -118,7 +126,7 @@ class Monitor:
             raise Refused(lib, "T", 0)
 
     def push(self, ce, kind, byte, fail=0):
-        item = Item(ce, ord(kind), byte, fail)
+        item = Item(in_byte("the target", ce), ord(kind), in_byte("the byte", byte), in_byte("fail", fail))
         rule = self.lib.onfiseq_push(self.bus, item) if self.sees_ready else self.lib.onfiseq_push_status(self.bus, item, size())
         if rule:
             raise Broken(self.lib, rule, self.count, item)
@@ -144,7 +152,7 @@ class Monitor:
 
     def look(self, ce, lun):
         """The state of a LUN, None where none is there."""
-        look = self.lib.onfiseq_look(self.bus, ce, lun)
+        look = self.lib.onfiseq_look(self.bus, in_byte("the target", ce), in_byte("the LUN", lun))
         return look if look.is_there else None
 
 

@@ -5,10 +5,11 @@ use Rattle.nand_geometry.specs.declared.parts.Parts.{Parts}
 use Rattle.onfi_cycle.specs.declared.forbidden.Forbidden.{Forbidden}
 use Rattle.onfi_cycle.specs.declared.item.Item.{Item}
 use Rattle.onfi_cycle.specs.State.{BusView, Follows, judged, bus_after, bus}
-use Rattle.bus_record.specs.Rule.{by_option, rule_number}
+use Rattle.bus_record.specs.Rule.{by_option}
+use Rattle.onfi_cycle.specs.Codes.{rule_number}
 use Rattle.bus_record.specs.Item.{item_of}
-use Rattle.bus_record.specs.Geometry.{parts_of}
-use Rattle.bus_record.specs.Record.{target_of}
+use Rattle.target_record.specs.Geometry.{parts_of}
+use Rattle.target_record.specs.Record.{target_of}
 use Rattle.bus_record.specs.Kept.{Kept}
 use Rattle.bus_record.specs.Bus.{pushed, bus_pushed, bus_view}
 use Rattle.bus_record.specs.Many.{Went, went, all_pushed, with_item, with_items}

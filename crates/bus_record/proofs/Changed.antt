@@ -25,16 +25,17 @@ use Rattle.bus_record.proofs.Pushed.{after_fits, have_room, set_same}
 use Rattle.onfi_cycle.specs.Applied.{one_after, luns_after_cycle}
 use Rattle.onfi_cycle.specs.Lun.{view_after}
 use Rattle.onfi_cycle.proofs.Applied.{one_set, one_beyond, target_cycled}
-use Rattle.bus_record.specs.Record.{HasRoom, IsRecord, lun_of, luns_of, target_of}
-use Rattle.bus_record.specs.Bus.{IsTarget, IsStep}
+use Rattle.target_record.specs.Record.{HasRoom, IsRecord, lun_of, luns_of, target_of}
+use Rattle.bus_record.specs.Bus.{IsStep}
+use Rattle.target_record.specs.Record.{IsTarget}
 use Rattle.bus_record.specs.Kept.{Kept}
 use Rattle.bus_record.specs.Rule.{by_option}
-use Rattle.bus_record.specs.declared.record.OnfiseqTarget.{OnfiseqTarget}
+use Rattle.target_record.specs.declared.record.OnfiseqTarget.{OnfiseqTarget}
 use Rattle.onfi_cycle.specs.declared.forbidden.Forbidden.{Forbidden}
 use Rattle.onfi_cycle.specs.declared.item.Item.{Item}
 use Rattle.bus_record.specs.Changing.{AreLittle, HaveRoom}
 use Rattle.bus_record.proofs.Done.{nothing_left}
-use Rattle.bus_record.specs.declared.record.OnfiseqLun.{OnfiseqLun}
+use Rattle.target_record.specs.declared.record.OnfiseqLun.{OnfiseqLun}
 
 map_set : {X Y : Type 0} (f : X → Y) (xs : List X) (k : ℕ) (x : X) → map f (slice_set xs k x) ≡ slice_set (map f xs) k (f x)
 map_set f [] k x = refl

@@ -6,11 +6,12 @@ use Rattle.nand_geometry.specs.Limits.{InLimits}
 use Rattle.onfi_cycle.specs.Lun.{views_from}
 use Rattle.onfi_cycle.specs.State.{Follows, target_view, targets_from}
 use Rattle.onfi_cycle.proofs.Following.{beginning}
-use Rattle.bus_record.specs.Record.{HasRoom, target_of}
-use Rattle.bus_record.specs.Geometry.{parts_of}
-use Rattle.bus_record.specs.Bus.{IsTarget, IsSound, bus_view}
-use Rattle.bus_record.specs.declared.record.OnfiseqTarget.{OnfiseqTarget}
-use Rattle.bus_record.specs.declared.geometry.OnfiseqGeometry.{OnfiseqGeometry}
+use Rattle.target_record.specs.Record.{HasRoom, target_of}
+use Rattle.target_record.specs.Geometry.{parts_of}
+use Rattle.bus_record.specs.Bus.{IsSound, bus_view}
+use Rattle.target_record.specs.Record.{IsTarget}
+use Rattle.target_record.specs.declared.record.OnfiseqTarget.{OnfiseqTarget}
+use Rattle.target_record.specs.declared.geometry.OnfiseqGeometry.{OnfiseqGeometry}
 
 pub fresh_room : (g : Parts) (ce count n : ℕ) → All HasRoom (views_from g [] ce count n)
 fresh_room g ce zero n k d h = absurd (omega arith)

@@ -1,4 +1,3 @@
-pub mod Stored
 pub mod Pushed
 pub mod Fresh
 pub mod AllPushed
@@ -6,3 +5,4 @@ pub mod Runs
 pub mod Tried
 pub mod Done
 pub mod Changed
+pub mod Asked

@@ -8,12 +8,12 @@ use Rattle.nand_geometry.specs.declared.page_fault.PageFault.{PageFault}
 use Rattle.nand_geometry.specs.Limits.{InLimits, fault_of}
 use Rattle.onfi_cycle.specs.declared.tail_facts.TailFacts.{TailFacts}
 use Rattle.onfi_cycle.specs.LunView.{LunView}
-use Rattle.bus_record.specs.Record.{HasRoom, target_of}
+use Rattle.target_record.specs.Record.{HasRoom, target_of}
 use Rattle.bus_record.specs.Many.{HasRecord}
 use Rattle.bus_record.specs.Channel.{IsSameChannel}
 use Rattle.onfi_cycle.proofs.Runs.{changed_length}
-use Rattle.bus_record.specs.declared.record.OnfiseqTarget.{OnfiseqTarget}
-use Rattle.bus_record.specs.Geometry.{parts_of}
+use Rattle.target_record.specs.declared.record.OnfiseqTarget.{OnfiseqTarget}
+use Rattle.target_record.specs.Geometry.{parts_of}
 use Rattle.bus_record.specs.Kept.{Kept}
 use Rattle.std.proofs.lemmas.List.{length-set}
 use Rattle.std.proofs.lemmas.List.Elements.{All-set}
@@ -25,8 +25,10 @@ use Rattle.onfi_cycle.specs.Permitted.{judge}
 use Rattle.onfi_cycle.specs.Bounds.{LunFits, TargetFits, BusFits}
 use Rattle.onfi_cycle.specs.State.{TargetView, BusView, Follows, judged, judged_on, bus_after, target_after, bus}
 use Rattle.onfi_cycle.proofs.Following.{judged_is_broken, bus_goes_on, target_fits, lun_fits_at, applied}
-use Rattle.bus_record.specs.Rule.{by_option, rule_number}
-use Rattle.bus_record.specs.Bus.{pushed, bus_pushed, target_pushed, GoesOn, IsTarget, IsSound, bus_view}
+use Rattle.bus_record.specs.Rule.{by_option}
+use Rattle.onfi_cycle.specs.Codes.{rule_number}
+use Rattle.bus_record.specs.Bus.{pushed, bus_pushed, target_pushed, GoesOn, IsSound, bus_view}
+use Rattle.target_record.specs.Record.{IsTarget}
 
 -- parts that make a geometry are those of the geometry
 pub of_ok : (r : Result Parts PageFault) (p g : Parts) → MatchResult r (λ g. (fault_of p ≡ None) × (g ≡ p)) (λ e. fault_of p ≡ Some e) → r ≡ Ok g → g ≡ p

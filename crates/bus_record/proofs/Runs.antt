@@ -19,14 +19,15 @@ use Rattle.onfi_cycle.proofs.Outputs.{outputs_applied, few_after}
 use Rattle.onfi_cycle.proofs.Inputs.{judged_some as inputs_judged_some}
 use Rattle.onfi_cycle.proofs.Outputs.{judged_some as outputs_judged_some}
 use Rattle.onfi_cycle.proofs.Runs.{IsData, judged_first, run_fits}
-use Rattle.bus_record.specs.declared.record.OnfiseqTarget.{OnfiseqTarget}
-use Rattle.bus_record.specs.Bus.{IsTarget, IsSound, bus_view}
+use Rattle.target_record.specs.declared.record.OnfiseqTarget.{OnfiseqTarget}
+use Rattle.bus_record.specs.Bus.{IsSound, bus_view}
+use Rattle.target_record.specs.Record.{IsTarget}
 use Rattle.bus_record.specs.Channel.{IsSameChannel}
-use Rattle.bus_record.specs.Geometry.{parts_of}
+use Rattle.target_record.specs.Geometry.{parts_of}
 use Rattle.bus_record.specs.Kept.{Kept}
 use Rattle.onfi_cycle.specs.LunView.{LunView}
 use Rattle.onfi_cycle.specs.Effect.{is_data}
-use Rattle.bus_record.specs.Record.{HasRoom, target_of}
+use Rattle.target_record.specs.Record.{HasRoom, target_of}
 use Rattle.bus_record.specs.Rule.{by_option}
 use Rattle.bus_record.specs.Runs.{inputs_rule, inputs_pushed, outputs_rule, outputs_pushed}
 use Rattle.bus_record.proofs.Pushed.{length_seen, get_seen, set_seen, judged_there, set_same, same_channel, after_keeps}

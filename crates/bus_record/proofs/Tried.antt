@@ -1,29 +1,29 @@
 -- A target that is taken out of its channel, and what is tried on it.
-use Rattle.std.proofs.Common.{◌≡◌, ℕ, zero, suc, ◌<◌, ◌≤◌, List, ◌∷◌, [], Option, Some, None, length, map, take, get_or, slice_set, refl, sym, ap, ◌∙◌, arith, subst}
+use Rattle.std.proofs.Common.{◌≡◌, ℕ, ◌<◌, List, Option, Some, None, length, map, take, get_or, slice_set, refl, sym, ap, ◌∙◌, arith, subst}
 use Rattle.std.proofs.lemmas.List.{length-set, get_or-set_same, set-set}
 use Rattle.nand_geometry.specs.Limits.{InLimits}
 use Rattle.onfi_cycle.specs.declared.forbidden.Forbidden.{Forbidden}
 use Rattle.onfi_cycle.specs.declared.item.Item.{Item}
-use Rattle.onfi_cycle.specs.declared.item.Kind.{Kind}
 use Rattle.onfi_cycle.specs.declared.item.Kind.TheVariants.{Din, Dout}
 use Rattle.onfi_cycle.specs.Bounds.{TargetFits}
 use Rattle.onfi_cycle.specs.Sequence.{target_of as target_of_item}
 use Rattle.onfi_cycle.specs.Inputs.{judged_inputs}
 use Rattle.onfi_cycle.specs.Outputs.{judged_outputs, given_on, AreFew}
 use Rattle.onfi_cycle.specs.Permitted.{judge}
-use Rattle.onfi_cycle.specs.Runs.{judged_run, after_run}
-use Rattle.onfi_cycle.specs.State.{TargetView, BusView, bus, bus_after, judged}
+use Rattle.onfi_cycle.specs.Runs.{after_run}
+use Rattle.onfi_cycle.specs.State.{BusView, bus_after, judged}
 use Rattle.onfi_cycle.proofs.Inputs.{inputs_are_data}
 use Rattle.onfi_cycle.proofs.Outputs.{outputs_are_data}
-use Rattle.bus_record.specs.Bus.{IsTarget, IsSound, IsStep, bus_view, bus_pushed, target_pushed}
+use Rattle.bus_record.specs.Bus.{IsSound, bus_view, bus_pushed, target_pushed}
+use Rattle.target_record.specs.Record.{IsTarget}
 use Rattle.bus_record.specs.Channel.{IsSameChannel}
-use Rattle.bus_record.specs.Geometry.{parts_of}
+use Rattle.target_record.specs.Geometry.{parts_of}
 use Rattle.bus_record.specs.Kept.{Kept}
-use Rattle.bus_record.specs.Record.{target_of}
+use Rattle.target_record.specs.Record.{target_of}
 use Rattle.bus_record.specs.Rule.{by_option}
 use Rattle.bus_record.specs.Runs.{inputs_rule, inputs_pushed, outputs_rule, outputs_pushed}
 use Rattle.bus_record.specs.Trial.{tried, tried_view, IsTried}
-use Rattle.bus_record.specs.declared.record.OnfiseqTarget.{OnfiseqTarget}
+use Rattle.target_record.specs.declared.record.OnfiseqTarget.{OnfiseqTarget}
 use Rattle.bus_record.proofs.Pushed.{fits_there, limits_there, sound_after, judged_there, state_there, set_same, set_seen}
 use Rattle.bus_record.proofs.Runs.{inputs_judged, inputs_left, outputs_judged, outputs_left, few_there, run_pushed, run_sound, run_state, no_target}
 

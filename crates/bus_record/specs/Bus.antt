@@ -8,11 +8,12 @@ use Rattle.onfi_cycle.specs.declared.forbidden.Forbidden.{Forbidden}
 use Rattle.onfi_cycle.specs.Bounds.{BusFits, TargetFits}
 use Rattle.onfi_cycle.specs.Permitted.{judge, broken}
 use Rattle.onfi_cycle.specs.State.{TargetView, BusView, Follows, judged, bus_after, target_after}
-use Rattle.bus_record.specs.Geometry.{parts_of}
-use Rattle.bus_record.specs.Rule.{by_option, rule_number}
-use Rattle.bus_record.specs.Record.{target_of, IsRecord}
+use Rattle.target_record.specs.Geometry.{parts_of}
+use Rattle.bus_record.specs.Rule.{by_option}
+use Rattle.onfi_cycle.specs.Codes.{rule_number}
+use Rattle.target_record.specs.Record.{target_of, IsTarget}
 use Rattle.bus_record.specs.Kept.{Kept}
-use Rattle.bus_record.specs.declared.record.OnfiseqTarget.{OnfiseqTarget}
+use Rattle.target_record.specs.declared.record.OnfiseqTarget.{OnfiseqTarget}
 
 -- the state that the numbers stand for: of the targets the first ones count
 abbrev pub bus_view : Kept → BusView
@@ -21,11 +22,6 @@ bus_view k = record { geometry = parts_of k.geometry; targets = map target_of (t
 -- the record is one that a call left, as far as it can be told
 abbrev pub is_bus : Kept → Bool
 is_bus k = k.magic == 0x5355424f
-
--- the numbers of a target's record
-pub record IsTarget (t : OnfiseqTarget) : Type 0 where
-  pub count : t.count ≤ 4
-  pub luns : All IsRecord t.luns
 
 -- what stands in the caller's memory: no channel, or one whose facts fit
 pub record IsSound (k : Kept) : Type 0 where

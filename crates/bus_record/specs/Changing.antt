@@ -14,8 +14,8 @@ use Rattle.onfi_cycle.specs.Lun.{view_after}
 use Rattle.onfi_cycle.specs.LunView.{LunView}
 use Rattle.onfi_cycle.specs.Sequence.{row, row_with, wants_address, wants_command}
 use Rattle.onfi_cycle.specs.State.{has_driver}
-use Rattle.bus_record.specs.Record.{HasRoom}
-use Rattle.bus_record.specs.declared.record.OnfiseqLun.{OnfiseqLun}
+use Rattle.target_record.specs.Record.{HasRoom}
+use Rattle.target_record.specs.declared.record.OnfiseqLun.{OnfiseqLun}
 use Rattle.bus_record.specs.declared.target_effect.TargetEffect.{TargetEffect}
 use Rattle.bus_record.specs.declared.target_effect.TargetEffect.TheVariants.{Nothing, OnEach, OnDriver, OnOne, Selection}
 

@@ -1,13 +1,10 @@
-pub mod Geometry
 pub mod Rule
 pub mod Item
-pub mod Record
 pub mod Kept
 pub mod Bus
 pub mod Channel
 pub mod Many
 pub mod Runs
 pub mod Look
-pub mod Judging
 pub mod Changing
 pub mod Trial

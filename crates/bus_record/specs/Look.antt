@@ -1,7 +1,7 @@
 -- A look at a LUN, in numbers.
 use Rattle.std.specs.Prelude.{if◌then◌else◌, Option, Some, None}
 use Rattle.onfi_cycle.specs.declared.lun_state.LunState.{LunState}
-use Rattle.bus_record.specs.Record.{latch_of, register_of, given_of}
+use Rattle.target_record.specs.Record.{latch_of, register_of, given_of}
 use Rattle.bus_record.specs.declared.look.OnfiseqLook.{OnfiseqLook}
 
 -- the look that the numbers stand for, None where no such LUN is there

@@ -5,7 +5,7 @@ use Rattle.onfi_cycle.specs.declared.item.Item.{Item}
 use Rattle.onfi_cycle.specs.State.{TargetView, BusView}
 use Rattle.bus_record.specs.Item.{item_of}
 use Rattle.bus_record.specs.Bus.{pushed, bus_pushed}
-use Rattle.bus_record.specs.Record.{HasRoom}
+use Rattle.target_record.specs.Record.{HasRoom}
 use Rattle.bus_record.specs.declared.item.OnfiseqItem.{OnfiseqItem}
 
 -- what came of items: the answer to the last of them, how many went, and the channel after those

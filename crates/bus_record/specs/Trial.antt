@@ -7,7 +7,7 @@ use Rattle.onfi_cycle.specs.Runs.{first_rule}
 use Rattle.onfi_cycle.specs.State.{BusView, bus_after, judged}
 use Rattle.bus_record.specs.Bus.{IsSound, bus_view}
 use Rattle.bus_record.specs.Kept.{Kept}
-use Rattle.bus_record.specs.declared.record.OnfiseqTarget.{OnfiseqTarget}
+use Rattle.target_record.specs.declared.record.OnfiseqTarget.{OnfiseqTarget}
 
 -- the channel with this record of a target
 abbrev pub tried : Kept → ℕ → OnfiseqTarget → Kept

@@ -7,26 +7,25 @@ ghost use Rattle.onfi_cycle.specs.Channel.{cycle};
 ghost use Rattle.onfi_cycle.specs.Command.{command};
 ghost use Rattle.onfi_cycle.specs.State.{Follows, bus_after, judged, target_view};
 ghost use Rattle.onfi_cycle.specs.Permitted.{judge};
-ghost use Rattle.bus_record.specs.Geometry.{parts_of};
-ghost use Rattle.bus_record.specs.Bus.{bus_view, is_bus, CanBegin, IsTarget, IsStep, target_pushed, pushed, bus_pushed};
+ghost use Rattle.target_record.specs.Geometry.{parts_of};
+ghost use Rattle.bus_record.specs.Bus.{bus_view, is_bus, CanBegin, IsStep, target_pushed, pushed, bus_pushed};
+ghost use Rattle.target_record.specs.Record.{IsTarget};
 ghost use Rattle.bus_record.specs.Item.{item_of};
 ghost use Rattle.bus_record.specs.Channel.{IsSameChannel};
-ghost use Rattle.bus_record.specs.Record.{target_of};
+ghost use Rattle.target_record.specs.Record.{target_of};
 ghost use Rattle.onfi_cycle.specs.Bounds.{TargetFits};
 ghost use Rattle.nand_geometry.specs.Limits.{InLimits};
 
-use crate::geometry::OnfiseqGeometry;
 use crate::item::OnfiseqItem;
-use crate::judging::{
-    judge_address_of, judge_command_of, judge_input_of, judge_output_of, judge_there,
-};
 use crate::luns_change::{end_array_work_of, end_work_of};
-use crate::record::{NO_TARGET, OnfiseqTarget, target_record};
-use crate::rule::rule_number;
 use crate::target_change::{apply_address, apply_command, apply_input, apply_output};
 use nand_geometry::Geometry;
 use onfi_cycle::{Command, Cycle, Forbidden, Item, Kind, READ_STATUS, TargetState};
 use std::marker::Model;
+use target_record::{
+    NO_TARGET, OnfiseqGeometry, OnfiseqTarget, judge_address_of, judge_command_of, judge_input_of,
+    judge_output_of, judge_there, record_of,
+};
 
 // What stands first in a record that a call left: `OBUS`.
 const MAGIC: u32 = 0x5355_424f;
@@ -77,7 +76,7 @@ fn fresh_target(luns: u8) -> OnfiseqTarget
     ensures value { (g : Parts) (ce : ℕ) → g.luns ≡ luns → target_of result ≡ target_view g [] ce }
     ensures numbers { IsTarget result }
 {
-    target_record(&TargetState::new(luns))
+    record_of(&TargetState::new(luns))
 }
 
 // A channel of so many targets with so many LUNs.
@@ -198,6 +197,28 @@ fn step_command(
     ensures { IsStep (parts_of geometry.now) targets kept.old kept.new (ItemValue.Cyc cycle) result }
 {
     step_named(geometry, targets, kept, cycle, Command::of(cycle.byte))
+}
+
+/// The first rule that 70h breaks on a target.
+#[inline(always)]
+#[tactic(auto, unfolding(onfi_cycle::specs::Command::command))]
+pub(crate) fn judge_read_status(
+    geometry: &OnfiseqGeometry,
+    targets: u8,
+    kept: &OnfiseqTarget,
+    ce: u8,
+) -> Option<Forbidden>
+    requires limits { InLimits (parts_of geometry.now) }
+    requires numbers { IsTarget kept.now }
+    requires fits { TargetFits (parts_of geometry.now) (target_of kept.now) }
+    ensures { result ≡ judge (parts_of geometry.now) targets (target_of kept.now).tail (target_of kept.now).luns (cycle ce KindValue.Cmd 0x70) }
+{
+    let cycle = Cycle {
+        ce,
+        kind: Kind::Cmd,
+        byte: READ_STATUS,
+    };
+    judge_command_of(geometry, targets, kept, cycle, Command::ReadStatus)
 }
 
 /// A target goes on by 70h, if that is permitted. It comes with each poll, so it has a way of its own.
@@ -350,7 +371,7 @@ pub fn push(bus: &mut OnfiseqBus, item: Item) -> u32
     ensures count { bus.new.count ≡ bus.old.count }
 {
     match push_item(bus, item) {
-        Some(rule) => rule_number(rule),
+        Some(rule) => rule.number(),
         None => 0,
     }
 }
@@ -364,7 +385,7 @@ fn push_cycle(bus: &mut OnfiseqBus, ce: u8, kind: Kind, byte: u8) -> u32
     ensures count { bus.new.count ≡ bus.old.count }
 {
     match push_here(bus, Item::Cyc(Cycle { ce, kind, byte })) {
-        Some(rule) => rule_number(rule),
+        Some(rule) => rule.number(),
         None => 0,
     }
 }

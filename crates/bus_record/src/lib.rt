@@ -6,15 +6,10 @@
 #![tactic(auto)]
 
 mod bus;
-mod geometry;
 mod item;
-mod judging;
 mod look;
-mod lun_change;
 mod luns_change;
 mod many;
-mod record;
-mod rule;
 mod run;
 mod tail_change;
 mod target_change;
@@ -22,11 +17,9 @@ mod target_effect;
 mod trial;
 
 pub use bus::{DAMAGED, OnfiseqBus, begin, is_bus, push, push_item, push_numbers};
-pub use geometry::OnfiseqGeometry;
 pub use item::OnfiseqItem;
-pub use look::{OnfiseqLook, ask, copy_of, geometry_of, has_lun, look_at_lun, no_look};
+pub use look::{OnfiseqLook, ask, geometry_of, has_lun, look_at_lun, no_look};
 pub use many::push_all;
-pub use record::{OnfiseqLun, OnfiseqQueued, OnfiseqTarget};
-pub use rule::rule_number;
 pub use run::{push_inputs, push_outputs};
-pub use trial::{put_target, target_at, try_inputs, try_item, try_outputs, try_poll};
+pub use target_record::{OnfiseqGeometry, OnfiseqLun, OnfiseqQueued, OnfiseqTarget};
+pub use trial::{ask_poll, put_target, target_at, try_inputs, try_item, try_outputs, try_poll};

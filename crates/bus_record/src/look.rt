@@ -3,19 +3,19 @@ ghost use Rattle.std.specs.Prelude.{◌≡◌, ◌≤◌, ◌<◌, true, Some, N
 ghost use Rattle.nand_geometry.specs.Limits.{InLimits};
 ghost use Rattle.onfi_cycle.specs.Bounds.{TargetFits};
 ghost use Rattle.onfi_cycle.specs.Look.{look_at, look_on, looked};
-ghost use Rattle.bus_record.specs.Bus.{IsTarget, bus_view, answered_there, pushed};
+ghost use Rattle.bus_record.specs.Bus.{bus_view, answered_there, pushed};
+ghost use Rattle.target_record.specs.Record.{IsTarget};
 ghost use Rattle.bus_record.specs.Channel.{is_on};
-ghost use Rattle.bus_record.specs.Geometry.{parts_of};
+ghost use Rattle.target_record.specs.Geometry.{parts_of};
 ghost use Rattle.bus_record.specs.Look.{look_of};
-ghost use Rattle.bus_record.specs.Record.{IsRecord, lun_of, target_of};
+ghost use Rattle.target_record.specs.Record.{IsRecord, lun_of, target_of};
 
 use crate::bus::OnfiseqBus;
-use crate::geometry::OnfiseqGeometry;
-use crate::judging::{judge_there, output_column};
-use crate::record::{OnfiseqLun, OnfiseqTarget, closer_of};
-use crate::rule::rule_number;
 use nand_geometry::Geometry;
 use onfi_cycle::{Item, Lun, is_cache_read};
+use target_record::{
+    OnfiseqGeometry, OnfiseqLun, OnfiseqTarget, closer_of, judge_there, output_column, queue_len,
+};
 
 /// A look at a LUN. `latch`: what it drives the bus with, 0 nothing, 1 its status, 2 data. `register`: what its register holds, 0 nothing, 1 the page of `block`
 /// and `page`, 2 the parameter page, 3 the identifier. `column`, where `has_column`: the place that the next output gives. `queued`: the rows of its queue.
@@ -74,7 +74,7 @@ fn look_at(kept: &OnfiseqLun) -> OnfiseqLook
         block: kept.register_block,
         page: kept.register_page,
         column: column.unwrap_or(0),
-        queued: kept.queued,
+        queued: queue_len(kept),
     }
 }
 
@@ -110,7 +110,7 @@ fn ask_target(geometry: &OnfiseqGeometry, targets: u8, kept: &OnfiseqTarget, ite
     ensures { result ≡ answered_there (parts_of geometry.now) targets (target_of kept.now) item }
 {
     match judge_there(geometry, targets, kept, item) {
-        Some(rule) => rule_number(rule),
+        Some(rule) => rule.number(),
         None => 0,
     }
 }
@@ -143,16 +143,4 @@ pub fn has_lun(bus: &OnfiseqBus, lun: Lun) -> bool
     ensures there { result ≡ true → lun.ce < bus.now.count }
 {
     usize::from(lun.ce) < bus.count && lun.lun < bus.geometry.luns
-}
-
-/// The same channel in a record of its own.
-pub fn copy_of(bus: &OnfiseqBus) -> OnfiseqBus
-    ensures { result ≡ bus.now }
-{
-    OnfiseqBus {
-        magic: bus.magic,
-        geometry: bus.geometry,
-        count: bus.count,
-        targets: bus.targets,
-    }
 }

@@ -10,13 +10,13 @@ ghost use Rattle.onfi_cycle.specs.Effect.{cycle_effect};
 ghost use Rattle.onfi_cycle.specs.Lun.{view_after};
 ghost use Rattle.bus_record.specs.Changing.{AreLittle, HaveRoom, driven, luns_left};
 ghost use Rattle.bus_record.specs.declared.target_effect.TargetEffect.{TargetEffect as TargetEffectValue};
-ghost use Rattle.bus_record.specs.Record.{HasRoom, IsRecord, lun_of, luns_of};
+ghost use Rattle.target_record.specs.Record.{HasRoom, IsRecord, lun_of, luns_of};
 
-use crate::judging::driver;
-use crate::lun_change::{become_array_ready, become_ready, change};
-use crate::record::{OnfiseqLun, latch_code, latch_of};
 use crate::target_effect::TargetEffect;
 use onfi_cycle::{Effect, Latch};
+use target_record::{
+    OnfiseqLun, become_array_ready, become_ready, change, driver, latch_code, latch_of,
+};
 
 // A LUN goes on by an effect, if it drives the bus.
 fn change_driving(kept: &mut OnfiseqLun, effect: Effect)

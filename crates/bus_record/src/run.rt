@@ -7,20 +7,20 @@ ghost use Rattle.onfi_cycle.specs.Channel.{cycle};
 ghost use Rattle.onfi_cycle.specs.declared.item.Item.{Item as ItemValue};
 ghost use Rattle.onfi_cycle.specs.Inputs.{has_no_room, fed_target, judged_inputs, after_inputs};
 ghost use Rattle.onfi_cycle.specs.Outputs.{has_fewer, against_rest, given_on, given_target, judged_outputs, after_outputs, AreFew};
-ghost use Rattle.bus_record.specs.Bus.{IsTarget, bus_view};
+ghost use Rattle.bus_record.specs.Bus.{bus_view};
+ghost use Rattle.target_record.specs.Record.{IsTarget};
 ghost use Rattle.bus_record.specs.Channel.{IsSameChannel};
-ghost use Rattle.bus_record.specs.Geometry.{parts_of};
-ghost use Rattle.bus_record.specs.Record.{IsRecord, lun_of, luns_of, tail_of, target_of};
+ghost use Rattle.target_record.specs.Geometry.{parts_of};
+ghost use Rattle.target_record.specs.Record.{IsRecord, lun_of, luns_of, tail_of, target_of};
 ghost use Rattle.bus_record.specs.Runs.{inputs_rule, inputs_pushed, outputs_rule, outputs_pushed};
 
 use crate::bus::OnfiseqBus;
-use crate::geometry::OnfiseqGeometry;
-use crate::judging::{
-    driver, judge_input_of, judge_output_of, output_column, register_len, shows_data,
-};
-use crate::record::{OnfiseqLun, OnfiseqTarget};
 use crate::tail_change::note_output;
 use onfi_cycle::{Cycle, Forbidden, Kind};
+use target_record::{
+    OnfiseqGeometry, OnfiseqLun, OnfiseqTarget, driver, judge_input_of, judge_output_of,
+    output_column, register_len, shows_data,
+};
 
 // A data cycle on a target; which byte it is isn't judged.
 fn data_cycle(ce: u8, kind: Kind) -> Cycle

@@ -3,10 +3,10 @@ ghost use Rattle.std.specs.Prelude.{◌≡◌, ◌==◌, ◌&&◌, true, false, 
 ghost use Rattle.onfi_cycle.specs.declared.target_cycle.TargetCycle.{TargetCycle as TargetCycleValue};
 ghost use Rattle.onfi_cycle.specs.Command.{command, is_page_program};
 ghost use Rattle.onfi_cycle.specs.Sequence.{column_after_address, facts_after, next_column_place, opened, phase_after_address};
-ghost use Rattle.bus_record.specs.Record.{phase_of, tail_of};
+ghost use Rattle.target_record.specs.Record.{phase_of, tail_of};
 
-use crate::record::{OnfiseqTarget, opening_of};
 use onfi_cycle::Command;
+use target_record::{OnfiseqTarget, opening_of};
 
 /// The facts of its tail after the command of a byte.
 #[inline(always)]

@@ -7,16 +7,15 @@ ghost use Rattle.onfi_cycle.specs.Bounds.{TargetFits};
 ghost use Rattle.onfi_cycle.specs.Command.{command};
 ghost use Rattle.onfi_cycle.specs.Permitted.{judge};
 ghost use Rattle.onfi_cycle.specs.State.{target_after};
-ghost use Rattle.bus_record.specs.Bus.{IsTarget};
-ghost use Rattle.bus_record.specs.Geometry.{parts_of};
-ghost use Rattle.bus_record.specs.Record.{target_of};
+ghost use Rattle.target_record.specs.Record.{IsTarget};
+ghost use Rattle.target_record.specs.Geometry.{parts_of};
+ghost use Rattle.target_record.specs.Record.{target_of};
 
-use crate::geometry::OnfiseqGeometry;
 use crate::luns_change::{change_first, give_first};
-use crate::record::OnfiseqTarget;
 use crate::tail_change::{note_address, note_command, note_input, note_output};
 use crate::target_effect::{effect_of_address, effect_of_command};
 use onfi_cycle::{Command, Cycle};
+use target_record::{OnfiseqGeometry, OnfiseqTarget};
 
 /// What a permitted output leaves of its target.
 #[inline(always)]

@@ -3,14 +3,12 @@ ghost use Rattle.std.specs.Prelude.{◌≡◌};
 ghost use Rattle.nand_geometry.specs.Limits.{InLimits};
 ghost use Rattle.onfi_cycle.specs.Effect.{confirm_effect};
 ghost use Rattle.bus_record.specs.Changing.{effect_of_closer, effect_of_column_confirm, effect_of_command, selection, effect_of_identity, effect_of_address};
-ghost use Rattle.bus_record.specs.Geometry.{parts_of};
-ghost use Rattle.bus_record.specs.Record.{tail_of};
+ghost use Rattle.target_record.specs.Geometry.{parts_of};
+ghost use Rattle.target_record.specs.Record.{tail_of};
 
-use crate::geometry::OnfiseqGeometry;
-use crate::judging::wants_command;
-use crate::record::{OnfiseqTarget, opening_of, tail_of};
 use nand_geometry::Geometry;
 use onfi_cycle::{Command, Effect, PageAddress};
+use target_record::{OnfiseqGeometry, OnfiseqTarget, opening_of, tail_of, wants_command};
 
 /// What a cycle does to the LUNs of its target.
 #[derive(Clone, Copy)]

@@ -6,14 +6,15 @@ ghost use Rattle.onfi_cycle.specs.State.{bus_after, judged};
 ghost use Rattle.onfi_cycle.specs.Channel.{cycle};
 ghost use Rattle.onfi_cycle.specs.declared.item.Kind.{Kind as KindValue};
 ghost use Rattle.onfi_cycle.specs.Sequence.{target_of as target_of_item};
+ghost use Rattle.target_record.specs.Geometry.{parts_of};
 ghost use Rattle.bus_record.specs.Bus.{bus_pushed, bus_view};
 ghost use Rattle.bus_record.specs.Channel.{IsSameChannel};
 ghost use Rattle.bus_record.specs.Trial.{IsTried, after_poll, judged_poll, tried_view};
 
-use crate::bus::{OnfiseqBus, step_read_status, step_target};
-use crate::record::OnfiseqTarget;
+use crate::bus::{OnfiseqBus, judge_read_status, step_read_status, step_target};
 use crate::run::{push_inputs_there, push_outputs_there};
 use onfi_cycle::{Cycle, Forbidden, Item, Kind};
+use target_record::OnfiseqTarget;
 
 /// The record of a target of a channel.
 #[inline(always)]
@@ -83,6 +84,21 @@ pub fn try_poll(bus: &OnfiseqBus, kept: &mut OnfiseqTarget, ce: u8) -> Option<Fo
         Some(rule) => Some(rule),
         None => try_output(bus, kept, ce),
     }
+}
+
+/// The first rule that a status poll of the one LUN of a target breaks, 70h and an output; nothing changes. Where the 70h is permitted, the output is too.
+#[inline(always)]
+pub fn ask_poll(bus: &OnfiseqBus, ce: u8) -> Option<Forbidden>
+    requires there { ce < bus.now.count }
+    requires one { (parts_of bus.now.geometry).luns ≡ 1 }
+    ensures { result ≡ judged_poll ce (bus_view bus.now) }
+{
+    judge_read_status(
+        &bus.geometry,
+        bus.count as u8,
+        &bus.targets[usize::from(ce)],
+        ce,
+    )
 }
 
 /// A target goes on by so many inputs in a row, if each of them is permitted. Else the answer is the first rule that the first forbidden one breaks, and nothing

@@ -5,7 +5,7 @@ use Rattle.onfi_cycle.specs.declared.item.Item.{Item}
 use Rattle.onfi_cycle.specs.declared.forbidden.Forbidden.{Forbidden}
 use Rattle.onfi_cycle.specs.Permitted.{broken}
 use Rattle.bus_record.specs.Item.{item_of}
-use Rattle.bus_record.specs.Rule.{rule_number}
+use Rattle.onfi_cycle.specs.Codes.{rule_number}
 use Rattle.onfiseq_c.specs.Check.{checked, answer}
 use Rattle.bus_record.specs.declared.item.OnfiseqItem.{OnfiseqItem}
 

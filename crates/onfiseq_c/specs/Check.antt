@@ -5,7 +5,8 @@ use Rattle.nand_geometry.specs.declared.page_fault.PageFault.{PageFault}
 use Rattle.nand_geometry.specs.Limits.{fault_of}
 use Rattle.onfi_cycle.specs.declared.item.Item.{Item}
 use Rattle.onfi_cycle.specs.Permitted.{broken}
-use Rattle.bus_record.specs.Rule.{rule_number, by_option}
+use Rattle.bus_record.specs.Rule.{by_option}
+use Rattle.onfi_cycle.specs.Codes.{rule_number}
 use Rattle.nand_geometry.specs.Codes.{page_fault_number}
 use Rattle.bus_record.specs.Item.{item_of}
 use Rattle.bus_record.specs.declared.item.OnfiseqItem.{OnfiseqItem}

@@ -3,7 +3,7 @@ use Rattle.std.specs.Prelude.{◌≡◌, Result, Ok, Err}
 use Rattle.nand_geometry.specs.declared.parts.Parts.{Parts}
 use Rattle.nand_geometry.specs.declared.page_fault.PageFault.{PageFault}
 use Rattle.nand_geometry.specs.Codes.{page_fault_number}
-use Rattle.bus_record.specs.Geometry.{parts_of, no_geometry}
+use Rattle.target_record.specs.Geometry.{parts_of, no_geometry}
 use Rattle.onfiseq_c.specs.declared.geometry.OnfiseqPage.{OnfiseqPage}
 
 -- what is answered where a page is read so

@@ -3,7 +3,7 @@ ghost use Rattle.std.specs.Prelude.{◌≡◌, ℕ, ◌≤◌, List, [], Some, t
 ghost use Rattle.nand_geometry.specs.declared.parts.Parts.{Parts};
 ghost use Rattle.onfi_cycle.specs.declared.item.Item.{Item as ItemValue};
 ghost use Rattle.onfi_cycle.specs.State.{Follows};
-ghost use Rattle.bus_record.specs.Geometry.{parts_of};
+ghost use Rattle.target_record.specs.Geometry.{parts_of};
 ghost use Rattle.bus_record.specs.Bus.{bus_view, is_bus, CanBegin, pushed, bus_pushed, GoesOn};
 ghost use Rattle.bus_record.specs.Item.{item_of};
 

@@ -1,9 +1,9 @@
 //! The check of a whole trace.
 ghost use Rattle.std.specs.Prelude.{◌≡◌, ◌≤◌, []};
-ghost use Rattle.bus_record.specs.Geometry.{parts_of};
+ghost use Rattle.target_record.specs.Geometry.{parts_of};
 ghost use Rattle.onfiseq_c.specs.Check.{checked, answered};
 
-use bus_record::{OnfiseqGeometry, OnfiseqItem, rule_number};
+use bus_record::{OnfiseqGeometry, OnfiseqItem};
 use nand_geometry::Geometry;
 use onfi_cycle::BusState;
 
@@ -39,7 +39,7 @@ fn check_items(geometry: Geometry, targets: u8, items: &[OnfiseqItem]) -> Onfise
             return OnfiseqAnswer::of(b'I', 0, at);
         };
         if let Some(rule) = state.judge(item) {
-            return OnfiseqAnswer::of(b'F', rule_number(rule), at);
+            return OnfiseqAnswer::of(b'F', rule.number(), at);
         }
         state.apply(item);
         rest = behind;

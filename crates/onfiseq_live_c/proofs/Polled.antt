@@ -6,7 +6,7 @@ use Rattle.onfi_cycle.specs.Channel.{cycle}
 use Rattle.onfi_cycle.specs.Runs.{first_rule, judged_run}
 use Rattle.onfi_cycle.specs.State.{BusView, bus_after, judged}
 use Rattle.micro_word.specs.declared.word.Word.{Word}
-use Rattle.seq_live.specs.Burst.{bursts_at, taken_by}
+use Rattle.seq_live.specs.Burst.{taken_by}
 use Rattle.bus_record.specs.Trial.{judged_poll}
 use Rattle.onfiseq_live_c.specs.declared.stop.Stop.TheVariants as stop
 use Rattle.onfiseq_live_c.specs.Bursts.{PollsOne, judged_bursts, poll_of}

@@ -29,9 +29,9 @@ AllOn ce (b ∷ bursts) = (target_of b ≡ ce) × AllOn ce bursts
 abbrev pub poll_of : ℕ → List Burst
 poll_of ce = Command ce 0x70 ∷ (Output ce 1 ∷ [])
 
--- a word is such a poll, whoever steps it
+-- a word is such a poll, whoever steps it, on a target of one LUN
 abbrev pub PollsOne : Parts → Word → Type 0
-PollsOne g w = ((l : Lun) (r : Registers) → bursts_at g l r w ≡ Some (poll_of l.ce)) × (taken_by w ≡ 1)
+PollsOne g w = ((l : Lun) (r : Registers) → bursts_at g l r w ≡ Some (poll_of l.ce)) × (taken_by w ≡ 1) × (g.luns ≡ 1)
 
 -- address cycles of these bytes
 abbrev pub judged_addresses : ℕ → List ℕ → BusView → Option Forbidden

@@ -1,6 +1,6 @@
 -- The letters and numbers of an answer.
 use Rattle.std.specs.Prelude.{ℕ}
-use Rattle.bus_record.specs.Rule.{rule_number}
+use Rattle.onfi_cycle.specs.Codes.{rule_number}
 use Rattle.micro_word.specs.Codes.{word_fault_number}
 use Rattle.micro_word.specs.declared.refusal.WordRefusal.TheVariants.{Fault, OutOfMemory}
 use Rattle.seq_core.specs.Codes.{job_fault_number}

@@ -91,12 +91,12 @@ fn try_burst(bus: &OnfiseqBus, kept: &mut OnfiseqTarget, burst: Burst) -> Option
     }
 }
 
-/// Whether a word is a status poll by 70h, on a target of so many LUNs.
+/// Whether a word is a status poll by 70h, as it is on a target of one LUN.
 #[inline(always)]
 pub(crate) fn polls_one(bus: &OnfiseqBus, word: Word) -> bool
     ensures { result ≡ true → PollsOne (bus_view bus.now).geometry word }
 {
-    is_poll(word) && bus.geometry.luns <= 1
+    is_poll(word) && bus.geometry.luns == 1
 }
 
 /// Goes on by bursts of a target one after another, up to the first that breaks a rule.

@@ -3,7 +3,7 @@ ghost use Rattle.std.specs.Prelude.{◌≡◌, ◌≤◌, ◌<◌, true, false, 
 ghost use Rattle.onfi_cycle.specs.State.{Follows};
 ghost use Rattle.onfi_cycle.specs.declared.item.Item.TheVariants.{Rdy, Ard};
 ghost use Rattle.bus_record.specs.Bus.{CanBegin, pushed, bus_pushed};
-ghost use Rattle.bus_record.specs.Geometry.{parts_of};
+ghost use Rattle.target_record.specs.Geometry.{parts_of};
 ghost use Rattle.onfiseq_live_c.specs.Live.{state_of, holder_of, is_live, are_whole, KeepsHolder};
 
 use crate::job::OnfiseqJob;

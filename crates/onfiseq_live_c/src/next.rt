@@ -11,7 +11,7 @@ use crate::due::due;
 use crate::job::OnfiseqJob;
 use crate::live::OnfiseqLive;
 use crate::stop::Stop;
-use bus_record::{OnfiseqBus, target_at, try_poll};
+use bus_record::{OnfiseqBus, ask_poll, target_at};
 use micro_word::Word;
 use onfi_cycle::READ_STATUS;
 use seq_live::{Burst, taken_by};
@@ -176,8 +176,7 @@ fn tell_poll(bus: &OnfiseqBus, job: &OnfiseqJob, word: Word) -> OnfiseqTurn
     ensures { result ≡ turn_of (told (bus_view bus.now) (job_view job.now) word) }
 {
     let _word = word;
-    let mut kept = target_at(bus, job.ce);
-    match try_poll(bus, &mut kept, job.ce) {
+    match ask_poll(bus, job.ce) {
         Some(rule) => OnfiseqTurn::stopped(Stop::Breaks(rule)),
         None => OnfiseqTurn::of_poll(job.ce),
     }

@@ -2,7 +2,6 @@
 ghost use Rattle.std.specs.Prelude.{◌≡◌};
 ghost use Rattle.onfiseq_live_c.specs.Stop.{letter_of, number_of};
 
-use bus_record::rule_number;
 use micro_word::WordRefusal;
 use onfi_cycle::Forbidden;
 use seq_core::JobFault;
@@ -60,7 +59,7 @@ impl Stop {
         match self {
             Stop::Ended(code) => u32::from(code),
             Stop::Word(WordMissing::Fault(WordRefusal::Fault { fault, .. })) => fault.number(),
-            Stop::Breaks(rule) => rule_number(rule),
+            Stop::Breaks(rule) => rule.number(),
             Stop::Unfit(fault) => fault.number(),
             Stop::Damaged
             | Stop::Held

@@ -1,6 +1,6 @@
 //! The notes to a microprogram.
 ghost use Rattle.std.specs.Prelude.{◌≡◌, IfOk, IfErr};
-ghost use Rattle.bus_record.specs.Geometry.{parts_of};
+ghost use Rattle.target_record.specs.Geometry.{parts_of};
 ghost use Rattle.onfiseq_show_c.specs.Shown.{Comes, IsProgram, FailsProgram};
 
 use crate::failure::Failure;

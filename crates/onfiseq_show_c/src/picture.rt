@@ -1,6 +1,6 @@
 //! A trace as a picture.
 ghost use Rattle.std.specs.Prelude.{◌≡◌, None, IfOk, IfErr};
-ghost use Rattle.bus_record.specs.Geometry.{parts_of};
+ghost use Rattle.target_record.specs.Geometry.{parts_of};
 ghost use Rattle.onfiseq_show_c.specs.Shown.{Comes, trace_fault, Fails};
 
 use crate::failure::Failure;

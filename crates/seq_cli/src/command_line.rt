@@ -887,6 +887,8 @@ fn with_trace<'a>(command: Command<'a>, input: &'a str) -> Command<'a> {
         | Command::Capture(_)
         | Command::Draw(_)
         | Command::Disassemble { .. }
+        | Command::MakePage { .. }
+        | Command::ShowPage { .. }
         | Command::Upgrade { .. } => command,
     }
 }

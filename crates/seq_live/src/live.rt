@@ -292,6 +292,8 @@ impl<A: Allocator> Live<A> {
     /// The next word of a LUN that may step, and its bursts.
     pub(crate) fn due_at(&self, lun: Lun) -> Due
         requires { MayStep self.now lun }
+        ensures place { Some result.place ≡ (if is_there (channel_at self.now) lun then Some (number (channel_at self.now) lun) else None) }
+        ensures inside { result.place < length self.now.slots }
         ensures word { IsNextWord self.now lun result.word }
         ensures range { EndsWithFive result.word }
         ensures bursts { AreNextBursts self.now lun result.bursts.items }
@@ -385,6 +387,8 @@ impl<A: Allocator> Live<A> {
     // Steps the next word of a LUN, whose outputs gave these bytes.
     fn step_by(&mut self, lun: Lun, due: &Due, taken: &[u8]) -> Stepped
         requires may { MayStep self.old lun }
+        requires place { Some due.now.place ≡ (if is_there (channel_at self.old) lun then Some (number (channel_at self.old) lun) else None) }
+        requires inside { due.now.place < length self.old.slots }
         requires next { IsNextWord self.old lun due.now.word }
         requires bursts { AreNextBursts self.old lun due.now.bursts.items }
         requires count { length taken.now ≡ taken_by due.now.word }
@@ -393,21 +397,18 @@ impl<A: Allocator> Live<A> {
         ensures over { self.new.going ≡ None }
     {
         let geometry = self.state.geometry();
-        match self.place(lun) {
-            None => unreachable!(),
-            Some(place) => {
-                let slots = self.slots.as_mut_slice();
-                let answer = step_in(&mut self.state, &geometry, slots, place, due, taken);
-                self.holder = holder_after(answer, lun);
-                self.going = None;
-                answer
-            }
-        }
+        let slots = self.slots.as_mut_slice();
+        let answer = step_in(&mut self.state, &geometry, slots, due.place, due, taken);
+        self.holder = holder_after(answer, lun);
+        self.going = None;
+        answer
     }
 
     /// Steps the next word of a LUN after the readies that its poll shows.
     pub(crate) fn step_word(&mut self, lun: Lun, due: &Due, taken: &[u8]) -> Stepped
         requires may { MayStep self.old lun }
+        requires place { Some due.now.place ≡ (if is_there (channel_at self.old) lun then Some (number (channel_at self.old) lun) else None) }
+        requires inside { due.now.place < length self.old.slots }
         requires next { IsNextWord self.old lun due.now.word }
         requires bursts { AreNextBursts self.old lun due.now.bursts.items }
         requires count { length taken.now ≡ taken_by due.now.word }

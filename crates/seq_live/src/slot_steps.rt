@@ -58,6 +58,8 @@ pub(crate) fn word_in<A: Allocator>(slots: &[Option<Slot<A>>], place: usize) -> 
 /// The next word of a slot, and its bursts.
 #[derive(Drop)]
 pub(crate) struct Due {
+    /// The number of its slot.
+    pub(crate) place: usize,
     pub(crate) word: Word,
     pub(crate) bursts: Bursts,
 }
@@ -71,6 +73,7 @@ pub(crate) fn due_in<A: Allocator>(
 ) -> Due
     requires inside { place < length slots.now }
     requires next { HasNextMoves geometry.now (get_or slots.now place None) }
+    ensures place { result.place ≡ place }
     ensures word { NextWordIs (get_or slots.now place None) result.word }
     ensures range { EndsWithFive result.word }
     ensures bursts { NextBurstsAre geometry.now (get_or slots.now place None) result.bursts.items }
@@ -79,7 +82,11 @@ pub(crate) fn due_in<A: Allocator>(
         Some(slot) => {
             let word = slot.next_word();
             match bursts_of(geometry, slot.lun(), slot.registers(), word) {
-                Some(bursts) => Due { word, bursts },
+                Some(bursts) => Due {
+                    place,
+                    word,
+                    bursts,
+                },
                 None => unreachable!(),
             }
         }

@@ -288,6 +288,10 @@ fn make_call(alloc: Global, name: &str) -> Result<String, Fail> {
             }
         }
     }
+    // What `page` wants is an option.
+    if name == "page" {
+        call.push_str(" --show 1")?;
+    }
     Ok(call)
 }
 
@@ -298,6 +302,7 @@ fn name_of(asked: Command<'_>) -> &'static str {
         Command::Run(_) => "run",
         Command::Assemble { .. } => "asm",
         Command::Disassemble { .. } => "dis",
+        Command::MakePage { .. } | Command::ShowPage { .. } => "page",
         Command::Upgrade { .. } => "upgrade",
         Command::AssembleFor { .. } => "asm --auto",
         Command::Verify { .. } => "verify",

@@ -1,6 +1,6 @@
 use Rattle.std.proofs.Common.{ℕ, ◌≤◌, arith, sym, subst, [], ◌∷◌}
 use Rattle.onfi_cycle.specs.State.{Follows}
-use Rattle.bus_record.specs.Geometry.{parts_of}
+use Rattle.target_record.specs.Geometry.{parts_of}
 use Rattle.bus_record.specs.Bus.{bus_view}
 use Rattle.bus_record.proofs.Fresh.{fresh_sound, fresh_follows}
 use Rattle.bus_record.proofs.bus.fresh.Goals as goal

@@ -1,6 +1,6 @@
 use Rattle.std.proofs.Common.{sym, ◌∙◌}
 use Rattle.onfi_cycle.specs.declared.item.Item.TheVariants.{Cyc}
-use Rattle.bus_record.specs.Geometry.{parts_of}
+use Rattle.target_record.specs.Geometry.{parts_of}
 use Rattle.bus_record.proofs.Changed.{is_step}
 use Rattle.bus_record.proofs.bus.step_input.Goals as goal
 

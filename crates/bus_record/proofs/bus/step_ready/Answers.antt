@@ -1,8 +1,8 @@
 use Rattle.std.proofs.Common.{sym, ◌∙◌, refl}
 use Rattle.onfi_cycle.specs.declared.item.Item.TheVariants.{Rdy}
 use Rattle.onfi_cycle.proofs.Applied.{target_readied}
-use Rattle.bus_record.specs.Geometry.{parts_of}
-use Rattle.bus_record.specs.Record.{tail_of, target_of}
+use Rattle.target_record.specs.Geometry.{parts_of}
+use Rattle.target_record.specs.Record.{tail_of, target_of}
 use Rattle.bus_record.proofs.Changed.{is_step}
 use Rattle.bus_record.proofs.bus.step_ready.Goals as goal
 

@@ -1,7 +1,8 @@
 use Rattle.std.proofs.Common.{sym, ap, ◌∙◌, Option}
 use Rattle.onfi_cycle.specs.State.{judged}
 use Rattle.onfi_cycle.specs.declared.forbidden.Forbidden.{Forbidden}
-use Rattle.bus_record.specs.Rule.{by_option, rule_number}
+use Rattle.bus_record.specs.Rule.{by_option}
+use Rattle.onfi_cycle.specs.Codes.{rule_number}
 use Rattle.bus_record.specs.Kept.{Kept}
 use Rattle.bus_record.specs.Bus.{bus_view}
 use Rattle.bus_record.proofs.Pushed.{fits_there, judged_there}

@@ -1,7 +1,7 @@
 use Rattle.std.proofs.Common.{◌≡◌, ◌≤◌, length, sym, ap, ◌∙◌, Option, arith, rules}
 use Rattle.onfi_cycle.specs.LunView.{LunView}
 use Rattle.onfi_cycle.specs.Look.{look_at_some}
-use Rattle.bus_record.specs.Record.{lun_of}
+use Rattle.target_record.specs.Record.{lun_of}
 use Rattle.bus_record.proofs.Pushed.{seen_there}
 use Rattle.bus_record.proofs.look.look_on.Goals as goal
 

@@ -3,9 +3,9 @@ use Rattle.onfi_cycle.specs.declared.item.Kind.TheVariants.{Din}
 use Rattle.onfi_cycle.specs.Inputs.{judged_inputs}
 use Rattle.onfi_cycle.proofs.Inputs.{inputs_are_data}
 use Rattle.bus_record.specs.Bus.{bus_view}
-use Rattle.bus_record.specs.Geometry.{parts_of}
+use Rattle.target_record.specs.Geometry.{parts_of}
 use Rattle.bus_record.specs.Kept.{Kept}
-use Rattle.bus_record.specs.Record.{target_of}
+use Rattle.target_record.specs.Record.{target_of}
 use Rattle.bus_record.specs.Runs.{inputs_rule, inputs_pushed}
 use Rattle.bus_record.proofs.Pushed.{fits_there, limits_there}
 use Rattle.bus_record.proofs.Runs.{inputs_judged, inputs_left, no_target, run_pushed, run_sound, run_state, with_target}

@@ -3,9 +3,9 @@ use Rattle.onfi_cycle.specs.declared.item.Kind.TheVariants.{Dout}
 use Rattle.onfi_cycle.specs.Outputs.{judged_outputs}
 use Rattle.onfi_cycle.proofs.Outputs.{outputs_are_data}
 use Rattle.bus_record.specs.Bus.{bus_view}
-use Rattle.bus_record.specs.Geometry.{parts_of}
+use Rattle.target_record.specs.Geometry.{parts_of}
 use Rattle.bus_record.specs.Kept.{Kept}
-use Rattle.bus_record.specs.Record.{target_of}
+use Rattle.target_record.specs.Record.{target_of}
 use Rattle.bus_record.specs.Runs.{outputs_rule, outputs_pushed}
 use Rattle.bus_record.proofs.Pushed.{fits_there, limits_there}
 use Rattle.bus_record.proofs.Runs.{outputs_judged, outputs_left, few_there, no_target, run_pushed, run_sound, run_state, with_target}

@@ -4,9 +4,9 @@ use Rattle.onfi_cycle.specs.declared.target_cycle.TargetCycle.TheVariants.{Comma
 use Rattle.onfi_cycle.specs.Sequence.{target_cycle}
 use Rattle.onfi_cycle.proofs.Applied.{target_cycled}
 use Rattle.bus_record.specs.Changing.{AreLittle, HaveRoom, luns_left}
-use Rattle.bus_record.specs.Geometry.{parts_of}
-use Rattle.bus_record.specs.Record.{luns_of, tail_of, target_of}
-use Rattle.bus_record.specs.declared.record.OnfiseqLun.{OnfiseqLun}
+use Rattle.target_record.specs.Geometry.{parts_of}
+use Rattle.target_record.specs.Record.{luns_of, tail_of, target_of}
+use Rattle.target_record.specs.declared.record.OnfiseqLun.{OnfiseqLun}
 use Rattle.bus_record.specs.declared.target_effect.TargetEffect.{TargetEffect}
 use Rattle.bus_record.proofs.Changed.{are_little, room_after, same_first}
 use Rattle.bus_record.proofs.Done.{command_left}

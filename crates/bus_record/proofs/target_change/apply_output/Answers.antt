@@ -1,7 +1,7 @@
 use Rattle.std.proofs.Common.{ℕ, List, take, ap, ◌∙◌}
-use Rattle.bus_record.specs.Geometry.{parts_of}
-use Rattle.bus_record.specs.Record.{luns_of, tail_of, target_of}
-use Rattle.bus_record.specs.declared.record.OnfiseqLun.{OnfiseqLun}
+use Rattle.target_record.specs.Geometry.{parts_of}
+use Rattle.target_record.specs.Record.{luns_of, tail_of, target_of}
+use Rattle.target_record.specs.declared.record.OnfiseqLun.{OnfiseqLun}
 use Rattle.bus_record.proofs.Changed.{are_little, after_output}
 use Rattle.bus_record.proofs.target_change.apply_output.Goals as goal
 

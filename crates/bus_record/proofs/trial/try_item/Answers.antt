@@ -1,4 +1,4 @@
-use Rattle.std.proofs.Common.{◌≡◌, Some, None, refl, sym, ap, subst, ◌∙◌}
+use Rattle.std.proofs.Common.{◌≡◌, Some, refl, sym, ap, subst, ◌∙◌}
 use Rattle.onfi_cycle.specs.Sequence.{target_of as target_of_item}
 use Rattle.onfi_cycle.specs.State.{judged}
 use Rattle.bus_record.specs.Bus.{bus_pushed}

@@ -1,4 +1,4 @@
-use Rattle.std.proofs.Common.{◌≡◌, Some, None, refl, sym, ap, subst, ◌∙◌}
+use Rattle.std.proofs.Common.{◌≡◌, Some, refl, sym, ap, subst, ◌∙◌}
 use Rattle.onfi_cycle.specs.declared.item.Kind.TheVariants.{Cmd}
 use Rattle.onfi_cycle.specs.Channel.{cycle}
 use Rattle.onfi_cycle.specs.State.{judged}

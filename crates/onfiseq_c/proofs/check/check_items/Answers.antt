@@ -12,7 +12,7 @@ pub returns-in-Some-judge : goal.returns-in-Some-judge
 returns-in-Some-judge c =
     let before = c.items.invariant.so_far in
     let broken = sym (c.judge.ensures.past c.args.geometry c.args.targets before.0 before.1.0) ∙ c.in-Some-judge.is in
-    let number = rw c.rule_number.ensures at c.of-in-Some-judge.ensures in
+    let number = rw c.number.ensures at c.of-in-Some-judge.ensures in
     number ∙ sym (before.1.1 ∙ breaks c.args.geometry c.args.targets before.0 c.items.rest.now c.in-Some.first.now c.in-Some.behind.now c.items.at
     c.in-Some-item.item c.in-Some-judge.rule c.in-Some.ensures.cases.0 (sym c.item.ensures ∙ c.in-Some-item.is) broken)
 

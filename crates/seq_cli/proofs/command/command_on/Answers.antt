@@ -127,7 +127,7 @@ returns-in-MakePage-clause-refused g c = λ refusal is.
 pub returns-in-ShowPage-clause-done : goal.returns-in-ShowPage-clause-done
 returns-in-ShowPage-clause-done g c = λ is.
     let k = c.show_page.ensures.done (exit_is c.show_page.result exit.Done is) in
-    (k.1.0, subst (λ (m : Command). IsDone m (g.R.Read.remaining c.args.input.now) (g.F.Files.store c.args.files.now) (g.F.Files.store c.show_page.new.files) k.1.0) (sym c.in-ShowPage.is) (k.0, c.show_page.ensures.stays), k.1.1)
+    (k.1, subst (λ (m : Command). IsDone m (g.R.Read.remaining c.args.input.now) (g.F.Files.store c.args.files.now) (g.F.Files.store c.show_page.new.files) k.1) (sym c.in-ShowPage.is) (k.0, c.show_page.ensures.stays), k.2)
 
 pub returns-in-ShowPage-clause-refused : goal.returns-in-ShowPage-clause-refused
 returns-in-ShowPage-clause-refused g c = λ refusal is.

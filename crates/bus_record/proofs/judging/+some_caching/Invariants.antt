@@ -1,5 +1,0 @@
-use Rattle.std.proofs.Common.{length}
-use Rattle.bus_record.proofs.judging.+some_caching.Given as goal
-
-abbrev pub decreases-some_caching : goal.decreases-some_caching
-decreases-some_caching l = length l.luns.now

@@ -1,5 +1,0 @@
-use Rattle.std.proofs.Common.{length}
-use Rattle.bus_record.proofs.judging.+some_queue.Given as goal
-
-abbrev pub decreases-some_queue : goal.decreases-some_queue
-decreases-some_queue l = length l.luns.now

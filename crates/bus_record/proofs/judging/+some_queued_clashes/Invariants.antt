@@ -1,5 +1,0 @@
-use Rattle.std.proofs.Common.{length}
-use Rattle.bus_record.proofs.judging.+some_queued_clashes.Given as goal
-
-abbrev pub decreases-some_queued_clashes : goal.decreases-some_queued_clashes
-decreases-some_queued_clashes l = length l.queue.now

@@ -1,5 +1,0 @@
-use Rattle.std.proofs.Common.{length}
-use Rattle.bus_record.proofs.judging.+some_ready.Given as goal
-
-abbrev pub decreases-some_ready : goal.decreases-some_ready
-decreases-some_ready l = length l.luns.now

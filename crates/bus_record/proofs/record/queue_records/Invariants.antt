@@ -1,9 +1,0 @@
-use Rattle.std.proofs.Common.{◌≡◌, take, length}
-use Rattle.bus_record.specs.Record.{queue_of}
-use Rattle.bus_record.proofs.record.queue_records.Given as goal
-
-abbrev pub invariant-loop-place : goal.invariant-loop-place
-invariant-loop-place l = record {
-  room : length l.records ≡ 4;
-  so_far : queue_of (take l.place l.records) ≡ take l.place l.queue;
-}

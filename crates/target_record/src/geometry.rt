@@ -1,0 +1,89 @@
+//! A geometry as numbers.
+ghost use Rattle.std.specs.Prelude.{◌≡◌};
+ghost use Rattle.nand_geometry.specs.Limits.{InLimits, page_len};
+ghost use Rattle.target_record.specs.Geometry.{parts_of, no_geometry};
+
+use nand_geometry::{Geometry, Parts};
+
+/// A geometry: sizes in bytes, pages of a block, blocks and LUNs; `plane_bits` is the binary logarithm of the planes of a LUN.
+#[repr(C)]
+#[derive(Clone, Copy)]
+pub struct OnfiseqGeometry {
+    pub page_bytes: u32,
+    pub spare_bytes: u32,
+    pub pages: u32,
+    pub blocks: u32,
+    pub luns: u8,
+    pub plane_bits: u8,
+    pub enhanced: bool,
+    pub multi_plane: bool,
+    pub cache: bool,
+}
+
+impl OnfiseqGeometry {
+    /// The parts that the numbers stand for.
+    pub fn parts(&self) -> Parts
+        ensures { result ≡ parts_of self.now }
+    {
+        Parts {
+            page_bytes: self.page_bytes,
+            spare_bytes: self.spare_bytes,
+            pages: self.pages,
+            blocks: self.blocks,
+            luns: self.luns,
+            plane_bits: self.plane_bits,
+            enhanced: self.enhanced,
+            multi_plane: self.multi_plane,
+            cache: self.cache,
+        }
+    }
+
+    /// The geometry of these numbers.
+    pub fn known(&self) -> Geometry
+        requires { InLimits (parts_of self.now) }
+        ensures { result ≡ parts_of self.now }
+    {
+        Geometry::of(self.parts()).unwrap()
+    }
+
+    /// How many bytes a page has.
+    pub fn page_len(&self) -> u64
+        ensures { result ≡ page_len (parts_of self.now) }
+    {
+        u64::from(self.page_bytes) + u64::from(self.spare_bytes)
+    }
+
+    /// The numbers of parts.
+    pub fn of(parts: Parts) -> OnfiseqGeometry
+        ensures { parts_of result ≡ parts }
+    {
+        OnfiseqGeometry {
+            page_bytes: parts.page_bytes,
+            spare_bytes: parts.spare_bytes,
+            pages: parts.pages,
+            blocks: parts.blocks,
+            luns: parts.luns,
+            plane_bits: parts.plane_bits,
+            enhanced: parts.enhanced,
+            multi_plane: parts.multi_plane,
+            cache: parts.cache,
+        }
+    }
+
+    /// All numbers 0.
+    pub fn none() -> OnfiseqGeometry
+        ensures { result ≡ no_geometry }
+    {
+        OnfiseqGeometry {
+            page_bytes: 0,
+            spare_bytes: 0,
+            pages: 0,
+            blocks: 0,
+            luns: 0,
+            plane_bits: 0,
+            enhanced: false,
+            multi_plane: false,
+            cache: false,
+        }
+    }
+}

@@ -1,0 +1,808 @@
+//! The rules F1 to F15 by the record of a target: of its LUNs only what a rule looks at is read, so nothing is taken out of the record.
+ghost use Rattle.std.specs.Prelude.{◌≡◌, ℕ, length, List, ◌^◌, ◌<◌, ◌≤◌, IfSome, true, false, not, slice_get};
+ghost use Rattle.std.specs.List.{All, list_all, list_any};
+ghost use Rattle.std.specs.Option.{option_copied, option_map};
+ghost use Rattle.nand_geometry.specs.Limits.{InLimits};
+ghost use Rattle.onfi_cycle.specs.declared.item.Item.{Item as ItemValue};
+ghost use Rattle.onfi_cycle.specs.declared.item.Kind.{Kind as KindValue};
+ghost use Rattle.onfi_cycle.specs.declared.tail_facts.TailFacts.{TailFacts as TailValue};
+ghost use Rattle.onfi_cycle.specs.declared.target_cycle.TargetCycle.{TargetCycle};
+ghost use Rattle.onfi_cycle.specs.Effect.{is_off, is_data, page_address};
+ghost use Rattle.onfi_cycle.specs.Lun.{output_column};
+ghost use Rattle.onfi_cycle.specs.LunView.{LunView};
+ghost use Rattle.onfi_cycle.specs.Sequence.{is_open, target_cycle, wants_command};
+ghost use Rattle.onfi_cycle.specs.Permitted.{judge, judge_cycle, judge_known_cycle};
+ghost use Rattle.onfi_cycle.specs.Rules.{are_none, breaks_address_misplaced, breaks_cache_read_misplaced, breaks_column_outside, breaks_command_unknown, breaks_no_column_to_change, caching, continues_cache, driver, driving, ends_cache, ends_row, has_no_byte, has_some, is_past_register, lun_is, is_refused_by, is_undeclared, may_change_column, planes_clash, queued_clashes, refused_by, register_len, second_column, second_of_page, some_queued_clashes};
+ghost use Rattle.onfi_cycle.specs.Command.{command, addresses_the_array, is_change_read_column, is_opener};
+ghost use Rattle.onfi_cycle.specs.Bounds.{TargetFits};
+ghost use Rattle.target_record.specs.Geometry.{parts_of};
+ghost use Rattle.target_record.specs.Record.{IsRecord, tail_of, lun_of, luns_of, queue_of, target_of};
+ghost use Rattle.target_record.specs.Record.{IsTarget};
+ghost use Rattle.target_record.specs.Judging.{named_rule};
+
+use crate::geometry::OnfiseqGeometry;
+use crate::record::{
+    OnfiseqLun, OnfiseqQueued, OnfiseqTarget, closer_of, given_of, latch_of, opening_of, phase_of,
+    queued_of, register_of, tail_of,
+};
+use nand_geometry::Geometry;
+use onfi_cycle::{
+    Command, Cycle, DataPhase, Forbidden, Item, Kind, PageAddress, Queued, ReadColumn, Register,
+    TailFacts, is_cache_read, is_page_read,
+};
+
+// ---- what a record says of its LUN
+
+fn is_off(lun: &OnfiseqLun) -> bool
+    ensures { result ≡ is_off (lun_of lun.now).latch }
+{
+    latch_of(lun.latch).is_off()
+}
+
+/// It drives the bus with data.
+#[inline(always)]
+pub fn shows_data(lun: &OnfiseqLun) -> bool
+    ensures { result ≡ is_data (lun_of lun.now).latch }
+{
+    latch_of(lun.latch).is_data()
+}
+
+#[inline(always)]
+pub(crate) fn register(lun: &OnfiseqLun) -> Register
+    ensures { result ≡ (lun_of lun.now).register }
+{
+    register_of(lun.register, lun.register_block, lun.register_page)
+}
+
+pub(crate) fn closer(lun: &OnfiseqLun) -> Option<Command>
+    ensures { result ≡ (lun_of lun.now).closer }
+{
+    closer_of(lun.has_closer, lun.closer)
+}
+
+/// The column of its next output.
+#[inline(always)]
+pub fn output_column(lun: &OnfiseqLun) -> Option<u64>
+    requires { IsRecord lun.now }
+    ensures { result ≡ output_column (lun_of lun.now).column }
+{
+    let column = ReadColumn {
+        given: given_of(lun.has_column, lun.column),
+        outputs: lun.outputs,
+        lost: lun.lost,
+    };
+    column.output_column()
+}
+
+/// How many bytes its register has.
+#[inline(always)]
+pub fn register_len(geometry: &OnfiseqGeometry, lun: &OnfiseqLun) -> u64
+    ensures { result ≡ register_len (parts_of geometry.now) (lun_of lun.now).register }
+{
+    match register(lun) {
+        Register::Empty => 0,
+        Register::Page(_) => geometry.page_len(),
+        Register::ParameterPage => 768,
+        Register::Identifier => 4,
+    }
+}
+
+/// A cache read goes on.
+pub fn is_caching(lun: &OnfiseqLun) -> bool
+    ensures { result ≡ caching (lun_of lun.now) }
+{
+    is_cache_read(closer(lun))
+}
+
+fn may_change_column(lun: &OnfiseqLun) -> bool
+    ensures { result ≡ may_change_column (lun_of lun.now) }
+{
+    shows_data(lun) && !lun.busy && register(lun).has_columns()
+}
+
+// It shows data, and is busy, has no register or has lost its column.
+#[inline(always)]
+fn has_no_byte(lun: &OnfiseqLun) -> bool
+    requires { IsRecord lun.now }
+    ensures { result ≡ has_no_byte (lun_of lun.now) }
+{
+    shows_data(lun) && (lun.busy || register(lun).is_empty() || output_column(lun).is_none())
+}
+
+// It shows data, and its column is past its register.
+#[inline(always)]
+fn is_past_register(geometry: &OnfiseqGeometry, lun: &OnfiseqLun) -> bool
+    requires { IsRecord lun.now }
+    ensures { result ≡ is_past_register (parts_of geometry.now) (lun_of lun.now) }
+{
+    let is_outside = match output_column(lun) {
+        None => false,
+        Some(column) => register_len(geometry, lun) <= column,
+    };
+    shows_data(lun) && is_outside
+}
+
+// Read Cache Sequential may come.
+fn continues_cache(geometry: &OnfiseqGeometry, lun: &OnfiseqLun) -> bool
+    ensures { result ≡ continues_cache (parts_of geometry.now) (lun_of lun.now) }
+{
+    let pages = u64::from(geometry.pages);
+    !lun.busy && is_page_read(closer(lun)) && lun.array_page < pages && lun.array_page + 1 < pages
+}
+
+// Read Cache End may come.
+fn ends_cache(lun: &OnfiseqLun) -> bool
+    ensures { result ≡ ends_cache (lun_of lun.now) }
+{
+    !lun.busy && is_caching(lun)
+}
+
+// ---- the LUNs of a target
+
+fn all_are_off(luns: &[OnfiseqLun]) -> bool
+    ensures { result ≡ are_none (driving (luns_of luns.now)) }
+{
+    match luns {
+        [] => true,
+        [first, rest @ ..] => is_off(first) && all_are_off(rest),
+    }
+}
+
+/// The one LUN that drives the bus, None where none does, or more than one.
+pub fn driver(luns: &[OnfiseqLun]) -> Option<&OnfiseqLun>
+    requires { All IsRecord luns.now }
+    ensures value { option_map lun_of (option_copied result) ≡ driver (luns_of luns.now) }
+    ensures fits { IfSome (option_copied result) IsRecord }
+{
+    match luns {
+        [] => None,
+        [first, rest @ ..] if is_off(first) => driver(rest),
+        [first, rest @ ..] if all_are_off(rest) => Some(first),
+        _ => None,
+    }
+}
+
+// The LUN of this number, if it is there.
+fn lun_at(luns: &[OnfiseqLun], number: usize) -> Option<&OnfiseqLun>
+    requires { All IsRecord luns.now }
+    ensures value { option_map lun_of (option_copied result) ≡ slice_get (luns_of luns.now) number }
+    ensures fits { IfSome (option_copied result) IsRecord }
+{
+    luns.get(number)
+}
+
+fn some_ready(luns: &[OnfiseqLun]) -> bool
+    ensures { result ≡ list_any (λ v. not v.busy) (luns_of luns.now) }
+{
+    match luns {
+        [] => false,
+        [first, rest @ ..] => !first.busy || some_ready(rest),
+    }
+}
+
+fn some_queue(luns: &[OnfiseqLun]) -> bool
+    requires { All IsRecord luns.now }
+    ensures { result ≡ list_any (λ v. has_some v.queue) (luns_of luns.now) }
+{
+    match luns {
+        [] => false,
+        [first, rest @ ..] => has_queue(first) || some_queue(rest),
+    }
+}
+
+/// How many rows its queue has.
+#[inline(always)]
+pub fn queue_len(lun: &OnfiseqLun) -> usize
+    requires { IsRecord lun.now }
+    ensures { result ≡ length (lun_of lun.now).queue }
+{
+    lun.queued
+}
+
+fn has_queue(lun: &OnfiseqLun) -> bool
+    requires { IsRecord lun.now }
+    ensures { result ≡ has_some (lun_of lun.now).queue }
+{
+    lun.queued > 0
+}
+
+fn some_caching(luns: &[OnfiseqLun]) -> bool
+    ensures { result ≡ list_any caching (luns_of luns.now) }
+{
+    match luns {
+        [] => false,
+        [first, rest @ ..] => is_caching(first) || some_caching(rest),
+    }
+}
+
+// ---- the tail of a target
+
+// A sequence is open on the target.
+#[inline(always)]
+fn is_open(kept: &OnfiseqTarget) -> bool
+    ensures { result ≡ is_open (tail_of kept.now) }
+{
+    let opens = match opening_of(kept.is_open, kept.opener, kept.addresses) {
+        None => false,
+        Some(opening) => opening.opener.is_proper_beginning(opening.addresses),
+    };
+    let phase = phase_of(kept.phase);
+    opens || phase.takes_inputs() || phase.wants_column()
+}
+
+/// The tail goes on with this command, which is no opener.
+pub fn wants_command(kept: &OnfiseqTarget, command: Command) -> bool
+    ensures { result ≡ wants_command (tail_of kept.now) command }
+{
+    match command {
+        Command::ChangeWriteColumn | Command::ProgramConfirm | Command::ProgramPlane => {
+            phase_of(kept.phase).takes_inputs()
+        }
+        _ => match opening_of(kept.is_open, kept.opener, kept.addresses) {
+            None => false,
+            Some(opening) => {
+                opening.opener.closes(command)
+                    && opening.addresses == opening.opener.address_cycles()
+            }
+        },
+    }
+}
+
+// ---- commands
+
+// It needs what the parameter page doesn't declare.
+fn is_undeclared(geometry: &OnfiseqGeometry, command: Command) -> bool
+    ensures { result ≡ is_undeclared (parts_of geometry.now) command }
+{
+    match command {
+        Command::ReadStatusEnhanced => !geometry.enhanced,
+        Command::BlockErasePlane | Command::ProgramPlane => !geometry.multi_plane,
+        Command::ReadCacheSequential | Command::ReadCacheEnd => !geometry.cache,
+        _ => false,
+    }
+}
+
+#[tactic(auto, unfolding(onfi_cycle::specs::Rules::breaks_command_unknown))]
+fn breaks_command_unknown(geometry: &OnfiseqGeometry, command: Command) -> bool
+    ensures { result ≡ breaks_command_unknown (parts_of geometry.now) (TargetCycle.CommandCycle command) }
+{
+    !command.is_known() || is_undeclared(geometry, command)
+}
+
+#[tactic(auto, unfolding(onfi_cycle::specs::Rules::breaks_no_column_to_change))]
+fn breaks_no_column_to_change(luns: &[OnfiseqLun], command: Command) -> bool
+    requires { All IsRecord luns.now }
+    ensures { result ≡ breaks_no_column_to_change (luns_of luns.now) (TargetCycle.CommandCycle command) }
+{
+    match command {
+        Command::ChangeReadColumn => match driver(luns) {
+            None => true,
+            Some(lun) => !may_change_column(lun),
+        },
+        _ => false,
+    }
+}
+
+#[tactic(auto, unfolding(onfi_cycle::specs::Rules::breaks_cache_read_misplaced))]
+fn breaks_cache_read_misplaced(
+    geometry: &OnfiseqGeometry,
+    luns: &[OnfiseqLun],
+    command: Command,
+) -> bool
+    requires { All IsRecord luns.now }
+    ensures { (t : TailValue) → result ≡ breaks_cache_read_misplaced (parts_of geometry.now) t (luns_of luns.now) (TargetCycle.CommandCycle command) }
+{
+    match command {
+        Command::ReadCacheSequential => match driver(luns) {
+            None => true,
+            Some(lun) => !continues_cache(geometry, lun),
+        },
+        Command::ReadCacheEnd => match driver(luns) {
+            None => true,
+            Some(lun) => !ends_cache(lun),
+        },
+        _ => command.reads_identity() && some_caching(luns),
+    }
+}
+
+// The first of F3 to F15 that an opener breaks.
+#[inline(always)]
+#[tactic(auto, unfolding(onfi_cycle::specs::Rules::breaks_sequence_open, onfi_cycle::specs::Rules::breaks_several_luns, onfi_cycle::specs::Rules::breaks_command_misplaced, onfi_cycle::specs::Rules::breaks_address_misplaced, onfi_cycle::specs::Rules::breaks_row_outside, onfi_cycle::specs::Rules::breaks_lun_busy, onfi_cycle::specs::Rules::breaks_queue_clash, onfi_cycle::specs::Rules::breaks_input_misplaced, onfi_cycle::specs::Rules::breaks_no_sole_driver, onfi_cycle::specs::Rules::breaks_data_not_ready, onfi_cycle::specs::Rules::breaks_column_outside))]
+fn judge_opener(
+    geometry: &OnfiseqGeometry,
+    in_sequence: bool,
+    luns: &[OnfiseqLun],
+    command: Command,
+) -> Option<Forbidden>
+    requires opener { is_opener command ≡ true }
+    requires numbers { All IsRecord luns.now }
+    ensures { (t : TailValue) → is_open t ≡ in_sequence → result ≡ judge_known_cycle (parts_of geometry.now) t (luns_of luns.now) (TargetCycle.CommandCycle command) }
+{
+    if in_sequence {
+        Some(Forbidden::SequenceOpen)
+    } else if command.wants_one_lun() && 1 < geometry.luns {
+        Some(Forbidden::SeveralLuns)
+    } else if breaks_no_column_to_change(luns, command) {
+        Some(Forbidden::NoColumnToChange)
+    } else if command.wants_ready() && !some_ready(luns) {
+        Some(Forbidden::LunBusy)
+    } else if command.reads_identity() && some_queue(luns) {
+        Some(Forbidden::QueueClash)
+    } else if breaks_cache_read_misplaced(geometry, luns, command) {
+        Some(Forbidden::CacheReadMisplaced)
+    } else {
+        None
+    }
+}
+
+// ---- addresses
+
+// Two pages of one queue don't go together: the same plane, another page, or other block bits above the plane.
+fn planes_clash(geometry: &Geometry, page: PageAddress, other: PageAddress) -> bool
+    ensures { result ≡ planes_clash geometry.now page other }
+{
+    let planes = geometry.planes();
+    page.block % planes == other.block % planes
+        || page.page != other.page
+        || page.block / planes != other.block / planes
+}
+
+// A queued row doesn't go together with an erase of this page, or with a program of it.
+fn queued_clashes(geometry: &Geometry, is_erase: bool, page: PageAddress, queued: Queued) -> bool
+    ensures { result ≡ queued_clashes geometry.now is_erase page queued }
+{
+    match queued {
+        Queued::Erase(other) => !is_erase || planes_clash(geometry, page, other),
+        Queued::Program(other) => is_erase || planes_clash(geometry, page, other),
+    }
+}
+
+fn some_queued_clashes(
+    geometry: &Geometry,
+    is_erase: bool,
+    page: PageAddress,
+    queue: &[OnfiseqQueued],
+) -> bool
+    ensures { result ≡ some_queued_clashes geometry.now is_erase page (queue_of queue.now) }
+{
+    match queue {
+        [] => false,
+        [first, rest @ ..] => {
+            queued_clashes(geometry, is_erase, page, queued_of(first))
+                || some_queued_clashes(geometry, is_erase, page, rest)
+        }
+    }
+}
+
+// The queue refuses the last row cycle of this opener, with this page.
+fn refused_by(
+    geometry: &Geometry,
+    opener: Command,
+    page: PageAddress,
+    queue: &[OnfiseqQueued],
+) -> bool
+    ensures { result ≡ refused_by geometry.now opener page (queue_of queue.now) }
+{
+    match opener {
+        Command::Read => !queue.is_empty(),
+        Command::BlockErase => some_queued_clashes(geometry, true, page, queue),
+        Command::PageProgram => some_queued_clashes(geometry, false, page, queue),
+        _ => false,
+    }
+}
+
+// The queue of a LUN refuses the last row cycle, with this page.
+fn is_refused_by(geometry: &Geometry, tail: TailFacts, page: PageAddress, lun: &OnfiseqLun) -> bool
+    requires { IsRecord lun.now }
+    ensures { result ≡ is_refused_by geometry.now tail.opening page (lun_of lun.now).queue }
+{
+    match tail.opening {
+        None => false,
+        Some(opening) => opening.opener.at_last_row(opening.addresses)
+            && refused_by(geometry, opening.opener, page, &lun.queue[..lun.queued]),
+    }
+}
+
+// The next address is the last of a row.
+fn ends_row(tail: TailFacts) -> bool
+    ensures { result ≡ ends_row (λ c. true) tail }
+{
+    match tail.opening {
+        None => false,
+        Some(opening) => opening.opener.at_last_row(opening.addresses),
+    }
+}
+
+// The next address is the last of a row of the array.
+fn ends_array_row(tail: TailFacts) -> bool
+    ensures { result ≡ ends_row addresses_the_array tail }
+{
+    match tail.opening {
+        None => false,
+        Some(opening) => opening.opener.addresses_the_array()
+            && opening.opener.at_last_row(opening.addresses),
+    }
+}
+
+// The next address is the second column cycle of a Read, a Page Program or a Change Write Column.
+fn is_at_second_column_of_page(tail: TailFacts) -> bool
+    ensures { result ≡ second_of_page tail }
+{
+    let opens = match tail.opening {
+        None => false,
+        Some(opening) => {
+            matches!(opening.opener, Command::Read | Command::PageProgram) && opening.addresses == 1
+        }
+    };
+    opens || matches!(tail.phase, DataPhase::SecondColumn)
+}
+
+// The next address is the second column cycle of a Change Read Column.
+fn is_at_second_column_of_register(tail: TailFacts) -> bool
+    ensures { result ≡ second_column is_change_read_column tail }
+{
+    match tail.opening {
+        None => false,
+        Some(opening) => opening.opener == Command::ChangeReadColumn && opening.addresses == 1,
+    }
+}
+
+// The column is outside the page, or outside the register of the LUN that drives.
+#[tactic(auto, unfolding(onfi_cycle::specs::Rules::breaks_column_outside))]
+fn breaks_column_outside(
+    geometry: &OnfiseqGeometry,
+    tail: TailFacts,
+    luns: &[OnfiseqLun],
+    byte: u8,
+) -> bool
+    requires numbers { All IsRecord luns.now }
+    ensures { result ≡ breaks_column_outside (parts_of geometry.now) tail (luns_of luns.now) (TargetCycle.AddressCycle byte) }
+{
+    let column = u64::from(tail.column_with(byte));
+    let past_page = is_at_second_column_of_page(tail) && geometry.page_len() <= column;
+    let past_register = is_at_second_column_of_register(tail)
+        && match driver(luns) {
+            None => false,
+            Some(lun) => register_len(geometry, lun) <= column,
+        };
+    past_page || past_register
+}
+
+// The first of F9 to F15 that the last address of a row inside the geometry breaks, on the LUN that it names.
+fn judge_named(
+    geometry: &Geometry,
+    tail: TailFacts,
+    lun: &OnfiseqLun,
+    row: u32,
+    is_outside: bool,
+) -> Option<Forbidden>
+    requires { IsRecord lun.now }
+    ensures { result ≡ named_rule geometry.now tail row is_outside (lun_of lun.now) }
+{
+    let is_of_array = ends_array_row(tail);
+    if is_of_array && lun.busy {
+        Some(Forbidden::LunBusy)
+    } else if is_refused_by(geometry, tail, PageAddress::of_row(geometry, row), lun) {
+        Some(Forbidden::QueueClash)
+    } else if is_outside {
+        Some(Forbidden::ColumnOutside)
+    } else if is_of_array && is_caching(lun) {
+        Some(Forbidden::CacheReadMisplaced)
+    } else {
+        None
+    }
+}
+
+// The first of F8 to F15 that the last address of a row breaks.
+#[tactic(auto, unfolding(onfi_cycle::specs::Rules::breaks_sequence_open, onfi_cycle::specs::Rules::breaks_several_luns, onfi_cycle::specs::Rules::breaks_no_column_to_change, onfi_cycle::specs::Rules::breaks_command_misplaced, onfi_cycle::specs::Rules::breaks_input_misplaced, onfi_cycle::specs::Rules::breaks_no_sole_driver, onfi_cycle::specs::Rules::breaks_data_not_ready, onfi_cycle::specs::Rules::breaks_row_outside, onfi_cycle::specs::Rules::breaks_lun_busy, onfi_cycle::specs::Rules::breaks_queue_clash, onfi_cycle::specs::Rules::breaks_cache_read_misplaced))]
+#[inline(never)]
+fn judge_end_of_row(
+    geometry: &OnfiseqGeometry,
+    tail: TailFacts,
+    luns: &[OnfiseqLun],
+    byte: u8,
+) -> Option<Forbidden>
+    requires limits { InLimits (parts_of geometry.now) }
+    requires numbers { All IsRecord luns.now }
+    requires wanted { breaks_address_misplaced tail (TargetCycle.AddressCycle byte) ≡ false }
+    requires last { ends_row (λ c. true) tail ≡ true }
+    ensures { result ≡ judge_known_cycle (parts_of geometry.now) tail (luns_of luns.now) (TargetCycle.AddressCycle byte) }
+{
+    let known = geometry.known();
+    let row = tail.row_with(byte);
+    let parts = known.parts_of(row);
+    if !known.is_inside(parts) {
+        return Some(Forbidden::RowOutside);
+    }
+    let is_outside = breaks_column_outside(geometry, tail, luns, byte);
+    match lun_at(luns, parts.lun as usize) {
+        None if is_outside => Some(Forbidden::ColumnOutside),
+        None => None,
+        Some(lun) => judge_named(&known, tail, lun, row, is_outside),
+    }
+}
+
+// The first of F3 to F15 that an address breaks. One that isn't the last of a row can break F7 and F14 alone.
+#[tactic(auto, unfolding(onfi_cycle::specs::Rules::breaks_sequence_open, onfi_cycle::specs::Rules::breaks_several_luns, onfi_cycle::specs::Rules::breaks_no_column_to_change, onfi_cycle::specs::Rules::breaks_command_misplaced, onfi_cycle::specs::Rules::breaks_address_misplaced, onfi_cycle::specs::Rules::breaks_row_outside, onfi_cycle::specs::Rules::breaks_lun_busy, onfi_cycle::specs::Rules::breaks_queue_clash, onfi_cycle::specs::Rules::breaks_input_misplaced, onfi_cycle::specs::Rules::breaks_no_sole_driver, onfi_cycle::specs::Rules::breaks_data_not_ready, onfi_cycle::specs::Rules::breaks_cache_read_misplaced))]
+#[inline(always)]
+fn judge_address(
+    geometry: &OnfiseqGeometry,
+    tail: TailFacts,
+    luns: &[OnfiseqLun],
+    byte: u8,
+) -> Option<Forbidden>
+    requires limits { InLimits (parts_of geometry.now) }
+    requires numbers { All IsRecord luns.now }
+    ensures { result ≡ judge_known_cycle (parts_of geometry.now) tail (luns_of luns.now) (TargetCycle.AddressCycle byte) }
+{
+    if !tail.wants_address(byte) {
+        Some(Forbidden::AddressMisplaced)
+    } else if ends_row(tail) {
+        judge_end_of_row(geometry, tail, luns, byte)
+    } else if breaks_column_outside(geometry, tail, luns, byte) {
+        Some(Forbidden::ColumnOutside)
+    } else {
+        None
+    }
+}
+
+// ---- data
+
+// The first of F3 to F15 that an input breaks.
+#[inline(always)]
+#[tactic(auto, unfolding(onfi_cycle::specs::Rules::breaks_sequence_open, onfi_cycle::specs::Rules::breaks_several_luns, onfi_cycle::specs::Rules::breaks_no_column_to_change, onfi_cycle::specs::Rules::breaks_command_misplaced, onfi_cycle::specs::Rules::breaks_address_misplaced, onfi_cycle::specs::Rules::breaks_row_outside, onfi_cycle::specs::Rules::breaks_lun_busy, onfi_cycle::specs::Rules::breaks_queue_clash, onfi_cycle::specs::Rules::breaks_input_misplaced, onfi_cycle::specs::Rules::breaks_no_sole_driver, onfi_cycle::specs::Rules::breaks_data_not_ready, onfi_cycle::specs::Rules::breaks_column_outside, onfi_cycle::specs::Rules::breaks_cache_read_misplaced))]
+fn judge_input(geometry: &OnfiseqGeometry, kept: &OnfiseqTarget) -> Option<Forbidden>
+    requires { (kept.now.column < 2 ^ 16) × (kept.now.inputs < 2 ^ 63) }
+    ensures { (luns : List LunView) (byte : ℕ) → result ≡ judge_known_cycle (parts_of geometry.now) (tail_of kept.now) luns (TargetCycle.InputCycle byte) }
+{
+    if !phase_of(kept.phase).takes_inputs() {
+        Some(Forbidden::InputMisplaced)
+    } else if geometry.page_len() <= u64::from(kept.column) + kept.inputs as u64 {
+        Some(Forbidden::ColumnOutside)
+    } else {
+        None
+    }
+}
+
+// The first of F3 to F15 that an output breaks.
+#[inline(always)]
+#[tactic(auto, unfolding(onfi_cycle::specs::Rules::breaks_sequence_open, onfi_cycle::specs::Rules::breaks_several_luns, onfi_cycle::specs::Rules::breaks_no_column_to_change, onfi_cycle::specs::Rules::breaks_command_misplaced, onfi_cycle::specs::Rules::breaks_address_misplaced, onfi_cycle::specs::Rules::breaks_row_outside, onfi_cycle::specs::Rules::breaks_lun_busy, onfi_cycle::specs::Rules::breaks_queue_clash, onfi_cycle::specs::Rules::breaks_input_misplaced, onfi_cycle::specs::Rules::breaks_no_sole_driver, onfi_cycle::specs::Rules::breaks_data_not_ready, onfi_cycle::specs::Rules::breaks_column_outside, onfi_cycle::specs::Rules::breaks_cache_read_misplaced))]
+fn judge_output(geometry: &OnfiseqGeometry, kept: &OnfiseqTarget) -> Option<Forbidden>
+    requires { IsTarget kept.now }
+    ensures { result ≡ judge_known_cycle (parts_of geometry.now) (tail_of kept.now) (target_of kept.now).luns TargetCycle.OutputCycle }
+{
+    if is_open(kept) {
+        return Some(Forbidden::NoSoleDriver);
+    }
+    match driver(&kept.luns[..kept.count]) {
+        None => Some(Forbidden::NoSoleDriver),
+        Some(lun) => {
+            if has_no_byte(lun) {
+                Some(Forbidden::DataNotReady)
+            } else if is_past_register(geometry, lun) {
+                Some(Forbidden::ColumnOutside)
+            } else {
+                None
+            }
+        }
+    }
+}
+
+// ---- items
+
+// The LUN of this number isn't there, or isn't busy.
+fn is_not_busy(luns: &[OnfiseqLun], number: u8) -> bool
+    requires { All IsRecord luns.now }
+    ensures { result ≡ not (lun_is (λ v. v.busy) (luns_of luns.now) number) }
+{
+    match lun_at(luns, usize::from(number)) {
+        None => true,
+        Some(lun) => !lun.busy,
+    }
+}
+
+// The LUN of this number isn't there, or its array isn't busy.
+fn is_array_not_busy(luns: &[OnfiseqLun], number: u8) -> bool
+    requires { All IsRecord luns.now }
+    ensures { result ≡ not (lun_is (λ v. v.array_busy) (luns_of luns.now) number) }
+{
+    match lun_at(luns, usize::from(number)) {
+        None => true,
+        Some(lun) => !lun.array_busy,
+    }
+}
+
+// The first of F3 to F15 that a command breaks. A closer can break F6 alone.
+#[inline(always)]
+#[tactic(auto, unfolding(onfi_cycle::specs::Rules::breaks_sequence_open, onfi_cycle::specs::Rules::breaks_several_luns, onfi_cycle::specs::Rules::breaks_no_column_to_change, onfi_cycle::specs::Rules::breaks_command_misplaced, onfi_cycle::specs::Rules::breaks_address_misplaced, onfi_cycle::specs::Rules::breaks_row_outside, onfi_cycle::specs::Rules::breaks_lun_busy, onfi_cycle::specs::Rules::breaks_queue_clash, onfi_cycle::specs::Rules::breaks_input_misplaced, onfi_cycle::specs::Rules::breaks_no_sole_driver, onfi_cycle::specs::Rules::breaks_data_not_ready, onfi_cycle::specs::Rules::breaks_column_outside, onfi_cycle::specs::Rules::breaks_cache_read_misplaced))]
+fn judge_command(
+    geometry: &OnfiseqGeometry,
+    kept: &OnfiseqTarget,
+    command: Command,
+) -> Option<Forbidden>
+    requires { IsTarget kept.now }
+    ensures { result ≡ judge_known_cycle (parts_of geometry.now) (tail_of kept.now) (target_of kept.now).luns (TargetCycle.CommandCycle command) }
+{
+    if command.is_opener() {
+        judge_opener(geometry, is_open(kept), &kept.luns[..kept.count], command)
+    } else if wants_command(kept, command) {
+        None
+    } else {
+        Some(Forbidden::CommandMisplaced)
+    }
+}
+
+// The first of F2 to F15 that a command breaks.
+#[inline(always)]
+#[tactic(auto, unfolding(onfi_cycle::specs::Rules::breaks_command_unknown))]
+fn judge_command_there(
+    geometry: &OnfiseqGeometry,
+    kept: &OnfiseqTarget,
+    command: Command,
+) -> Option<Forbidden>
+    requires { IsTarget kept.now }
+    ensures { result ≡ judge_cycle (parts_of geometry.now) (tail_of kept.now) (target_of kept.now).luns (TargetCycle.CommandCycle command) }
+{
+    if breaks_command_unknown(geometry, command) {
+        return Some(Forbidden::CommandUnknown);
+    }
+    judge_command(geometry, kept, command)
+}
+
+// The first of F2 to F15 that an address breaks.
+#[inline(never)]
+#[tactic(auto, unfolding(onfi_cycle::specs::Rules::breaks_command_unknown))]
+fn judge_address_there(
+    geometry: &OnfiseqGeometry,
+    kept: &OnfiseqTarget,
+    byte: u8,
+) -> Option<Forbidden>
+    requires limits { InLimits (parts_of geometry.now) }
+    requires numbers { IsTarget kept.now }
+    ensures { result ≡ judge_cycle (parts_of geometry.now) (tail_of kept.now) (target_of kept.now).luns (TargetCycle.AddressCycle byte) }
+{
+    judge_address(geometry, tail_of(kept), &kept.luns[..kept.count], byte)
+}
+
+// The first of F2 to F15 that a cycle breaks.
+#[inline(always)]
+#[tactic(auto, unfolding(onfi_cycle::specs::Rules::breaks_command_unknown))]
+pub(crate) fn judge_kept(
+    geometry: &OnfiseqGeometry,
+    kept: &OnfiseqTarget,
+    cycle: Cycle,
+) -> Option<Forbidden>
+    requires limits { InLimits (parts_of geometry.now) }
+    requires small { (kept.now.column < 2 ^ 16) × (kept.now.inputs < 2 ^ 63) }
+    requires numbers { IsTarget kept.now }
+    ensures { result ≡ judge_cycle (parts_of geometry.now) (tail_of kept.now) (target_of kept.now).luns (target_cycle cycle.kind cycle.byte) }
+{
+    match cycle.kind {
+        Kind::Cmd => judge_command_there(geometry, kept, Command::of(cycle.byte)),
+        Kind::Adr => judge_address_there(geometry, kept, cycle.byte),
+        Kind::Din => judge_input(geometry, kept),
+        Kind::Dout => judge_output(geometry, kept),
+    }
+}
+
+/// The first rule that an item breaks, by the record of its target. `targets` is the number of chip enables.
+#[inline(always)]
+#[tactic(auto, unfolding(onfi_cycle::specs::Rules::breaks_not_there))]
+pub fn judge_there(
+    geometry: &OnfiseqGeometry,
+    targets: u8,
+    kept: &OnfiseqTarget,
+    item: Item,
+) -> Option<Forbidden>
+    requires limits { InLimits (parts_of geometry.now) }
+    requires numbers { IsTarget kept.now }
+    requires fits { TargetFits (parts_of geometry.now) (target_of kept.now) }
+    ensures { result ≡ judge (parts_of geometry.now) targets (target_of kept.now).tail (target_of kept.now).luns item }
+{
+    if targets <= item.target() {
+        return Some(Forbidden::NotThere);
+    }
+    match item {
+        Item::Cyc(cycle) => judge_kept(geometry, kept, cycle),
+        Item::Rdy { lun, .. } => {
+            if is_not_busy(&kept.luns[..kept.count], lun) {
+                Some(Forbidden::NotThere)
+            } else {
+                None
+            }
+        }
+        Item::Ard { lun, .. } => {
+            if is_array_not_busy(&kept.luns[..kept.count], lun) {
+                Some(Forbidden::NotThere)
+            } else {
+                None
+            }
+        }
+    }
+}
+
+/// The first rule that a command breaks, by the record of its target.
+#[inline(always)]
+#[tactic(auto, unfolding(onfi_cycle::specs::Rules::breaks_not_there))]
+pub fn judge_command_of(
+    geometry: &OnfiseqGeometry,
+    targets: u8,
+    kept: &OnfiseqTarget,
+    cycle: Cycle,
+    named: Command,
+) -> Option<Forbidden>
+    requires kind { cycle.kind ≡ KindValue.Cmd }
+    requires named { named ≡ command cycle.byte }
+    requires limits { InLimits (parts_of geometry.now) }
+    requires numbers { IsTarget kept.now }
+    requires fits { TargetFits (parts_of geometry.now) (target_of kept.now) }
+    ensures { result ≡ judge (parts_of geometry.now) targets (target_of kept.now).tail (target_of kept.now).luns (ItemValue.Cyc cycle) }
+{
+    if targets <= cycle.ce {
+        return Some(Forbidden::NotThere);
+    }
+    judge_command_there(geometry, kept, named)
+}
+
+/// The first rule that an address breaks, by the record of its target.
+#[inline(always)]
+#[tactic(auto, unfolding(onfi_cycle::specs::Rules::breaks_not_there))]
+pub fn judge_address_of(
+    geometry: &OnfiseqGeometry,
+    targets: u8,
+    kept: &OnfiseqTarget,
+    cycle: Cycle,
+) -> Option<Forbidden>
+    requires kind { cycle.kind ≡ KindValue.Adr }
+    requires limits { InLimits (parts_of geometry.now) }
+    requires numbers { IsTarget kept.now }
+    requires fits { TargetFits (parts_of geometry.now) (target_of kept.now) }
+    ensures { result ≡ judge (parts_of geometry.now) targets (target_of kept.now).tail (target_of kept.now).luns (ItemValue.Cyc cycle) }
+{
+    if targets <= cycle.ce {
+        return Some(Forbidden::NotThere);
+    }
+    judge_address_there(geometry, kept, cycle.byte)
+}
+
+/// The first rule that an output breaks, by the record of its target.
+#[inline(always)]
+#[tactic(auto, unfolding(onfi_cycle::specs::Rules::breaks_not_there, onfi_cycle::specs::Rules::breaks_command_unknown))]
+pub fn judge_output_of(
+    geometry: &OnfiseqGeometry,
+    targets: u8,
+    kept: &OnfiseqTarget,
+    cycle: Cycle,
+) -> Option<Forbidden>
+    requires kind { cycle.kind ≡ KindValue.Dout }
+    requires limits { InLimits (parts_of geometry.now) }
+    requires numbers { IsTarget kept.now }
+    requires fits { TargetFits (parts_of geometry.now) (target_of kept.now) }
+    ensures { result ≡ judge (parts_of geometry.now) targets (target_of kept.now).tail (target_of kept.now).luns (ItemValue.Cyc cycle) }
+{
+    if targets <= cycle.ce {
+        return Some(Forbidden::NotThere);
+    }
+    judge_output(geometry, kept)
+}
+
+/// The first rule that an input breaks, by the record of its target.
+#[inline(always)]
+#[tactic(auto, unfolding(onfi_cycle::specs::Rules::breaks_not_there, onfi_cycle::specs::Rules::breaks_command_unknown))]
+pub fn judge_input_of(
+    geometry: &OnfiseqGeometry,
+    targets: u8,
+    kept: &OnfiseqTarget,
+    cycle: Cycle,
+) -> Option<Forbidden>
+    requires kind { cycle.kind ≡ KindValue.Din }
+    requires limits { InLimits (parts_of geometry.now) }
+    requires numbers { IsTarget kept.now }
+    requires fits { TargetFits (parts_of geometry.now) (target_of kept.now) }
+    ensures { result ≡ judge (parts_of geometry.now) targets (target_of kept.now).tail (target_of kept.now).luns (ItemValue.Cyc cycle) }
+{
+    if targets <= cycle.ce {
+        return Some(Forbidden::NotThere);
+    }
+    judge_input(geometry, kept)
+}

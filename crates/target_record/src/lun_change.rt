@@ -1,0 +1,204 @@
+//! What an effect leaves of the record of a LUN, written where it stands.
+ghost use Rattle.std.specs.Prelude.{◌≡◌, ◌+◌, ◌^◌, ◌<◌, ◌≤◌, true, false, Some, [], ◌∷◌, length};
+ghost use Rattle.onfi_cycle.specs.declared.effect.Effect.{Effect as EffectValue};
+ghost use Rattle.onfi_cycle.specs.declared.latch.Latch.{Latch as LatchValue};
+ghost use Rattle.onfi_cycle.specs.declared.register.Register.{Register as RegisterValue};
+ghost use Rattle.onfi_cycle.specs.Lun.{column_at, queue_after, view_after};
+ghost use Rattle.target_record.specs.Record.{IsRecord, lun_of};
+
+use crate::judging::is_caching;
+use crate::record::{
+    NO_ROW, OnfiseqLun, closer_byte, latch_code, latch_of, queued_record, register_record,
+};
+use onfi_cycle::{Command, Effect, Latch, PageAddress, Queued, Register};
+
+// Its next output gives this column of its register.
+#[inline(always)]
+fn set_column(kept: &mut OnfiseqLun, column: u32)
+    requires { IsRecord kept.old }
+    ensures value { lun_of kept.new ≡ record (lun_of kept.old) { column = column_at column } }
+    ensures numbers { IsRecord kept.new }
+{
+    kept.has_column = true;
+    kept.lost = false;
+    kept.column = column;
+    kept.outputs = 0;
+}
+
+// Its register holds this, after this closer.
+#[inline(always)]
+fn set_register(kept: &mut OnfiseqLun, closer: Command, register: Register)
+    requires { IsRecord kept.old }
+    ensures value { lun_of kept.new ≡ record (lun_of kept.old) { closer = Some closer; array_busy = false; register = register } }
+    ensures queue { (kept.new.queued ≡ kept.old.queued) × (kept.new.queue ≡ kept.old.queue) }
+    ensures numbers { IsRecord kept.new }
+{
+    let register = register_record(register);
+    kept.has_closer = true;
+    kept.closer = closer_byte(Some(closer));
+    kept.array_busy = false;
+    kept.register = register.code;
+    kept.register_block = register.block;
+    kept.register_page = register.page;
+}
+
+// It gives what its register holds, from this column on.
+#[inline(always)]
+fn give_register(kept: &mut OnfiseqLun, closer: Command, register: Register, column: u32)
+    requires { IsRecord kept.old }
+    ensures value { lun_of kept.new ≡ record (lun_of kept.old) { latch = LatchValue.Data; closer = Some closer; array_busy = false; register = register; column = column_at column } }
+    ensures numbers { IsRecord kept.new }
+{
+    set_register(kept, closer, register);
+    set_column(kept, column);
+    kept.latch = latch_code(Latch::Data);
+}
+
+// It reads a page, and gives it from this column on.
+#[inline(always)]
+fn start_read(kept: &mut OnfiseqLun, page: PageAddress, column: u32)
+    requires { IsRecord kept.old }
+    ensures value { lun_of kept.new ≡ view_after (EffectValue.ReadStarted page column) (lun_of kept.old) }
+    ensures numbers { IsRecord kept.new }
+{
+    give_register(kept, Command::ReadConfirm, Register::Page(page), column);
+    kept.busy = true;
+    kept.array_block = page.block;
+    kept.array_page = page.page;
+}
+
+// It gives the page that its array has read, after this closer, and its array is at this page then.
+#[inline(always)]
+fn give_cached(kept: &mut OnfiseqLun, closer: Command, next: u64)
+    requires { IsRecord kept.old }
+    ensures value { lun_of kept.new ≡ record (lun_of kept.old) { latch = LatchValue.Data; busy = true; closer = Some closer; array_busy = false; array_page = record { block = kept.old.array_block; page = next }; register = RegisterValue.Page (lun_of kept.old).array_page; column = column_at 0 } }
+    ensures numbers { IsRecord kept.new }
+{
+    let page = PageAddress {
+        block: kept.array_block,
+        page: kept.array_page,
+    };
+    give_register(kept, closer, Register::Page(page), 0);
+    kept.busy = true;
+    kept.array_page = next;
+}
+
+// Its array works for this closer, with one row more in its queue.
+#[inline(always)]
+fn queue_work(kept: &mut OnfiseqLun, closer: Command, row: Queued)
+    requires numbers { IsRecord kept.old }
+    requires room { kept.old.queued ≤ 3 }
+    ensures value { lun_of kept.new ≡ record (lun_of kept.old) { busy = true; closer = Some closer; array_busy = false; register = RegisterValue.Empty; queue = row ∷ (lun_of kept.old).queue } }
+    ensures numbers { IsRecord kept.new }
+{
+    set_register(kept, closer, Register::Empty);
+    kept.busy = true;
+    let queue = kept.queue;
+    kept.queue = [queued_record(row), queue[0], queue[1], queue[2]];
+    kept.queued += 1;
+}
+
+// Its array works for this closer, which empties its queue.
+#[inline(always)]
+fn start_work(kept: &mut OnfiseqLun, closer: Command)
+    requires { IsRecord kept.old }
+    ensures value { lun_of kept.new ≡ record (lun_of kept.old) { busy = true; closer = Some closer; array_busy = false; register = RegisterValue.Empty; queue = [] } }
+    ensures numbers { IsRecord kept.new }
+{
+    set_register(kept, closer, Register::Empty);
+    kept.busy = true;
+    kept.queue = [NO_ROW; 4];
+    kept.queued = 0;
+}
+
+// It is reset.
+#[inline(always)]
+fn reset(kept: &mut OnfiseqLun)
+    requires { IsRecord kept.old }
+    ensures value { lun_of kept.new ≡ view_after EffectValue.ResetStarted (lun_of kept.old) }
+    ensures numbers { IsRecord kept.new }
+{
+    start_work(kept, Command::Reset);
+    kept.latch = latch_code(Latch::Off);
+}
+
+// It reads its parameter page.
+#[inline(always)]
+fn read_parameter_page(kept: &mut OnfiseqLun)
+    requires { IsRecord kept.old }
+    ensures value { lun_of kept.new ≡ view_after EffectValue.ParameterPageReadStarted (lun_of kept.old) }
+    ensures numbers { IsRecord kept.new }
+{
+    give_register(kept, Command::ReadParameterPage, Register::ParameterPage, 0);
+    kept.busy = true;
+}
+
+/// A LUN goes on by an effect.
+pub fn change(kept: &mut OnfiseqLun, effect: Effect)
+    requires numbers { IsRecord kept.old }
+    requires outputs { kept.old.outputs ≤ 2 ^ 16 }
+    requires array_page { kept.old.array_page < 2 ^ 32 }
+    requires room { length (queue_after effect (lun_of kept.old).queue) ≤ 4 }
+    ensures value { lun_of kept.new ≡ view_after effect (lun_of kept.old) }
+    ensures numbers { IsRecord kept.new }
+{
+    match effect {
+        Effect::Unaffected => {}
+        Effect::DataOutputEnabled | Effect::SelectedForStatus | Effect::Deselected => {
+            kept.latch = latch_code(effect.latch_after(latch_of(kept.latch)));
+        }
+        Effect::StatusSelected | Effect::StatusRowAwaited => {
+            kept.lost = kept.lost || 0 < kept.outputs;
+            kept.latch = latch_code(effect.latch_after(latch_of(kept.latch)));
+        }
+        Effect::ReadStarted { page, column } => start_read(kept, page, column),
+        Effect::EraseStarted { queued: true, row } => {
+            queue_work(kept, Command::BlockErasePlane, Queued::Erase(row));
+        }
+        Effect::EraseStarted { queued: false, .. } => {
+            start_work(kept, Command::BlockEraseConfirm);
+        }
+        Effect::ProgramStarted { queued: true, page } => {
+            queue_work(kept, Command::ProgramPlane, Queued::Program(page));
+        }
+        Effect::ProgramStarted { queued: false, .. } => {
+            start_work(kept, Command::ProgramConfirm);
+        }
+        Effect::IdRead => give_register(kept, Command::ReadId, Register::Identifier, 0),
+        Effect::ParameterPageReadStarted => read_parameter_page(kept),
+        Effect::CacheReadContinued => {
+            let next = kept.array_page + 1;
+            give_cached(kept, Command::ReadCacheSequential, next);
+        }
+        Effect::CacheReadEnded => {
+            let next = kept.array_page;
+            give_cached(kept, Command::ReadCacheEnd, next);
+        }
+        Effect::ReadColumnChanged { column } => set_column(kept, column),
+        Effect::DataOutput => kept.outputs += 1,
+        Effect::ResetStarted => reset(kept),
+        Effect::BecameReady { failed } => become_ready(kept, failed),
+        Effect::ArrayBecameReady => become_array_ready(kept),
+    }
+}
+
+/// It becomes ready, with failure or without.
+pub fn become_ready(kept: &mut OnfiseqLun, failed: bool)
+    requires { IsRecord kept.old }
+    ensures value { lun_of kept.new ≡ view_after (EffectValue.BecameReady failed) (lun_of kept.old) }
+    ensures numbers { IsRecord kept.new }
+{
+    let _failed = failed;
+    let caching = is_caching(kept);
+    kept.array_busy = kept.array_busy || kept.busy && caching;
+    kept.busy = false;
+}
+
+/// Its array becomes ready.
+pub fn become_array_ready(kept: &mut OnfiseqLun)
+    requires { IsRecord kept.old }
+    ensures value { lun_of kept.new ≡ view_after EffectValue.ArrayBecameReady (lun_of kept.old) }
+    ensures numbers { IsRecord kept.new }
+{
+    kept.array_busy = false;
+}
