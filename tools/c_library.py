@@ -179,8 +179,6 @@ def compare_words():
 
     lib = onfiseq.load(SHARED)
     known = dict(re.findall(r"^\| ([APFMSV]\d+) \| (.*) \|$", read("docs/use/CODES.md"), re.M))
-    # (a load of the sequencer in C is no call of its own)
-    known.pop("S1")
     told = {letter: [onfiseq.words(lib, letter, number) for number in range(300)] for letter in string.ascii_uppercase}
     wrong = [letter + str(at) for letter in "APFMSV" for at, it in enumerate(told[letter]) if it != known.get(letter + str(at), "")]
     wrong += [letter for letter in "BCDHILNORTUWY" if not told[letter][0] or any(told[letter][1:])]
