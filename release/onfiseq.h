@@ -169,7 +169,7 @@ struct onfiseq_verdict {
     onfiseq_u64 at;
 };
 
-/* Verifies a word file for the chip of a parameter page. */
+/* Verifies a word file for the chip of a parameter page. It asks for memory once, 8 bytes for each word of the file: 8 KB at most. */
 struct onfiseq_verdict onfiseq_verify(const uint8_t *page, size_t page_length, const uint8_t *file, size_t file_length);
 
 /* The same verdict, and the run of a refusal that has one: V7 of a program without branches and loops, for a chip of one LUN. The run is what happens on a
@@ -193,8 +193,8 @@ struct onfiseq_placed onfiseq_assemble(const uint8_t *text, size_t text_length, 
 /* Disassembles a word file: its assembly text stands in the buffer, with no 0 behind it. */
 struct onfiseq_placed onfiseq_disassemble(const uint8_t *file, size_t file_length, uint8_t *text, size_t room);
 
-/* What an answer's letter and number mean, in English, in room bytes with a 0 at the end, cut where it doesn't fit. The answer is the length of all the words, as
- * snprintf's is; 0 where no answer has this letter and number. 160 bytes are enough for any. */
+/* What an answer's letter and number mean, in English, in room bytes with a 0 at the end, cut where it doesn't fit. Each answer of each library here has its words; one
+ * without a number has them for 0. The answer is the length of all the words, as snprintf's is; 0 where no answer has this letter and number. 160 bytes are enough for any. */
 size_t onfiseq_words(uint8_t letter, uint32_t number, char *text, size_t room);
 
 /* ---- pictures and notes, for people

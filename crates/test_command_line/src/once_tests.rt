@@ -219,8 +219,12 @@ fn kind_of(mistake: &Mistake<'_>) -> UsageKind {
     match mistake {
         Mistake::Words(error) => error.kind(),
         Mistake::NoCommand => UsageKind::MissingSubcommand,
-        Mistake::Base(_) | Mistake::Steps(_) | Mistake::Glitch(_) | Mistake::Mapping(_) =>
-            UsageKind::ValueValidation,
+        Mistake::NoPage => UsageKind::MissingRequiredArgument,
+        Mistake::Base(_)
+        | Mistake::Steps(_)
+        | Mistake::Glitch(_)
+        | Mistake::Mapping(_)
+        | Mistake::PageNumber { .. } => UsageKind::ValueValidation,
         Mistake::Paths(_) => UsageKind::ArgumentConflict,
     }
 }
