@@ -340,7 +340,7 @@ fn each_command_of_the_help_is_asked_for(rt: HostRuntime) -> Result<(), Fail> {
             count = count.saturating_add(1);
         }
     }
-    assert_eq!(rt; count, 11);
+    assert_eq!(rt; count, 12);
     Ok(())
 }
 
@@ -366,18 +366,26 @@ fn a_check_of_several_traces(rt: HostRuntime) -> Result<(), Fail> {
     Ok(())
 }
 
-// Whether the check that this line asks for takes readies from the status, and takes those for granted that nothing showed.
-fn readies_of(alloc: Global, line: &str) -> Result<(bool, bool), Fail> {
-    let words = words_of(alloc, line)?;
-    match parse_all(alloc, words.as_slice()) {
-        Ok(commands) => match commands.as_slice() {
-            [Command::Check(request)] => {
-                Ok((request.readies == Readies::Shown, request.assumes_ready))
-            }
-            _ => Err(Fail::from("no check")),
-        },
-        Err(_) => Err(Fail::from("no commands")),
+// Whether a check takes readies from the status, and takes those for granted that nothing showed.
+fn readies_asked(command: Command<'_>) -> Option<(bool, bool)> {
+    match command {
+        Command::Check(request) => {
+            Some((request.readies == Readies::Shown, request.assumes_ready))
+        }
+        _ => None,
     }
+}
+
+// What this line asks of its one check.
+fn readies_of(alloc: Global, line: &str) -> Result<Option<(bool, bool)>, Fail> {
+    let words = words_of(alloc, line)?;
+    let Ok(commands) = parse_all(alloc, words.as_slice()) else {
+        return Err(Fail::from("no commands"));
+    };
+    let [command] = commands.as_slice() else {
+        return Err(Fail::from("not one command"));
+    };
+    Ok(readies_asked(*command))
 }
 
 #[test]
@@ -391,7 +399,7 @@ fn a_check_that_assumes_readies(rt: HostRuntime) -> Result<(), Fail> {
         ),
     ];
     for (line, readies) in lines {
-        assert_eq!(rt; readies_of(rt.alloc(), line)?, readies);
+        assert_eq!(rt; readies_of(rt.alloc(), line)?, Some(readies));
     }
     Ok(())
 }
