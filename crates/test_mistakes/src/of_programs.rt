@@ -129,7 +129,7 @@ const MISTAKES: [Mistake; 18] = [
         line: "check page 1 x",
         file: b"0 C 60\n0 A 00\n0 A 00\n0 A 00\n0 C d0\n0 C 60\n",
         begins: "x:6: item 5, `0 C 60`: ",
-        names: &["the LUN is busy", "(F9)"],
+        names: &["LUN 0 works since `d0` (line 5)", "(F9)"],
     },
 ];
 
