@@ -47,8 +47,8 @@ pub record IsLawful (v : HistoryView) : Type 0 where
   -- for each LUN, its readies are counted, and the polls that showed it busy since its last one, in the trace of the stored events
   pub counts : AreCounts v.core.geometry v.counts v.core.past
   pub size : length v.counts ≡ 16
-  -- each stored step carries the number of its turn; the steps of a turn stand together and are of one LUN, and the turns are
-  -- numbered 0, 1, 2 and on
+  -- a step that was stored names its turn by a number, and turns count up from 0; what one turn stored is one run of steps, on
+  -- one LUN
   pub turns : AreTurns (reverse v.events)
   pub turn_count : v.turns ≡ turns_in (reverse v.events)
 

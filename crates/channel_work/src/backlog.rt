@@ -95,8 +95,8 @@ impl Backlog {
         self.places.push_reserved(Some(queued));
     }
 
-    /// Takes out the first job, from the oldest on, that is admitted and whose LUN is given to the seat. A LUN whose older job was
-    /// passed over isn't tried again.
+    /// Takes out the first job, from the oldest on, that is admitted and whose LUN is given to the seat. Once a job was passed
+    /// over, so are the later ones of its LUN.
     pub(crate) fn pick(&mut self, core: &Core, seat: LeaseSeat) -> Picked
         ensures { IsPicked core.now self.old.items seat result self.new.items }
     {

@@ -11,7 +11,7 @@ use crate::stored::NamedJob;
 use onfi_cycle::Lun;
 use seq_core::Core;
 
-/// A ready: false where the LUN isn't there or isn't busy, else None.
+/// A ready: false where no such LUN is, or none that works; otherwise None.
 pub(crate) fn refuse_ready(core: &Core, lun: Lun, fail: bool) -> Option<bool>
     ensures { IsRefused core.now (Ready lun fail) ToReady result }
 {

@@ -25,5 +25,5 @@ module _ {J : Type 0} where
     -- for each host, how many jobs it stored, and how many of them were taken
     pub stored : (h : ℕ) → h < hosts → IsPut passes put h
     pub took : (h : ℕ) → h < hosts → slice_index taken h ≡ length (of_host h jobs)
-    -- what was taken of a host is a beginning of what it stored, job for job
+    -- the jobs that were taken of a host are the first that it stored
     pub begins : All (λ p. IsBeginning p.host p.stored jobs) passes

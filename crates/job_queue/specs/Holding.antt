@@ -53,6 +53,6 @@ module _ {J : Type 0} where
   IsTaking (Closing ts hosts h js) = Unit {0}
   IsTaking v = ⊥
 
-  -- what was taken of a host is a beginning of what it stored, job for job
+  -- the jobs that were taken of a host are the first that it stored
   abbrev pub IsBeginning : ℕ → List J → List (QueuedJob J) → Type 0
   IsBeginning h stored taken = (rest : List (QueuedJob J)) × (numbered h 0 stored ≡ of_host h taken ++ rest)

@@ -101,7 +101,7 @@ module _ {S : Type 0} where
     pub able : (lun seat : ℕ) (v : View) → Holds s seat v lun → 0 < v.parts
     -- each answer in the list is true
     pub truthful : (lun : ℕ) → is_truthful lun false log ≡ true
-    -- each seat's calls are its own entries, in order, and a seat not yet made has none
+    -- the calls of a seat are the entries of the log that name it, in their order; no entry names a seat that isn't made yet
     pub own : (seat : ℕ) (v : View) → get_elem? s.views seat ≡ some v → v.calls ≡ calls_of seat log
     pub later : (seat : ℕ) → length s.views ≤ seat → calls_of seat log ≡ []
 

@@ -16,7 +16,7 @@ pub const SEATS: usize = 16;
 
 type Words<A> = Table<(), View, (), LeaseRule, A>;
 
-/// A right to claim one LUN at a time. It holds its table, so no call asks which table it is of.
+/// A right to claim one LUN at a time. The table is inside of it: no call takes one.
 #[derive(Drop)]
 pub struct LeaseSeat<A: Allocator = Global> {
     table: Arc<Words<A>, A>,

@@ -39,8 +39,8 @@ pub fn broken(
     broken_after(alloc, geometry, targets, &past, item)
 }
 
-/// The first item that isn't permitted after those before it, counted from 0, with the rule that it breaks. The
-/// items stand in the order of time.
+/// The place of the first forbidden item, from 0 on, with the rule that it breaks. The items stand in the order of
+/// time.
 pub fn check(
     alloc: Global,
     geometry: &Geometry,

@@ -11,7 +11,7 @@ pub enum Statement<'a> {
     Targets {
         count: u8,
     },
-    /// The file of a die's image, read before the run and written after it.
+    /// The file of a die's image: the run begins with it, and leaves the die's pages in it.
     Image {
         target: u32,
         lun: u32,

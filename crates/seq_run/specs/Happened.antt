@@ -57,8 +57,8 @@ pub record HasRun (began : Channel) (of_hosts : List (List Job)) (left : Worked)
   pub taken : TookAll history.taker.taken of_hosts
   pub done : map ended_of left.done.items ≡ history.done
 
--- what happened on this bus is a lawful history: the model's run of loads of verified programs, steps, readies and unloads, in which each program's
--- cycles are a beginning of what its text means, inside its buffer and its budget
+-- what happened on this bus is a lawful history: the model's run of loads of verified programs, steps, readies and unloads, in which no
+-- program does a cycle that its text doesn't mean next, leaves its buffer, or spends more than its budget
 pub record HasHappened (setup : Setup) (bus : Traced) (jobs : List EndedJob) : Type 0 where
   pub history : HistoryView
   pub lawful : IsLawful history

@@ -22,7 +22,7 @@ const BLOCK_0: Erase = Erase {
     ..ON_ZERO
 };
 
-// A gate that gives no worker a second turn until the other has made one, and counts how often it was asked in vain.
+// A gate that lets two workers make their turns by turns, and counts how often it was asked in vain.
 #[derive(Drop)]
 struct Turnstile {
     turns: [AtomicU64; 2],

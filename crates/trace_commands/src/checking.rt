@@ -338,7 +338,7 @@ fn tell_found<A: Allocator + Clone, W: Write, E: Write, P>(
 ///
 /// `Done`: it is, and `legal` is printed, and a line `assumed ready at N` for each item before which a LUN is taken for ready that nothing showed, where that is
 /// asked for. `Assumed`: so are they, where it isn't. `Refused`: the line `refused NAME at N` is printed, a P fault of the page. `Faulty`: so is it: an X fault of the
-/// text with its line; or the first item that isn't permitted after those before it, with the first rule that it breaks, and where all faults are
+/// text with its line; or the first forbidden item, with the first rule that it breaks, and where all faults are
 /// asked for the line of each other one after it, and behind these the lines of what is taken for ready. The text is read after the page, if that has no fault. `FileFault`: a file couldn't be read or
 /// written, the text isn't UTF-8, or the output couldn't be written. Where a path is given for it, the trace that is judged is written there before
 /// anything is printed, and no other file is. The console's progress is told at each million of items that are permitted, where the first fault

@@ -11,7 +11,7 @@ pub fn first_broken_is_first()
     ensures { FirstBrokenIsFirst }
 {}
 
-/// The first fault of a trace is its first item that isn't permitted after those before it, with the first rule that this breaks.
+/// The first fault of a trace is its first forbidden item, with the first rule that this breaks.
 pub fn first_is_first_broken()
     ensures { FirstIsFirstBroken }
 {}

@@ -13,8 +13,7 @@ use thiserror::Error;
 /// Why a trace isn't legal.
 #[derive(Clone, Copy, Debug, PartialEq, Eq, Error)]
 pub enum CheckRefusal {
-    /// The place of the first item that isn't permitted after those before it, counted from 0, and the first rule
-    /// that it breaks.
+    /// The place of the first forbidden item, from 0 on, and the first rule that it breaks.
     #[error("{} at item {}: {}", .1.code(), .0, .1)]
     At(usize, Forbidden),
     /// Memory was refused. [`check`] takes none and never answers this; it stands here for programs that check a trace
@@ -39,7 +38,7 @@ fn tell_each<P: CheckProgress>(progress: &mut P, every: usize, items: usize)
     }
 }
 
-/// The place of the first item that isn't permitted after those before it, counted from 0, with the first rule that it breaks; None where
+/// The place of the first forbidden item, from 0 on, with the first rule that it breaks; None where
 /// the trace is legal on a channel of so many targets of this geometry. `progress` is told each time after so many items how far this
 /// has come.
 pub fn first_broken<P: CheckProgress>(
