@@ -9,20 +9,25 @@ import kit
 PARTS = ("src",)
 
 
-def sum_of(paths, top="."):
-    """A checksum of files, with their names."""
+def code_of(content):
+    """A source without its lines of comment, of which nothing is built."""
+    return b"".join(line for line in content.splitlines(True) if not line.lstrip().startswith(b"//"))
+
+
+def sum_of(paths, top=".", change=bytes):
+    """A checksum of files, with their names; of each what a change leaves of it."""
     total = hashlib.sha256()
     for path in paths:
         with open(os.path.join(top, path), "rb") as it:
-            content = it.read()
+            content = change(it.read())
         total.update(("%s %d\n" % (path, len(content))).encode() + content)
     return total.hexdigest()[:32]
 
 
 def sum_of_crate(name):
-    """A checksum of the sources that a crate's code is made of."""
+    """A checksum of the sources that a crate's code is made of, comments left out."""
     folder = "crates/" + name
-    return sum_of(kit.sources_of(folder, PARTS), folder)
+    return sum_of(kit.sources_of(folder, PARTS), folder, code_of)
 
 
 def last_commit(paths):
