@@ -1,5 +1,5 @@
--- A job, and a program in progress: the words that it has done, the newest first. All that its next word depends on is
--- looked up there, so there is no word index and no loop counter.
+-- A job, and a program in progress: the words that it has done, the newest first. That list alone decides its next word; where it
+-- stands and how often a loop went round are read off it.
 use Rattle.std.specs.Prelude.{ℕ, ◌+◌, ◌==◌, Bool, true, ◌&&◌, not, nat_le, nat_lt, if◌then◌else◌, List, [], ◌∷◌, bit_and}
 use Rattle.nand_geometry.specs.declared.parts.Parts.{Parts}
 use Rattle.onfi_cycle.specs.declared.lun.Lun.{Lun}
@@ -50,7 +50,7 @@ index_after base (Row n) index = base + n
 index_after base (RowAdd n) index = index + n
 index_after base _ index = index
 
--- the base plus the operand of the last `row`, else 0, and of the `rowadd` words since
+-- the base, with the operand of the last `row` (0 where there was none) and those of each `rowadd` after it added
 abbrev pub index_now : ℕ → List Done → ℕ
 index_now base [] = base
 index_now base (d ∷ done) = index_after base d.word (index_now base done)
@@ -79,7 +79,7 @@ abbrev pub buffer_after : Answer → ℕ → List ℕ → List ℕ
 buffer_after (Got bytes) place buffer = written bytes place buffer
 buffer_after _ place buffer = buffer
 
--- the buffer: each byte is the last one got there, else the job's
+-- the buffer: where a byte was got, the newest such; everywhere else what the job brought
 abbrev pub buffer_now : List ℕ → List Done → List ℕ
 buffer_now opening [] = opening
 buffer_now opening (d ∷ done) = buffer_after d.answer (place_now done) (buffer_now opening done)

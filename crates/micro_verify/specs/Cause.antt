@@ -96,7 +96,7 @@ wants_identity t = opened (λ c n. reads_identity c && n == 0) t.opening
 abbrev pub begins_wrong : TailFacts → (from count : ℕ) → Bool
 begins_wrong t from count = is_other (place_wanted t.opening t.phase) from && not (wants_identity t)
 
--- after the first and before the last cycle of an address
+-- an address is begun and not yet whole
 abbrev pub is_amid : TailFacts → Bool
 is_amid t = opened (λ c n. nat_lt 0 n && nat_lt n (address_cycles c)) t.opening || wants_second_column t.phase
 

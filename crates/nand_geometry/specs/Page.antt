@@ -15,7 +15,7 @@ flag bit set = if set then 2 ^ bit else 0
 abbrev pub features : Parts → ℕ
 features g = flag 1 (nat_lt 1 g.luns) + flag 3 g.multi_plane
 
--- bit 1: read cache; bit 3: Read Status Enhanced
+-- read cache is bit 1, Read Status Enhanced bit 3
 abbrev pub optional_commands : Parts → ℕ
 optional_commands g = flag 1 g.cache + flag 3 g.enhanced
 
@@ -29,7 +29,7 @@ page_body g =
     ++ (low_bytes 4 g.page_bytes ++ (low_bytes 2 g.spare_bytes ++ (zeros 6 ++ (low_bytes 4 g.pages ++ (low_bytes 4 g.blocks
     ++ ((g.luns ∷ (0x23 ∷ [])) ++ (zeros 11 ++ ((g.plane_bits ∷ []) ++ zeros 140))))))))))))
 
--- one bit comes into the shift register of the checksum, which is combined with 8005h where the bit that falls out is another
+-- the checksum's shift register takes one bit in; 8005h is XORed in unless it equals the bit that leaves
 abbrev pub crc_bit : ℕ → ℕ → ℕ
 crc_bit register bit =
     if register / 2 ^ 15 == bit then register * 2 % 2 ^ 16 else bit_xor (register * 2 % 2 ^ 16) 0x8005

@@ -46,9 +46,9 @@ impl Geometry {
 
     /// The geometry of these numbers.
     ///
-    /// Errors, the first that stands, in this order: `P6` a size is out of range; `P7` the LUNs are out of range, or the
-    /// row fields need more than 24 bits; `P8` more than 2 plane bits, or fewer blocks than planes; `P9` several LUNs
-    /// without Read Status Enhanced. Any other numbers are a geometry. The limits are our own choice.
+    /// Errors, the first that stands, in this order: `P6` a size is out of range; `P7` too many LUNs or none, or
+    /// a row that 24 bits don't hold; `P8` plane bits past 2, or planes past the blocks; `P9` Read Status Enhanced is
+    /// missing where there is more than one LUN. Any other numbers are a geometry. The limits are our own choice.
     pub fn of(parts: Parts) -> Result<Geometry, PageFault>
         ensures { MatchResult result (λ g. (fault_of parts ≡ None) × (g ≡ parts)) (λ e. fault_of parts ≡ Some e) }
     {
@@ -85,9 +85,9 @@ impl Geometry {
     /// checksum (254, 255). Nothing else is looked at, so a page of any revision is taken, also one that `page` wrote: its
     /// revision (4, 5) is zero, so Linux, which asks for one that it knows, wouldn't take it from a real chip.
     ///
-    /// Errors, the first that stands, in this order: `P1` fewer than 256 bytes; `P2` no whole copy has the signature; `P3`
-    /// some have it, and none of those has the right checksum; `P4` a 16-bit bus; `P5` address cycles other than two and
-    /// three; then those of `of`, where `P9` also stands for several LUNs without multiple LUN operations.
+    /// Errors, the first that stands, in this order: `P1` less than one copy of 256 bytes; `P2` the signature is in no
+    /// whole copy; `P3` it is, but never with the right checksum; `P4` the bus has 16 bits; `P5` addresses aren't of two
+    /// and three cycles; then those of `of`, where `P9` also stands for several LUNs without multiple LUN operations.
     pub fn read(bytes: &[u8]) -> Result<Geometry, PageFault>
         ensures { MatchResult result (λ g. read_of bytes.now ≡ Ok g) (λ e. read_of bytes.now ≡ Err e) }
     {

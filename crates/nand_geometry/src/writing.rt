@@ -31,7 +31,7 @@ fn features(parts: Parts) -> u16
     flag(1, parts.luns > 1) + flag(3, parts.multi_plane)
 }
 
-/// Bit 1: read cache; bit 3: Read Status Enhanced.
+/// Read cache is bit 1, Read Status Enhanced bit 3.
 fn optional_commands(parts: Parts) -> u16
     ensures { result ≡ optional_commands parts }
 {

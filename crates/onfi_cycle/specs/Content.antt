@@ -87,7 +87,7 @@ abbrev pub failed_after : Effect → List ArrayWork → Bool → Bool
 failed_after (BecameReady fail) pending failed = fail && is_some_work pending
 failed_after _ pending failed = failed
 
--- the last work ended, was closed by 10 or D0, and its ready said failure
+-- the newest work is over, it was a program or an erase, and its ready brought a failure
 abbrev pub has_failed : Parts → List Item → Lun → Bool
 has_failed g [] l = false
 has_failed g (i ∷ past) l = failed_after (effect_on g past i l) (pending_work g past l) (has_failed g past l)

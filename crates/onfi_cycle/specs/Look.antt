@@ -8,7 +8,7 @@ use Rattle.onfi_cycle.specs.LunView.{LunView}
 use Rattle.onfi_cycle.specs.Lun.{output_column, is_cache_read, lun_view}
 use Rattle.onfi_cycle.specs.State.{TargetView, BusView}
 
--- what is told of a LUN: its column is None where none is given or it is lost
+-- what is told of a LUN: None as its column means that no address gave one, or that an output past the end lost it
 abbrev pub look_at : LunView → LunState
 look_at v =
     record {

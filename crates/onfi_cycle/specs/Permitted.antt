@@ -50,7 +50,7 @@ broken g targets past i = judge g targets (facts_of (tail past (target_of i))) (
 abbrev pub is_permitted : Parts → ℕ → List Item → Item → Bool
 is_permitted g targets past i = is_none (broken g targets past i)
 
--- each item is permitted by what stands before it
+-- no item is forbidden after those that it follows
 abbrev pub is_legal : Parts → ℕ → List Item → Bool
 is_legal g targets [] = true
 is_legal g targets (i ∷ past) = is_permitted g targets past i && is_legal g targets past

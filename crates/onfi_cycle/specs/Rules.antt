@@ -111,7 +111,7 @@ abbrev pub has_some : List Queued → Bool
 has_some [] = false
 has_some (c ∷ cs) = true
 
--- F1: the chip enable or LUN isn't there; a ready of a LUN that isn't busy, an array ready of one whose array isn't
+-- F1: it names a target or a LUN past those of the channel; it is a ready, and the LUN or its array has no work
 unfoldable pub breaks_not_there : ℕ → List LunView → Item → Bool
 breaks_not_there targets luns (Cyc c) = nat_le targets c.ce
 breaks_not_there targets luns (Rdy ce lun fail) = nat_le targets ce || not (lun_is (λ v. v.busy) luns lun)
@@ -132,11 +132,11 @@ unfoldable pub breaks_several_luns : Parts → TargetCycle → Bool
 breaks_several_luns g (CommandCycle c) = wants_one_lun c && nat_lt 1 g.luns
 breaks_several_luns g _ = false
 
--- the LUN shows data, isn't busy and has a page or the parameter page
+-- 05h finds something to read: data is shown, no work goes on, and a page or the parameter page is in the register
 abbrev pub may_change_column : LunView → Bool
 may_change_column v = is_data v.latch && (not v.busy && is_page_or_parameters v.register)
 
--- F5: 05 without one driver that shows data, isn't busy and has a page or the parameter page
+-- F5: 05 where not exactly one LUN drives, or that one has nothing for it to read
 unfoldable pub breaks_no_column_to_change : List LunView → TargetCycle → Bool
 breaks_no_column_to_change luns (CommandCycle ChangeReadColumn) = not (driver_is may_change_column luns)
 breaks_no_column_to_change luns _ = false
@@ -179,21 +179,21 @@ breaks_queue_clash g t luns (AddressCycle byte) =
     named_lun_is g (row_with t byte) (λ v. is_refused_by g t.opening (page_address g (row_with t byte)) v.queue) luns
 breaks_queue_clash g t luns _ = false
 
--- F11: an input elsewhere than in a program with its last address whole
+-- F11: an input where no program waits for data
 unfoldable pub breaks_input_misplaced : TailFacts → TargetCycle → Bool
 breaks_input_misplaced t (InputCycle byte) = not (takes_inputs t.phase)
 breaks_input_misplaced t _ = false
 
--- F12: an output while a sequence is open, or with other than one driver
+-- F12: an output amid a sequence, or one that no LUN or several would drive
 unfoldable pub breaks_no_sole_driver : TailFacts → List LunView → TargetCycle → Bool
 breaks_no_sole_driver t luns OutputCycle = is_open t || not (driver_is (λ v. true) luns)
 breaks_no_sole_driver t luns _ = false
 
--- the LUN shows data, and is busy, has no register or has lost its column
+-- data is shown, and no byte is there to give: work goes on, the register is empty, or the column was lost
 abbrev pub has_no_byte : LunView → Bool
 has_no_byte v = is_data v.latch && (v.busy || is_empty v.register || lacks (output_column v.column))
 
--- F13: an output of a LUN that shows data and is busy, has no register or has lost its column
+-- F13: an output whose LUN shows data and has no byte to give
 unfoldable pub breaks_data_not_ready : List LunView → TargetCycle → Bool
 breaks_data_not_ready luns OutputCycle = driver_is has_no_byte luns
 breaks_data_not_ready luns _ = false
@@ -210,7 +210,7 @@ second_column among t = opened (λ c n. among c && n == 1) t.opening
 abbrev pub second_of_page : TailFacts → Bool
 second_of_page t = second_column addresses_a_page t || wants_second_column t.phase
 
--- F14: a second column cycle of a column outside the page, or the register for 05; an input past the page; a data output past the register
+-- F14: the last cycle of a column that the page (for 05 the register) doesn't have, an input behind the page's end, an output of data behind the register's
 unfoldable pub breaks_column_outside : Parts → TailFacts → List LunView → TargetCycle → Bool
 breaks_column_outside g t luns (AddressCycle byte) =
     (second_of_page t && nat_le (page_len g) (column_with t byte)) || (second_column is_change_read_column t && driver_is (λ v. nat_le (register_len g v.register) (column_with t byte)) luns)

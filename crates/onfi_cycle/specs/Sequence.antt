@@ -193,7 +193,7 @@ abbrev pub is_proper_beginning : Command → ℕ → Bool
 is_proper_beginning Read n = nat_lt 0 n && nat_le n 5
 is_proper_beginning c n = nat_lt n (address_cycles c) || (n == address_cycles c && wants_closer c)
 
--- the tail is a proper beginning of a sequence, and not the command 00 alone
+-- the tail has begun a sequence of the table and not ended it; a lone 00 doesn't count
 abbrev pub is_open : TailFacts → Bool
 is_open t = opened is_proper_beginning t.opening || takes_inputs t.phase || wants_column t.phase
 
@@ -212,7 +212,7 @@ column_with t byte = t.column % 256 + 256 * byte
 abbrev pub input_column : TailFacts → ℕ
 input_column t = t.column + t.inputs
 
--- the bytes of a program: those of its inputs, the last one given for a column, and FF elsewhere
+-- the bytes of a program: in each column the newest input there, FF where there was none
 abbrev pub filled : ℕ → List TargetCycle → List ℕ
 filled len [] = replicate len 0xff
 filled len (CommandCycle c ∷ t) = filled len t

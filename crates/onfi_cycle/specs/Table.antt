@@ -40,9 +40,9 @@ IsBeginning cycles = (more : List TargetCycle) × IsSequence (cycles ++ more)
 abbrev pub IsProperBeginning : List TargetCycle → Type 0
 IsProperBeginning cycles = (next : TargetCycle) × IsBeginning (cycles ++ (next ∷ []))
 
--- what the rules compute of a tail, by the table: a tail goes on with a cycle exactly where the tail with that cycle is
--- a beginning of a sequence (of an opener it is said where some tail is there), and a sequence is open exactly where the
--- tail is a proper beginning of one and not the command 00 alone
+-- what the rules compute of a tail, by the table: a cycle continues a tail exactly where both together begin some sequence
+-- (of an opener it is said where some tail is there), and a sequence is open exactly where it is begun, not ended, and more
+-- than a lone 00
 pub record TailsFollowTheTable : Type 0 where
   pub goes_on : (t : List TargetCycle) (c : TargetCycle) → begins_sequence c ≡ false → (wants (facts_of t) c ≡ true) ↔ IsBeginning (reverse (c ∷ t))
   pub no_opener_inside : (b : TargetCycle) (t : List TargetCycle) (c : TargetCycle) → begins_sequence c ≡ true → (wants (facts_of (b ∷ t)) c ≡ true) ↔ IsBeginning (reverse (c ∷ (b ∷ t)))

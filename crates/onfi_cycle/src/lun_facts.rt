@@ -82,7 +82,7 @@ impl<Q: WorkQueue> LunFacts<Q> {
         self.latch.is_data() && !self.busy && self.register.has_columns()
     }
 
-    /// It shows data, and is busy, has no register or has lost its column.
+    /// It shows data and has no byte to give: it works, its register is empty, or its column was lost.
     pub(crate) fn has_no_byte(&self) -> bool
         ensures { result ≡ has_no_byte self.now }
     {

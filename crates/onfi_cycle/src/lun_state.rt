@@ -13,7 +13,7 @@ pub struct LunState {
     pub latch: Latch,
     /// What its register holds.
     pub register: Register,
-    /// The place in the register that the next data output gives, None where none is given or it is lost.
+    /// The place in the register that the next data output gives. None: no address gave one, or it was lost.
     pub column: Option<u32>,
     /// How many rows its queue has.
     pub queued: usize,

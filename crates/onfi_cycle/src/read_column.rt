@@ -36,7 +36,7 @@ impl ReadColumn {
         }
     }
 
-    /// The column of the next data output, None where none is given or it is lost.
+    /// The column of the next data output. None: no address gave one, or it was lost.
     pub fn output_column(self) -> Option<u64>
         requires { self.outputs < 2 ^ 63 }
         ensures { result ≡ output_column self }

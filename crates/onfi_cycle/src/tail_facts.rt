@@ -190,7 +190,7 @@ impl TailFacts {
         }
     }
 
-    /// The tail is a proper beginning of a sequence, and not the command 00h alone.
+    /// The tail has begun a sequence of the table and not ended it. A lone 00h doesn't count.
     #[inline(always)]
     pub fn is_open(self) -> bool
         ensures { result ≡ is_open self }

@@ -1,5 +1,5 @@
--- The cycles that a program has put into the trace: those of its first actions in order, the poll of a `wait` once for each step
--- that made it.
+-- What a program has put into the trace: the cycles of its actions so far, in their order, where a step that polled for a `wait`
+-- adds its poll again.
 use Rattle.std.specs.Prelude.{◌≡◌, ℕ, suc, ◌+◌, ◌-◌, ◌≤◌, Bool, true, false, if◌then◌else◌, List, [], ◌∷◌, ◌++◌, Option, Some, None, length, take}
 use Rattle.onfi_cycle.specs.declared.lun.Lun.{Lun}
 use Rattle.onfi_cycle.specs.declared.item.Kind.TheVariants.{Dout}

@@ -37,9 +37,9 @@ pub fn alone_programs_end()
 /// run is defined (each output has a byte), and its trace is legal. What a step adds to the trace are permitted cycles
 /// of its LUN alone: their rows name that LUN, and that LUN is the one driver of their outputs. Each program is inside
 /// its buffer, of which it has changed nothing but what its `get`s fill, and inside its budget; it has done a beginning of
-/// what its text means, all of it if it has ended. The cycles that its steps have put into the trace since it was loaded are
-/// those of that beginning, in order, the poll of a `wait` once for each step that made it; at most budget of them are no
-/// such polls. The world is lawful.
+/// what its text means, all of it if it has ended. What its steps put into the trace since it was loaded are the
+/// cycles of that beginning, in order, where a step that polled for a `wait` adds its poll again; without those polls they are
+/// at most budget. The world is lawful.
 pub fn headline()
     ensures { Headline }
 {}

@@ -1,4 +1,4 @@
-//! The sequencer: it runs a program on each LUN, and hands the bus from one to another.
+//! The sequencer: LUNs with a program each, and the bus, which goes from LUN to LUN.
 ghost use Rattle.std.specs.Prelude.{◌≡◌, ◌↔◌, ℕ, ◌*◌, ◌<◌, ◌≤◌, ◌∷◌, List, [], Some, None, if◌then◌else◌, IfOk, OnErr, IfErr, IfSome, IfNone, length, replicate, reverse, get_or, set, is_some, not, true, false};
 ghost use Rattle.onfi_cycle.specs.declared.item.Item.TheVariants.{Rdy, Ard};
 ghost use Rattle.onfi_cycle.specs.Permitted.{is_legal};

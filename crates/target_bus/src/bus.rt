@@ -57,8 +57,8 @@ impl<A: Allocator> Model for Bus<A> {
 impl<A: Allocator + Copy> Bus<A> {
     /// The bus of these dies, LUN by LUN and target by target. It keeps what their pages are now, as the opening of its trace.
     ///
-    /// Errors, with the dies: `B1` they aren't 1 to 4 targets of whole LUNs; `B2` a die has another geometry or isn't new; and
-    /// where neither is so, want of memory.
+    /// Errors, with the dies: `B1` they aren't 1 to 4 targets of whole LUNs; `B2` the geometry of a die is another one, or
+    /// the die was used before; and where neither is so, want of memory.
     pub fn new(
         alloc: A,
         geometry: Geometry,

@@ -100,7 +100,7 @@ fn may_change_column(lun: &OnfiseqLun) -> bool
     shows_data(lun) && !lun.busy && register(lun).has_columns()
 }
 
-// It shows data, and is busy, has no register or has lost its column.
+// It shows data and has no byte to give: it works, its register is empty, or its column was lost.
 #[inline(always)]
 fn has_no_byte(lun: &OnfiseqLun) -> bool
     requires { IsRecord lun.now }
