@@ -208,16 +208,10 @@ class Host:
 def bug_of(number, h):
     """Does mistake N; answers the number of its item."""
     row = h.row(5, 0)
-    if number == 1:  # an erase while another goes on
+    if number in (1, 2):  # another erase, or a program, while an erase goes on
         h.command(0x60), h.addresses(*row), h.command(0xD0), h.work(ERASE)
         h.look()
-        at = h.command(0x60)
-        h.wait()
-        return at
-    if number == 2:  # a program while an erase goes on
-        h.command(0x60), h.addresses(*row), h.command(0xD0), h.work(ERASE)
-        h.look()
-        at = h.command(0x80)
+        at = h.command(0x60 if number == 1 else 0x80)
         h.wait()
         return at
     if number == 3:  # a read while a program goes on
