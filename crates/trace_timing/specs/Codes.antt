@@ -2,6 +2,8 @@
 use Rattle.std.specs.Prelude.{ℕ, List, codes}
 use Rattle.trace_timing.specs.declared.timing_fault.TimingFault.{TimingFault}
 use Rattle.trace_timing.specs.declared.timing_fault.TimingFault.TheVariants.{NoTimes, WriteCycle, ReadCycle, AddressToInput, ToOutput, ColumnChange, OutputToCommand, ReadyToOutput, ToBusy, Backwards}
+use Rattle.trace_timing.specs.declared.file.TimingFileFault.{TimingFileFault}
+use Rattle.trace_timing.specs.declared.file.TimingFileFault.TheVariants.{UnknownName, BadNumber, OutOfOrder}
 
 -- the code under which a fault of times is told
 abbrev pub timing_fault_code : TimingFault → List ℕ
@@ -15,3 +17,9 @@ timing_fault_code OutputToCommand = codes "T6"
 timing_fault_code ReadyToOutput = codes "T7"
 timing_fault_code ToBusy = codes "T8"
 timing_fault_code Backwards = codes "T10"
+
+-- the code under which a fault of a timing file is told
+abbrev pub timing_file_fault_code : TimingFileFault → List ℕ
+timing_file_fault_code UnknownName = codes "D1"
+timing_file_fault_code BadNumber = codes "D2"
+timing_file_fault_code OutOfOrder = codes "D3"

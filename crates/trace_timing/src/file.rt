@@ -1,5 +1,6 @@
 //! Timing files: the least times of a chip, by its datasheet.
-ghost use Rattle.std.specs.Prelude.{◌<◌, ◌^◌, IfOk, IfSome};
+ghost use Rattle.std.specs.Prelude.{◌≡◌, ◌<◌, ◌^◌, IfOk, IfSome};
+ghost use Rattle.trace_timing.specs.Codes.{timing_file_fault_code};
 ghost use Rattle.trace_timing.specs.Wanted.{AreBounded};
 
 use crate::modes::timings_of;
@@ -19,7 +20,9 @@ pub enum TimingFileFault {
 
 impl TimingFileFault {
     /// Its code, `D1` to `D3`.
-    pub fn code(self) -> &'static str {
+    pub fn code(self) -> &'static str
+        ensures { result.now ≡ timing_file_fault_code self }
+    {
         match self {
             TimingFileFault::UnknownName => "D1",
             TimingFileFault::BadNumber => "D2",
