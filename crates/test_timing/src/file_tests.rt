@@ -1,26 +1,30 @@
 use std::test::Fail;
-use trace_timing::{TimingFileRefusal, read_timings, timings_of};
+use trace_timing::{TimingFileFault, TimingFileRefusal, read_timings, timings_of};
 
-// A timing file that is refused, with its code and its line.
-const REFUSED: [(&str, &str, usize); 9] = [
-    ("mode 4\ntXYZ 5\n", "D1", 2),
-    ("tADL 70 ns\ntADL 80\n", "D3", 2),
-    ("tADL -3\n", "D2", 1),
-    ("tADL 70\nmode 3\n", "D3", 2),
-    ("mode 3\nmode 3\n", "D3", 2),
-    ("mode 6\n", "D2", 1),
-    ("# none\n\ntADL 70 ns more\n", "D1", 3),
-    ("tADL 1.2345678\n", "D2", 1),
-    ("tADL 5000 s\n", "D2", 1),
+// A timing file that is refused, with its fault and its line.
+const REFUSED: [(&str, TimingFileFault, usize); 9] = [
+    ("mode 4\ntXYZ 5\n", TimingFileFault::UnknownName, 2),
+    ("tADL 70 ns\ntADL 80\n", TimingFileFault::OutOfOrder, 2),
+    ("tADL -3\n", TimingFileFault::BadNumber, 1),
+    ("tADL 70\nmode 3\n", TimingFileFault::OutOfOrder, 2),
+    ("mode 3\nmode 3\n", TimingFileFault::OutOfOrder, 2),
+    ("mode 6\n", TimingFileFault::BadNumber, 1),
+    (
+        "# none\n\ntADL 70 ns more\n",
+        TimingFileFault::UnknownName,
+        3,
+    ),
+    ("tADL 1.2345678\n", TimingFileFault::BadNumber, 1),
+    ("tADL 5000 s\n", TimingFileFault::BadNumber, 1),
 ];
 
 #[test]
 fn refused(rt: HostRuntime) -> Result<(), Fail> {
-    for (text, code, line) in REFUSED {
+    for (text, told, line) in REFUSED {
         match read_timings(text) {
             Ok(_) => assert!(rt; false, "{text}"),
             Err(TimingFileRefusal { fault, line: at }) => {
-                assert_eq!(rt; (fault.code(), at), (code, line));
+                assert_eq!(rt; (fault, at), (told, line));
             }
         }
     }

@@ -3,7 +3,7 @@ use std::alloc::Global;
 use std::process::Abort;
 use std::test::Fail;
 use trace_text::parse;
-use trace_timing::{Ruler, TimedItem, find_violations, read_timings};
+use trace_timing::{Ruler, TimedItem, TimingFault, find_violations, read_timings};
 
 // Femtoseconds in a picosecond and in a nanosecond.
 const PICOSECOND: u64 = 1_000;
@@ -42,8 +42,8 @@ const MODE_5: Judged = Judged {
     slack: 0,
 };
 
-// A recorded trace on targets of one LUN, and what is told of it: each code with its item.
-type Row = (&'static str, Judged, &'static [(&'static str, usize)]);
+// A recorded trace on targets of one LUN, and what is told of it: each fault with its item.
+type Row = (&'static str, Judged, &'static [(TimingFault, usize)]);
 
 const ROWS: [Row; 12] = [
     // Each pause of a program to the nanosecond.
@@ -53,11 +53,15 @@ const ROWS: [Row; 12] = [
         &[],
     ),
     // The same in a slower mode, where each cycle comes too soon.
-    ("@0 0 C 80\n@20 0 A 00\n@45 0 A 00\n", MODE_4, &[("T1", 1)]),
+    (
+        "@0 0 C 80\n@20 0 A 00\n@45 0 A 00\n",
+        MODE_4,
+        &[(TimingFault::WriteCycle, 1)],
+    ),
     (
         "@0 0 C 80\n@25 0 A 00\n@50 0 A 00\n@75 0 A 00\n@100 0 A 00\n@125 0 A 00\n@170 0 I 5a\n@195 0 C 10\n",
         MODE_4,
-        &[("T3", 6)],
+        &[(TimingFault::AddressToInput, 6)],
     ),
     // A column change, in picoseconds: the data come 214.9 ns after E0h.
     (
@@ -67,27 +71,31 @@ const ROWS: [Row; 12] = [
             unit: PICOSECOND,
             slack: 0,
         },
-        &[("T5", 4)],
+        &[(TimingFault::ColumnChange, 4)],
     ),
     // Data straight after the ready.
     (
         "@0 0 C 00\n@100 0 A 00\n@200 0 A 00\n@300 0 A 00\n@400 0 A 00\n@500 0 A 00\n@600 0 C 30\n@20600 0 R 0 0\n@20689 0 O 01\n@20789 0 O 02\n",
         MODE_0,
-        &[("T7", 8)],
+        &[(TimingFault::ReadyToOutput, 8)],
     ),
     // A status too soon after D0h, and the bus turned round too soon.
     (
         "@0 0 C 60\n@50 0 A 04\n@100 0 A 00\n@150 0 A 00\n@200 0 C d0\n@299 0 C 70\n@410 0 O 80\n@534 0 C 70\n@640 0 O e0\n",
         MODE_1,
-        &[("T8", 5), ("T6", 7)],
+        &[(TimingFault::ToBusy, 5), (TimingFault::OutputToCommand, 7)],
     ),
     // No times, and one time alone.
-    ("0 C 60\n0 A 04\n@5 0 A 00\n0 C d0\n", MODE_1, &[("T0", 0)]),
+    (
+        "0 C 60\n0 A 04\n@5 0 A 00\n0 C d0\n",
+        MODE_1,
+        &[(TimingFault::NoTimes, 0)],
+    ),
     // A time goes back; what has none isn't judged.
     (
         "@1000 0 C 60\n0 A 04\n@1200 0 A 00\n@1100 0 A 00\n@1110 0 C d0\n",
         MODE_1,
-        &[("T10", 3), ("T1", 4)],
+        &[(TimingFault::Backwards, 3), (TimingFault::WriteCycle, 4)],
     ),
     // Each target has pairs of its own.
     (
@@ -95,7 +103,11 @@ const ROWS: [Row; 12] = [
         MODE_1,
         &[],
     ),
-    ("@0 0 C 70\n@100 0 O e0\n", MODE_1, &[("T4", 1)]),
+    (
+        "@0 0 C 70\n@100 0 O e0\n",
+        MODE_1,
+        &[(TimingFault::ToOutput, 1)],
+    ),
     // An analyzer that samples each 10 ns.
     (
         "@0 0 C 70\n@100 0 O e0\n",
@@ -150,7 +162,7 @@ fn compare_told(
     rt: &(impl Abort + AllocGlobal),
     judged: Judged,
     items: &[TimedItem],
-    told: &[(&str, usize)],
+    told: &[(TimingFault, usize)],
 ) -> Result<(), Fail> {
     let Ok(timings) = read_timings(judged.timings) else {
         return Err(Fail::from("the timing file is refused"));
@@ -164,7 +176,7 @@ fn compare_told(
     let found = find_violations(rt.alloc(), ruler, items)?;
     assert_eq!(rt; found.len(), told.len());
     for (violation, told) in found.iter().zip(told) {
-        assert_eq!(rt; (violation.fault.code(), violation.item), *told);
+        assert_eq!(rt; (violation.fault, violation.item), *told);
     }
     Ok(())
 }
