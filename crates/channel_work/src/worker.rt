@@ -45,7 +45,7 @@ pub trait Gate {
     fn may_turn(&self, worker: u32) -> bool;
 
     /// Whether the LUN became ready after so many busy polls since its last ready, and so many readies; if so, whether with failure.
-    fn ready(&self, lun: Lun, polls: u64, works: u64) -> Option<bool>;
+    fn ready(&self, lun: Lun, busy_polls: u64, works: u64) -> Option<bool>;
 
     /// Whether the array of the LUN became ready after so many readies.
     fn array_ready(&self, lun: Lun, works: u64) -> bool;

@@ -32,7 +32,7 @@ pub enum PageFault {
     #[error("more than two plane bits, or fewer blocks than planes")]
     PlanesOutOfRange,
     /// There are several LUNs, but no Read Status Enhanced or no multiple LUN operations are declared.
-    #[error("several LUNs, but the commands that several LUNs need aren't declared")]
+    #[error("the target has several LUNs, but the commands they need aren't declared")]
     LunCommandsMissing,
 }
 

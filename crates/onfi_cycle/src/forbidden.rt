@@ -31,7 +31,7 @@ pub enum Forbidden {
     InputMisplaced,
     #[error("an output comes in an open sequence, or with other than one driver")]
     NoSoleDriver,
-    #[error("the driver gives data, but is busy, has no register or has lost its column")]
+    #[error("the LUN that gives data is busy, lacks a register or has lost its column")]
     DataNotReady,
     #[error("the column is past the page or the register")]
     ColumnOutside,

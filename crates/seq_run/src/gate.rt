@@ -49,8 +49,8 @@ impl Gate for RunGate {
         true
     }
 
-    fn ready(&self, lun: Lun, polls: u64, works: u64) -> Option<bool> {
-        if polls < self.polls {
+    fn ready(&self, lun: Lun, busy_polls: u64, works: u64) -> Option<bool> {
+        if busy_polls < self.polls {
             return None;
         }
         let failing = Failing {

@@ -28,7 +28,7 @@ beq_is false false h = refl
 beq_is true false h = cc
 beq_is false true h = cc
 
-abbrev parts : (page_bytes spare_bytes pages blocks luns plane_bits : ℕ) (enhanced multi_plane cache : Bool) → Parts
+abbrev parts : ℕ → ℕ → ℕ → ℕ → ℕ → ℕ → Bool → Bool → Bool → Parts
 parts a b c d e f x y z = record { page_bytes = a; spare_bytes = b; pages = c; blocks = d; luns = e; plane_bits = f; enhanced = x; multi_plane = y; cache = z }
 
 same_is : (g h : Parts) → same_parts g h ≡ true → g ≡ h

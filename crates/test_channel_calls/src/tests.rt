@@ -22,8 +22,8 @@ impl Gate for Open {
         true
     }
 
-    fn ready(&self, _lun: Lun, polls: u64, _works: u64) -> Option<bool> {
-        if polls < 1 { None } else { Some(false) }
+    fn ready(&self, _lun: Lun, busy_polls: u64, _works: u64) -> Option<bool> {
+        if busy_polls < 1 { None } else { Some(false) }
     }
 
     fn array_ready(&self, _lun: Lun, _works: u64) -> bool {

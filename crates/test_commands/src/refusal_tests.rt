@@ -285,7 +285,7 @@ const PAGES: &[(u8, u8, [u8; 2], &str, &str)] = &[
         2,
         [0x90, 0x21],
         "P9",
-        "several LUNs, but the commands that several LUNs need aren't declared",
+        "the target has several LUNs, but the commands they need aren't declared",
     ),
 ];
 

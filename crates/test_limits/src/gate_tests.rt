@@ -52,9 +52,9 @@ impl Gate for Recorder {
         true
     }
 
-    fn ready(&self, lun: Lun, polls: u64, works: u64) -> Option<bool> {
-        self.keep(Asked::Ready(lun, polls, works));
-        if polls < self.polls {
+    fn ready(&self, lun: Lun, busy_polls: u64, works: u64) -> Option<bool> {
+        self.keep(Asked::Ready(lun, busy_polls, works));
+        if busy_polls < self.polls {
             None
         } else {
             Some(false)
