@@ -341,6 +341,7 @@ fn push_here(bus: &mut OnfiseqBus, item: Item) -> Option<Forbidden>
     ensures refused { IfSome result (λ rule. bus.new ≡ bus.old) }
     ensures same { IsSameChannel (bus_view bus.old) (bus_view bus.new) }
     ensures count { bus.new.count ≡ bus.old.count }
+    ensures magic { bus.new.magic ≡ bus.old.magic }
 {
     let ce = usize::from(item.target());
     if bus.count <= ce {
@@ -359,6 +360,7 @@ pub fn push_item(bus: &mut OnfiseqBus, item: Item) -> Option<Forbidden>
     ensures refused { IfSome result (λ rule. bus.new ≡ bus.old) }
     ensures same { IsSameChannel (bus_view bus.old) (bus_view bus.new) }
     ensures count { bus.new.count ≡ bus.old.count }
+    ensures magic { bus.new.magic ≡ bus.old.magic }
 {
     push_here(bus, item)
 }
@@ -369,6 +371,7 @@ pub fn push(bus: &mut OnfiseqBus, item: Item) -> u32
     ensures state { bus_view bus.new ≡ bus_pushed (bus_view bus.old) (Some item) }
     ensures refused { (result ≡ 0 → ⊥) → bus.new ≡ bus.old }
     ensures count { bus.new.count ≡ bus.old.count }
+    ensures magic { bus.new.magic ≡ bus.old.magic }
 {
     match push_item(bus, item) {
         Some(rule) => rule.number(),
@@ -383,6 +386,7 @@ fn push_cycle(bus: &mut OnfiseqBus, ce: u8, kind: Kind, byte: u8) -> u32
     ensures state { bus_view bus.new ≡ bus_pushed (bus_view bus.old) (Some (ItemValue.Cyc (record { ce = ce; kind = kind; byte = byte }))) }
     ensures refused { (result ≡ 0 → ⊥) → bus.new ≡ bus.old }
     ensures count { bus.new.count ≡ bus.old.count }
+    ensures magic { bus.new.magic ≡ bus.old.magic }
 {
     match push_here(bus, Item::Cyc(Cycle { ce, kind, byte })) {
         Some(rule) => rule.number(),
@@ -397,6 +401,7 @@ pub fn push_numbers(bus: &mut OnfiseqBus, item: &OnfiseqItem) -> u32
     ensures state { bus_view bus.new ≡ bus_pushed (bus_view bus.old) (item_of item.now) }
     ensures refused { (result ≡ 0 → ⊥) → bus.new ≡ bus.old }
     ensures count { bus.new.count ≡ bus.old.count }
+    ensures magic { bus.new.magic ≡ bus.old.magic }
 {
     match item.kind {
         b'O' if item.fail == 0 => push_cycle(bus, item.ce, Kind::Dout, item.byte),

@@ -11,7 +11,9 @@ use crate::item::OnfiseqItem;
 
 // Pushes items one by one, up to the first that is refused.
 fn push_each(bus: &mut OnfiseqBus, items: &[OnfiseqItem], done: &mut usize) -> u32
-    ensures { went result done.new (bus_view bus.new) ≡ all_pushed (bus_view bus.old) items.now 0 }
+    ensures went { went result done.new (bus_view bus.new) ≡ all_pushed (bus_view bus.old) items.now 0 }
+    ensures magic { bus.new.magic ≡ bus.old.magic }
+    ensures still { done.new ≡ 0 → bus.new ≡ bus.old }
 {
     let mut rest = items;
     let mut at = 0;
@@ -29,11 +31,13 @@ fn push_each(bus: &mut OnfiseqBus, items: &[OnfiseqItem], done: &mut usize) -> u
 }
 
 /// Pushes items one by one, up to the first that is refused: the answer is its, or 0, and `done` says how many went. A state that follows a past follows it
-/// then with the first `done` of them.
+/// then with the first `done` of them. Where none went, no number of the record has changed.
 pub fn push_all(bus: &mut OnfiseqBus, items: &[OnfiseqItem], done: &mut usize) -> u32
     ensures went { went result done.new (bus_view bus.new) ≡ all_pushed (bus_view bus.old) items.now 0 }
     ensures past { (g : Parts) (n : ℕ) (past : List ItemValue) → Follows g n (bus_view bus.old) past
         → Follows g n (bus_view bus.new) (with_items done.new items.now past) }
+    ensures magic { bus.new.magic ≡ bus.old.magic }
+    ensures still { done.new ≡ 0 → bus.new ≡ bus.old }
 {
     push_each(bus, items, done)
 }

@@ -178,6 +178,7 @@ pub fn push_inputs(bus: &mut OnfiseqBus, ce: u8, count: usize) -> Option<Forbidd
     ensures state { result ≡ None → bus_view bus.new ≡ after_inputs ce count (bus_view bus.old) }
     ensures same { IsSameChannel (bus_view bus.old) (bus_view bus.new) }
     ensures count { bus.new.count ≡ bus.old.count }
+    ensures magic { bus.new.magic ≡ bus.old.magic }
 {
     let place = usize::from(ce);
     if count == 0 {
@@ -197,6 +198,7 @@ pub fn push_outputs(bus: &mut OnfiseqBus, ce: u8, count: usize) -> Option<Forbid
     ensures state { result ≡ None → bus_view bus.new ≡ after_outputs ce count (bus_view bus.old) }
     ensures same { IsSameChannel (bus_view bus.old) (bus_view bus.new) }
     ensures count { bus.new.count ≡ bus.old.count }
+    ensures magic { bus.new.magic ≡ bus.old.magic }
 {
     let place = usize::from(ce);
     if count == 0 {

@@ -27,6 +27,7 @@ pub extern "C" fn onfiseq_push(bus: &mut OnfiseqBus, item: &OnfiseqItem) -> u32
     ensures answer { result ≡ (if is_bus bus.old then pushed (bus_view bus.old) (item_of item.now) else 254) }
     ensures state { bus_view bus.new ≡ (if is_bus bus.old then bus_pushed (bus_view bus.old) (item_of item.now) else bus_view bus.old) }
     ensures refused { (result ≡ 0 → ⊥) → bus.new ≡ bus.old }
+    ensures magic { bus.new.magic ≡ bus.old.magic }
     ensures past { (g : Parts) (n : ℕ) (past : List ItemValue) (i : ItemValue) → is_bus bus.old ≡ true → item_of item.now ≡ Some i
         → Follows g n (bus_view bus.old) past
         → GoesOn g n past i result (bus_view bus.new) }

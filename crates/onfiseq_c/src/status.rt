@@ -120,8 +120,10 @@ pub extern "C" fn onfiseq_push_status(
     item: &OnfiseqItem,
     done: &mut usize,
 ) -> u32
-    ensures { went result done.new (bus_view bus.new) ≡ (if is_bus bus.old then all_pushed (bus_view bus.old) (completed (bus_view bus.old) item.now) 0
+    ensures went { went result done.new (bus_view bus.new) ≡ (if is_bus bus.old then all_pushed (bus_view bus.old) (completed (bus_view bus.old) item.now) 0
         else went 254 0 (bus_view bus.old)) }
+    ensures magic { bus.new.magic ≡ bus.old.magic }
+    ensures still { done.new ≡ 0 → bus.new ≡ bus.old }
 {
     if !is_bus(bus) {
         *done = 0;

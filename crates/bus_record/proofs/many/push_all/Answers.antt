@@ -3,4 +3,4 @@ use Rattle.bus_record.proofs.AllPushed.{pushed_follow}
 use Rattle.bus_record.proofs.many.push_all.Goals as goal
 
 pub returns-clause-past : goal.returns-clause-past
-returns-clause-past c g n past follows = pushed_follow g n (bus_view c.args.bus.now) (bus_view c.push_each.new.bus) c.args.items.now c.push_each.result c.push_each.new.done past c.push_each.ensures follows
+returns-clause-past c g n past follows = pushed_follow g n (bus_view c.args.bus.now) (bus_view c.push_each.new.bus) c.args.items.now c.push_each.result c.push_each.new.done past c.push_each.ensures.went follows

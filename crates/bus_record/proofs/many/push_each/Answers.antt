@@ -3,8 +3,8 @@ use Rattle.bus_record.specs.Bus.{bus_view}
 use Rattle.bus_record.proofs.AllPushed.{is_empty, all_end, one_stops, one_goes}
 use Rattle.bus_record.proofs.many.push_each.Goals as goal
 
-pub returns-then-answer-ne0 : goal.returns-then-answer-ne0
-returns-then-answer-ne0 c =
+pub returns-then-answer-ne0-clause-went : goal.returns-then-answer-ne0-clause-went
+returns-then-answer-ne0-clause-went c =
     sym (c.items.invariant.so_far ∙ one_stops (bus_view c.items.bus) (bus_view c.push_numbers-answer.new.bus)
     c.items.rest.now c.in-Some.first.now c.in-Some.behind.now c.items.at c.push_numbers-answer.result c.in-Some.ensures.cases.0 c.push_numbers-answer.ensures.answer
     c.push_numbers-answer.ensures.state c.if-answer-ne0.true)
@@ -18,8 +18,16 @@ items-preserved c =
       so_far = c.items.invariant.so_far ∙ one_goes (bus_view c.items.bus) (bus_view c.push_numbers-answer.new.bus)
           c.items.rest.now c.in-Some.first.now c.in-Some.behind.now c.items.at c.push_numbers-answer.result c.in-Some.ensures.cases.0 c.push_numbers-answer.ensures.answer
           c.push_numbers-answer.ensures.state c.if-answer-ne0.false;
+      magic = c.push_numbers-answer.ensures.magic ∙ c.items.invariant.magic;
+      still = λ none. absurd (omega (arith, none));
     }
 
-pub returns : goal.returns
-returns c =
+pub returns-clause-went : goal.returns-clause-went
+returns-clause-went c =
     sym (c.items.invariant.so_far ∙ all_end (bus_view c.items.bus) c.items.rest.now c.items.at (is_empty c.items.rest.now c.in_default.ensures.cases))
+
+pub returns-then-answer-ne0-clause-magic : goal.returns-then-answer-ne0-clause-magic
+returns-then-answer-ne0-clause-magic c = c.push_numbers-answer.ensures.magic ∙ c.items.invariant.magic
+
+pub returns-then-answer-ne0-clause-still : goal.returns-then-answer-ne0-clause-still
+returns-then-answer-ne0-clause-still c = λ none. c.push_numbers-answer.ensures.refused c.if-answer-ne0.true ∙ c.items.invariant.still none

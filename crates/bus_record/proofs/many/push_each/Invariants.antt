@@ -7,6 +7,8 @@ abbrev pub invariant-items : goal.invariant-items
 invariant-items l = record {
   counted : l.at + length l.rest ≡ length l.items;
   so_far : all_pushed (bus_view l.fn.bus) l.items 0 ≡ all_pushed (bus_view l.bus) l.rest l.at;
+  magic : l.bus.magic ≡ l.fn.bus.magic;
+  still : l.at ≡ 0 → l.bus ≡ l.fn.bus;
 }
 
 abbrev pub decreases-items : goal.decreases-items
