@@ -11,3 +11,4 @@ pub mod Stepped
 pub mod Begun
 pub mod Going
 pub mod Made
+pub mod Accepted

@@ -8,3 +8,4 @@ pub mod Finish
 pub mod Begin
 pub mod Permits
 pub mod Verified
+pub mod Accepted

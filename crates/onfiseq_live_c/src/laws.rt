@@ -1,4 +1,5 @@
 //! The laws of what is told.
+ghost use Rattle.onfiseq_live_c.specs.Accepted.{AcceptedJobsBreakNone, OtherJobsBreakNone, StandingJobsBreakNone};
 ghost use Rattle.onfiseq_live_c.specs.Permits.{BurstsArePermitted};
 ghost use Rattle.onfiseq_live_c.specs.Verified.{BegunJobsAreMade, ChannelsBegin, EndedJobsGo, ReadiesGoAlong, VerifiedJobsBegin, VerifiedJobsBreakNone, VerifiedJobsGoAlong};
 
@@ -41,4 +42,19 @@ pub fn ended_jobs_go()
 /// A job that `onfiseq_job_begin` takes may be made: its rows, its buffer and its base are right, and its LUN is there.
 pub fn begun_jobs_are_made()
     ensures { BegunJobsAreMade }
+{}
+
+/// No call about a job whose records stand for what that sequencer keeps is answered F, whatever the chip gives: it goes on, is held or has ended.
+pub fn standing_jobs_break_none()
+    ensures { StandingJobsBreakNone }
+{}
+
+/// Where `onfiseq_verify` accepts a file for the chip of a channel, its job stands in its records once it is begun on a free LUN, and no call about it is answered F.
+pub fn accepted_jobs_break_none()
+    ensures { AcceptedJobsBreakNone }
+{}
+
+/// What goes on on other LUNs leaves a job so: it stands in its records, and no call about it is answered F.
+pub fn other_jobs_break_none()
+    ensures { OtherJobsBreakNone }
 {}

@@ -6,9 +6,10 @@ pub mod Lives
 pub mod Running
 pub mod Truth
 pub mod Stepping
+pub mod Owned
+pub mod Driven
 pub mod Shown
 pub mod Faults
-pub mod Owned
 pub mod Turns
 pub mod Main
 pub mod Models

@@ -11,7 +11,12 @@ use Rattle.seq_live.specs.declared.live.StepGoingOn.{StepGoingOn}
 use Rattle.seq_live.specs.declared.burst.Burst.{Burst}
 use Rattle.seq_live.specs.Event.{LiveEvent, Step, Ready, ArrayReady, is_quiet}
 use Rattle.seq_live.specs.Kept.{LiveView, IsLive}
-use Rattle.seq_live.specs.Calls.{IsLiveRun, IsLiveEvent, MayStep, IsNextWord, AreNextBursts, IsNextBurst, HasFinished, shown_by, shown, has_fail, has_array_ready, is_poll, ends_with, live_slot, NextWordIs, AreFewDone, HasStepped, IsStepFault}
+use Rattle.seq_live.specs.Calls.{IsLiveRun, IsLiveEvent, MayStep, IsNextWord, AreNextBursts, IsNextBurst, HasBuffer, HasFinished, shown_by, shown, has_fail, has_array_ready, is_poll, ends_with, live_slot, NextWordIs, AreFewDone, IsStepFault}
+use Rattle.seq_live.specs.Driven.{Grows, HasStepped, with_word}
+use Rattle.seq_live.specs.Burst.{AllFit}
+use Rattle.onfi_cycle.specs.declared.item.Item.{Item}
+use Rattle.seq_core.specs.Playing.{EndsWithFive}
+use Rattle.seq_live.proofs.Driven.{shown_are_ready, word_has_come, word_shows, rest_come, rest_shows}
 use Rattle.seq_live.specs.declared.out_of_turn.OutOfTurn.TheVariants.{StepGoesOn, NoRoom}
 use Rattle.seq_live.specs.Burst.{taken_by}
 use Rattle.seq_live.proofs.Running.{runs_more, no_run, answered_each}
@@ -146,8 +151,8 @@ few_done v step (Some burst) is h = λ other e. let same : step ≡ other = some
 
 -- 6. a step on pins
 
-pub stepped_at_rest : (v : LiveView) (l : Lun) (taken : List ℕ) (answer : Stepped) → (MayStep v l → ⊥) → IsLiveEvent v (Step l []) (ToStep answer) v → HasStepped v l taken answer v
-stepped_at_rest v l taken answer rest run =
+pub stepped_at_rest : (v : LiveView) (l : Lun) (taken : List ℕ) (answer : Stepped) (pins : Option (List Item)) → (MayStep v l → ⊥) → IsLiveEvent v (Step l []) (ToStep answer) v → HasStepped v l taken answer v pins pins
+stepped_at_rest v l taken answer pins rest run =
     record {
       count = 0;
       takes = inr (rest, refl);
@@ -159,8 +164,10 @@ stepped_at_rest v l taken answer rest run =
       none_shown = λ stays. refl;
       replies = [];
       paired = refl;
-      quiet = refl;
+      ready = refl;
       run = run;
+      show = rest_shows v l [] rest;
+      pins = rest_come v l [] pins rest;
     }
   where
     none_taken : (xs : List ℕ) → [] ≡ take 0 xs
@@ -172,9 +179,10 @@ front_taken [] [] = refl
 front_taken [] (y ∷ ys) = refl
 front_taken (x ∷ xs) ys = ap (λ (zs : List ℕ). x ∷ zs) (front_taken xs ys)
 
-pub stepped_next : (v later : LiveView) (l : Lun) (word : Word) (front back : List ℕ) (answer : Stepped) → IsLive v → MayStep v l → IsNextWord v l word → length front ≡ taken_by word
-    → (replies : List Reply) × IsLiveRun v (shown l word front ++ (Step l front ∷ [])) (replies ++ (ToStep answer ∷ [])) later → HasStepped v l (front ++ back) answer later
-stepped_next v later l word front back answer k may next count run =
+pub stepped_next : (v later : LiveView) (l : Lun) (word : Word) (front back : List ℕ) (bursts : List Burst) (answer : Stepped) (before after : Option (List Item)) → IsLive v → MayStep v l → IsNextWord v l word → EndsWithFive word → AreNextBursts v l bursts → length front ≡ taken_by word
+    → ((buffer : List ℕ) → HasBuffer (live_slot v l) buffer → AllFit (length buffer) bursts → Grows (with_word l.ce buffer bursts front) before after)
+    → (replies : List Reply) × IsLiveRun v (shown l word front ++ (Step l front ∷ [])) (replies ++ (ToStep answer ∷ [])) later → HasStepped v l (front ++ back) answer later before after
+stepped_next v later l word front back bursts answer before after k may next range listed count done run =
     record {
       count = length front;
       takes = inl (record { may = may; word = word; is_word = next; is_count = count });
@@ -186,8 +194,10 @@ stepped_next v later l word front back answer k may next count run =
       none_shown = λ rest. absurd (rest may);
       replies = run.0;
       paired = paired_before v later (shown l word front) run.0 (Step l front) (ToStep answer) k run.1;
-      quiet = shown_quiet l word front;
+      ready = shown_are_ready l word front;
       run = run.1;
+      show = word_shows v l word front may next;
+      pins = word_has_come v l word front bursts before after k may next range listed done;
     }
 
 -- 7. why a step on pins isn't made

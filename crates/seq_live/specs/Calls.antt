@@ -1,5 +1,5 @@
 -- What a call of a sequencer on a real bus is: an event, or several, of the world that it keeps.
-use Rattle.std.specs.Prelude.{◌≡◌, ℕ, ◌+◌, ◌<◌, ◌≤◌, ◌==◌, ◌⊎◌, Bool, true, false, ◌&&◌, if◌then◌else◌, List, [], ◌∷◌, ◌++◌, Option, Some, None, length, slice_get, take}
+use Rattle.std.specs.Prelude.{◌≡◌, ℕ, ◌+◌, ◌<◌, ◌==◌, ◌⊎◌, Bool, true, false, ◌&&◌, if◌then◌else◌, List, [], ◌∷◌, ◌++◌, Option, Some, None, length, slice_get}
 use Rattle.std.specs.List.{list_all}
 use Rattle.std.specs.Int.RustNames.{bit_and}
 use Rattle.nand_geometry.specs.declared.parts.Parts.{Parts}
@@ -285,22 +285,6 @@ IsStepFault v l room NoStep = ⊥
 IsStepFault v l room NoBurst = ⊥
 IsStepFault v l room BurstsLeft = ⊥
 IsStepFault v l room WrongCount = ⊥
-
--- a step of a LUN came: its outputs gave the first of the bytes that were taken, as many as its next word asks for, and before it came the readies that they show, and no others.
--- Where it may not step, it took no bytes and nothing came before it
-pub record HasStepped (v : LiveView) (l : Lun) (taken : List ℕ) (answer : Stepped) (later : LiveView) : Type 0 where
-  pub count : ℕ
-  pub takes : Takes v l count
-  pub room : count ≤ length taken
-  pub bytes : List ℕ
-  pub are_taken : bytes ≡ take count taken
-  pub readies : List LiveEvent
-  pub are_shown : (word : Word) → MayStep v l → IsNextWord v l word → readies ≡ shown l word bytes
-  pub none_shown : (MayStep v l → ⊥) → readies ≡ []
-  pub replies : List Reply
-  pub paired : length replies ≡ length readies
-  pub quiet : list_all is_quiet readies ≡ true
-  pub run : IsLiveRun v (readies ++ (Step l bytes ∷ [])) (replies ++ (ToStep answer ∷ [])) later
 
 -- ---- laws
 

@@ -28,6 +28,14 @@ is_quiet (Ready l fail) = true
 is_quiet (ArrayReady l) = true
 is_quiet (Unload l) = false
 
+-- a ready, of a LUN or of its array
+abbrev pub is_ready : LiveEvent → Bool
+is_ready (Load l j) = false
+is_ready (Step l bytes) = false
+is_ready (Ready l fail) = true
+is_ready (ArrayReady l) = true
+is_ready (Unload l) = false
+
 -- each job that is loaded is verified
 abbrev pub AllLoadVerified : List LiveEvent → Type 0
 AllLoadVerified [] = Unit {0}

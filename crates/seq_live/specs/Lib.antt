@@ -4,6 +4,7 @@ pub mod Headline
 pub mod Burst
 pub mod Kept
 pub mod Calls
+pub mod Driven
 pub mod Owned
 pub mod Jobs
 pub mod Pause

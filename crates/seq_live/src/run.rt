@@ -1,9 +1,10 @@
 //! A list of jobs on pins.
-ghost use Rattle.std.specs.Prelude.{◌≡◌, ℕ, ◌≤◌, ◌⊎◌, true, List, Some, None, IfOk, IfErr, length};
+ghost use Rattle.std.specs.Prelude.{◌≡◌, ℕ, ◌⊎◌, true, List, Option, Some, None, IfOk, IfErr, length};
+ghost use Rattle.onfi_cycle.specs.declared.item.Item.{Item as ItemValue};
 ghost use Rattle.std.specs.List.{list_all};
 ghost use Rattle.seq_live.specs.Kept.{LiveView};
-ghost use Rattle.seq_live.specs.Calls.{HasStepped};
-ghost use Rattle.seq_live.specs.Jobs.{is_back, lun_of, place_on, Told, busy_polls, Goes, StaysOn, HasTurned, NoneHad, HasNoTurn, HaveTurned, HaveStopped, IsRunFault, RunsJobs};
+ghost use Rattle.seq_live.specs.Driven.{HasStepped};
+ghost use Rattle.seq_live.specs.Jobs.{is_back, lun_of, place_on, Told, one_more, polls, Goes, StaysOn, HasTurned, NoneHad, HasNoTurn, HaveTurned, HaveStopped, IsRunFault, RunsJobs};
 
 use crate::live::Live;
 use crate::live_job::{LiveJob, OnLun};
@@ -64,7 +65,7 @@ impl Turns {
 
 // Loads a job that waits, or hands it back.
 fn start_job<A: Allocator>(live: &mut Live<A>, waiting: Job<A>) -> LiveJob<A>
-    ensures { (most : ℕ) → HasTurned most live.old live.new (LiveJob.Waiting waiting) result }
+    ensures { (most : ℕ) (pins : Option (List ItemValue)) → HasTurned most live.old live.new (LiveJob.Waiting waiting) result pins pins }
 {
     let lun = waiting.lun();
     match live.load(lun, waiting) {
@@ -77,7 +78,7 @@ fn start_job<A: Allocator>(live: &mut Live<A>, waiting: Job<A>) -> LiveJob<A>
 fn start<A: Allocator>(live: &mut Live<A>, job: &mut LiveJob<A>, lun: Lun)
     requires waits { place_on job.old ≡ None }
     requires lun { lun_of job.old ≡ Some lun }
-    ensures { (most : ℕ) → HasTurned most live.old live.new job.old job.new }
+    ensures { (most : ℕ) (pins : Option (List ItemValue)) → HasTurned most live.old live.new job.old job.new pins pins }
 {
     let on = OnLun { lun, busy_polls: 0 };
     match mem::replace(job, LiveJob::Running(on)) {
@@ -88,7 +89,7 @@ fn start<A: Allocator>(live: &mut Live<A>, job: &mut LiveJob<A>, lun: Lun)
 
 // A job whose LUN has said busy once more.
 fn wait_on<A: Allocator>(on: OnLun, most: u64) -> LiveJob<A>
-    ensures goes { (log : List Told) → 1 ≤ busy_polls on.lun log → Goes most (LiveJob.Running on) result log }
+    ensures goes { (log : List Told) → polls on.lun on.busy_polls log ≡ one_more on.busy_polls → Goes most (LiveJob.Running on) result log }
     ensures stays { StaysOn on result }
 {
     let on = OnLun {
@@ -104,7 +105,7 @@ fn wait_on<A: Allocator>(on: OnLun, most: u64) -> LiveJob<A>
 
 // Takes a job that has ended from its LUN.
 fn end_job<A: Allocator>(live: &mut Live<A>, on: OnLun) -> LiveJob<A>
-    ensures { (most : ℕ) → HasTurned most live.old live.new (LiveJob.Running on) result }
+    ensures { (most : ℕ) (pins : Option (List ItemValue)) → HasTurned most live.old live.new (LiveJob.Running on) result pins pins }
 {
     match live.unload(on.lun) {
         Ok(done) => LiveJob::Done(done),
@@ -114,7 +115,8 @@ fn end_job<A: Allocator>(live: &mut Live<A>, on: OnLun) -> LiveJob<A>
 
 // What becomes of a job that runs, whose step was answered so.
 fn go_on<A: Allocator>(live: &mut Live<A>, on: OnLun, answer: Stepped, most: u64) -> LiveJob<A>
-    ensures { (v : LiveView) (taken : List ℕ) → HasStepped v on.lun taken answer live.old → HasTurned most v live.new (LiveJob.Running on) result }
+    ensures { (v : LiveView) (taken : List ℕ) (before after : Option (List ItemValue)) → HasStepped v on.lun taken answer live.old before after
+        → HasTurned most v live.new (LiveJob.Running on) result before after }
 {
     match answer {
         Stepped::Ended => end_job(live, on),
@@ -137,8 +139,8 @@ fn step_job<A: Allocator, P: Pins>(
     most: u64,
 ) -> Result<(), OutOfTurn>
     requires { place_on job.old ≡ Some on }
-    ensures ok { IfOk result (λ _. HasTurned most live.old live.new job.old job.new) }
-    ensures err { IfErr result (λ e. IsRunFault live.new (length taken.old) e × (live.new ≡ live.old) × (job.new ≡ job.old)) }
+    ensures ok { IfOk result (λ _. HasTurned most live.old live.new job.old job.new (P.driven pins.old) (P.driven pins.new)) }
+    ensures err { IfErr result (λ e. IsRunFault live.new (length taken.old) e × (live.new ≡ live.old) × (job.new ≡ job.old) × (P.driven pins.new ≡ P.driven pins.old)) }
 {
     match step_on(live, pins, on.lun, taken) {
         Err(fault) => Err(fault),
@@ -159,8 +161,8 @@ fn turn_job<A: Allocator, P: Pins>(
     most: u64,
 ) -> Result<(), OutOfTurn>
     requires { lun_of job.old ≡ Some lun }
-    ensures ok { IfOk result (λ _. HasTurned most live.old live.new job.old job.new) }
-    ensures err { IfErr result (λ e. IsRunFault live.new (length taken.old) e × (live.new ≡ live.old) × (job.new ≡ job.old)) }
+    ensures ok { IfOk result (λ _. HasTurned most live.old live.new job.old job.new (P.driven pins.old) (P.driven pins.new)) }
+    ensures err { IfErr result (λ e. IsRunFault live.new (length taken.old) e × (live.new ≡ live.old) × (job.new ≡ job.old) × (P.driven pins.new ≡ P.driven pins.old)) }
 {
     match job.place() {
         Some(on) => step_job(live, pins, job, on, taken, most),
@@ -180,9 +182,9 @@ fn turn_in_round<A: Allocator, P: Pins>(
     taken: &mut [u8],
     most: u64,
 ) -> Result<(), OutOfTurn>
-    ensures ok { IfOk result (λ _. HasTurned most live.old live.new job.old job.new
-        ⊎ HasNoTurn live.old live.new job.old job.new turns.old.had turns.new.had) }
-    ensures err { IfErr result (λ e. IsRunFault live.new (length taken.old) e × (live.new ≡ live.old) × (job.new ≡ job.old)) }
+    ensures ok { IfOk result (λ _. HasTurned most live.old live.new job.old job.new (P.driven pins.old) (P.driven pins.new)
+        ⊎ HasNoTurn live.old live.new job.old job.new turns.old.had turns.new.had (P.driven pins.old) (P.driven pins.new)) }
+    ensures err { IfErr result (λ e. IsRunFault live.new (length taken.old) e × (live.new ≡ live.old) × (job.new ≡ job.old) × (P.driven pins.new ≡ P.driven pins.old)) }
 {
     match job.lun() {
         None => Ok(()),
@@ -204,8 +206,8 @@ fn do_round<A: Allocator, P: Pins>(
     taken: &mut [u8],
     most: u64,
 ) -> Result<(), OutOfTurn>
-    ensures ok { IfOk result (λ _. HaveTurned most live.old live.new jobs.old jobs.new) }
-    ensures err { IfErr result (λ e. HaveStopped most live.old live.new jobs.old jobs.new (length taken.old) e) }
+    ensures ok { IfOk result (λ _. HaveTurned most live.old live.new jobs.old jobs.new (P.driven pins.old) (P.driven pins.new)) }
+    ensures err { IfErr result (λ e. HaveStopped most live.old live.new jobs.old jobs.new (length taken.old) e (P.driven pins.old) (P.driven pins.new)) }
 {
     let mut turns = Turns::new();
     for place in 0..jobs.len() {
@@ -237,7 +239,7 @@ pub fn run_live<A: Allocator, P: Pins>(
     taken: &mut [u8],
     limits: RunLimits,
 ) -> Result<RunEnd, OutOfTurn>
-    ensures { RunsJobs limits live.old live.new jobs.old jobs.new (length taken.old) result }
+    ensures { RunsJobs limits live.old live.new jobs.old jobs.new (length taken.old) result (P.driven pins.old) (P.driven pins.new) }
 {
     if live.going().is_some() {
         return Err(OutOfTurn::StepGoesOn);

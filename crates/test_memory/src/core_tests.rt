@@ -175,6 +175,10 @@ struct TwoJobs {
 }
 
 impl Call for TwoJobs {
+    fn spares(&self) -> u64 {
+        0
+    }
+
     fn make(&self, heap: Memory<'_>, refusal: Refusal) -> Result<bool, Fail> {
         let mut core = new_core(heap)?;
         let [first, second] = GIVEN;
@@ -263,6 +267,10 @@ struct TwoJobsAtOnce {
 }
 
 impl Call for TwoJobsAtOnce {
+    fn spares(&self) -> u64 {
+        0
+    }
+
     fn make(&self, heap: Memory<'_>, refusal: Refusal) -> Result<bool, Fail> {
         let mut core = new_core(heap)?;
         let mut events = Vec::new(heap);
@@ -292,32 +300,42 @@ fn two_jobs_as_events(rt: HostRuntime) -> Result<(), Fail> {
     Ok(())
 }
 
-// A sequencer that stops at the first step which is out of memory, and one that does as many steps with ample memory: their dies
-// have one image. Whether there was such a step.
+// A sequencer whose die holds the page of the first job.
+fn core_with_page<'h>(alloc: Global, heap: Memory<'h>) -> Result<Core<Memory<'h>>, Fail> {
+    let mut core = new_core(heap)?;
+    let job = new_job(heap, &GIVEN[0])?;
+    run_job(alloc, &mut core, job, &LEFT[0])?;
+    Ok(core)
+}
+
+// A sequencer that stops at the first step of the second job which is out of memory, and one that does as many steps with ample memory: their dies
+// have one image. Whether a request was refused.
 fn stops_alike(alloc: Global, after: u64) -> Result<bool, Fail> {
     let short = TestHeap::new(alloc);
     let ample = TestHeap::new(alloc);
-    let (mut core, mut other) = (new_core(&short)?, new_core(&ample)?);
-    if core.load(LUN_0, new_job(&short, &GIVEN[0])?).is_err()
-        || other.load(LUN_0, new_job(&ample, &GIVEN[0])?).is_err()
+    let (mut core, mut other) = (
+        core_with_page(alloc, &short)?,
+        core_with_page(alloc, &ample)?,
+    );
+    if core.load(LUN_0, new_job(&short, &GIVEN[1])?).is_err()
+        || other.load(LUN_0, new_job(&ample, &GIVEN[1])?).is_err()
     {
         return Err("a load is refused".into());
     }
     short.refuse(Refusal::Once { after });
-    let mut is_short = false;
     for _ in 0..32 {
         if core.step(LUN_0).is_err() {
-            is_short = true;
             break;
         }
         other.step(LUN_0)?;
         core.ready(LUN_0, false);
         other.ready(LUN_0, false);
     }
+    let was_refused = short.refused() > 0;
     short.refuse(Refusal::Never);
     let (dies, others) = (core.into_bus().into_dies(), other.into_bus().into_dies());
     match (dies.as_slice(), others.as_slice()) {
-        ([die], [other]) if die.image()?.as_slice() == other.image()?.as_slice() => Ok(is_short),
+        ([die], [other]) if die.image()?.as_slice() == other.image()?.as_slice() => Ok(was_refused),
         _ => Err("a refused step leaves the die as it was".into()),
     }
 }

@@ -147,6 +147,10 @@ fn make_bus(heap: Memory<'_>, refusal: Refusal) -> Result<bool, Fail> {
 }
 
 impl Call for DieCall {
+    fn spares(&self) -> u64 {
+        0
+    }
+
     fn make(&self, heap: Memory<'_>, refusal: Refusal) -> Result<bool, Fail> {
         match *self {
             DieCall::New => make_new(heap, refusal),

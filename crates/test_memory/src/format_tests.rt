@@ -210,6 +210,14 @@ fn make_verify_refused(heap: Memory<'_>, refusal: Refusal) -> Result<bool, Fail>
 }
 
 impl Call for Format {
+    // `verify` collects the run of a refusal in lists, and goes on without the room that it asks for at first.
+    fn spares(&self) -> u64 {
+        match *self {
+            Format::VerifyRefused => 2,
+            _ => 0,
+        }
+    }
+
     fn make(&self, heap: Memory<'_>, refusal: Refusal) -> Result<bool, Fail> {
         match *self {
             Format::Read => make_read(heap, refusal),

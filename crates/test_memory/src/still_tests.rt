@@ -30,6 +30,9 @@ const ERASE: [Word; 5] = [
     Word::End { code: 0 },
 ];
 
+// The buffer of its job, of which it makes no use.
+const BUFFER: [u8; 4] = [1, 2, 3, 4];
+
 // A bus of one new die.
 fn new_bus<'h>(heap: Memory<'h>, parts: Parts) -> Result<Bus<Memory<'h>>, Fail>
     ensures { IfOk result (λ bus. bus.past ≡ []) }
@@ -46,7 +49,7 @@ fn new_bus<'h>(heap: Memory<'h>, parts: Parts) -> Result<Bus<Memory<'h>>, Fail>
 // The erase, verified while all requests are refused.
 fn verify_erase<'h>(heap: Memory<'h>) -> Result<Verified<Memory<'h>>, Fail> {
     let words = Vec::from_slice(heap, &ERASE)?;
-    let Ok(text) = Text::of(1, 0, 5, words) else {
+    let Ok(text) = Text::of(1, 4, 5, words) else {
         return Err("the words are a text".into());
     };
     heap.refuse(Refusal::Always);
@@ -64,7 +67,7 @@ fn make_job<'h>(
     lun: Lun,
 ) -> Result<Result<Job<Memory<'h>>, JobRefused<Memory<'h>>>, Fail> {
     let verified = verify_erase(heap)?;
-    let buffer = Vec::new(heap);
+    let buffer = Vec::from_slice(heap, &BUFFER)?;
     heap.refuse(Refusal::Always);
     let job = Job::new(Geometry::of(SMALL_CHIP)?, 1, lun, 4, verified, buffer);
     heap.refuse(Refusal::Never);
@@ -129,7 +132,9 @@ fn an_erase_takes_memory_for_its_steps_alone(rt: HostRuntime) -> Result<(), Fail
     assert!(rt; core.ready(LUN_0, false) && !core.ready(LUN_0, false));
     assert!(rt; !core.array_ready(LUN_0));
     step(&heap, &mut core, &[Stepped::Went, Stepped::Ended])?;
-    assert!(rt; matches!(core.unload(LUN_0), Ok(done) if done.code == 0));
+    assert!(rt;
+        matches!(core.unload(LUN_0), Ok(done) if done.code == 0 && done.job.buffer() == BUFFER.as_slice())
+    );
     assert_eq!(rt; heap.refused(), 0);
     Ok(())
 }
@@ -145,22 +150,28 @@ fn command(byte: u8) -> Cycle
     }
 }
 
-fn address() -> Cycle
+fn address(byte: u8) -> Cycle
     ensures { is_output result.kind ≡ false }
 {
     Cycle {
         ce: 0,
         kind: Kind::Adr,
-        byte: 0x00,
+        byte,
     }
+}
+
+// Puts a command with the five bytes of an address onto a bus: the first column of a row.
+fn open_page(bus: &mut Bus<Memory<'_>>, byte: u8, row: u8) -> Result<(), Fail> {
+    bus.put(command(byte))?;
+    for byte in [0x00, 0x00, row, 0x00, 0x00].iter() {
+        bus.put(address(*byte))?;
+    }
+    Ok(())
 }
 
 // Puts the commands of a cache read onto a bus, up to its busy array.
 fn read_into_cache(bus: &mut Bus<Memory<'_>>, heap: Memory<'_>) -> Result<bool, Fail> {
-    bus.put(command(0x00))?;
-    for _ in 0..5 {
-        bus.put(address())?;
-    }
+    open_page(bus, 0x00, 0)?;
     bus.put(command(0x30))?;
     heap.refuse(Refusal::Always);
     let is_ready = bus.ready(LUN_0, false) && !bus.ready(LUN_0, false);
@@ -168,6 +179,33 @@ fn read_into_cache(bus: &mut Bus<Memory<'_>>, heap: Memory<'_>) -> Result<bool, 
     bus.put(command(0x31))?;
     heap.refuse(Refusal::Always);
     Ok(is_ready)
+}
+
+// Puts the programs of both planes onto a bus, row 0 and row 4, the first of which is queued, up to its busy LUN.
+fn program_two_planes(bus: &mut Bus<Memory<'_>>) -> Result<bool, Fail> {
+    open_page(bus, 0x80, 0)?;
+    bus.put(command(0x11))?;
+    let is_ready = bus.ready(LUN_0, false);
+    open_page(bus, 0x80, 4)?;
+    bus.put(command(0x10))?;
+    Ok(is_ready)
+}
+
+// A die ends the programs of two planes without memory.
+#[test]
+fn queued_work_ends_without_memory(rt: HostRuntime) -> Result<(), Fail> {
+    let heap = TestHeap::new(rt.alloc());
+    let two_planes = Parts {
+        plane_bits: 1,
+        multi_plane: true,
+        ..SMALL_CHIP
+    };
+    let mut bus = new_bus(&heap, two_planes)?;
+    assert!(rt; program_two_planes(&mut bus)?);
+    heap.refuse(Refusal::Always);
+    assert!(rt; bus.ready(LUN_0, false) && !bus.ready(LUN_0, false));
+    assert_eq!(rt; heap.refused(), 0);
+    Ok(())
 }
 
 #[test]

@@ -13,6 +13,10 @@ use test_heap::{Refusal, TestHeap};
 struct NewTable;
 
 impl Call for NewTable {
+    fn spares(&self) -> u64 {
+        0
+    }
+
     fn make(&self, heap: Memory<'_>, refusal: Refusal) -> Result<bool, Fail> {
         heap.refuse(refusal);
         match LeaseTable::new(heap) {
@@ -31,6 +35,10 @@ impl Call for NewTable {
 struct NewQueue;
 
 impl Call for NewQueue {
+    fn spares(&self) -> u64 {
+        0
+    }
+
     fn make(&self, heap: Memory<'_>, refusal: Refusal) -> Result<bool, Fail> {
         heap.refuse(refusal);
         match JobQueue::<u64, Memory<'_>>::new(heap, 2, 2) {

@@ -1,3 +1,4 @@
 pub mod Runs
 pub mod Ways
 pub mod Premises
+pub mod Noted

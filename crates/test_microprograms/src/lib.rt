@@ -18,6 +18,8 @@ mod live_run_tests;
 #[cfg(test)]
 mod live_tests;
 #[cfg(test)]
+mod noted_pins;
+#[cfg(test)]
 mod pause_tests;
 #[cfg(test)]
 mod plain_tests;
