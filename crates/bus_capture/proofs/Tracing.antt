@@ -16,11 +16,9 @@ use Rattle.vcd_text.specs.Shown.{told_at, told_before, told_left, place_of, stan
 use Rattle.vcd_text.specs.Dumps.{read_of, beginning}
 use Rattle.vcd_text.proofs.Going.{told_joins, before_none}
 use Rattle.vcd_text.proofs.Headers.{with_more, header_joins, header_fails}
-use Rattle.csv_text.specs.declared.rows.Row.{Row}
-use Rattle.csv_text.specs.declared.rows.Rows.{Rows}
 use Rattle.csv_text.specs.declared.body.Standing.{Standing as TableStanding}
-use Rattle.csv_text.specs.Rows.{rows, rows_from, AreLines, MayFollow as MayFollowLines}
-use Rattle.csv_text.specs.Shown.{rows_before, with_row, told_at as table_told}
+use Rattle.csv_text.specs.Rows.{rows, AreLines, MayFollow as MayFollowLines}
+use Rattle.csv_text.specs.Shown.{told_at as table_told}
 use Rattle.csv_text.specs.Table.{table_of}
 use Rattle.csv_text.specs.Table as table
 use Rattle.csv_text.specs.Body.{told}
@@ -240,12 +238,6 @@ table_begins setup t sources tracer st now_st names now_names text tail left res
     ap (λ s. table_told s now_names None (left ++ rest)) same_st
     ∙ (ap (λ n. table_told st n None (left ++ rest)) (same_names ∙ append-nil names)
     ∙ (ap (λ l. table_told st names None (l ++ rest)) joined ∙ ap (table_told st names None) (append_assoc text tail rest))))))
-
--- its first row
-pub rows_open : (text more : List ℕ) (old new : Rows) (row : Option Row) → old.line ≡ 1 → old.rest.now ≡ text → rows_before old more ≡ with_row row (rows_before new more)
-    → rows (text ++ more) ≡ with_row row (rows_before new more)
-rows_open text more old new row first whole step =
-    ap (λ t. rows_from 1 [] (t ++ more)) (sym whole) ∙ (ap (λ line. rows_from line [] (old.rest.now ++ more)) (sym first) ∙ step)
 
 pub lines_follow : (text more : List ℕ) → AreLines text → MayFollowLines text more
 lines_follow text [] lines = tt

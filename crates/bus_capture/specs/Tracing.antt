@@ -7,7 +7,7 @@ use Rattle.vcd_text.specs.Body.{Told, told_from}
 use Rattle.vcd_text.specs.Shown.{told_at}
 use Rattle.vcd_text.specs.Dumps.{beginning}
 use Rattle.csv_text.specs.Rows.{rows, MayFollow as MayFollowLines}
-use Rattle.csv_text.specs.Table.{Table}
+use Rattle.csv_text.specs.Table.{Table, table_of, no_names}
 use Rattle.csv_text.specs.Body.{told}
 use Rattle.csv_text.specs.Shown as csv
 use Rattle.bus_signals.specs.declared.source.Source.{Source}
@@ -126,7 +126,7 @@ IsTablingIf (Some t) = IsTabling t
 abbrev pub OpensTable : {A : Type 0} → Setup → (whole tail : List ℕ) → Result (Option (TableReader A)) CaptureRefusal → Type 0
 OpensTable setup whole tail (Ok (Some t)) =
     IsTabling t × ((stamped : List Stamped) (rest : List ℕ) → MayFollowLines whole (tail ++ rest) → captured_by form.Table setup stamped (whole ++ (tail ++ rest)) ≡ table_after t stamped rest)
-OpensTable setup whole tail (Ok None) = rows whole ≡ []
+OpensTable setup whole tail (Ok None) = table_of (rows whole) ≡ no_names 1
 OpensTable setup whole tail (Err e) =
     (stamped : List Stamped) (rest : List ℕ) → MayFollowLines whole (tail ++ rest) → IsRefusalOf e (captured_by form.Table setup stamped (whole ++ (tail ++ rest)))
 

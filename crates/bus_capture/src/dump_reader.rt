@@ -14,7 +14,7 @@ use crate::fault::{CaptureFault, CaptureRefusal, copy_of};
 use crate::inferring::Stamped;
 use crate::reading::Setup;
 use crate::tracer::Tracer;
-use bus_signals::{RoleRefusal, Source, carriers_of, sources_of};
+use bus_signals::{RoleRefusal, Source, carriers_of, is_data_strobe, sources_of};
 use std::alloc::Allocator;
 use std::collections::BTreeMap;
 use vcd_text::{Body, Dump, Event, Standing, Variable, Widths, whole_len};
@@ -77,6 +77,16 @@ pub(crate) fn find_sources<A: Allocator + Clone>(
         Err(RoleRefusal::Fault(fault)) => Err(CaptureRefusal::Fault(CaptureFault::Role(fault))),
         Err(RoleRefusal::OutOfMemory) => Err(CaptureRefusal::OutOfMemory),
     }
+}
+
+/// The code of the first data strobe among these signals, or one that no signal has.
+pub(crate) fn find_strobe(variables: &[Variable<'_>]) -> u64 {
+    for variable in variables {
+        if is_data_strobe(variable.name) {
+            return variable.code;
+        }
+    }
+    u64::MAX
 }
 
 /// One text after the other.
@@ -144,7 +154,8 @@ impl<A: Allocator + Clone> DumpReader<A> {
     {
         let Dump { header, body } = dump;
         let sources = find_sources(copy_of(&alloc)?, setup, header.variables.as_slice())?;
-        let tracer = Tracer::begun(copy_of(&alloc)?, setup, sources)?;
+        let strobe = find_strobe(header.variables.as_slice());
+        let tracer = Tracer::begun(copy_of(&alloc)?, setup, sources, strobe)?;
         let left = join(copy_of(&alloc)?, body.rest(), tail)?;
         let widths = widths_of(copy_of(&alloc)?, header.widths)?;
         Ok(DumpReader {

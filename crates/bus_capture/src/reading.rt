@@ -10,18 +10,19 @@ use crate::fault::{CaptureFault, CaptureRefusal, copy_of};
 use crate::inferring::Stamped;
 use crate::table_reader::TableReader;
 use bus_signals::Mapping;
-use csv_text::{Rows, name_columns, whole_lines_len};
+use csv_text::{open_table, whole_lines_len};
 use nand_geometry::Geometry;
 use std::alloc::Allocator;
-use vcd_text::{DumpFault, HeaderRefusal, LineFault, read_header, whole_len};
+use vcd_text::{DumpFault, HeaderRefusal, LineFault, Variable, read_header, whole_len};
 
 /// As what a capture is read.
 #[derive(Clone, Copy, Debug, PartialEq, Eq)]
 pub enum CaptureForm {
     /// A value change dump.
     Dump,
-    /// A CSV: the export of Saleae Logic 2, which has a row at each change, or of sigrok-cli, which has one at each sample. Its first row has to name the
-    /// columns. A time of a Saleae export is in picoseconds; without a column of times it is the number of the sample, from 0.
+    /// A CSV: the export of Saleae Logic 2 or of DSView, which has a row at each change, or of sigrok-cli and PulseView, which has one at each sample. Its first
+    /// row that is no comment has to name the columns. A time in seconds is told in picoseconds. Without a column of times it is the picoseconds before the
+    /// sample, where a comment tells the sample rate, or else the number of the sample, from 0.
     Table,
 }
 
@@ -46,6 +47,33 @@ pub(crate) enum Opened<A: Allocator> {
     Unended(LineFault),
 }
 
+// How many names are listed.
+const MOST_NAMES: usize = 40;
+
+// Adds the name of a signal to others.
+fn push_name<A: Allocator>(names: &mut Vec<u8, A>, variable: &Variable<'_>) -> bool {
+    let parted = names.is_empty() || names.extend_from_slice(b", ").is_ok();
+    parted
+        && names.extend_from_slice(variable.name).is_ok()
+        && names.extend_from_slice(variable.range).is_ok()
+}
+
+// The names of signals, with commas between them.
+fn list_names<A: Allocator>(
+    mut names: Vec<u8, A>,
+    variables: &[Variable<'_>],
+) -> Option<Vec<u8, A>> {
+    for variable in variables.iter().take(MOST_NAMES) {
+        if !push_name(&mut names, variable) {
+            return None;
+        }
+    }
+    if variables.len() > MOST_NAMES && names.extend_from_slice(b", ..").is_err() {
+        return None;
+    }
+    Some(names)
+}
+
 /// A capture that is read piece by piece: its pieces are given one after the other to [`CaptureReader::take`], which adds the items that are known then,
 /// and at its end [`CaptureReader::finish`] adds the others.
 ///
@@ -67,6 +95,8 @@ pub struct CaptureReader<'m, A: Allocator> {
     tried: usize,
     dump: Option<DumpReader<A>>,
     table: Option<TableReader<A>>,
+    // How often a data strobe changed in a text that is read to its end.
+    strobe_changes: u64,
 }
 
 impl<'m, A: Allocator + Clone> CaptureReader<'m, A> {
@@ -87,6 +117,7 @@ impl<'m, A: Allocator + Clone> CaptureReader<'m, A> {
             tried: 0,
             dump: None,
             table: None,
+            strobe_changes: 0,
         })
     }
 
@@ -125,12 +156,9 @@ impl<'m, A: Allocator + Clone> CaptureReader<'m, A> {
     {
         let copy = copy_of(&self.alloc)?;
         let other = copy_of(&self.alloc)?;
-        let mut rows = Rows::of(whole);
-        let Some(row) = rows.next_row() else {
-            return Ok(None);
-        };
-        match name_columns(copy, row, rows) {
-            Ok(table) => match TableReader::begun(other, self.setup, table, tail) {
+        match open_table(copy, whole) {
+            Ok(None) => Ok(None),
+            Ok(Some(table)) => match TableReader::begun(other, self.setup, table, tail) {
                 Ok(reader) => Ok(Some(reader)),
                 Err(refusal) => Err(refusal),
             },
@@ -298,6 +326,7 @@ impl<'m, A: Allocator + Clone> CaptureReader<'m, A> {
     {
         let mut dump = self.open_last()?;
         dump.finish(stamped)?;
+        self.strobe_changes = dump.tracer.strobe_changes;
         Ok(dump.tracer.unselected)
     }
 
@@ -333,7 +362,30 @@ impl<'m, A: Allocator + Clone> CaptureReader<'m, A> {
     {
         let mut table = self.open_last_table()?;
         table.finish(stamped)?;
+        self.strobe_changes = table.tracer.strobe_changes;
         Ok(table.tracer.unselected)
+    }
+
+    /// The names of the signals of a capture in which a line of the bus has none or two, with commas between them, and at most forty of them; None where
+    /// signals aren't what is wrong.
+    pub fn signal_names(&self) -> Option<Vec<u8, A>> {
+        let copy = self.alloc.clone().ok()?;
+        let names = Vec::new(self.alloc.clone().ok()?);
+        match self.setup.form {
+            CaptureForm::Dump => {
+                let dump = read_header(copy, self.head.as_slice()).ok()?;
+                list_names(names, dump.header.variables.as_slice())
+            }
+            CaptureForm::Table => {
+                let table = open_table(copy, self.head.as_slice()).ok()??;
+                list_names(names, table.variables.as_slice())
+            }
+        }
+    }
+
+    /// How often a data strobe changed in a capture that is read to its end, if it has one.
+    pub fn strobe_changes(&self) -> u64 {
+        self.strobe_changes
     }
 
     /// How many bytes of the text are kept, as they may go on: of a header, of a word, or of a row.

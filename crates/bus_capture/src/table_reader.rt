@@ -9,7 +9,7 @@ ghost use Rattle.bus_capture.specs.Inside.{AreInside};
 ghost use Rattle.bus_capture.specs.Recorded.{IsRead};
 ghost use Rattle.bus_capture.specs.Tracing.{last_of, table_read, table_after, IsTabling, traced, IsTracing};
 
-use crate::dump_reader::{find_sources, join};
+use crate::dump_reader::{find_sources, find_strobe, join};
 use crate::fault::{CaptureFault, CaptureRefusal, copy_of};
 use crate::inferring::Stamped;
 use crate::reading::Setup;
@@ -109,7 +109,8 @@ impl<A: Allocator + Clone> TableReader<A> {
         ensures err { IfErr result (λ e. (stamped : List Stamped) (more : List ℕ) → IsRefusalOf e (table_read setup.now stamped (table_before table.entry more))) }
     {
         let sources = find_sources(copy_of(&alloc)?, setup, table.variables.as_slice())?;
-        let tracer = Tracer::begun(copy_of(&alloc)?, setup, sources)?;
+        let strobe = find_strobe(table.variables.as_slice());
+        let tracer = Tracer::begun(copy_of(&alloc)?, setup, sources, strobe)?;
         let names = join(copy_of(&alloc)?, table.body.names(), &[])?;
         let left = join(copy_of(&alloc)?, table.body.rest(), tail)?;
         Ok(TableReader {

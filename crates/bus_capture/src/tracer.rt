@@ -48,6 +48,18 @@ pub(crate) struct Tracer<A: Allocator> {
     inferring: Inferring,
     /// How many strobes rose with no chip enabled.
     pub(crate) unselected: u64,
+    // The code of a data strobe, or one that no signal has, and how often that changed.
+    strobe: u64,
+    pub(crate) strobe_changes: u64,
+}
+
+// A count of changes with one more, where this one is of the data strobe.
+fn counted(count: u64, strobe: u64, code: u64) -> u64 {
+    if code == strobe {
+        count.saturating_add(1)
+    } else {
+        count
+    }
 }
 
 impl<A: Allocator + Clone> Tracer<A> {
@@ -56,6 +68,7 @@ impl<A: Allocator + Clone> Tracer<A> {
         alloc: A,
         setup: &Setup<'_>,
         sources: Vec<Source, A>,
+        strobe: u64,
     ) -> Result<Tracer<A>, CaptureRefusal>
         requires few { setup.now.targets ≤ 4 }
         ensures traced { IfOk result (λ t. (stamped : List Stamped) (told : List Told) → traced t stamped told ≡ items_told setup.now sources.items stamped told) }
@@ -74,6 +87,8 @@ impl<A: Allocator + Clone> Tracer<A> {
             observed: Vec::new(copy),
             inferring: Inferring::begun(&setup.geometry, setup.targets, tells),
             unselected: 0,
+            strobe,
+            strobe_changes: 0,
         })
     }
 
@@ -110,6 +125,7 @@ impl<A: Allocator + Clone> Tracer<A> {
     {
         match event {
             Event::Change { code, bits } => {
+                self.strobe_changes = counted(self.strobe_changes, self.strobe, code);
                 let lines = sources_at(self.sources.as_slice(), self.spans.as_slice(), code);
                 if self.sampler.change(lines, code, bits) {
                     self.beside = true;

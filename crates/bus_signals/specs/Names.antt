@@ -139,3 +139,7 @@ is_other Other = true
 -- what a name tells, given as a number
 abbrev pub named : ℕ → Meaning
 named plain = if is_other (bare plain).family then (if is_other (marked plain).family then of_model plain else marked plain) else bare plain
+
+-- the data strobe of a bus of double data rate: DQS, DQS_t or DQS_p
+abbrev pub is_data_strobe : ℕ → Bool
+is_data_strobe plain = is_called plain (codes "dqs") || (is_called plain (codes "dqst") || is_called plain (codes "dqsp"))

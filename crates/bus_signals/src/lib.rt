@@ -12,7 +12,7 @@ mod spot;
 pub use carrier::{Carrier, carriers_of};
 pub use fault::{RoleFault, RoleRefusal};
 pub use mapping::Mapping;
-pub use names::{Family, Meaning, named, plain_of};
+pub use names::{Family, Meaning, is_data_strobe, named, plain_of};
 pub use role::Role;
 pub use source::{Source, sources_of};
 pub use spot::{Spot, place_in};

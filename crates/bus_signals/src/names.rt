@@ -1,7 +1,7 @@
 //! What a signal is called: its name as a number, and what that tells.
 ghost use Rattle.std.specs.Prelude.{◌≡◌, ◌==◌, ◌+◌, ◌*◌, ◌/◌, ◌%◌, ◌<◌, nat_lt, IfSome};
 ghost use Rattle.vcd_text.specs.Tokens.{is_digit};
-ghost use Rattle.bus_signals.specs.Names.{is_separator, lower, may_go_on, plain_after, plain_of, digit_of, stem_of, is_low_mark, is_enable, is_we, is_re, is_dq, is_ready_busy, low_family_of, family_of, bare, marked, model_family_of, of_model, is_other, named, number_of};
+ghost use Rattle.bus_signals.specs.Names.{is_separator, lower, may_go_on, plain_after, plain_of, digit_of, stem_of, is_low_mark, is_enable, is_we, is_re, is_dq, is_ready_busy, low_family_of, family_of, bare, marked, model_family_of, of_model, is_other, named, number_of, is_data_strobe};
 
 // The names below, each as its characters one after the other.
 // `ce`
@@ -46,6 +46,13 @@ const BUSY: u64 = 0x6275_7379;
 const ARRAY: u64 = 0x61_7272_6179;
 // `fail`
 const FAIL: u64 = 0x6661_696c;
+
+// `dqs`
+const DQS: u64 = 0x64_7173;
+// `dqst`
+const DQS_TRUE: u64 = 0x6471_7374;
+// `dqsp`
+const DQS_POSITIVE: u64 = 0x6471_7370;
 
 /// What a signal is, by its name.
 #[derive(Clone, Copy, Debug, PartialEq, Eq)]
@@ -318,4 +325,12 @@ pub fn named(plain: u64) -> Meaning
         return marked;
     }
     of_model(plain)
+}
+
+/// A signal of this name is the data strobe of a bus of double data rate, `DQS` or `DQS_t`.
+pub fn is_data_strobe(name: &[u8]) -> bool
+    ensures { result ≡ is_data_strobe (plain_of name.now) }
+{
+    let plain = plain_of(name);
+    plain == DQS || plain == DQS_TRUE || plain == DQS_POSITIVE
 }

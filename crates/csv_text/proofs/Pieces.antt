@@ -61,8 +61,3 @@ pub lines_before : (count : ℕ) (text : List ℕ) → 0 < count → count ≤ l
 lines_before count text some within feed =
     let last : suc (count - 1) ≡ count = omega (arith, some) in
     subst (λ n. AreLines (take n text)) last (are_lines (take (suc (count - 1)) text) (ends_after (count - 1) text (omega (arith, some, within)) feed))
-
--- the first row of a whole text
-pub first_row : (text : List ℕ) (old new : Rows) (row : Option Row) → rows_left old ≡ rows text
-    → ((more : List ℕ) → MayFollow old.rest.now more → rows_before old more ≡ with_row row (rows_before new more)) → rows text ≡ with_row row (rows_before new [])
-first_row text old new row whole step = sym whole ∙ (ap (rows_from old.line []) (sym (append-nil old.rest.now)) ∙ step [] tt)

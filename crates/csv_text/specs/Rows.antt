@@ -1,5 +1,5 @@
--- The rows of a CSV: its lines but those that are empty or comments.
-use Rattle.std.specs.Prelude.{◌≡◌, ⊤, ℕ, ◌+◌, ◌==◌, not, Bool, false, if◌then◌else◌, List, [], ◌∷◌, ◌++◌}
+-- The rows of a CSV: its lines but those that are empty.
+use Rattle.std.specs.Prelude.{◌≡◌, ⊤, ℕ, ◌+◌, ◌==◌, ◌&&◌, ◌||◌, Bool, true, false, if◌then◌else◌, List, [], ◌∷◌, ◌++◌}
 use Rattle.std.specs.Str.Lines.{strip_carriage_return}
 use Rattle.csv_text.specs.Fields.{trim_front}
 
@@ -7,13 +7,13 @@ pub record Row : Type 0 where
   pub line : ℕ
   pub text : List ℕ
 
--- a line isn't a row if nothing stands in it, or a semicolon (59) at its front
-abbrev pub begins_row : List ℕ → Bool
-begins_row [] = false
-begins_row (b ∷ bytes) = not (b == 59)
+-- a line isn't a row if nothing stands in it
+abbrev pub is_some_text : List ℕ → Bool
+is_some_text [] = false
+is_some_text (b ∷ bytes) = true
 
 abbrev pub is_row : List ℕ → Bool
-is_row text = begins_row (trim_front text)
+is_row text = is_some_text (trim_front text)
 
 -- a line that has ended, in front of other rows
 abbrev pub with_row : ℕ → List ℕ → List Row → List Row
@@ -31,6 +31,26 @@ rows_from line front (b ∷ bytes) = if b == 10 then ended line front (rows_from
 -- the rows of a file
 abbrev pub rows : List ℕ → List Row
 rows text = rows_from 1 [] text
+
+-- ---- rows that are no values
+
+-- META and a space, as sigrok-cli writes it
+abbrev pub begins_meta : List ℕ → Bool
+begins_meta (a ∷ b ∷ c ∷ d ∷ e ∷ text) = (a == 77) && (b == 69 && (c == 84 && (d == 65 && e == 32)))
+begins_meta _ = false
+
+abbrev pub begins_note : List ℕ → Bool
+begins_note [] = false
+begins_note (b ∷ text) = b == 59 || begins_meta (b ∷ text)
+
+-- a comment: a semicolon (59) stands at its front; or a line META of sigrok-cli
+abbrev pub is_note : List ℕ → Bool
+is_note text = begins_note (trim_front text)
+
+-- the rows without comments
+abbrev pub values : List Row → List Row
+values [] = []
+values (row ∷ rows) = if is_note row.text then values rows else row ∷ values rows
 
 -- ---- a text in pieces
 

@@ -2,12 +2,12 @@
 ghost use Rattle.std.specs.Prelude.{◌≡◌, ℕ, ◌+◌, ◌<◌, ◌≤◌, ◌^◌, List, [], ◌++◌, length, take, drop, IfSome, IfNone};
 ghost use Rattle.std.specs.Str.Lines.{strip_carriage_return};
 ghost use Rattle.csv_text.specs.Fields.{is_blank, trim_front};
-ghost use Rattle.csv_text.specs.Rows.{is_row, ended, rows_from, rows, AreLines, MayFollow};
-ghost use Rattle.csv_text.specs.Shown.{rows_left, rows_before, with_row};
+ghost use Rattle.csv_text.specs.Rows.{is_row, begins_meta, is_note, ended, rows_from, rows, values, AreLines, MayFollow};
+ghost use Rattle.csv_text.specs.Shown.{rows_left, rows_before, values_before, with_row};
 
 use crate::fields::trim_front;
 
-/// A line that is neither empty nor a comment, and its number, from 1.
+/// A line that isn't empty, and its number, from 1.
 #[derive(Clone, Copy, Debug)]
 pub struct Row<'a> {
     pub line: usize,
@@ -21,13 +21,33 @@ pub struct Rows<'a> {
     pub(crate) rest: &'a [u8],
 }
 
-// A line is a row if it has more than blanks, and no semicolon in front.
+// A line is a row if it has more than blanks.
 fn is_row(text: &[u8]) -> bool
     ensures { result ≡ is_row text.now }
 {
     match trim_front(text) {
         [] => false,
-        [first, ..] => *first != b';',
+        [_, ..] => true,
+    }
+}
+
+fn begins_meta(text: &[u8]) -> bool
+    ensures { result ≡ begins_meta text.now }
+{
+    match text {
+        [b'M', b'E', b'T', b'A', b' ', ..] => true,
+        _ => false,
+    }
+}
+
+/// A row is a comment if a semicolon stands at its front; and so is a line `META` of sigrok-cli.
+pub fn is_note(text: &[u8]) -> bool
+    ensures { result ≡ is_note text.now }
+{
+    let front = trim_front(text);
+    match front {
+        [] => false,
+        [first, ..] => *first == b';' || begins_meta(front),
     }
 }
 
@@ -129,6 +149,24 @@ impl<'a> Rows<'a> {
     {
         'lines: while !self.rest.is_empty() {
             if let Some(row) = self.take_line() {
+                return Some(row);
+            }
+        }
+        None
+    }
+    /// The next row that is no comment.
+    pub fn next_values(&mut self) -> Option<Row<'a>>
+        requires room { self.old.line + length self.old.rest.now < 2 ^ 64 }
+        ensures rows { (more : List ℕ) → MayFollow self.old.rest.now more → values_before self.old more ≡ with_row result (values_before self.new more) }
+        ensures follows { (more : List ℕ) → MayFollow self.old.rest.now more → MayFollow self.new.rest.now more }
+        ensures none { IfNone result (self.new.rest.now ≡ []) }
+        ensures room { self.new.line + length self.new.rest.now ≤ self.old.line + length self.old.rest.now }
+        ensures line { self.old.line ≤ self.new.line }
+        ensures shorter { IfSome result (λ _. length self.new.rest.now < length self.old.rest.now) }
+        ensures within { IfSome result (λ r. length r.text.now + length self.new.rest.now ≤ length self.old.rest.now) }
+    {
+        'rows: while let Some(row) = self.next_row() {
+            if !is_note(row.text) {
                 return Some(row);
             }
         }

@@ -1,29 +1,47 @@
 ghost use Rattle.std.specs.Prelude.{◌<◌, IfSome};
 ghost use Rattle.csv_text.specs.Shown.{HasRoom, bytes_left};
 
-use csv_text::{Body, Fields, Rows, read_table, time_of};
+use csv_text::{Body, Fields, Moment, Rows, moment_of, read_table};
 use std::alloc::Global;
 use std::process::Abort;
 use std::test::Fail;
 use vcd_text::{DumpFault, Event, HeaderRefusal, LineFault};
 
-const TIMES: &[(&str, Option<u64>)] = &[
-    ("0", Some(0)),
-    ("1200", Some(1_200)),
-    ("0.000000000", Some(0)),
-    ("0.000000025", Some(25_000)),
-    ("2.5", Some(2_500_000_000_000)),
-    ("3.", Some(3_000_000_000_000)),
+// A time in a column of seconds or not, and what it is: before a trigger or after it, and how long.
+const TIMES: &[(&str, bool, Option<(bool, u64)>)] = &[
+    ("0", false, Some((false, 0))),
+    ("1200", false, Some((false, 1_200))),
+    ("1200", true, Some((false, 1_200_000_000_000_000))),
+    ("0.000000000", false, Some((false, 0))),
+    ("0.000000025", false, Some((false, 25_000))),
+    ("2.5", false, Some((false, 2_500_000_000_000))),
+    ("3.", false, Some((false, 3_000_000_000_000))),
     // What is less than a picosecond is cut.
-    ("0.0000000000019", Some(1)),
-    ("18446743.999999999999", Some(18_446_743_999_999_999_999)),
-    ("18446744.0", None),
-    ("", None),
-    (".5", None),
-    ("-0.5", None),
-    ("1e-6", None),
-    ("0.5 s", None),
-    ("0.0.1", None),
+    ("0.0000000000019", false, Some((false, 1))),
+    (
+        "18446743.000000000000",
+        false,
+        Some((false, 18_446_743_000_000_000_000)),
+    ),
+    ("18446744.0", false, None),
+    ("", false, None),
+    (".5", false, None),
+    ("-0.5", false, Some((true, 500_000_000_000))),
+    ("-12", false, Some((true, 12))),
+    ("--1", false, None),
+    // As DSView writes them.
+    ("1e-06", true, Some((false, 1_000_000))),
+    ("1.04e-05", true, Some((false, 10_400_000))),
+    ("1E-6", false, Some((false, 1_000_000))),
+    ("-2.5e-7", true, Some((true, 250_000))),
+    ("5e-12", false, Some((false, 5))),
+    ("5e-13", false, None),
+    ("1e6", false, None),
+    ("1e", false, None),
+    // A comma for a point.
+    ("0,5", false, Some((false, 500_000_000_000))),
+    ("0.5 s", false, None),
+    ("0.0.1", false, None),
 ];
 
 // A row and its fields.
@@ -72,25 +90,39 @@ const REFUSED: &[(&str, DumpFault, usize)] = &[
     ("A,B\n0,1,\n", DumpFault::OtherFieldCount, 2),
     ("A,B\n0,1\n\n0,2\n", DumpFault::BadSignal, 4),
     ("time,B\n0,1\n,1\n", DumpFault::BadRowTime, 3),
+    (
+        "META samplerate: 100\n\t\n1\t0\n",
+        DumpFault::NoColumnNames,
+        3,
+    ),
+    ("A;B\n0,1\n", DumpFault::OtherFieldCount, 2),
+    // Only the first row says how long before a trigger that is.
+    ("Time,B\n-5,1\n-6,1\n", DumpFault::RowGoesBack, 3),
+    ("Time,B\n0,1\n-1,1\n", DumpFault::RowGoesBack, 3),
     ("Time,B\n2,1\n1,1\n", DumpFault::RowGoesBack, 3),
     // The number of fields is looked at first, and then the time.
     ("Time,B\nx,y,z\n", DumpFault::OtherFieldCount, 2),
     ("Time,B\nx,y\n", DumpFault::BadRowTime, 2),
 ];
 
+fn as_pair(moment: Moment) -> (bool, u64) {
+    (moment.is_negative, moment.size)
+}
+
 #[test]
 fn times(rt: HostRuntime) {
-    for (text, time) in TIMES {
-        assert_eq!(rt; time_of(text.as_bytes()), *time, "{text:?}");
+    for (text, in_seconds, time) in TIMES {
+        let found = moment_of(*in_seconds, text.as_bytes()).map(as_pair);
+        assert_eq!(rt; found, *time, "{text:?}");
     }
 }
 
 fn try_row(rt: &impl Abort, row: &str, wanted: &[&str]) {
     let mut fields = Fields::of(row.as_bytes());
     for field in wanted {
-        assert_eq!(rt; fields.next_field(), Some(field.as_bytes()), "{row:?}");
+        assert_eq!(rt; fields.next_field(b','), Some(field.as_bytes()), "{row:?}");
     }
-    assert_eq!(rt; fields.next_field(), None, "{row:?}");
+    assert_eq!(rt; fields.next_field(b','), None, "{row:?}");
 }
 
 #[test]
@@ -98,17 +130,17 @@ fn fields_of_rows(rt: HostRuntime) {
     for (row, wanted) in ROWS {
         try_row(&rt, row, wanted);
     }
-    assert_eq!(rt; Fields::none().next_field(), None);
+    assert_eq!(rt; Fields::none().next_field(b','), None);
 }
 
 #[test]
 fn rows_and_other_lines(rt: HostRuntime) {
     let mut rows = Rows::of(b"; note\r\na,b\r\n \t\n\n;\n0,1");
-    let first = rows.next_row().map(|row| (row.line, row.text));
-    let second = rows.next_row().map(|row| (row.line, row.text));
+    let first = rows.next_values().map(|row| (row.line, row.text));
+    let second = rows.next_values().map(|row| (row.line, row.text));
     assert_eq!(rt; first, Some((2, "a,b".as_bytes())));
     assert_eq!(rt; second, Some((6, "0,1".as_bytes())));
-    assert!(rt; rows.next_row().is_none());
+    assert!(rt; rows.next_values().is_none());
 }
 
 // An event as it is told.

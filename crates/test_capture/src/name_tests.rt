@@ -5,12 +5,17 @@ use std::process::Abort;
 use std::test::Fail;
 
 // Names that are those of the lines, and of one that isn't what it is in their place.
-const NAMES: [(&str, &str); 12] = [
+const NAMES: [(&str, &str); 17] = [
     ("CE#", "nCE0"),
     ("CE#", "CE_n"),
     ("CE#", "CE0_N"),
     ("CE#", "CE_b [0]"),
     ("CLE", "cle"),
+    ("WE#", "WEn"),
+    ("RE#", "RE_B"),
+    ("R/B#", "R/B_n"),
+    ("R/B#", "RY_BY#"),
+    ("R/B#", "RnB"),
     ("WE#", "/WE"),
     ("WE#", "WEN"),
     ("RE#", "nRE"),

@@ -5,7 +5,7 @@ use seq_inputs::Console;
 use std::alloc::Global;
 use std::process::Abort;
 use std::test::Fail;
-use trace_commands::{CaptureRequest, Targets, capture_trace};
+use trace_commands::{CaptureRequest, Targets, capture_trace, print_capture};
 use trace_text::NoProgress;
 
 // A status command and its output, as an analyzer records them whose channels have names of their own.
@@ -126,7 +126,7 @@ fn a_signal_that_is_not_found(rt: HostRuntime) -> Result<(), Fail> {
         &seen,
         1,
         "refused G3 at 0\n",
-        "bus.vcd: no signal is RE by its name: say which one it is by --map RE=NAME (G3)\n",
+        "bus.vcd: no signal is RE by its name: say which one it is by --map RE=NAME; the signals are `CS, CLE, ALE, P17, P18, DQ[7:0]` (G3)\n",
     )?;
     assert_eq!(rt; seen.files.get("bus.trace"), None);
     Ok(())
@@ -263,4 +263,89 @@ fn long_captures(rt: HostRuntime) -> Result<(), Fail> {
     )?;
     assert_eq!(rt; seen.files.get("bus.trace"), None);
     Ok(())
+}
+
+// ---- into a pipe, and what looks wrong
+
+// What comes of a capture whose trace is printed.
+fn see_printed(alloc: Global, capture: &str, request: CaptureRequest<'_>) -> Result<Seen, Fail> {
+    let mut files = MapFiles::new(alloc);
+    files.put("die.page", &Geometry::of(SMALL_CHIP)?.page())?;
+    files.put("bus.vcd", capture.as_bytes())?;
+    let mut console = Console {
+        output: Vec::new(alloc),
+        errors: Vec::new(alloc),
+        progress: NoProgress,
+    };
+    let exit = print_capture(alloc, &mut files, &mut console, request);
+    let Console { output, errors, .. } = console;
+    Ok(Seen {
+        status: exit.status(),
+        output,
+        errors,
+        files,
+    })
+}
+
+#[test]
+fn a_trace_that_is_printed(rt: HostRuntime) -> Result<(), Fail> {
+    let seen = see_printed(rt.alloc(), CAPTURE, REQUEST)?;
+    expect(
+        &rt,
+        &seen,
+        0,
+        "0 C 70\n0 O e0\n",
+        "items: 2\nstrobes left out, as no chip of this channel was enabled: 1\n",
+    )?;
+    let request = CaptureRequest {
+        mappings: Some("CE=CS,WE=P17"),
+        ..REQUEST
+    };
+    let refused = see_printed(rt.alloc(), CAPTURE, request)?;
+    assert_eq!(rt; refused.status, 1);
+    Ok(())
+}
+
+// WE and RE the other way round: the first strobe of RE# rises where CLE is high.
+#[test]
+fn strobes_that_are_swapped(rt: HostRuntime) -> Result<(), Fail> {
+    let seen = see(rt.alloc(), CAPTURE, Some("CE=CS,WE=P18,RE=P17"))?;
+    expect(
+        &rt,
+        &seen,
+        1,
+        "refused G6 at 20\n",
+        "bus.vcd: time 20: CLE or ALE is high where RE# rises: WE and RE look swapped, say which one is which by --map WE=NAME,RE=NAME (G6)\n",
+    )
+}
+
+// A capture in which a data strobe toggles, and no chip is enabled.
+const STROBED: &str = "$timescale 1 ns $end\n\
+$var wire 1 c CE# $end\n\
+$var wire 1 l CLE $end\n\
+$var wire 1 a ALE $end\n\
+$var wire 1 w WE# $end\n\
+$var wire 1 r RE# $end\n\
+$var wire 1 s DQS_t $end\n\
+$var wire 8 d DQ [7:0] $end\n\
+$enddefinitions $end\n\
+#0\n\
+1c 0l 0a 1w 1r 0s bz d\n\
+#2\n\
+1s\n\
+#4\n\
+0s\n\
+#6\n\
+1s\n";
+
+#[test]
+fn a_data_strobe(rt: HostRuntime) -> Result<(), Fail> {
+    let seen = see(rt.alloc(), STROBED, None)?;
+    expect(
+        &rt,
+        &seen,
+        0,
+        "ok\n",
+        "items: 0\n0 items: no cycle is in the capture\nDQS changes 4 times: data that it strobes (NV-DDR) isn't sampled\n",
+    )
 }

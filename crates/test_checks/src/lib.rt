@@ -19,3 +19,5 @@ mod lint_tests;
 mod middle_tests;
 #[cfg(test)]
 mod unshown_tests;
+#[cfg(test)]
+mod vendor_tests;

@@ -7,7 +7,7 @@ use Rattle.csv_text.proofs.table.variables_of.Given as goal
 
 abbrev pub invariant-names : goal.invariant-names
 invariant-names g l = record {
-  same : shown_variables l.variables.items ++ variables_from l.code (fields_in (option_copied l.left.rest)) ≡ variables_from l.first (fields_in (option_copied l.names.rest));
+  same : shown_variables l.variables.items ++ variables_from l.code (fields_in l.separator (option_copied l.left.rest)) ≡ variables_from l.first (fields_in l.separator (option_copied l.names.rest));
   room : l.code + room_in (option_copied l.left.rest) < 2 ^ 64;
 }
 

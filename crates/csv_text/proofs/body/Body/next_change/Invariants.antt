@@ -9,6 +9,8 @@ invariant-fields l = record {
   same : (later : List Told) → with_row_left l.self later ≡ with_row_left l.initial.self later;
   rows : l.self.rows ≡ l.initial.self.rows;
   told : (more : List ℕ) → told_rows l.self more ≡ told_rows l.initial.self more;
+  form : l.self.form ≡ l.initial.self.form;
+  separator : l.separator ≡ l.initial.self.form.separator;
   names : l.self.names ≡ l.initial.self.names;
   room : HasRoom l.self;
   less : bytes_left l.self ≤ bytes_left l.initial.self;

@@ -1,0 +1,113 @@
+-- What a vendor file says: its sequences one after the other, each as its first command and its steps, or the first line that is at fault.
+use Rattle.std.specs.Prelude.{ℕ, ◌+◌, ◌==◌, ◌&&◌, ◌||◌, not, Bool, true, false, if◌then◌else◌, List, [], ◌∷◌, ◌++◌, replicate, Option, Some, None, Result, Ok, Err}
+use Rattle.micro_asm.specs.Line.{fields, before_comment}
+use Rattle.micro_asm.specs.Reading.{lines}
+use Rattle.onfi_cycle.specs.Command.{command, is_known, takes_address}
+use Rattle.onfi_cycle.specs.declared.command.Command.{Command as Named}
+use Rattle.onfi_cycle.specs.declared.command.Command.TheVariants.{ReadId, ReadParameterPage}
+use Rattle.vendor_file.specs.declared.fault.VendorFault.{VendorFault}
+use Rattle.vendor_file.specs.declared.fault.VendorFault.TheVariants.{BadForm, KnownCommand, Twice}
+use Rattle.vendor_file.specs.declared.fault.VendorFileFault.{VendorFileFault}
+use Rattle.vendor_file.specs.declared.step.Step.{Step}
+use Rattle.vendor_file.specs.declared.step.Step.TheVariants.{Begin, Address, Inputs, Outputs, Ready}
+use Rattle.vendor_file.specs.declared.token.Token.{Token}
+use Rattle.vendor_file.specs.Tokens.{byte_of, token_of}
+
+-- ---- a line
+
+-- a ready is the last step, and any number of data cycles is the last but for that
+abbrev pub is_ready : Step → Bool
+is_ready Ready = true
+is_ready _ = false
+
+abbrev pub is_any_number : Step → Bool
+is_any_number Inputs = true
+is_any_number Outputs = true
+is_any_number _ = false
+
+abbrev pub may_go_on : (before next : Step) → Bool
+may_go_on before next = not (is_ready before) && (not (is_any_number before) || is_ready next)
+
+-- what is written so far, and its last step
+pub record Written : Type 0 where
+  pub steps : List Step
+  pub last : Step
+
+-- with what a word stands for
+abbrev pub with_token : Written → Option Token → Result Written VendorFault
+with_token w None = Err BadForm
+with_token w (Some t) = if may_go_on w.last t.step then Ok (record { steps = w.steps ++ replicate t.count t.step; last = t.step }) else Err BadForm
+
+abbrev pub with_next : Result Written VendorFault → (Written → Result (List Step) VendorFault) → Result (List Step) VendorFault
+with_next (Ok w) later = later w
+with_next (Err fault) later = Err fault
+
+abbrev pub steps_from : Written → List (List ℕ) → Result (List Step) VendorFault
+steps_from w [] = Ok w.steps
+steps_from w (field ∷ more) = with_next (with_token w (token_of field)) (λ w. steps_from w more)
+
+abbrev pub begun_by : ℕ → Written
+begun_by byte = record { steps = Begin byte ∷ []; last = Begin byte }
+
+abbrev pub sequence_by : Option ℕ → List (List ℕ) → Result (List Step) VendorFault
+sequence_by None words = Err BadForm
+sequence_by (Some byte) words = steps_from (begun_by byte) words
+
+-- ---- what may begin one
+
+-- the command is one of the profile's, declared or not
+abbrev pub is_profile : ℕ → Bool
+is_profile byte = is_known (command byte)
+
+-- an address that the profile hasn't of 90 or EC
+abbrev pub is_other : Named → ℕ → Bool
+is_other ReadId byte = not (takes_address ReadId byte)
+is_other ReadParameterPage byte = not (takes_address ReadParameterPage byte)
+is_other _ byte = false
+
+abbrev pub begins_otherwise : Named → List Step → Bool
+begins_otherwise c (Address byte ∷ steps) = is_other c byte
+begins_otherwise c _ = false
+
+-- a command of the profile begins none but with such an address
+abbrev pub is_free : List Step → Bool
+is_free (Begin byte ∷ steps) = not (is_profile byte) || begins_otherwise (command byte) steps
+is_free _ = false
+
+abbrev pub is_same_address : (first second : List Step) → Bool
+is_same_address (Address a ∷ first) (Address b ∷ second) = a == b
+is_same_address _ _ = false
+
+-- two sequences begin with one command, and where that is one of the profile's with one address
+abbrev pub begin_alike : (first second : List Step) → Bool
+begin_alike (Begin a ∷ first) (Begin b ∷ second) = a == b && (not (is_profile a) || is_same_address first second)
+begin_alike _ _ = false
+
+abbrev pub stands_in : (line before : List Step) → Bool
+stands_in line [] = false
+stands_in line (step ∷ before) = begin_alike line (step ∷ before) || stands_in line before
+
+-- ---- all lines
+
+-- a sequence after those before it
+abbrev pub placed : List Step → Result (List Step) VendorFault → Result (List Step) VendorFault
+placed before (Err fault) = Err fault
+placed before (Ok line) = if is_free line then (if stands_in line before then Err Twice else Ok (before ++ line)) else Err KnownCommand
+
+-- the words of a line after the sequences before it
+abbrev pub line_after : List Step → List (List ℕ) → Result (List Step) VendorFault
+line_after before [] = Ok before
+line_after before (first ∷ words) = placed before (sequence_by (byte_of first) words)
+
+abbrev pub with_line : ℕ → Result (List Step) VendorFault → (List Step → Result (List Step) VendorFileFault) → Result (List Step) VendorFileFault
+with_line n (Ok steps) later = later steps
+with_line n (Err fault) later = Err (record { fault = fault; line = n })
+
+-- lines from number n on, after these sequences
+abbrev pub read_from : ℕ → List Step → List (List ℕ) → Result (List Step) VendorFileFault
+read_from n before [] = Ok before
+read_from n before (line ∷ more) = with_line n (line_after before (fields (before_comment line))) (λ steps. read_from (n + 1) steps more)
+
+-- a whole file
+abbrev pub sequences_in : List ℕ → Result (List Step) VendorFileFault
+sequences_in text = read_from 1 [] (lines text)
