@@ -1,5 +1,7 @@
 use std::test::Fail;
-use trace_timing::{TimingFileFault, TimingFileRefusal, read_timings, timings_of};
+use trace_timing::{
+    PageTimes, TimingFileFault, TimingFileRefusal, TimingMode, read_timings, timings_of,
+};
 
 // A timing file that is refused, with its fault and its line.
 const REFUSED: [(&str, TimingFileFault, usize); 9] = [
@@ -21,7 +23,7 @@ const REFUSED: [(&str, TimingFileFault, usize); 9] = [
 #[test]
 fn refused(rt: HostRuntime) -> Result<(), Fail> {
     for (text, told, line) in REFUSED {
-        match read_timings(text) {
+        match read_timings(text, PageTimes::NONE) {
             Ok(_) => assert!(rt; false, "{text}"),
             Err(TimingFileRefusal { fault, line: at }) => {
                 assert_eq!(rt; (fault, at), (told, line));
@@ -32,25 +34,25 @@ fn refused(rt: HostRuntime) -> Result<(), Fail> {
 }
 
 // A file that is taken, the mode that it stands on, and its tADL, tWHR and tWC in femtoseconds.
-const TAKEN: [(&str, u8, u64, u64, u64); 4] = [
-    ("", 0, 400_000_000, 120_000_000, 100_000_000),
+const TAKEN: [(&str, TimingMode, u64, u64, u64); 4] = [
+    ("", TimingMode::Zero, 400_000_000, 120_000_000, 100_000_000),
     (
         "# a chip of ONFI 2\nmode 4\ntADL 70\n",
-        4,
+        TimingMode::Four,
         70_000_000,
         80_000_000,
         25_000_000,
     ),
     (
         "tWHR\t60.5 # ns\ntWC 0.1 us\ntR 25 us\n",
-        0,
+        TimingMode::Zero,
         400_000_000,
         60_500_000,
         100_000_000,
     ),
     (
         "mode 5\ntADL 70000 ps\n",
-        5,
+        TimingMode::Five,
         70_000_000,
         80_000_000,
         20_000_000,
@@ -60,11 +62,11 @@ const TAKEN: [(&str, u8, u64, u64, u64); 4] = [
 #[test]
 fn taken(rt: HostRuntime) -> Result<(), Fail> {
     for (text, mode, t_adl, t_whr, t_wc) in TAKEN {
-        let read = read_timings(text).ok();
+        let read = read_timings(text, PageTimes::NONE).ok();
         let kept = read.map(|timings| (timings.t_adl, timings.t_whr, timings.t_wc));
         assert_eq!(rt; kept, Some((t_adl, t_whr, t_wc)));
         let same = read.map(|timings| timings.t_wb);
-        assert_eq!(rt; same, timings_of(mode).map(|timings| timings.t_wb));
+        assert_eq!(rt; same, Some(timings_of(mode, PageTimes::NONE).t_wb));
     }
     Ok(())
 }

@@ -4,4 +4,6 @@
 #[cfg(test)]
 mod file_tests;
 #[cfg(test)]
+mod ops_tests;
+#[cfg(test)]
 mod pause_tests;

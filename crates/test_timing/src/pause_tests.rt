@@ -3,7 +3,7 @@ use std::alloc::Global;
 use std::process::Abort;
 use std::test::Fail;
 use trace_text::parse;
-use trace_timing::{Ruler, TimedItem, TimingFault, find_violations, read_timings};
+use trace_timing::{PageTimes, Ruler, TimedItem, TimingFault, find_violations, read_timings};
 
 // Femtoseconds in a picosecond and in a nanosecond.
 const PICOSECOND: u64 = 1_000;
@@ -164,7 +164,7 @@ fn compare_told(
     items: &[TimedItem],
     told: &[(TimingFault, usize)],
 ) -> Result<(), Fail> {
-    let Ok(timings) = read_timings(judged.timings) else {
+    let Ok(timings) = read_timings(judged.timings, PageTimes::NONE) else {
         return Err(Fail::from("the timing file is refused"));
     };
     let ruler = Ruler {

@@ -18,7 +18,7 @@ use Rattle.trace_text.specs.declared.recorded_item.RecordedItem.{RecordedItem}
 use Rattle.trace_text.specs.declared.recorded_item.TimedItem.{TimedItem}
 use Rattle.trace_text.specs.Line.{line, text, IsPrintable, is_printable_item, HasByte}
 use Rattle.trace_text.specs.Reading.{reading, IsRefusalOf}
-use Rattle.trace_text.specs.Recorded.{IsFault, recorded_line, Told, after_line, told_from, told, collecting, recorded, found_in, first_fault, TimeFits, timed_line, timed_text, plain, timed, RecordedTakesStrict}
+use Rattle.trace_text.specs.Recorded.{IsFault, recorded_line, Told, after_line, told_from, told, collecting, recorded, gathering, found_in, first_fault, TimeFits, timed_line, timed_text, plain, timed, RecordedTakesStrict}
 use Rattle.trace_text.proofs.RecordedWords.{front, line_is, recorded_again, timed_front, timed_line_is, timed_again, quiet_front, quiet_timed}
 use Rattle.trace_text.proofs.Texts.{HasNoFeed, is_found}
 use Rattle.trace_text.proofs.Printed.{printable_of, is_printable_of, line_ascii}
@@ -114,6 +114,12 @@ refused done [] is = refl
 refused done (Ok i ∷ later) is = refused (done ++ i.item ∷ []) later is
 refused done (Err (Fault fault line) ∷ later) is = refl
 refused done (Err OutOfMemory ∷ later) is = absurd is
+
+pub refused_timed : (done : List RecordedItem) (ts : List Told) → IfSome (first_fault ts) IsFault → IsRefusalOf (unwrap_or (first_fault ts) OutOfMemory) (gathering done ts)
+refused_timed done [] is = refl
+refused_timed done (Ok i ∷ later) is = refused_timed (done ++ i ∷ []) later is
+refused_timed done (Err (Fault fault line) ∷ later) is = refl
+refused_timed done (Err OutOfMemory ∷ later) is = absurd is
 
 -- ---- what is printed
 

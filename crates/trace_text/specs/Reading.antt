@@ -113,7 +113,7 @@ abbrev pub reading : List ℕ → Result (List Item) TraceRefusal
 reading text = reading_from 1 [] text
 
 -- A refusal is the fault that reading tells; or memory ran out at a text without a fault.
-abbrev pub IsRefusalOf : TraceRefusal → Result (List Item) TraceRefusal → Type 0
+abbrev pub IsRefusalOf : {A : Type 0} → TraceRefusal → Result A TraceRefusal → Type 0
 IsRefusalOf (Fault code line) read = read ≡ Err (Fault code line)
 IsRefusalOf OutOfMemory read = IsOk read
 

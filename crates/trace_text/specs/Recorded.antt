@@ -125,6 +125,15 @@ collecting items (Err refusal ∷ later) = Err refusal
 abbrev pub recorded : List ℕ → Result (List Item) TraceRefusal
 recorded text = collecting [] (told text)
 
+-- the same with their lines and times
+abbrev pub gathering : List RecordedItem → List Told → Result (List RecordedItem) TraceRefusal
+gathering items [] = Ok items
+gathering items (Ok i ∷ later) = gathering (items ++ i ∷ []) later
+gathering items (Err refusal ∷ later) = Err refusal
+
+abbrev pub recorded_items : List ℕ → Result (List RecordedItem) TraceRefusal
+recorded_items text = gathering [] (told text)
+
 -- the item of this number, counted from 0, if no fault stands in front of it
 abbrev pub found_in : ℕ → List Told → Option RecordedItem
 found_in number [] = None

@@ -33,6 +33,7 @@ mod recorded_reading;
 mod refusal;
 mod slip;
 mod time;
+mod timed_reading;
 mod words;
 
 pub use checking::{CheckRefusal, check, check_watched, first_broken};
@@ -45,3 +46,4 @@ pub use recorded_item::{RecordedItem, TimedItem};
 pub use recorded_printing::{is_recording_printable, print_recorded};
 pub use recorded_reading::{find_item, parse_recorded};
 pub use refusal::{TraceFault, TraceRefusal};
+pub use timed_reading::parse_timed;

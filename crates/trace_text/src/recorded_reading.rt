@@ -15,8 +15,8 @@ use crate::refusal::TraceRefusal;
 use onfi_cycle::Item;
 use std::alloc::Allocator;
 
-// The first fault of a text, if it has one. Takes no memory.
-fn first_fault(text: &str) -> Option<TraceRefusal>
+/// The first fault of a text, if it has one. Takes no memory.
+pub(crate) fn first_fault(text: &str) -> Option<TraceRefusal>
     ensures first { result ≡ first_fault (told text.now) }
     ensures fault { IfSome result IsFault }
 {

@@ -1,3 +1,5 @@
+pub mod PageTimes
+pub mod Modes
 pub mod Wanted
 pub mod Clock
 pub mod Watch

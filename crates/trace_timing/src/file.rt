@@ -3,7 +3,8 @@ ghost use Rattle.std.specs.Prelude.{◌≡◌, ◌<◌, ◌^◌, IfOk, IfSome};
 ghost use Rattle.trace_timing.specs.Codes.{timing_file_fault_code};
 ghost use Rattle.trace_timing.specs.Wanted.{AreBounded};
 
-use crate::modes::timings_of;
+use crate::modes::{TimingMode, timings_of};
+use crate::page_times::PageTimes;
 use crate::timings::Timings;
 use thiserror::Error;
 
@@ -114,7 +115,7 @@ fn time_of(number: &str, unit: &str) -> Option<u64>
 // What the lines so far say.
 #[derive(Clone, Copy)]
 struct Given {
-    mode: Option<u8>,
+    mode: Option<TimingMode>,
     // A line came that isn't `mode`.
     has_begun: bool,
     seen: [bool; NAMES.len()],
@@ -124,19 +125,6 @@ struct Given {
 // The place of a name in the list.
 fn find_name(name: &str) -> Option<usize> {
     NAMES.iter().position(|known| *known == name)
-}
-
-// The number of a mode that there is.
-fn mode_of(word: &str) -> Option<u8> {
-    match word {
-        "0" => Some(0),
-        "1" => Some(1),
-        "2" => Some(2),
-        "3" => Some(3),
-        "4" => Some(4),
-        "5" => Some(5),
-        _ => None,
-    }
 }
 
 impl Given {
@@ -155,7 +143,7 @@ impl Given {
         if self.has_begun || self.mode.is_some() {
             return Err(TimingFileFault::OutOfOrder);
         }
-        self.mode = Some(mode_of(word).ok_or(TimingFileFault::BadNumber)?);
+        self.mode = Some(TimingMode::of(word).ok_or(TimingFileFault::BadNumber)?);
         Ok(())
     }
 
@@ -224,9 +212,9 @@ impl Given {
     }
 }
 
-/// The least times that a timing file says, each on top of the mode that it names, or of mode 0. A line has a timing and a decimal number of ns, or of the unit
+/// The least times that a timing file says, each on top of the mode that it names, or of mode 0, for a chip of this parameter page. A line has a timing and a decimal number of ns, or of the unit
 /// behind it; what comes behind `#` is a comment. Errors: the first line with a fault.
-pub fn read_timings(text: &str) -> Result<Timings, TimingFileRefusal>
+pub fn read_timings(text: &str, page: PageTimes) -> Result<Timings, TimingFileRefusal>
     ensures { IfOk result (λ timings. AreBounded timings) }
 {
     let mut given = Given::new();
@@ -238,12 +226,6 @@ pub fn read_timings(text: &str) -> Result<Timings, TimingFileRefusal>
             });
         }
     }
-    match timings_of(given.mode.unwrap_or(0)) {
-        Some(base) => Ok(given.on_top_of(base)),
-        // Each mode that a line takes is there.
-        None => Err(TimingFileRefusal {
-            fault: TimingFileFault::BadNumber,
-            line: 0,
-        }),
-    }
+    let mode = given.mode.unwrap_or(TimingMode::Zero);
+    Ok(given.on_top_of(timings_of(mode, page)))
 }

@@ -1,12 +1,14 @@
 //! Whether the times of a recorded trace keep the pauses of a datasheet or of a timing mode (ONFI 4.x, Timing Parameters).
 //!
 //! [`find_violations`] goes over the items of a trace, each with its time, and tells what comes too soon ([`Violation`]), exactly as `specs/Watch` defines it.
-//! [`timings_of`] has the timing modes 0 to 5. Which pauses there are is `onfi_pauses`.
+//! [`timings_of`] has the timing modes 0 to 5, and [`Margins`] how near a trace comes to each time. Which pauses there are is `onfi_pauses`.
 #![tactic(auto)]
 
 mod clock;
 mod file;
+mod margins;
 mod modes;
+mod page_times;
 mod timing_fault;
 mod timings;
 mod violation;
@@ -14,7 +16,9 @@ mod watch;
 
 pub use clock::{Clock, Pair};
 pub use file::{TimingFileFault, TimingFileRefusal, read_timings};
-pub use modes::timings_of;
+pub use margins::{Margins, Nearest};
+pub use modes::{TimingMode, timings_of};
+pub use page_times::PageTimes;
 pub use timing_fault::TimingFault;
 pub use timings::{Timings, Want};
 pub use violation::Violation;

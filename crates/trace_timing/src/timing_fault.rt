@@ -48,4 +48,19 @@ impl TimingFault {
             TimingFault::Backwards => "T10",
         }
     }
+
+    /// The time of the datasheet that isn't kept; none of what is no distance.
+    pub fn timing(self) -> Option<&'static str> {
+        match self {
+            TimingFault::WriteCycle => Some("tWC"),
+            TimingFault::ReadCycle => Some("tRC"),
+            TimingFault::AddressToInput => Some("tADL"),
+            TimingFault::ToOutput => Some("tWHR"),
+            TimingFault::ColumnChange => Some("tCCS"),
+            TimingFault::OutputToCommand => Some("tRHW"),
+            TimingFault::ReadyToOutput => Some("tRR"),
+            TimingFault::ToBusy => Some("tWB"),
+            TimingFault::NoTimes | TimingFault::Backwards => None,
+        }
+    }
 }

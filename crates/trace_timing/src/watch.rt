@@ -41,8 +41,8 @@ pub struct Watch {
     pub has_pairs: bool,
 }
 
-// The clock of a target.
-fn clock_at(clocks: &[Clock; TARGETS], ce: u8) -> Clock
+/// The clock of a target.
+pub(crate) fn clock_at(clocks: &[Clock; TARGETS], ce: u8) -> Clock
     ensures { result ≡ clock_at clocks.now ce }
 {
     match clocks.get(usize::from(ce)) {
@@ -139,8 +139,8 @@ fn set_clock(clocks: &mut [Clock; TARGETS], ce: u8, clock: Clock)
     }
 }
 
-// The clocks once an item has come.
-fn go_on(clocks: &mut [Clock; TARGETS], item: Item, time: Option<u64>)
+/// The clocks once an item has come.
+pub(crate) fn go_on(clocks: &mut [Clock; TARGETS], item: Item, time: Option<u64>)
     ensures { clocks.new ≡ clocks_after clocks.old item time }
 {
     match item {
@@ -156,15 +156,15 @@ fn go_on(clocks: &mut [Clock; TARGETS], item: Item, time: Option<u64>)
     }
 }
 
-// Where times go back: those before aren't compared with those behind.
-fn cut_all(clocks: &mut [Clock; TARGETS])
+/// Where times go back: those before aren't compared with those behind.
+pub(crate) fn cut_all(clocks: &mut [Clock; TARGETS])
     ensures { clocks.new ≡ map clock_cut clocks.old }
 {
     *clocks = clocks.map(|clock| clock.cut());
 }
 
-// A time is before the latest one.
-fn is_before(latest: Option<u64>, time: Option<u64>) -> bool
+/// A time is before the latest one.
+pub(crate) fn is_before(latest: Option<u64>, time: Option<u64>) -> bool
     ensures { result ≡ is_before latest time }
 {
     match (latest, time) {

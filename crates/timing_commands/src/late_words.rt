@@ -1,0 +1,154 @@
+//! What comes too soon, in words.
+
+use crate::nanoseconds::Nanoseconds;
+use onfi_cycle::{Item, Kind};
+use std::fmt;
+use trace_timing::{TimedItem, TimingFault, Timings, Violation};
+
+/// What comes too soon, with what is said of it: the item before it on its target, and how long its time is made up.
+#[derive(Clone, Copy)]
+pub(crate) struct LateItem {
+    violation: Violation,
+    // The kind of the cycle before it on its target.
+    before: Option<Kind>,
+    // The item before it that has a time.
+    timed_before: Option<usize>,
+    // The pulse that is in what is wanted.
+    pulse: Option<Pulse>,
+}
+
+// A pulse that a time is longer by, in femtoseconds.
+#[derive(Clone, Copy)]
+struct Pulse {
+    name: &'static str,
+    len: u64,
+}
+
+// The kind of a cycle of this target.
+fn kind_on(item: Item, target: u8) -> Option<Kind> {
+    match item {
+        Item::Cyc(cycle) if cycle.ce == target => Some(cycle.kind),
+        Item::Cyc(_) | Item::Rdy { .. } | Item::Ard { .. } => None,
+    }
+}
+
+// The kind of the last cycle of a target among these items.
+fn last_kind(items: &[TimedItem], target: u8) -> Option<Kind> {
+    for timed in items.iter().rev() {
+        if let Some(kind) = kind_on(timed.item, target) {
+            return Some(kind);
+        }
+    }
+    None
+}
+
+// The place of the last of these items that has a time.
+fn last_timed(items: &[TimedItem]) -> Option<usize> {
+    items.iter().rposition(|timed| timed.time.is_some())
+}
+
+// The pulse in what is wanted of an item of this kind.
+fn pulse_of(timings: Timings, fault: TimingFault, kind: Option<Kind>) -> Option<Pulse> {
+    let (name, len) = match (fault, kind) {
+        (TimingFault::ToOutput | TimingFault::ReadyToOutput, _)
+        | (TimingFault::ColumnChange, Some(Kind::Dout)) => ("tRP", timings.t_rp),
+        (TimingFault::OutputToCommand, _) => ("tWP", timings.t_wp),
+        (
+            TimingFault::NoTimes
+            | TimingFault::WriteCycle
+            | TimingFault::ReadCycle
+            | TimingFault::AddressToInput
+            | TimingFault::ColumnChange
+            | TimingFault::ToBusy
+            | TimingFault::Backwards,
+            _,
+        ) => return None,
+    };
+    Some(Pulse { name, len })
+}
+
+impl LateItem {
+    /// What is said of a violation of a trace, by these least times.
+    pub(crate) fn of(violation: Violation, items: &[TimedItem], timings: Timings) -> LateItem {
+        let (front, rest) = items.split_at(violation.item.min(items.len()));
+        let (before, kind) = match rest.first() {
+            None => (None, None),
+            Some(timed) => {
+                let target = timed.item.target();
+                (last_kind(front, target), kind_on(timed.item, target))
+            }
+        };
+        LateItem {
+            violation,
+            before,
+            timed_before: last_timed(front),
+            pulse: pulse_of(timings, violation.fault, kind),
+        }
+    }
+
+    /// The time that isn't kept, and how long it is, in femtoseconds: seen, and wanted. None of what is no distance.
+    pub(crate) fn distance(self) -> Option<(&'static str, u64, u64)> {
+        let Violation {
+            fault,
+            seen,
+            wanted,
+            ..
+        } = self.violation;
+        Some((fault.timing()?, seen, wanted))
+    }
+
+    // What comes before it.
+    fn since(self) -> &'static str {
+        match (self.violation.fault, self.before) {
+            (TimingFault::AddressToInput, _) => "the last address",
+            (TimingFault::ColumnChange, Some(Kind::Adr)) => "the last address of 85h",
+            (TimingFault::ColumnChange, _) => "E0h",
+            (TimingFault::OutputToCommand, _) => "the last output",
+            (TimingFault::ReadyToOutput, _) => "the ready",
+            (TimingFault::ToBusy, Some(Kind::Adr)) => "the address that begins work",
+            (TimingFault::ToBusy, _) => "the command that begins work",
+            (_, Some(Kind::Cmd)) => "the command before",
+            (_, Some(Kind::Adr)) => "the address before",
+            (_, Some(Kind::Din)) => "the input before",
+            (_, Some(Kind::Dout)) => "the output before",
+            (_, None) => "the cycle before",
+        }
+    }
+
+    // How long a time is to be.
+    fn write_wanted<W: fmt::Write>(
+        self,
+        f: &mut fmt::Formatter<W>,
+        timing: &str,
+        wanted: u64,
+    ) -> fmt::Result {
+        match self.pulse {
+            None => write!(f, "{timing} wants {}", Nanoseconds(wanted)),
+            Some(Pulse { name, len }) => write!(
+                f,
+                "{timing} and {name} want {} + {}",
+                Nanoseconds(wanted.saturating_sub(len)),
+                Nanoseconds(len)
+            ),
+        }
+    }
+}
+
+impl fmt::Display for LateItem {
+    fn fmt<W: fmt::Write>(&self, f: &mut fmt::Formatter<W>) -> fmt::Result {
+        let code = self.violation.fault.code();
+        match (self.distance(), self.timed_before) {
+            (Some((timing, seen, wanted)), _) => {
+                write!(f, "{} ns after {}, ", Nanoseconds(seen), self.since())?;
+                self.write_wanted(f, timing, wanted)?;
+            }
+            (None, Some(before)) if self.violation.fault == TimingFault::Backwards => {
+                write!(f, "the time is before that of item {before}")?;
+            }
+            (None, _) => f.write_str(
+                "the trace has no two times to judge: `capture --times` writes them",
+            )?,
+        }
+        write!(f, " ({code})")
+    }
+}

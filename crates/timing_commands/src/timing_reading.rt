@@ -1,0 +1,62 @@
+//! The least times by which a trace is judged.
+ghost use Rattle.std.specs.Prelude.{◌≡◌, IfOk, IfErr};
+ghost use Rattle.trace_timing.specs.Wanted.{AreBounded};
+ghost use Rattle.trace_commands.specs.Endings.{SaysOf};
+ghost use Rattle.timing_commands.specs.Times.{AreTimings, RefusesTiming};
+
+use crate::times_request::TimingSource;
+use seq_files::Files;
+use seq_inputs::{Words, read_file, text_of};
+use std::alloc::Allocator;
+use trace_commands::{RecordingFault, RecordingStop};
+use trace_timing::{PageTimes, TimingFileRefusal, Timings, read_timings, timings_of};
+
+// The fault of a timing file.
+fn fault_of(refusal: TimingFileRefusal) -> RecordingFault
+    ensures { result ≡ RecordingFault.TimingFile refusal.fault refusal.line }
+{
+    let TimingFileRefusal { fault, line } = refusal;
+    RecordingFault::TimingFile { fault, line }
+}
+
+// What is said of it.
+fn words_of<'p, A: Allocator>(
+    alloc: A,
+    path: &'p str,
+    refusal: TimingFileRefusal,
+) -> Option<Words<'p, A>> {
+    let TimingFileRefusal { fault, line } = refusal;
+    Words::at(
+        path,
+        Some(line),
+        format!(in alloc; "{fault} ({})", fault.code()),
+    )
+}
+
+/// The least times that are asked for, for a chip whose page has these.
+pub(crate) fn timings_at<'p, A: Allocator + Clone, F: Files>(
+    alloc: A,
+    files: &mut F,
+    page: PageTimes,
+    source: TimingSource<'p>,
+) -> Result<Timings, RecordingStop<'p, A>>
+    ensures ok { IfOk result (λ t. AreTimings (F.store files.old) source.entry page t) }
+    ensures bounded { IfOk result (λ t. AreBounded t) }
+    ensures err { IfErr result (SaysOf (λ _. ⊥) (RefusesTiming (F.store files.old) source.entry)) }
+    ensures stays { F.store files.new ≡ F.store files.old }
+{
+    match source {
+        TimingSource::Mode(mode) => Ok(timings_of(mode, page)),
+        TimingSource::File(path) => {
+            let bytes = read_file(alloc.clone()?, files, path)?;
+            let text = text_of(path, bytes.as_slice())?;
+            match read_timings(text, page) {
+                Ok(timings) => Ok(timings),
+                Err(refusal) => Err(RecordingStop::Faulty {
+                    fault: fault_of(refusal),
+                    words: words_of(alloc, path, refusal),
+                }),
+            }
+        }
+    }
+}
