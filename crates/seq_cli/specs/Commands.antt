@@ -12,12 +12,15 @@ use Rattle.page_commands.specs.Pages.{IsPageMade, PartsAreRefused}
 use Rattle.trace_commands.specs.declared.recording_fault.RecordingFault.{RecordingFault}
 use Rattle.trace_commands.specs.Recordings.{fault_line}
 use Rattle.trace_commands.specs.Checks.{TraceIsRefused, IsPassed, CheckRefuses, CheckLeaves}
+use Rattle.timing_commands.specs.Times.{IsKept, TimesRefuse}
+use Rattle.operation_commands.specs.Ops.{CanBeListed, IsNoTrace}
 use Rattle.trace_commands.specs.Draws.{IsDrawn}
-use Rattle.trace_commands.specs.Captures.{IsCaptured, CaptureIsRefused}
+use Rattle.trace_commands.specs.Captures.{IsCaptured, IsShownFor, CaptureIsRefused}
+use Rattle.trace_commands.specs.VendorChecks.{IsVendorPassed, VendorCheckRefuses, VendorCheckLeaves}
 use Rattle.seq_run.specs.Runs.{IsRunDone, RunIsRefused, RunMayLeave}
 use Rattle.run_once.specs.Once.{IsProgramRun, ProgramMayBeRefused}
 use Rattle.seq_cli.specs.declared.command.Command.{Command}
-use Rattle.seq_cli.specs.declared.command.Command.TheVariants.{Assemble, AssembleFor, Verify, Lint, Once, Run, Capture, Check, Draw, Disassemble, MakePage, ShowPage, Upgrade}
+use Rattle.seq_cli.specs.declared.command.Command.TheVariants.{Assemble, AssembleFor, Verify, Lint, Once, Run, Capture, PrintCapture, Check, CheckTimes, CheckVendor, ListOperations, Draw, Disassemble, MakePage, ShowPage, Upgrade}
 
 -- the command is done: this was its input, where that is known, this is left and this was printed
 abbrev pub IsDone : Command → (input : Option (List ℕ)) → (files later : Option Store) → (printed : List ℕ) → Type 0
@@ -28,7 +31,11 @@ IsDone (Lint page text output) input files later printed = IsAccepted files page
 IsDone (Once base) input files later printed = IfSome input (λ bytes. IsProgramRun base bytes printed) × (later ≡ files)
 IsDone (Run request) input files later printed = IsRunDone files later request printed
 IsDone (Capture request) input files later printed = IsCaptured files later request × (printed ≡ codes "ok\n")
+IsDone (PrintCapture request) input files later printed = IsShownFor files request printed × (later ≡ files)
 IsDone (Check request) input files later printed = IsPassed files later request true printed
+IsDone (CheckVendor request) input files later printed = IsVendorPassed files later request true printed
+IsDone (CheckTimes request) input files later printed = IsKept files request true printed × (later ≡ files)
+IsDone (ListOperations request) input files later printed = CanBeListed files request × (later ≡ files)
 IsDone (Draw request) input files later printed = IsDrawn files later request × (printed ≡ codes "ok\n")
 IsDone (Disassemble file) input files later printed = IsDisassembled files file.now printed × (later ≡ files)
 IsDone (MakePage parts target) input files later printed = IsPageMade files later parts target.now × (printed ≡ codes "ok\n")
@@ -38,6 +45,8 @@ IsDone (Upgrade file target) input files later printed = IsUpgraded files later 
 -- a trace is legal with readies that are taken for granted, and may not be
 abbrev pub MayAssume : Command → (files later : Option Store) → (printed : List ℕ) → Type 0
 MayAssume (Check request) files later printed = IsPassed files later request false printed
+MayAssume (CheckVendor request) files later printed = IsVendorPassed files later request false printed
+MayAssume (CheckTimes request) files later printed = IsKept files request false printed × (later ≡ files)
 MayAssume _ files later printed = ⊥
 
 -- what a command may refuse, and what it leaves and prints then: one line
@@ -52,7 +61,13 @@ MayRefuse (Lint page text output) input files later refusal printed =
 MayRefuse (Once base) input files later refusal printed = IfSome input (λ bytes. Tells (ProgramMayBeRefused base bytes) refusal) × (later ≡ files) × (printed ≡ line_of refusal)
 MayRefuse (Run request) input files later refusal printed = RunIsRefused files request refusal × (later ≡ files) × (printed ≡ line_of refusal)
 MayRefuse (Capture request) input files later refusal printed = Tells (PageIsRefused files request.page.now) refusal × (later ≡ files) × (printed ≡ line_of refusal)
+MayRefuse (PrintCapture request) input files later refusal printed = Tells (PageIsRefused files request.page.now) refusal × (later ≡ files) × (printed ≡ line_of refusal)
 MayRefuse (Check request) input files later refusal printed = Tells (PageIsRefused files request.page.now) refusal × (later ≡ files) × (printed ≡ line_of refusal)
+MayRefuse (CheckVendor request) input files later refusal printed = Tells (PageIsRefused files request.check.page.now) refusal × (later ≡ files) × (printed ≡ line_of refusal)
+MayRefuse (CheckTimes request) input files later refusal printed =
+    Tells (PageIsRefused files request.check.page.now) refusal × (later ≡ files) × (printed ≡ line_of refusal)
+MayRefuse (ListOperations request) input files later refusal printed =
+    Tells (PageIsRefused files request.page.now) refusal × (later ≡ files) × (printed ≡ line_of refusal)
 MayRefuse (Draw request) input files later refusal printed = Tells (PageIsRefused files request.page.now) refusal × (later ≡ files) × (printed ≡ line_of refusal)
 MayRefuse (Disassemble file) input files later refusal printed = Tells (FileIsRefused files file.now) refusal × (later ≡ files) × (printed ≡ line_of refusal)
 MayRefuse (MakePage parts target) input files later refusal printed = Tells (PartsAreRefused parts) refusal × (later ≡ files) × (printed ≡ line_of refusal)
@@ -62,7 +77,11 @@ MayRefuse (Upgrade file target) input files later refusal printed = Tells (FileI
 -- what a command may find wrong with a trace or a capture, and what it leaves and prints then: one line, but for all faults of a trace
 abbrev pub MayTell : Command → (files later : Option Store) → RecordingFault → (printed : List ℕ) → Type 0
 MayTell (Capture request) files later fault printed = CaptureIsRefused files request fault × (later ≡ files) × (printed ≡ fault_line fault)
+MayTell (PrintCapture request) files later fault printed = CaptureIsRefused files request fault × (later ≡ files) × (printed ≡ fault_line fault)
 MayTell (Check request) files later fault printed = CheckRefuses files later request fault printed
+MayTell (CheckVendor request) files later fault printed = VendorCheckRefuses files later request fault printed
+MayTell (CheckTimes request) files later fault printed = TimesRefuse files request fault printed × (later ≡ files)
+MayTell (ListOperations request) files later fault printed = IsNoTrace files request.input.now fault × (later ≡ files) × (printed ≡ fault_line fault)
 MayTell (Draw request) files later fault printed =
     TraceIsRefused files request.lines request.page.now request.input.now fault × (later ≡ files) × (printed ≡ fault_line fault)
 MayTell _ files later fault printed = ⊥
@@ -76,7 +95,11 @@ MayLeave (Lint page text output) files later = later ≡ files
 MayLeave (Once base) files later = later ≡ files
 MayLeave (Run request) files later = RunMayLeave files later request
 MayLeave (Capture request) files later = (later ≡ files) ⊎ IsCaptured files later request
+MayLeave (PrintCapture request) files later = later ≡ files
 MayLeave (Check request) files later = CheckLeaves files later request
+MayLeave (CheckVendor request) files later = VendorCheckLeaves files later request
+MayLeave (CheckTimes request) files later = later ≡ files
+MayLeave (ListOperations request) files later = later ≡ files
 MayLeave (Draw request) files later = (later ≡ files) ⊎ IsDrawn files later request
 MayLeave (Disassemble file) files later = later ≡ files
 MayLeave (MakePage parts target) files later = (later ≡ files) ⊎ IsPageMade files later parts target.now

@@ -54,6 +54,8 @@ fn say_mistake<W: Write, E: Write, P>(
         | Mistake::Mapping(_)
         | Mistake::NoPage
         | Mistake::PageNumber { .. }
+        | Mistake::Timing(_)
+        | Mistake::Ops(_)
         | Mistake::Paths(_) => {
             let _ = write!(&mut console.errors, "{}", Escaped(&mistake));
             Exit::Usage

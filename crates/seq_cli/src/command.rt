@@ -6,6 +6,7 @@ ghost use Rattle.trace_commands.specs.declared.recording_fault.RecordingFault.{R
 ghost use Rattle.seq_cli.specs.Commands.{IsDone, MayAssume, MayRefuse, MayTell, MayLeave};
 
 use nand_geometry::Parts;
+use operation_commands::{OpsRequest, list_operations};
 use page_commands::{make_page, show_page};
 use run_once::run_program;
 use seq_commands::{
@@ -20,8 +21,10 @@ use std::io::{Read, Write};
 use std::sync::Wait;
 use std::thread::Threads;
 use std::time::Clock;
+use timing_commands::{TimesRequest, TimingSource, check_times};
 use trace_commands::{
-    CaptureRequest, CheckRequest, DrawRequest, Ending, capture_trace, check_trace, draw_trace,
+    CaptureRequest, CheckRequest, DrawRequest, Ending, VendorCheckRequest, capture_trace,
+    check_trace, check_vendor_trace, draw_trace, print_capture,
 };
 use trace_files::TraceOutputs;
 use trace_text::CheckProgress;
@@ -63,8 +66,16 @@ pub enum Command<'a> {
     Run(RunRequest<'a>),
     /// To write the trace that a capture of a bus shows.
     Capture(CaptureRequest<'a>),
+    /// To print the trace that a capture of a bus shows.
+    PrintCapture(CaptureRequest<'a>),
     /// To check whether the trace of a text is legal on a channel.
     Check(CheckRequest<'a>),
+    /// The same, but for the items that belong to a vendor's sequences.
+    CheckVendor(VendorCheckRequest<'a>),
+    /// To check whether the trace of a text is legal, and whether its times keep those of a chip.
+    CheckTimes(TimesRequest<'a>),
+    /// To list the operations of a trace.
+    ListOperations(OpsRequest<'a>),
     /// To draw a trace, as a waveform, as a picture or as a page.
     Draw(DrawRequest<'a>),
     /// To print the assembly text of a word file.
@@ -90,8 +101,22 @@ pub enum Command<'a> {
 /// The files that a command names: those that it reads, and those that it writes.
 #[derive(Clone, Copy)]
 pub(crate) struct Paths<'a> {
-    pub inputs: [Option<&'a str>; 2],
+    pub inputs: [Option<&'a str>; 3],
     pub outputs: [Option<&'a str>; 3],
+}
+
+// Two files that are read.
+fn both<'a>(first: &'a str, second: &'a str) -> [Option<&'a str>; 3] {
+    [Some(first), Some(second), None]
+}
+
+// The vendor file, unless it is the one that is built in.
+fn file_of(vendor: &str) -> Option<&str> {
+    if vendor == "linux" {
+        None
+    } else {
+        Some(vendor)
+    }
 }
 
 // One file that is written, if there is one.
@@ -109,54 +134,67 @@ fn paths_of<'a>(outputs: TraceOutputs<'a>) -> [Option<&'a str>; 3] {
     [text, wave, drawing.map(|drawing| drawing.path)]
 }
 
+// The timing file that is read, if one is.
+fn timing_file_of<'a>(source: TimingSource<'a>) -> Option<&'a str> {
+    match source {
+        TimingSource::Mode(_) => None,
+        TimingSource::File(path) => Some(path),
+    }
+}
+
 impl<'a> Command<'a> {
     /// Its paths.
     pub(crate) fn paths(self) -> Paths<'a> {
         let (inputs, outputs) = match self {
             Command::Assemble { input, target } | Command::Upgrade { input, target } => {
-                ([Some(input), None], one(Some(target)))
+                ([Some(input), None, None], one(Some(target)))
             }
             Command::AssembleFor {
                 page,
                 input,
                 target,
-            } => ([Some(page), Some(input)], one(Some(target))),
+            } => (both(page, input), one(Some(target))),
             Command::Verify {
                 page,
                 input,
                 counter,
                 is_quiet: _,
                 style: _,
-            } => ([Some(page), Some(input)], paths_of(counter)),
+            } => (both(page, input), paths_of(counter)),
             Command::Lint {
                 page,
                 input,
                 output: _,
-            } => ([Some(page), Some(input)], one(None)),
-            Command::Once { .. } => ([None, None], one(None)),
-            Command::Run(request) => ([Some(request.path), None], paths_of(request.trace)),
-            Command::Capture(request) => (
-                [Some(request.page), Some(request.input)],
-                one(Some(request.target)),
-            ),
-            Command::Check(request) => (
-                [Some(request.page), Some(request.input)],
-                one(request.copy),
-            ),
-            Command::Draw(request) => (
-                [Some(request.page), Some(request.input)],
-                one(Some(request.target)),
-            ),
-            Command::Disassemble { input } | Command::ShowPage { page: input } => {
-                ([Some(input), None], one(None))
+            } => (both(page, input), one(None)),
+            Command::Once { .. } => ([None, None, None], one(None)),
+            Command::Run(request) => ([Some(request.path), None, None], paths_of(request.trace)),
+            Command::Capture(request) => {
+                (both(request.page, request.input), one(Some(request.target)))
             }
-            Command::MakePage { parts: _, target } => ([None, None], one(Some(target))),
+            Command::CheckTimes(TimesRequest { check, source, .. }) => (
+                [Some(check.page), timing_file_of(source), Some(check.input)],
+                one(None),
+            ),
+            Command::PrintCapture(request) => (both(request.page, request.input), one(None)),
+            Command::ListOperations(request) => (both(request.page, request.input), one(None)),
+            Command::Check(request) => (both(request.page, request.input), one(request.copy)),
+            Command::CheckVendor(VendorCheckRequest { check, vendor }) => (
+                [Some(check.page), file_of(vendor), Some(check.input)],
+                one(check.copy),
+            ),
+            Command::Draw(request) => {
+                (both(request.page, request.input), one(Some(request.target)))
+            }
+            Command::Disassemble { input } | Command::ShowPage { page: input } => {
+                ([Some(input), None, None], one(None))
+            }
+            Command::MakePage { parts: _, target } => ([None, None, None], one(Some(target))),
         };
         Paths { inputs, outputs }
     }
 }
 
-/// Does a command, as its own function says: [`run_program`] of the input, [`run_watched`], or one of `page_commands`, `seq_commands` or `trace_commands`. What is wrong with a file is said in
+/// Does a command, as its own function says: [`run_program`] of the input, [`run_watched`], or one of `page_commands`, `seq_commands`, `trace_commands`, `timing_commands` or `operation_commands`. What is wrong with a file is said in
 /// words on the console's errors, and so is a fault of a file or a stream, or that there is no memory; its progress is told how far a check or a run has
 /// come. A run starts threads by the handle and takes the time by the clock.
 pub fn command_on<
@@ -218,7 +256,11 @@ pub fn command_on<
             Ending::Exit(run_watched(rt, clock, alloc, files, console, request))
         }
         Command::Capture(request) => capture_trace(alloc, files, console, request),
+        Command::PrintCapture(request) => print_capture(alloc, files, console, request),
         Command::Check(request) => check_trace(alloc, files, console, request),
+        Command::CheckVendor(request) => check_vendor_trace(alloc, files, console, request),
+        Command::CheckTimes(request) => check_times(alloc, files, console, request),
+        Command::ListOperations(request) => list_operations(alloc, files, console, request),
         Command::Draw(request) => draw_trace(alloc, files, console, request),
         Command::Disassemble { input } => {
             Ending::Exit(disassemble_file(alloc, files, console, input))

@@ -2,6 +2,8 @@
 
 use crate::command::Command;
 use crate::mistake::{Mistake, PathMistake};
+use crate::ops_reading::read_ops;
+use crate::times_reading::read_times;
 use bus_capture::CaptureForm;
 use bus_signals::{Family, named, plain_of};
 use clap::{Arg, ArgAction, ArgMatches, Error};
@@ -10,7 +12,8 @@ use seq_commands::LintOutput;
 use seq_inputs::Style;
 use seq_run::{MOST_STEPS, RunRequest};
 use std::alloc::Global;
-use trace_commands::{CaptureRequest, CheckRequest, DrawRequest, Targets};
+use timing_commands::TimesRequest;
+use trace_commands::{CaptureRequest, CheckRequest, DrawRequest, Targets, VendorCheckRequest};
 use trace_faults::{Beginning, Readies};
 use trace_files::{DrawForm, Drawing, TraceOutputs};
 use trace_text::TraceForm;
@@ -26,6 +29,7 @@ enum Verb {
     Run,
     Capture,
     Check,
+    Ops,
     Wave,
     Draw,
     Disassemble,
@@ -34,7 +38,7 @@ enum Verb {
 }
 
 // All of them.
-const VERBS: [Verb; 12] = [
+const VERBS: [Verb; 13] = [
     Verb::Assemble,
     Verb::Verify,
     Verb::Lint,
@@ -42,6 +46,7 @@ const VERBS: [Verb; 12] = [
     Verb::Run,
     Verb::Capture,
     Verb::Check,
+    Verb::Ops,
     Verb::Wave,
     Verb::Draw,
     Verb::Disassemble,
@@ -60,6 +65,7 @@ impl Verb {
             Verb::Run => "run",
             Verb::Capture => "capture",
             Verb::Check => "check",
+            Verb::Ops => "ops",
             Verb::Wave => "wave",
             Verb::Draw => "draw",
             Verb::Disassemble => "dis",
@@ -87,6 +93,7 @@ impl Verb {
             Verb::Run => run(alloc),
             Verb::Capture => capture(alloc),
             Verb::Check => check(alloc),
+            Verb::Ops => ops(alloc),
             Verb::Wave => wave(alloc),
             Verb::Draw => draw(alloc),
             Verb::Disassemble => disassemble(alloc),
@@ -118,8 +125,15 @@ impl Verb {
                 base: read_base(find_word(matches, "base"))?,
             },
             Verb::Run => Command::Run(read_run(matches)?),
-            Verb::Capture => Command::Capture(read_capture(matches)?),
-            Verb::Check => Command::Check(read_check(matches)),
+            Verb::Capture => capture_to(read_capture(matches)?),
+            Verb::Check => read_check_command(matches)?,
+            Verb::Ops => read_ops(
+                matches,
+                page,
+                read_targets(find_word(matches, "TARGETS")),
+                find_word(matches, "TRACE"),
+                read_beginning(matches),
+            )?,
             Verb::Wave => Command::Draw(read_draw(matches, DrawForm::Waveform)),
             Verb::Draw => Command::Draw(read_draw(matches, form_of(target))),
             Verb::Disassemble => Command::Disassemble { input },
@@ -367,7 +381,7 @@ fn capture<'a>(alloc: Global) -> Result<clap::Command<'a>, Error> {
         .long("csv")
         .action(ArgAction::SetTrue)
         .help(
-            "The capture is a CSV, as Saleae Logic 2 and sigrok-cli export it; so is one whose name ends in .csv",
+            "The capture is a CSV, as Saleae Logic 2, DSView, sigrok-cli and PulseView export it; so is one whose name ends in .csv",
         );
     let times = Arg::new(alloc, "times")
         .long("times")
@@ -385,11 +399,47 @@ fn capture<'a>(alloc: Global) -> Result<clap::Command<'a>, Error> {
             "IN",
             "The capture, a value change dump or a CSV, as docs/use/CAPTURES.md has it",
         ))?
-        .arg(require(alloc, "OUT", "The text of the trace to write"))?
+        .arg(require(
+            alloc,
+            "OUT",
+            "The text of the trace to write; `-` prints it",
+        ))?
         .arg(map)?
         .arg(csv)?
         .arg(times)?
         .arg(glitch(alloc))?;
+    Ok(command)
+}
+
+// A vendor's sequences.
+fn vendor<'a>(alloc: Global) -> Result<Arg<'a>, Error> {
+    let vendor = Arg::new(alloc, "vendor")
+        .long("vendor")
+        .value_name("FILE")
+        .conflicts_with("from-middle")?
+        .conflicts_with("timing")?
+        .help(
+            "Passes over the sequences of this file, as docs/use/VENDOR.md has it; `linux` is what a Linux host sends besides the profile",
+        );
+    Ok(vendor)
+}
+
+// With the times of a chip.
+fn with_times<'a>(alloc: Global, command: clap::Command<'a>) -> Result<clap::Command<'a>, Error> {
+    let timing = Arg::new(alloc, "timing")
+        .long("timing")
+        .value_name("MODE|FILE")
+        .help(
+            "With --recorded and --unit: judges the times too, by a timing mode, 0 to 5, or by a timing file",
+        );
+    let unit = Arg::new(alloc, "unit").long("unit").value_name("UNIT").help(
+        "What 1 of a time is: 1, 10 or 100 of s, ms, us, ns, ps or fs, as in 1ns",
+    );
+    let slack = Arg::new(alloc, "slack")
+        .long("slack")
+        .value_name("N")
+        .help("With --timing: by how many units a distance may be short");
+    let command = command.arg(timing)?.arg(unit)?.arg(slack)?;
     Ok(command)
 }
 
@@ -441,6 +491,70 @@ fn check<'a>(alloc: Global) -> Result<clap::Command<'a>, Error> {
         .arg(bytes)?
         .arg(copy)?
         .arg(json(alloc, JSON_ERRORS))?;
+    with_times(alloc, command.arg(vendor(alloc)?)?)
+}
+
+// An option with a value.
+fn with_value<'a>(alloc: Global, name: &'a str, value: &'a str, help: &'a str) -> Arg<'a> {
+    Arg::new(alloc, name)
+        .long(name)
+        .value_name(value)
+        .help(help)
+}
+
+// An option without one.
+fn flag<'a>(alloc: Global, name: &'a str, help: &'a str) -> Arg<'a> {
+    Arg::new(alloc, name)
+        .long(name)
+        .action(ArgAction::SetTrue)
+        .help(help)
+}
+
+fn ops<'a>(alloc: Global) -> Result<clap::Command<'a>, Error> {
+    let csv = flag(
+        alloc,
+        "csv",
+        "Prints a row of names, then a row an operation",
+    )
+    .conflicts_with("json")?;
+    let command = clap::Command::new(alloc, Verb::Ops.word())
+        .about(
+            "Lists what happened on a bus: the operations of a trace, with their data, polls, times and faults",
+        )
+        .after_help("Example: onfiseq ops die.page 1 bus.trace --bytes")
+        .arg(require(alloc, "PAGE", "The parameter page of each die"))?
+        .arg(targets(alloc))?
+        .arg(trace(alloc))?
+        .arg(flag(
+            alloc,
+            "from-middle",
+            "For a trace whose recording began while the bus was in use",
+        ))?
+        .arg(flag(alloc, "polls", "Polls have lines of their own"))?
+        .arg(flag(alloc, "bytes", "The data stand beneath each line"))?
+        .arg(csv)?
+        .arg(flag(alloc, "json", "Prints an object a line"))?
+        .arg(with_value(alloc, "lun", "CE.LUN", "Lists those of one LUN, as in 0.1"))?
+        .arg(with_value(alloc, "block", "N", "Lists those of one block"))?
+        .arg(with_value(
+            alloc,
+            "kind",
+            "NAME,..",
+            "Lists those of these names, as in erase,program",
+        ))?
+        .arg(with_value(
+            alloc,
+            "items",
+            "A-B",
+            "Lists those whose first item is one of these",
+        ))?
+        .arg(with_value(alloc, "from", "T", "Lists those from this time on"))?
+        .arg(with_value(alloc, "to", "T", "Lists those up to this time"))?
+        .arg(flag(
+            alloc,
+            "no-summary",
+            "Leaves out what stands behind the last line",
+        ))?;
     Ok(command)
 }
 
@@ -657,6 +771,23 @@ fn read_capture<'a>(matches: &ArgMatches<'a>) -> Result<CaptureRequest<'a>, Mist
     })
 }
 
+// Where the trace of a capture goes: into a file, or to standard output.
+fn capture_to(request: CaptureRequest<'_>) -> Command<'_> {
+    if request.target == "-" {
+        Command::PrintCapture(request)
+    } else {
+        Command::Capture(request)
+    }
+}
+
+// A check, with a vendor's sequences or without.
+fn check_with<'a>(check: CheckRequest<'a>, vendor: Option<&'a str>) -> Command<'a> {
+    match vendor {
+        None => Command::Check(check),
+        Some(vendor) => Command::CheckVendor(VendorCheckRequest { check, vendor }),
+    }
+}
+
 // The number of an option of `page`; none where it isn't given.
 fn read_chip_number<'a>(
     matches: &ArgMatches<'a>,
@@ -755,6 +886,15 @@ fn read_check<'a>(matches: &ArgMatches<'a>) -> CheckRequest<'a> {
         style: read_style(matches),
         copy: matches.get_str("write"),
     }
+}
+
+// A check, of times too where that is asked for.
+fn read_check_command<'a>(matches: &ArgMatches<'a>) -> Result<Command<'a>, Mistake<'a>> {
+    let check = read_check(matches);
+    Ok(match read_times(matches, check)? {
+        None => check_with(check, matches.get_str("vendor")),
+        Some(request) => Command::CheckTimes(request),
+    })
 }
 
 // As what a trace is drawn into a file of this name.
@@ -878,6 +1018,19 @@ pub fn parse<'a>(alloc: Global, words: &'a [String]) -> Result<Command<'a>, Mist
 fn with_trace<'a>(command: Command<'a>, input: &'a str) -> Command<'a> {
     match command {
         Command::Check(request) => Command::Check(CheckRequest { input, ..request }),
+        Command::CheckVendor(VendorCheckRequest { check, vendor }) => {
+            Command::CheckVendor(VendorCheckRequest {
+                check: CheckRequest { input, ..check },
+                vendor,
+            })
+        }
+        Command::CheckTimes(request) => Command::CheckTimes(TimesRequest {
+            check: CheckRequest {
+                input,
+                ..request.check
+            },
+            ..request
+        }),
         Command::Assemble { .. }
         | Command::AssembleFor { .. }
         | Command::Verify { .. }
@@ -885,7 +1038,9 @@ fn with_trace<'a>(command: Command<'a>, input: &'a str) -> Command<'a> {
         | Command::Once { .. }
         | Command::Run(_)
         | Command::Capture(_)
+        | Command::PrintCapture(_)
         | Command::Draw(_)
+        | Command::ListOperations(_)
         | Command::Disassemble { .. }
         | Command::MakePage { .. }
         | Command::ShowPage { .. }

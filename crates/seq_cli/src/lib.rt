@@ -9,10 +9,14 @@ mod answering;
 mod command;
 mod command_line;
 mod mistake;
+mod ops_reading;
 mod progress;
+mod times_reading;
 
 pub use answering::{answer, answer_watched};
 pub use command::{Command, command_on};
 pub use command_line::{parse, parse_all};
 pub use mistake::{Mistake, PathMistake};
+pub use ops_reading::OpsMistake;
 pub use progress::TerminalProgress;
+pub use times_reading::TimingMistake;

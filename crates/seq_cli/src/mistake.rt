@@ -1,6 +1,8 @@
 //! A command line that asks for nothing that can be done.
 
 use crate::command::{Command, Paths};
+use crate::ops_reading::OpsMistake;
+use crate::times_reading::TimingMistake;
 use clap::Error;
 use shown_text::Shown;
 use std::fmt;
@@ -80,7 +82,7 @@ impl<'a> PathMistake<'a> {
     /// What is wrong with the paths of this command, if something is. `upgrade` may write over what it has read.
     pub(crate) fn find(command: Command<'a>) -> Option<PathMistake<'a>> {
         let Paths { inputs, outputs } = command.paths();
-        if inputs == [Some("-"), Some("-")] {
+        if 1 < inputs.iter().filter(|path| **path == Some("-")).count() {
             return Some(PathMistake::InputTwice);
         }
         for output in outputs {
@@ -113,8 +115,24 @@ pub enum Mistake<'a> {
     NoPage,
     /// The number of an option of `page` isn't one.
     PageNumber { option: &'static str, word: &'a str },
+    /// The options about times don't go together, or one isn't what it takes.
+    Timing(TimingMistake<'a>),
+    /// An option of a list of operations isn't what it takes.
+    Ops(OpsMistake<'a>),
     /// The paths don't go together.
     Paths(PathMistake<'a>),
+}
+
+impl<'a> From<OpsMistake<'a>> for Mistake<'a> {
+    fn from(mistake: OpsMistake<'a>) -> Self {
+        Mistake::Ops(mistake)
+    }
+}
+
+impl<'a> From<TimingMistake<'a>> for Mistake<'a> {
+    fn from(mistake: TimingMistake<'a>) -> Self {
+        Mistake::Timing(mistake)
+    }
 }
 
 impl From<Error> for Mistake<'_> {
@@ -160,6 +178,8 @@ impl fmt::Display for Mistake<'_> {
                 "error: --{option} takes a decimal number, 0 to 4294967295, and not `{}`",
                 Shown::line(word)
             ),
+            Mistake::Ops(mistake) => writeln!(f, "error: {mistake}"),
+            Mistake::Timing(mistake) => writeln!(f, "error: {mistake}"),
             Mistake::Paths(mistake) => writeln!(f, "error: {mistake}"),
         }
     }

@@ -308,7 +308,11 @@ fn name_of(asked: Command<'_>) -> &'static str {
         Command::Verify { .. } => "verify",
         Command::Lint { .. } => "lint",
         Command::Capture(_) => "capture",
+        Command::PrintCapture(_) => "capture -",
         Command::Check(_) => "check",
+        Command::CheckVendor(_) => "check --vendor",
+        Command::CheckTimes(_) => "check --timing",
+        Command::ListOperations(_) => "ops",
         Command::Draw(DrawRequest { form, .. }) => match form {
             DrawForm::Waveform => "wave",
             DrawForm::Picture | DrawForm::Page => "draw",
@@ -340,7 +344,7 @@ fn each_command_of_the_help_is_asked_for(rt: HostRuntime) -> Result<(), Fail> {
             count = count.saturating_add(1);
         }
     }
-    assert_eq!(rt; count, 12);
+    assert_eq!(rt; count, 13);
     Ok(())
 }
 
@@ -461,6 +465,13 @@ fn paths_that_are_refused(rt: HostRuntime) -> Result<(), Fail> {
         ("capture p 1 x x", Some(PathMistake::WrittenOver("x"))),
         ("capture p 1 x p", Some(PathMistake::WrittenOver("p"))),
         ("capture - 1 - t", Some(PathMistake::InputTwice)),
+        ("capture p 1 x -", None),
+        ("check p 1 t --vendor linux", None),
+        ("check p 1 - --vendor -", Some(PathMistake::InputTwice)),
+        (
+            "check p 1 t --vendor v --write v",
+            Some(PathMistake::WrittenOver("v")),
+        ),
         ("run x --trace x", Some(PathMistake::WrittenOver("x"))),
         ("run x --trace -", Some(PathMistake::OutputToStream)),
         ("run x --wave x", Some(PathMistake::WrittenOver("x"))),

@@ -224,6 +224,8 @@ fn kind_of(mistake: &Mistake<'_>) -> UsageKind {
         | Mistake::Steps(_)
         | Mistake::Glitch(_)
         | Mistake::Mapping(_)
+        | Mistake::Timing(_)
+        | Mistake::Ops(_)
         | Mistake::PageNumber { .. } => UsageKind::ValueValidation,
         Mistake::Paths(_) => UsageKind::ArgumentConflict,
     }

@@ -110,11 +110,11 @@ none_of_first : (faults : List BrokenRule) → take 1 faults ≡ [] → faults �
 none_of_first [] h = refl
 none_of_first (f ∷ faults) h = cc
 
-none_of_all : (all : Bool) (faults : List BrokenRule) → told_of all faults ≡ [] → faults ≡ []
+pub none_of_all : (all : Bool) (faults : List BrokenRule) → told_of all faults ≡ [] → faults ≡ []
 none_of_all true faults h = h
 none_of_all false faults h = none_of_first faults h
 
-faultless : (readies : Readies) (g : Parts) (n : ℕ) (items : List Item) → faults_of readies g n items ≡ [] → is_legal g n (reverse (judged_trace readies g n items)) ≡ true
+pub faultless : (readies : Readies) (g : Parts) (n : ℕ) (items : List Item) → faults_of readies g n items ≡ [] → is_legal g n (reverse (judged_trace readies g n items)) ≡ true
 faultless Written g n items none = (faultless_are_legal g n items).0 none
 faultless Shown g n items none = (completed_are_judged g n items).0 none
 

@@ -3,3 +3,4 @@ pub mod Checked
 pub mod Conversions
 pub mod Sayings
 pub mod Stopped
+pub mod VendorChecked

@@ -93,6 +93,22 @@ pub record IsCaptured (files later : Option Store) (request : CaptureRequest) : 
   pub is_setup : IsSetup request g setup
   pub converted : IsConverted files later request setup
 
+-- the capture at the path shows items of which this is the text
+pub record IsShown (files : Option Store) (request : CaptureRequest) (setup : Setup) (printed : List ℕ) : Type 0 where
+  pub capture : List ℕ
+  pub is_there : Holds files request.input.now capture
+  pub stamped : List Stamped
+  pub is_captured : captured setup capture ≡ Ok stamped
+  pub is_text : printed ≡ seen_text request.has_times stamped
+
+-- so is it, of targets of the geometry of the page
+pub record IsShownFor (files : Option Store) (request : CaptureRequest) (printed : List ℕ) : Type 0 where
+  pub g : Parts
+  pub has_page : HasPage files request.page.now g
+  pub setup : Setup
+  pub is_setup : IsSetup request g setup
+  pub shown : IsShown files request setup printed
+
 -- ---- a capture that becomes a text piece by piece
 
 -- what it comes to, and the bytes of its text

@@ -96,7 +96,12 @@ pub record IsJudgedText (files later : Option Store) (request : CheckRequest) (g
   pub assumed_is : assumed ≡ not_shown_as request.beginning request.readies g (count_of request.targets) items
   pub copied : IsCopied files later request g items
 
--- the same of the trace at the path
+-- the same of the trace at the path, whose text this is
+pub record IsJudgedFile (files later : Option Store) (request : CheckRequest) (g : Parts) (text : List ℕ) (told : List BrokenRule) (assumed : List NotShown) : Type 0 where
+  pub is_there : Holds files request.input.now text
+  pub judged : IsJudgedText files later request g text told assumed
+
+-- the same with the geometry of the page
 pub record IsJudged (files later : Option Store) (request : CheckRequest) (told : List BrokenRule) (assumed : List NotShown) : Type 0 where
   pub g : Parts
   pub has_page : HasPage files request.page.now g
@@ -125,6 +130,12 @@ pub record IsLegalTrace (files later : Option Store) (request : CheckRequest) (a
 abbrev pub RefusesTrace : TraceForm → List ℕ → RecordingFault → Type 0
 RefusesTrace form bytes (Trace fault line) = read_as form bytes ≡ Err (TraceFaultAt fault line)
 RefusesTrace form bytes _ = ⊥
+
+-- the same of the trace at a path
+pub record FileIsRefused (files : Option Store) (form : TraceForm) (input : List ℕ) (fault : RecordingFault) : Type 0 where
+  pub text : List ℕ
+  pub is_there : Holds files input text
+  pub refuses : RefusesTrace form text fault
 
 pub record TraceIsRefused (files : Option Store) (form : TraceForm) (page input : List ℕ) (fault : RecordingFault) : Type 0 where
   pub g : Parts

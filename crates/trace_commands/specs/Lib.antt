@@ -4,3 +4,4 @@ pub mod Draws
 pub mod Endings
 pub mod Recordings
 pub mod Targets
+pub mod VendorChecks

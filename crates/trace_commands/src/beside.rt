@@ -5,11 +5,10 @@ use crate::cause::Cause;
 use crate::check_request::CheckRequest;
 use crate::explaining::words_at_item;
 use crate::line_cursor::LineCursor;
+use crate::past_watcher::PastWatcher;
 use crate::tally::Tally;
 use crate::telling::push_message;
-use crate::trace_past::TracePast;
-use nand_geometry::Geometry;
-use onfi_cycle::{Forbidden, Item};
+use onfi_cycle::Forbidden;
 use seq_inputs::{Place, Style, Told, Words, say_words};
 use std::alloc::{AllocError, Allocator};
 use std::fmt;
@@ -38,48 +37,37 @@ impl<A: Allocator> Unknown<A> {
     }
 }
 
+/// What is passed over of a trace, since it belongs to a vendor's sequences.
+#[derive(Drop)]
+pub(crate) struct PassedOver<A: Allocator> {
+    /// The cycles that aren't next in one.
+    pub(crate) broken: Vec<BrokenRule, A>,
+    pub(crate) sequences: usize,
+    pub(crate) items: usize,
+}
+
 /// What a check has found beside the faults, and what it has judged.
 #[derive(Drop)]
-pub(crate) struct Beside<A: Allocator> {
-    pub(crate) geometry: Geometry,
-    pub(crate) items: Vec<Item, A>,
-    /// The sequences outside of the profile, where the recording begins at the start.
+pub struct Beside<A: Allocator> {
+    /// What stands before the first faults, and the sequences outside of the profile, where the recording begins at the start.
+    pub(crate) past: PastWatcher<A>,
     pub(crate) outside: Vec<OutsideSequence, A>,
     pub(crate) tally: Tally,
     pub(crate) unknown: Unknown<A>,
     pub(crate) doubts: Vec<DoubtedByte, A>,
+    /// What is passed over, where a vendor file is given.
+    pub(crate) passed: Option<PassedOver<A>>,
 }
 
 impl<A: Allocator> Beside<A> {
-    /// What no item has made yet of the channel that was judged.
-    pub(crate) fn past(&self, request: CheckRequest<'_>) -> TracePast {
-        TracePast::new(
-            self.geometry,
-            request.targets.count(),
-            request.readies,
-            self.items.as_slice(),
-        )
-    }
-
-    /// Why an item breaks a rule; of a recording that begins in the middle that isn't known.
-    pub(crate) fn explain(
-        &self,
-        past: &mut TracePast,
-        request: CheckRequest<'_>,
-        cursor: &mut LineCursor<'_>,
-        fault: BrokenRule,
-    ) -> Option<Cause> {
-        let BrokenRule { item, rule } = fault;
-        match request.beginning {
-            Beginning::Start => past.explain(
-                self.items.as_slice(),
-                self.outside.as_slice(),
-                cursor,
-                item,
-                rule,
-            ),
-            Beginning::Middle => None,
+    /// Why an item breaks a rule, where that is known and has one cause.
+    pub(crate) fn cause_of(&self, fault: BrokenRule) -> Option<Cause> {
+        if let Some(passed) = &self.passed {
+            if passed.broken.as_slice().contains(&fault) {
+                return None;
+            }
         }
+        self.past.cause_of(self.outside.as_slice(), fault.item)
     }
 }
 
@@ -264,6 +252,23 @@ fn push_summary<A: Allocator>(
     Ok(())
 }
 
+// Adds how much is passed over, where a vendor file is given.
+fn push_passed<A: Allocator>(
+    lines: &mut String<A>,
+    alloc: A,
+    style: Style,
+    passed: &Option<PassedOver<A>>,
+) -> Result<(), AllocError> {
+    let Some(passed) = passed else {
+        return Ok(());
+    };
+    let words = format!(in alloc;
+        "passed over: {} vendor sequences, {} items",
+        passed.sequences, passed.items
+    )?;
+    push_message(lines, style, words.as_str())
+}
+
 // What is said beside so many faults.
 fn words_beside<A: Allocator + Clone>(
     alloc: A,
@@ -277,8 +282,9 @@ fn words_beside<A: Allocator + Clone>(
     let doubts = beside.doubts.as_slice();
     push_doubts(&mut lines, alloc.clone()?, request, text, doubts)?;
     push_not_shown(&mut lines, alloc.clone()?, request, text, assumed)?;
-    push_unknown(&mut lines, alloc, request, text, &beside.unknown)?;
+    push_unknown(&mut lines, alloc.clone()?, request, text, &beside.unknown)?;
     push_summary(&mut lines, request, beside.tally, faults)?;
+    push_passed(&mut lines, alloc, request.style, &beside.passed)?;
     Ok(lines)
 }
 

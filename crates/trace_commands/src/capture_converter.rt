@@ -65,6 +65,23 @@ fn push_timed<A: Allocator + Clone, B: Allocator>(
     output.extend_from_slice(text.as_str().as_bytes())
 }
 
+/// Adds what is seen as text, with the times or without.
+pub(crate) fn push_text<A: Allocator + Clone, B: Allocator>(
+    alloc: A,
+    has_times: bool,
+    stamped: &[Stamped],
+    output: &mut Vec<u8, B>,
+) -> Result<(), AllocError>
+    requires { AreInside stamped.now }
+    ensures ok { OnOk result (output.new.items ≡ output.old.items ++ seen_text has_times stamped.now) }
+{
+    if has_times {
+        push_timed(alloc, stamped, output)
+    } else {
+        push_plain(alloc, stamped, output)
+    }
+}
+
 // One more allocator.
 fn copy_of<A: Clone>(alloc: &A) -> Result<A, CaptureRefusal>
     ensures err { IfErr result (λ e. e ≡ CaptureRefusal.OutOfMemory) }
@@ -80,6 +97,7 @@ fn copy_of<A: Clone>(alloc: &A) -> Result<A, CaptureRefusal>
 pub(crate) struct CaptureTally {
     pub(crate) items: usize,
     pub(crate) unselected: u64,
+    pub(crate) strobe_changes: u64,
 }
 
 /// Of a text that may go on no more bytes are kept than these: a header, a word or a row that is longer is out of memory, as an input without an end may be.
@@ -133,12 +151,7 @@ impl<'m, A: Allocator + Clone> CaptureConverter<'m, A> {
         ensures err { IfErr result (λ e. e ≡ CaptureRefusal.OutOfMemory) }
     {
         self.items = self.items.saturating_add(stamped.len());
-        let pushed = if self.has_times {
-            push_timed(copy_of(&self.alloc)?, stamped, output)
-        } else {
-            push_plain(copy_of(&self.alloc)?, stamped, output)
-        };
-        match pushed {
+        match push_text(copy_of(&self.alloc)?, self.has_times, stamped, output) {
             Ok(()) => Ok(()),
             Err(_) => Err(CaptureRefusal::OutOfMemory),
         }
@@ -160,7 +173,18 @@ impl<'m, A: Allocator + Clone> CaptureConverter<'m, A> {
         CaptureTally {
             items: self.items,
             unselected: self.unselected,
+            strobe_changes: self.strobe_changes(),
         }
+    }
+
+    /// The names of the signals, where a line of the bus has none or two.
+    pub(crate) fn signal_names(&self) -> Option<Vec<u8, A>> {
+        self.reader.signal_names()
+    }
+
+    /// How often a data strobe changed.
+    pub(crate) fn strobe_changes(&self) -> u64 {
+        self.reader.strobe_changes()
     }
 
     /// The line of a fault, as far as it is there: of a long header or of a long word it may be gone.

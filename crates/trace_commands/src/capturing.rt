@@ -12,8 +12,8 @@ ghost use Rattle.trace_commands.specs.Recordings.{fault_line};
 
 use crate::capture_converter::{CaptureConverter, CaptureTally};
 use crate::capture_request::CaptureRequest;
+use crate::capture_words::words_of_fault;
 use crate::ending::Ending;
-use crate::explaining::words_of_capture;
 use crate::mappings::mappings_of;
 use crate::recording_fault::RecordingFault;
 use crate::recording_stop::{RecordingStop, end_stopped};
@@ -39,7 +39,7 @@ fn not_captured<'p, A: Allocator + Clone>(
             RecordingStop::Stop(Stop::OutOfMemory)
         }
         NotConverted::Refused(CaptureRefusal::Fault(fault)) => {
-            let words = words_of_capture(alloc, request.input, converter.line_of(fault), fault);
+            let words = words_of_fault(alloc, request.input, converter, fault);
             let fault = RecordingFault::Capture { fault };
             RecordingStop::Faulty { fault, words }
         }
@@ -95,14 +95,27 @@ fn capture_at<'p, A: Allocator + Clone, F: Files>(
     convert_capture(alloc, files, request, &setup)
 }
 
-// Says how much a capture shows.
-fn say_tally<E: Write>(errors: &mut E, tally: CaptureTally) {
+// A data strobe that changes more often than this is in use.
+const STILL: u64 = 2;
+
+/// Says how much a capture shows.
+pub(crate) fn say_tally<E: Write>(errors: &mut E, tally: CaptureTally) {
     let _ = writeln!(errors, "items: {}", tally.items);
     if tally.unselected != 0 {
         let _ = writeln!(
             errors,
             "strobes left out, as no chip of this channel was enabled: {}",
             tally.unselected
+        );
+    }
+    if tally.items == 0 {
+        let _ = writeln!(errors, "0 items: no cycle is in the capture");
+    }
+    if tally.strobe_changes > STILL {
+        let _ = writeln!(
+            errors,
+            "DQS changes {} times: data that it strobes (NV-DDR) isn't sampled",
+            tally.strobe_changes
         );
     }
     let _ = errors.flush();

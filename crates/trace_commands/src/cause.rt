@@ -151,15 +151,32 @@ fn write_several_luns<W: fmt::Write>(
     Ok(())
 }
 
-// Of a target that no LUN drives.
+// Of a target that no LUN drives: since a reset in this line, or from the beginning.
 fn write_no_driver<W: fmt::Write>(
     f: &mut fmt::Formatter<W>,
     reset: Option<CommandAt>,
+    line: usize,
 ) -> fmt::Result {
     match reset {
-        Some(reset) => write!(f, "no LUN drives the bus since {reset}"),
+        Some(reset) => {
+            f.write_str("no LUN drives the bus since ")?;
+            reset.write_in(f, line)
+        }
         None => f.write_str("no LUN drives the bus: nothing was read yet"),
     }
+}
+
+// Of an address of 90 or EC, which stand in this line, that the profile hasn't.
+fn write_other_address<W: fmt::Write>(
+    f: &mut fmt::Formatter<W>,
+    opener: CommandAt,
+    line: usize,
+    cycles: usize,
+) -> fmt::Result {
+    let address = if opener.byte == 0x90 { "20" } else { "00" };
+    opener.write_in(f, line)?;
+    write!(f, " is modelled with address {address} alone: ")?;
+    write_outside(f, cycles)
 }
 
 // Of a column.
@@ -175,18 +192,49 @@ fn write_column<W: fmt::Write>(
     }
 }
 
-impl fmt::Display for Cause {
+impl Cause {
+    /// The command that its words name, if they name one.
+    pub(crate) fn named_command(self) -> Option<CommandAt> {
+        match self {
+            Cause::OtherAddress { opener, .. } => Some(opener),
+            Cause::Open(open) | Cause::Other { open, .. } => Some(open.opener),
+            Cause::Works { since, .. } | Cause::AllWork { since, .. } => Some(since),
+            Cause::NoDriver { reset } => reset,
+            Cause::ColumnLost { asked, .. } => Some(asked),
+            Cause::Outside { .. }
+            | Cause::SeveralLuns { .. }
+            | Cause::Unopened { .. }
+            | Cause::Nothing(_)
+            | Cause::RowOutside { .. }
+            | Cause::Drivers { .. }
+            | Cause::NoData { .. }
+            | Cause::ColumnOutside { .. } => None,
+        }
+    }
+}
+
+/// A cause in words: the command that it names stands in this line, counted from 1.
+#[derive(Clone, Copy)]
+pub(crate) struct CauseInLine {
+    pub(crate) cause: Cause,
+    pub(crate) line: usize,
+}
+
+impl fmt::Display for CauseInLine {
     fn fmt<W: fmt::Write>(&self, f: &mut fmt::Formatter<W>) -> fmt::Result {
-        match *self {
+        let line = self.line;
+        match self.cause {
             Cause::Outside { cycles } => write_outside(f, cycles),
-            Cause::OtherAddress { opener, cycles } => {
-                let address = if opener.byte == 0x90 { "20" } else { "00" };
-                write!(f, "{opener} is modelled with address {address} alone: ")?;
-                write_outside(f, cycles)
+            Cause::OtherAddress { opener, cycles } => write_other_address(f, opener, line, cycles),
+            Cause::Open(open) => {
+                f.write_str("a sequence is open: ")?;
+                open.write_in(f, line)
             }
-            Cause::Open(open) => write!(f, "a sequence is open: {open}"),
             Cause::SeveralLuns { command, luns } => write_several_luns(f, command, luns),
-            Cause::Other { cycle, open } => write!(f, "{cycle}: {open}"),
+            Cause::Other { cycle, open } => {
+                write!(f, "{cycle}: ")?;
+                open.write_in(f, line)
+            }
             Cause::Unopened { command, opener } => write!(
                 f,
                 "`{command:02x}` isn't wanted: no `{opener:02x}` is open before it"
@@ -198,17 +246,22 @@ impl fmt::Display for Cause {
                     "{part} {number} of the row isn't there: the last is {last}"
                 )
             }
-            Cause::Works { lun, since } => write!(f, "LUN {lun} works since {since}"),
-            Cause::AllWork { luns, since } => {
-                write!(f, "all {luns} LUNs work, the first of them since {since}")
+            Cause::Works { lun, since } => {
+                write!(f, "LUN {lun} works since ")?;
+                since.write_in(f, line)
             }
-            Cause::NoDriver { reset } => write_no_driver(f, reset),
+            Cause::AllWork { luns, since } => {
+                write!(f, "all {luns} LUNs work, the first of them since ")?;
+                since.write_in(f, line)
+            }
+            Cause::NoDriver { reset } => write_no_driver(f, reset, line),
             Cause::Drivers { count } => write!(f, "{count} LUNs drive the bus at once"),
             Cause::NoData { lun } => write!(f, "LUN {lun} holds no data: no page was read into it"),
-            Cause::ColumnLost { lun, asked } => write!(
-                f,
-                "the column of LUN {lun} is lost since {asked}: `05` gives it a new one"
-            ),
+            Cause::ColumnLost { lun, asked } => {
+                write!(f, "the column of LUN {lun} is lost since ")?;
+                asked.write_in(f, line)?;
+                f.write_str(": `05` gives it a new one")
+            }
             Cause::ColumnOutside { column, of, length } => write_column(f, column, of, length),
         }
     }

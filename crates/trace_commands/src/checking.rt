@@ -13,11 +13,13 @@ ghost use Rattle.trace_commands.specs.declared.recording_fault.RecordingFault.{R
 ghost use Rattle.trace_commands.specs.Endings.{SaysOf};
 ghost use Rattle.trace_commands.specs.Targets.{count_of};
 ghost use Rattle.trace_faults.specs.declared.beginning.Beginning.TheVariants.{Middle};
-ghost use Rattle.trace_commands.specs.Checks.{told_of, faults_as, not_shown_as, told_faults, judged_trace, with_copy, IsJudgedText, IsJudged, RefusesTrace, TraceIsRefused, IsPassed, ArePrinted, legal_text, faulty_text, may_pass, CheckRefuses, CheckLeaves};
+ghost use Rattle.trace_faults.specs.declared.readies.Readies.TheVariants.{Written};
+ghost use Rattle.trace_commands.specs.Checks.{told_of, faults_as, not_shown_as, told_faults, judged_trace, with_copy, IsJudgedText, IsJudgedFile, FileIsRefused, IsJudged, RefusesTrace, TraceIsRefused, IsPassed, ArePrinted, legal_text, faulty_text, may_pass, CheckRefuses, CheckLeaves};
 
 use crate::beside::{Beside, Unknown};
 use crate::check_request::CheckRequest;
 use crate::ending::Ending;
+use crate::past_watcher::PastWatcher;
 use crate::recording_stop::{RecordingStop, end_stopped};
 use crate::tally::Tally;
 use crate::targets::Targets;
@@ -30,10 +32,18 @@ use seq_inputs::{Console, Exit, Stop, end_without_memory, geometry_at, read_file
 use std::alloc::{AllocError, Allocator};
 use std::io::Write;
 use trace_faults::{
-    Beginning, BrokenRule, DoubtedByte, MiddleFaults, NotShown, OutsideSequence, Readies, complete,
-    find_faults, find_faults_from_middle, find_not_shown, find_outside, find_status_doubts,
+    Beginning, BrokenRule, DoubtedByte, JudgedTrace, MiddleFaults, NotShown, OutsideSequence,
+    Readies, complete, find_faults_from_middle, find_not_shown, find_status_doubts, judge_trace,
 };
 use trace_text::{CheckProgress, CheckRefusal, check_watched};
+
+// What is found in a trace from its start.
+#[derive(Drop)]
+struct FromStart<A: Allocator> {
+    faults: Vec<BrokenRule, A>,
+    outside: Vec<OutsideSequence, A>,
+    past: PastWatcher<A>,
+}
 
 // The first fault of a trace, alone; none where it is legal.
 fn find_first<A: Allocator, P: CheckProgress>(
@@ -56,25 +66,75 @@ fn find_first<A: Allocator, P: CheckProgress>(
     }
 }
 
-// The faults of a trace from its start that are told.
-fn find_from_start<A: Allocator, P: CheckProgress>(
+// Judges a trace from its start: its faults, all or the first alone, its sequences outside of the profile where it has faults, and what the words of the
+// first faults name.
+fn judge_from_start<A: Allocator + Clone>(
+    alloc: A,
+    request: CheckRequest<'_>,
+    geometry: &Geometry,
+    items: &[Item],
+) -> Result<FromStart<A>, AllocError>
+    ensures { IfOk result (λ found. found.faults.items ≡ faults_of request.entry.readies geometry.now (count_of request.entry.targets) items.now) }
+{
+    let targets = request.targets.count();
+    let mut past = PastWatcher::new(alloc.clone()?, *geometry);
+    let JudgedTrace { faults, outside } = judge_trace(
+        alloc,
+        &mut past,
+        geometry,
+        targets,
+        items,
+        request.readies,
+    )?;
+    Ok(FromStart {
+        faults,
+        outside,
+        past,
+    })
+}
+
+// The first fault of a trace that has its readies in it, with what its words name; none where it is legal.
+fn judge_first<A: Allocator + Clone, P: CheckProgress>(
     alloc: A,
     progress: &mut P,
     request: CheckRequest<'_>,
     geometry: &Geometry,
     items: &[Item],
-) -> Result<Vec<BrokenRule, A>, AllocError>
-    ensures { IfOk result (λ told. told.items ≡ told_of request.entry.tells_all (faults_of request.entry.readies geometry.now (count_of request.entry.targets) items.now)) }
+) -> Result<FromStart<A>, AllocError>
+    requires { request.readies ≡ Written }
+    ensures { IfOk result (λ found. found.faults.items ≡ take 1 (faults_of request.entry.readies geometry.now (count_of request.entry.targets) items.now)) }
 {
-    let targets = request.targets;
+    let first = find_first(alloc.clone()?, progress, geometry, request.targets, items)?;
+    if first.is_empty() {
+        return Ok(FromStart {
+            faults: first,
+            outside: Vec::new(alloc.clone()?),
+            past: PastWatcher::new(alloc, *geometry),
+        });
+    }
+    let mut found = judge_from_start(alloc, request, geometry, items)?;
+    found.faults.truncate(1);
+    Ok(found)
+}
+
+// The faults of a trace from its start that are told, and what is said of them.
+fn find_from_start<A: Allocator + Clone, P: CheckProgress>(
+    alloc: A,
+    progress: &mut P,
+    request: CheckRequest<'_>,
+    geometry: &Geometry,
+    items: &[Item],
+) -> Result<FromStart<A>, AllocError>
+    ensures { IfOk result (λ found. found.faults.items ≡ told_of request.entry.tells_all (faults_of request.entry.readies geometry.now (count_of request.entry.targets) items.now)) }
+{
     match (request.tells_all, request.readies) {
-        (false, Readies::Written) => find_first(alloc, progress, geometry, targets, items),
+        (false, Readies::Written) => judge_first(alloc, progress, request, geometry, items),
         (false, Readies::Shown) => {
-            let mut faults = find_faults(alloc, geometry, targets.count(), items, Readies::Shown)?;
-            faults.truncate(1);
-            Ok(faults)
+            let mut found = judge_from_start(alloc, request, geometry, items)?;
+            found.faults.truncate(1);
+            Ok(found)
         }
-        (true, readies) => find_faults(alloc, geometry, targets.count(), items, readies),
+        (true, _) => judge_from_start(alloc, request, geometry, items),
     }
 }
 
@@ -102,12 +162,14 @@ fn find_from_middle<A: Allocator + Clone>(
 #[derive(Drop)]
 struct Told<A: Allocator> {
     faults: Vec<BrokenRule, A>,
+    outside: Vec<OutsideSequence, A>,
+    past: PastWatcher<A>,
     not_shown: Vec<NotShown, A>,
     unknown: Unknown<A>,
 }
 
-// The items of a trace from its start that are permitted with a ready that nothing showed.
-fn find_not_shown_from_start<A: Allocator>(
+/// The items of a trace from its start that are permitted with a ready that nothing showed.
+pub(crate) fn find_not_shown_from_start<A: Allocator>(
     alloc: A,
     request: CheckRequest<'_>,
     geometry: &Geometry,
@@ -137,20 +199,31 @@ fn find_told<A: Allocator + Clone, P: CheckProgress>(
         ≡ not_shown_as request.entry.beginning request.entry.readies geometry.now (count_of request.entry.targets) items.now) }
 {
     match request.beginning {
-        Beginning::Start => Ok(Told {
-            faults: find_from_start(alloc.clone()?, progress, request, geometry, items)?,
-            not_shown: find_not_shown_from_start(alloc.clone()?, request, geometry, items)?,
-            unknown: Unknown::nothing(alloc),
-        }),
+        Beginning::Start => {
+            let FromStart {
+                faults,
+                outside,
+                past,
+            } = find_from_start(alloc.clone()?, progress, request, geometry, items)?;
+            Ok(Told {
+                faults,
+                outside,
+                past,
+                not_shown: find_not_shown_from_start(alloc.clone()?, request, geometry, items)?,
+                unknown: Unknown::nothing(alloc),
+            })
+        }
         Beginning::Middle => {
             let MiddleFaults {
                 faults,
                 granted,
                 not_shown,
                 passed_over,
-            } = find_from_middle(alloc, request, geometry, items)?;
+            } = find_from_middle(alloc.clone()?, request, geometry, items)?;
             Ok(Told {
                 faults,
+                outside: Vec::new(alloc.clone()?),
+                past: PastWatcher::new(alloc, *geometry),
                 not_shown,
                 unknown: Unknown {
                     granted,
@@ -161,8 +234,8 @@ fn find_told<A: Allocator + Clone, P: CheckProgress>(
     }
 }
 
-// The status bytes that contradict the trace, where they are asked for.
-fn find_doubts<A: Allocator>(
+/// The status bytes that contradict the trace, where they are asked for.
+pub(crate) fn find_doubts<A: Allocator>(
     alloc: A,
     request: CheckRequest<'_>,
     geometry: &Geometry,
@@ -176,8 +249,8 @@ fn find_doubts<A: Allocator>(
     }
 }
 
-// Writes the trace that is judged, where a path is given for it.
-fn copy_trace<'p, A: Allocator + Clone, F: Files>(
+/// Writes the trace that is judged, where a path is given for it.
+pub(crate) fn copy_trace<'p, A: Allocator + Clone, F: Files>(
     alloc: A,
     files: &mut F,
     request: CheckRequest<'p>,
@@ -202,29 +275,12 @@ fn copy_trace<'p, A: Allocator + Clone, F: Files>(
     }
 }
 
-// What a check has found in the trace of a text.
+/// What a check has found in the trace of a text.
 #[derive(Drop)]
-struct Judged<A: Allocator> {
-    told: Vec<BrokenRule, A>,
-    assumed: Vec<NotShown, A>,
-    beside: Beside<A>,
-}
-
-// The sequences outside of the profile that are passed over, where there are faults and the recording begins at the start.
-fn find_passed_over<A: Allocator + Clone>(
-    alloc: A,
-    request: CheckRequest<'_>,
-    geometry: &Geometry,
-    items: &[Item],
-    faults: &[BrokenRule],
-) -> Result<Vec<OutsideSequence, A>, AllocError> {
-    match (request.beginning, faults) {
-        (Beginning::Middle, _) | (Beginning::Start, []) => Ok(Vec::new(alloc)),
-        (Beginning::Start, [_, ..]) => {
-            let targets = request.targets.count();
-            find_outside(alloc, geometry, targets, items, request.readies)
-        }
-    }
+pub(crate) struct Judged<A: Allocator> {
+    pub(crate) told: Vec<BrokenRule, A>,
+    pub(crate) assumed: Vec<NotShown, A>,
+    pub(crate) beside: Beside<A>,
 }
 
 // Judges the trace of a text, and copies it.
@@ -244,34 +300,65 @@ fn judge_text<'p, A: Allocator + Clone, F: Files, P: CheckProgress>(
     let items = whole.as_slice();
     let Told {
         faults,
+        outside,
+        past,
         not_shown,
         unknown,
     } = find_told(alloc.clone()?, progress, request, geometry, items)?;
     let doubts = find_doubts(alloc.clone()?, request, geometry, items)?;
-    let outside = find_passed_over(alloc.clone()?, request, geometry, items, faults.as_slice())?;
     copy_trace(alloc, files, request, geometry, items)?;
     let tally = Tally::of(items);
     Ok(Judged {
         told: faults,
         assumed: not_shown,
         beside: Beside {
-            geometry: *geometry,
-            items: whole,
+            past,
             outside,
             tally,
             unknown,
             doubts,
+            passed: None,
         },
     })
 }
 
-// What a check has found, and the text that it has read.
+/// What a check has found, and the text that it has read.
 #[derive(Drop)]
-struct Found<A: Allocator> {
-    text: Vec<u8, A>,
-    told: Vec<BrokenRule, A>,
-    assumed: Vec<NotShown, A>,
-    beside: Beside<A>,
+pub struct CheckedTrace<A: Allocator> {
+    pub text: Vec<u8, A>,
+    /// The faults that are told.
+    pub told: Vec<BrokenRule, A>,
+    /// What is permitted with a ready that nothing showed.
+    pub assumed: Vec<NotShown, A>,
+    /// What is said besides.
+    pub beside: Beside<A>,
+}
+
+/// Reads the text of a trace and judges that, for a chip of this geometry: what was read, and the faults that are told.
+pub fn judge_file<'p, A: Allocator + Clone, F: Files, P: CheckProgress>(
+    alloc: A,
+    files: &mut F,
+    progress: &mut P,
+    request: CheckRequest<'p>,
+    geometry: &Geometry,
+) -> Result<CheckedTrace<A>, RecordingStop<'p, A>>
+    ensures ok { IfOk result (λ found. IsJudgedFile (F.store files.old) (F.store files.new) request.entry geometry.now found.text.items found.told.items found.assumed.items) }
+    ensures err { IfErr result (SaysOf (λ _. ⊥) (FileIsRefused (F.store files.old) request.entry.form request.entry.input.now)) }
+    ensures stays { OnErr result (F.store files.new ≡ F.store files.old) }
+{
+    let bytes = read_file(alloc.clone()?, files, request.input)?;
+    let text = text_of(request.input, bytes.as_slice())?;
+    let Judged {
+        told,
+        assumed,
+        beside,
+    } = judge_text(alloc, files, progress, request, geometry, text)?;
+    Ok(CheckedTrace {
+        text: bytes,
+        told,
+        assumed,
+        beside,
+    })
 }
 
 // Reads a page and the text of a trace, and judges that: what was read, and the faults that are told.
@@ -280,34 +367,22 @@ fn check_at<'p, A: Allocator + Clone, F: Files, P: CheckProgress>(
     files: &mut F,
     progress: &mut P,
     request: CheckRequest<'p>,
-) -> Result<Found<A>, RecordingStop<'p, A>>
+) -> Result<CheckedTrace<A>, RecordingStop<'p, A>>
     ensures ok { IfOk result (λ found. IsJudged (F.store files.old) (F.store files.new) request.entry found.told.items found.assumed.items) }
     ensures err { IfErr result (SaysOf (PageIsRefused (F.store files.old) request.entry.page.now)
         (TraceIsRefused (F.store files.old) request.entry.form request.entry.page.now request.entry.input.now)) }
     ensures stays { OnErr result (F.store files.new ≡ F.store files.old) }
 {
     let geometry = geometry_at(alloc.clone()?, files, request.page)?;
-    let bytes = read_file(alloc.clone()?, files, request.input)?;
-    let text = text_of(request.input, bytes.as_slice())?;
-    let Judged {
-        told,
-        assumed,
-        beside,
-    } = judge_text(alloc, files, progress, request, &geometry, text)?;
-    Ok(Found {
-        text: bytes,
-        told,
-        assumed,
-        beside,
-    })
+    judge_file(alloc, files, progress, request, &geometry)
 }
 
-// Tells what a check has found.
-fn tell_found<A: Allocator + Clone, W: Write, E: Write, P>(
+/// Tells what a check has found.
+pub(crate) fn tell_found<A: Allocator + Clone, W: Write, E: Write, P>(
     alloc: A,
     console: &mut Console<W, E, P>,
     request: CheckRequest<'_>,
-    found: &Found<A>,
+    found: &CheckedTrace<A>,
 ) -> Ending
     ensures done { result ≡ Ending.Exit Exit.Done → (found.now.told.items ≡ []) × (may_pass request.entry found.now.assumed.items ≡ true)
         × Appends (W.contents console.old.output) (W.contents console.new.output) (legal_text found.now.assumed.items) }

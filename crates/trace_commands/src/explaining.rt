@@ -1,6 +1,6 @@
 //! What is wrong with a recording, in words for whoever made it.
 
-use crate::cause::Cause;
+use crate::cause::CauseInLine;
 use crate::line_cursor::ItemLine;
 use bus_capture::CaptureFault;
 use onfi_cycle::Forbidden;
@@ -12,7 +12,7 @@ use trace_faults::BrokenRule;
 use trace_text::{TraceFault, TraceForm, TraceMessage, TraceRefusal};
 
 /// What is wrong with a line of the text of a trace.
-pub(crate) fn words_of_trace<'p, A: Allocator>(
+pub fn words_of_trace<'p, A: Allocator>(
     alloc: A,
     path: &'p str,
     text: &str,
@@ -60,7 +60,7 @@ pub(crate) fn words_of_capture<'p, A: Allocator>(
 }
 
 /// What is said of an item of a trace, which stands in this line.
-pub(crate) fn words_at_item<'p, A: Allocator, M: fmt::Display + Drop>(
+pub fn words_at_item<'p, A: Allocator, M: fmt::Display + Drop>(
     alloc: A,
     path: &'p str,
     line: ItemLine<'_>,
@@ -79,7 +79,7 @@ pub(crate) fn words_at_item<'p, A: Allocator, M: fmt::Display + Drop>(
 #[derive(Clone, Copy)]
 struct Coded {
     rule: Forbidden,
-    cause: Option<Cause>,
+    cause: Option<CauseInLine>,
 }
 
 impl fmt::Display for Coded {
@@ -97,7 +97,7 @@ pub(crate) fn words_of_item<'p, A: Allocator>(
     path: &'p str,
     line: ItemLine<'_>,
     fault: BrokenRule,
-    cause: Option<Cause>,
+    cause: Option<CauseInLine>,
 ) -> Option<Words<'p, A>> {
     let BrokenRule { item, rule } = fault;
     words_at_item(alloc, path, line, item, Coded { rule, cause })

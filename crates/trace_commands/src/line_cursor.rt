@@ -1,15 +1,16 @@
 //! The lines of the items of a trace's text, found in one pass.
 
+use std::alloc::{AllocError, Allocator};
 use trace_text::{TraceForm, find_item};
 
 /// The line of an item.
 #[derive(Clone, Copy)]
-pub(crate) struct ItemLine<'t> {
+pub struct ItemLine<'t> {
     /// Its number, from 1.
-    pub(crate) number: usize,
+    pub number: usize,
     /// The time in front of the item, if there is one.
-    pub(crate) time: Option<u64>,
-    pub(crate) text: &'t str,
+    pub time: Option<u64>,
+    pub text: &'t str,
 }
 
 /// How far one has come in the text of a trace that was read in this form. Items that rise are found in one pass over the text.
@@ -30,10 +31,19 @@ fn split_line(text: &str) -> (&str, &str) {
     }
 }
 
+// A line begins with a time or a chip enable, as nearly all do.
+fn begins_with_item(line: &str) -> bool {
+    match line.as_bytes() {
+        [b'@' | b'0'..=b'3', ..] => true,
+        [..] => false,
+    }
+}
+
 // Whether a line of a text in this form has an item: in a log, where it has anything but blanks and a comment.
 fn has_item(form: TraceForm, line: &str) -> bool {
     match form {
         TraceForm::Strict => true,
+        TraceForm::Recorded if begins_with_item(line) => true,
         TraceForm::Recorded => {
             let blanks = |byte: &u8| matches!(*byte, b' ' | b'\t' | b'\r');
             let first = line.as_bytes().iter().find(|byte| !blanks(*byte));
@@ -87,5 +97,38 @@ impl<'t> LineCursor<'t> {
             time: self.time(),
             text,
         }
+    }
+}
+
+/// The lines of some items of a text.
+#[derive(Drop)]
+pub struct ItemLines<'t, A: Allocator> {
+    lines: Vec<(usize, ItemLine<'t>), A>,
+}
+
+impl<'t, A: Allocator> ItemLines<'t, A> {
+    /// Finds the lines of these items, which rise, in one pass over the text.
+    pub fn find(
+        alloc: A,
+        text: &'t str,
+        form: TraceForm,
+        items: &[usize],
+    ) -> Result<ItemLines<'t, A>, AllocError> {
+        let mut cursor = LineCursor::new(text, form);
+        let mut lines = Vec::new(alloc);
+        for item in items {
+            lines.push((*item, cursor.find(*item)))?;
+        }
+        Ok(ItemLines { lines })
+    }
+
+    /// The line of an item that was looked for.
+    pub fn line_of(&self, item: usize) -> Option<ItemLine<'t>> {
+        for (found, line) in self.lines.iter() {
+            if *found == item {
+                return Some(*line);
+            }
+        }
+        None
     }
 }

@@ -58,17 +58,21 @@ impl fmt::Display for Wanted {
     }
 }
 
-/// A command of a trace, and the line in which it stands.
+/// A command of a trace, and its item, from 0 on.
 #[derive(Clone, Copy)]
 pub(crate) struct CommandAt {
     pub(crate) byte: u8,
-    pub(crate) line: usize,
+    pub(crate) item: usize,
 }
 
-impl fmt::Display for CommandAt {
-    fn fmt<W: fmt::Write>(&self, f: &mut fmt::Formatter<W>) -> fmt::Result {
-        let CommandAt { byte, line } = *self;
-        write!(f, "`{byte:02x}` (line {line})")
+impl CommandAt {
+    /// Writes the command, and the line in which it stands.
+    pub(crate) fn write_in<W: fmt::Write>(
+        self,
+        f: &mut fmt::Formatter<W>,
+        line: usize,
+    ) -> fmt::Result {
+        write!(f, "`{:02x}` (line {line})", self.byte)
     }
 }
 
@@ -79,9 +83,14 @@ pub(crate) struct OpenSequence {
     pub(crate) wanted: Wanted,
 }
 
-impl fmt::Display for OpenSequence {
-    fn fmt<W: fmt::Write>(&self, f: &mut fmt::Formatter<W>) -> fmt::Result {
-        let OpenSequence { opener, wanted } = *self;
-        write!(f, "{opener} {wanted}")
+impl OpenSequence {
+    /// Writes the sequence, whose opener stands in this line.
+    pub(crate) fn write_in<W: fmt::Write>(
+        self,
+        f: &mut fmt::Formatter<W>,
+        line: usize,
+    ) -> fmt::Result {
+        self.opener.write_in(f, line)?;
+        write!(f, " {}", self.wanted)
     }
 }

@@ -8,6 +8,8 @@ use onfi_cycle::Forbidden;
 use seq_inputs::{Place, Told, Words, push_refusal_line};
 use std::alloc::{AllocError, Allocator};
 use trace_text::TraceFault;
+use trace_timing::{TimingFault, TimingFileFault};
+use vendor_file::VendorFault;
 
 /// What is wrong with a trace or a capture, and where in it.
 #[derive(Clone, Copy, Debug, PartialEq, Eq)]
@@ -16,8 +18,14 @@ pub enum RecordingFault {
     Trace { fault: TraceFault, line: usize },
     /// Its trace isn't legal, by this rule first, at this item, counted from 0.
     Item { rule: Forbidden, item: usize },
+    /// The vendor file beside it isn't one, at this line, counted from 1.
+    Vendor { fault: VendorFault, line: usize },
     /// It isn't the capture of a bus, in a line, counted from 1, or at a time.
     Capture { fault: CaptureFault },
+    /// Its times don't keep those of a chip, at this item, counted from 0.
+    Time { fault: TimingFault, item: usize },
+    /// The timing file by which its times are judged has this fault, at this line, counted from 1.
+    TimingFile { fault: TimingFileFault, line: usize },
 }
 
 impl RecordingFault {
@@ -28,7 +36,10 @@ impl RecordingFault {
         match self {
             RecordingFault::Trace { fault, .. } => fault.code(),
             RecordingFault::Item { rule, .. } => rule.code(),
+            RecordingFault::Vendor { fault, .. } => fault.code(),
             RecordingFault::Capture { fault } => fault.code(),
+            RecordingFault::Time { fault, .. } => fault.code(),
+            RecordingFault::TimingFile { fault, .. } => fault.code(),
         }
     }
 
@@ -37,8 +48,10 @@ impl RecordingFault {
         ensures { result ≡ number_in self }
     {
         match self {
-            RecordingFault::Trace { line, .. } => line,
-            RecordingFault::Item { item, .. } => item,
+            RecordingFault::Trace { line, .. }
+            | RecordingFault::Vendor { line, .. }
+            | RecordingFault::TimingFile { line, .. } => line,
+            RecordingFault::Item { item, .. } | RecordingFault::Time { item, .. } => item,
             RecordingFault::Capture { fault } => fault.number(),
         }
     }
@@ -46,19 +59,28 @@ impl RecordingFault {
     // Where it stands, but for its line.
     fn place(self) -> Option<Place> {
         match self {
-            RecordingFault::Item { item, .. } => Some(Place::Item(item)),
+            // What is wrong with all of the times is said of no item.
+            RecordingFault::Time {
+                fault: TimingFault::NoTimes,
+                ..
+            } => None,
+            RecordingFault::Item { item, .. } | RecordingFault::Time { item, .. } => {
+                Some(Place::Item(item))
+            }
             RecordingFault::Capture {
                 fault: CaptureFault::Bus { time, .. },
             } => Some(Place::Time(time)),
             RecordingFault::Capture {
                 fault: CaptureFault::File(_) | CaptureFault::Role(_),
             }
-            | RecordingFault::Trace { .. } => None,
+            | RecordingFault::Trace { .. }
+            | RecordingFault::Vendor { .. }
+            | RecordingFault::TimingFile { .. } => None,
         }
     }
 
     /// Adds the line that says it.
-    pub(crate) fn push_line<A: Allocator>(self, lines: &mut String<A>) -> Result<(), AllocError>
+    pub fn push_line<A: Allocator>(self, lines: &mut String<A>) -> Result<(), AllocError>
         ensures { OnOk result (string_bytes lines.new ≡ string_bytes lines.old ++ fault_line self) }
     {
         push_refusal_line(lines, self.code(), self.number())
@@ -74,7 +96,7 @@ impl RecordingFault {
     }
 
     /// What these words say of it, for a tool.
-    pub(crate) fn tell<'a, A: Allocator>(self, words: &'a Words<'a, A>) -> Told<'a, String<A>> {
+    pub fn tell<'a, A: Allocator>(self, words: &'a Words<'a, A>) -> Told<'a, String<A>> {
         Told {
             code: Some(self.code()),
             path: words.path,

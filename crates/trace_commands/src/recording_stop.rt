@@ -14,7 +14,7 @@ use std::io::{self, Write};
 
 /// Why a command on a trace or a capture isn't done.
 #[derive(Drop)]
-pub(crate) enum RecordingStop<'a, A: Allocator> {
+pub enum RecordingStop<'a, A: Allocator> {
     /// For what stops each command of the program.
     Stop(Stop<'a, A>),
     /// The recording has this fault; the words say it to a person, unless there was no memory for them.
@@ -102,7 +102,7 @@ fn end_faulty<A: Allocator, W: Write, E: Write, P>(
 }
 
 /// Ends a command that isn't done: the line of what is refused or wrong is written to the output, and what there is to say in this style to the errors.
-pub(crate) fn end_stopped<A: Allocator, W: Write, E: Write, P>(
+pub fn end_stopped<A: Allocator, W: Write, E: Write, P>(
     alloc: A,
     console: &mut Console<W, E, P>,
     style: Style,

@@ -1,7 +1,7 @@
 //! What a trace did to a target, as far as a message names it.
 
 use crate::open_sequence::CommandAt;
-use onfi_cycle::{BusState, Command, Cycle, Kind, Lun};
+use onfi_cycle::{BusState, Command, Lun};
 
 /// How many LUNs a target has at most.
 pub(crate) const MOST_LUNS: usize = 4;
@@ -46,8 +46,8 @@ impl TargetPast {
         }
     }
 
-    // Goes on by a command that a target took.
-    fn note_command(&mut self, command: CommandAt) {
+    /// Goes on by a command that the target took.
+    pub(crate) fn note_command(&mut self, command: CommandAt) {
         self.last = Some(command);
         if Command::of(command.byte).is_opener() {
             self.opener = self.last;
@@ -62,13 +62,11 @@ impl TargetPast {
         }
     }
 
-    /// Goes on by a cycle that the target took, in this line.
-    pub(crate) fn note_cycle(&mut self, cycle: Cycle, line: usize) {
-        if cycle.kind == Kind::Cmd {
-            self.note_command(CommandAt {
-                byte: cycle.byte,
-                line,
-            });
+    /// Whether its last command was Read Parameter Page.
+    pub(crate) fn is_reading_parameters(self) -> bool {
+        match self.last {
+            None => false,
+            Some(command) => Command::of(command.byte) == Command::ReadParameterPage,
         }
     }
 

@@ -8,19 +8,19 @@ ghost use Rattle.trace_commands.specs.declared.recording_fault.RecordingFault.Th
 ghost use Rattle.trace_commands.specs.Checks.{fault_lines, assumed_line, assumed_lines, legal_text, faulty_text, may_pass};
 
 use crate::beside::{Beside, say_beside};
-use crate::cause::Cause;
+use crate::cause::{Cause, CauseInLine};
 use crate::check_request::CheckRequest;
 use crate::ending::Ending;
 use crate::explaining::words_of_item;
-use crate::line_cursor::{ItemLine, LineCursor};
+use crate::line_cursor::ItemLines;
 use crate::recording_fault::RecordingFault;
 use seq_inputs::{Console, Exit, Style, Told, end_without_memory, finish, say_words};
 use std::alloc::{AllocError, Allocator};
 use std::io::Write;
 use trace_faults::{BrokenRule, NotShown};
 
-// How many faults are said in words at most; the lines of the output name all.
-const MOST_SAID: usize = 100;
+/// How many faults are said in words at most; the lines of the output name all.
+pub(crate) const MOST_SAID: usize = 100;
 
 // What is wrong with a trace that has this fault.
 fn fault_of(broken: BrokenRule) -> RecordingFault
@@ -30,8 +30,8 @@ fn fault_of(broken: BrokenRule) -> RecordingFault
     RecordingFault::Item { rule, item }
 }
 
-// The lines of faults.
-fn lines_of<A: Allocator>(alloc: A, told: &[BrokenRule]) -> Result<String<A>, AllocError>
+/// The lines of faults.
+pub fn lines_of<A: Allocator>(alloc: A, told: &[BrokenRule]) -> Result<String<A>, AllocError>
     ensures { IfOk result (λ lines. string_bytes lines ≡ fault_lines told.now) }
 {
     let mut lines = String::new(alloc);
@@ -41,15 +41,31 @@ fn lines_of<A: Allocator>(alloc: A, told: &[BrokenRule]) -> Result<String<A>, Al
     Ok(lines)
 }
 
-// Adds what is said of one fault, which stands in this line.
+// A cause, and the line of the command that it names.
+fn place_cause<A: Allocator>(found: &ItemLines<'_, A>, cause: Cause) -> Option<CauseInLine> {
+    let line = match cause.named_command() {
+        None => 0,
+        Some(command) => found.line_of(command.item)?.number,
+    };
+    Some(CauseInLine { cause, line })
+}
+
+// Adds what is said of one fault, which has this cause, if one is known.
 fn push_words<A: Allocator>(
     lines: &mut String<A>,
     alloc: A,
     request: CheckRequest<'_>,
-    line: ItemLine<'_>,
+    found: &ItemLines<'_, A>,
     fault: BrokenRule,
     cause: Option<Cause>,
 ) -> Result<(), AllocError> {
+    let Some(line) = found.line_of(fault.item) else {
+        return Ok(());
+    };
+    let cause = match cause {
+        None => None,
+        Some(cause) => place_cause(found, cause),
+    };
     match words_of_item(alloc, request.input, line, fault, cause) {
         None => Err(AllocError),
         Some(words) => match request.style {
@@ -71,7 +87,7 @@ fn push_more<A: Allocator>(
 }
 
 /// Adds a message.
-pub(crate) fn push_message<A: Allocator>(
+pub fn push_message<A: Allocator>(
     lines: &mut String<A>,
     style: Style,
     message: &str,
@@ -82,6 +98,25 @@ pub(crate) fn push_message<A: Allocator>(
     }
 }
 
+// The items of the first faults, and of the commands that their causes name; they rise.
+fn items_named<A: Allocator + Clone>(
+    alloc: A,
+    beside: &Beside<A>,
+    told: &[BrokenRule],
+) -> Result<Vec<usize, A>, AllocError> {
+    let mut items = Vec::new(alloc);
+    for fault in told.iter().take(MOST_SAID) {
+        items.push(fault.item)?;
+        if let Some(cause) = beside.cause_of(*fault) {
+            if let Some(command) = cause.named_command() {
+                items.push(command.item)?;
+            }
+        }
+    }
+    items.sort()?;
+    Ok(items)
+}
+
 // What is said of the first faults, and how many more there are.
 fn words_of<A: Allocator + Clone>(
     alloc: A,
@@ -90,13 +125,12 @@ fn words_of<A: Allocator + Clone>(
     beside: &Beside<A>,
     told: &[BrokenRule],
 ) -> Result<String<A>, AllocError> {
+    let items = items_named(alloc.clone()?, beside, told)?;
+    let found = ItemLines::find(alloc.clone()?, text, request.form, items.as_slice())?;
     let mut lines = String::new(alloc.clone()?);
-    let mut cursor = LineCursor::new(text, request.form);
-    let mut past = beside.past(request);
     for fault in told.iter().take(MOST_SAID) {
-        let cause = beside.explain(&mut past, request, &mut cursor, *fault);
-        let line = cursor.find(fault.item);
-        push_words(&mut lines, alloc.clone()?, request, line, *fault, cause)?;
+        let cause = beside.cause_of(*fault);
+        push_words(&mut lines, alloc.clone()?, request, &found, *fault, cause)?;
     }
     if MOST_SAID < told.len() {
         push_more(&mut lines, alloc, request.style, told.len() - MOST_SAID)?;
@@ -120,8 +154,8 @@ fn say_faults<A: Allocator + Clone, E: Write>(
     }
 }
 
-// Says faults and what is beside them, unless there is no memory for that.
-fn say_told<A: Allocator + Clone, E: Write>(
+/// Says faults and what is beside them, unless there is no memory for that.
+pub fn say_told<A: Allocator + Clone, E: Write>(
     alloc: A,
     errors: &mut E,
     request: CheckRequest<'_>,
@@ -143,8 +177,11 @@ fn push_assumed_line<A: Allocator>(lines: &mut String<A>, told: NotShown) -> Res
     writeln!(lines, "assumed ready at {}", told.item)
 }
 
-// Adds the lines of all such items.
-fn push_assumed<A: Allocator>(lines: &mut String<A>, assumed: &[NotShown]) -> Result<(), AllocError>
+/// Adds the lines of all such items.
+pub fn push_assumed<A: Allocator>(
+    lines: &mut String<A>,
+    assumed: &[NotShown],
+) -> Result<(), AllocError>
     ensures { OnOk result (string_bytes lines.new ≡ string_bytes lines.old ++ assumed_lines assumed.now) }
 {
     for told in assumed {
@@ -187,7 +224,7 @@ fn may_pass(request: CheckRequest<'_>, assumed: &[NotShown]) -> bool
 }
 
 /// Ends a check of a text that has no fault: `legal` is printed, and a line for each item before which a LUN is taken for ready.
-pub(crate) fn tell_legal<A: Allocator + Clone, W: Write, E: Write, P>(
+pub fn tell_legal<A: Allocator + Clone, W: Write, E: Write, P>(
     alloc: A,
     console: &mut Console<W, E, P>,
     request: CheckRequest<'_>,

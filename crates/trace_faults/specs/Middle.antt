@@ -13,6 +13,8 @@ use Rattle.onfi_cycle.specs.Sequence.{target_of, target_cycle}
 use Rattle.onfi_cycle.specs.Effect.{is_off}
 use Rattle.onfi_cycle.specs.State.{BusView}
 use Rattle.onfi_cycle.specs.Look.{looked}
+use Rattle.trace_faults.specs.declared.beginning.Beginning.{Beginning}
+use Rattle.trace_faults.specs.declared.beginning.Beginning.TheVariants.{Start, Middle as InTheMiddle}
 use Rattle.trace_faults.specs.declared.known.Known.{Known}
 use Rattle.trace_faults.specs.declared.looks.Looks.{Looks}
 use Rattle.trace_faults.specs.declared.lun_known.LunKnown.{LunKnown}
@@ -256,6 +258,14 @@ seen_after readies seen i later =
 
 abbrev pub first_seen : Parts → ℕ → List Item → Seen
 first_seen g targets items = record { state = fresh_for g targets items; known = all_first_known targets }
+
+-- what is known of each target of a recording that begins there
+abbrev pub known_first_as : Beginning → ℕ → List Known
+known_first_as Start targets = all_known ∷ (all_known ∷ (all_known ∷ (all_known ∷ [])))
+known_first_as InTheMiddle targets = all_first_known targets
+
+abbrev pub first_seen_as : Beginning → Parts → ℕ → List Item → Seen
+first_seen_as beginning g targets items = record { state = fresh_for g targets items; known = known_first_as beginning targets }
 
 abbrev pub verdicts_from : Readies → Seen → List Item → List Verdict
 verdicts_from readies seen [] = []

@@ -1,9 +1,10 @@
 -- The sequences outside of the profile that a trace has, and how many cycles of each are passed over.
-use Rattle.std.specs.Prelude.{ℕ, ◌+◌, ◌==◌, List, [], ◌∷◌, ◌++◌, if◌then◌else◌}
+use Rattle.std.specs.Prelude.{ℕ, Option, ◌+◌, ◌==◌, List, [], ◌∷◌, ◌++◌, if◌then◌else◌}
 use Rattle.nand_geometry.specs.declared.parts.Parts.{Parts}
 use Rattle.onfi_cycle.specs.declared.item.Item.{Item}
 use Rattle.onfi_cycle.specs.Sequence.{target_of}
-use Rattle.onfi_cycle.specs.State.{judged}
+use Rattle.onfi_cycle.specs.declared.forbidden.Forbidden.{Forbidden}
+use Rattle.onfi_cycle.specs.State.{BusView, judged}
 use Rattle.trace_faults.specs.declared.readies.Readies.{Readies}
 use Rattle.trace_faults.specs.declared.trace_state.TraceState.{TraceState}
 use Rattle.trace_faults.specs.declared.outside_sequences.Mark.{Mark}
@@ -14,9 +15,13 @@ use Rattle.trace_faults.specs.Outside.{leaves_profile, is_outside}
 use Rattle.trace_faults.specs.Recovery.{fresh_for, gone_on}
 use Rattle.trace_faults.specs.Faults.{before_item}
 
+-- what an item is that isn't passed over, and breaks this rule first
+abbrev pub mark_inside : Option Forbidden → BusView → Item → Mark
+mark_inside rule bus i = if leaves_profile rule bus (target_of i) then Begins else Within
+
 -- what an item is to a sequence outside: one of its cycles that is passed over, its beginning, or nothing
 abbrev pub mark_of : TraceState → Item → Mark
-mark_of t i = if is_outside t i then PassedOver else (if leaves_profile (judged t.bus i) t.bus (target_of i) then Begins else Within)
+mark_of t i = if is_outside t i then PassedOver else mark_inside (judged t.bus i) t.bus i
 
 abbrev pub marks_from : Readies → TraceState → List Item → List Marked
 marks_from readies t [] = []

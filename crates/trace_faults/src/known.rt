@@ -12,7 +12,7 @@ pub(crate) const MOST_TARGETS: usize = 4;
 
 /// What is known of a target: whether an opener of it has come, and what the recording has shown of its four LUNs.
 #[derive(Clone, Copy)]
-pub(crate) struct Known {
+pub struct Known {
     pub(crate) opened: bool,
     pub(crate) zeroth: LunKnown,
     pub(crate) first: LunKnown,
@@ -21,7 +21,7 @@ pub(crate) struct Known {
 }
 
 /// What is known of each target.
-pub(crate) type AllKnown = [Known; MOST_TARGETS];
+pub type AllKnown = [Known; MOST_TARGETS];
 
 // Whether a LUN is there that isn't known.
 fn is_doubtful(lun: Option<LunState>, known: bool) -> bool
@@ -48,7 +48,7 @@ impl Known {
     }
 
     // Nothing is in doubt: of a target that isn't there.
-    fn all() -> Known
+    pub(crate) fn all() -> Known
         ensures { result ≡ all_known }
     {
         Known {

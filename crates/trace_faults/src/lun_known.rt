@@ -6,7 +6,7 @@ use onfi_cycle::{Command, Item, LunState, TargetCycle};
 
 /// What a recording that began in the middle has shown of a LUN.
 #[derive(Clone, Copy, PartialEq, Eq)]
-pub(crate) enum LunKnown {
+pub enum LunKnown {
     /// It hasn't begun work.
     Nothing,
     /// It has begun work: what it holds and has begun is known, and whether it is busy.

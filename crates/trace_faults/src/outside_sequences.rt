@@ -1,12 +1,9 @@
 //! The sequences outside of the profile that a trace has.
-ghost use Rattle.std.specs.Prelude.{◌≡◌, ◌≤◌, ◌++◌, IfOk, OnOk};
-ghost use Rattle.trace_faults.specs.OutsideSequences.{mark_of, marks_of, passed_after, begun_by, sequences_from, outside_of};
+ghost use Rattle.std.specs.Prelude.{◌≡◌, ◌++◌, IfOk, OnOk};
+ghost use Rattle.trace_faults.specs.OutsideSequences.{mark_inside, passed_after, begun_by, sequences_from};
 
 use crate::outside::leaves_profile;
-use crate::readies::Readies;
-use crate::trace_state::TraceState;
-use nand_geometry::Geometry;
-use onfi_cycle::Item;
+use onfi_cycle::{BusState, Forbidden, Item};
 use std::alloc::{AllocError, Allocator};
 
 /// A sequence outside of the profile: the item that begins it, counted from 0, and how many cycles of its target are passed over after that.
@@ -16,58 +13,30 @@ pub struct OutsideSequence {
     pub cycles: usize,
 }
 
-// What an item is to a sequence outside of the profile.
+/// What an item is to a sequence outside of the profile.
 #[derive(Clone, Copy)]
-enum Mark {
+pub(crate) enum Mark {
     Within,
     Begins,
     PassedOver,
 }
 
-// The same with the item's target.
+/// The same with the item's target.
 #[derive(Clone, Copy)]
-struct Marked {
-    target: u8,
-    mark: Mark,
+pub(crate) struct Marked {
+    pub(crate) target: u8,
+    pub(crate) mark: Mark,
 }
 
-fn mark_of(state: &TraceState, item: Item) -> Mark
-    ensures { result ≡ mark_of state.now item }
+/// What an item is that isn't passed over, and breaks this rule first on this channel.
+pub(crate) fn mark_inside(rule: Option<Forbidden>, bus: &BusState, item: Item) -> Mark
+    ensures { result ≡ mark_inside rule bus.now item }
 {
-    if state.is_outside(item) {
-        Mark::PassedOver
-    } else if leaves_profile(state.bus.judge(item), &state.bus, item.target()) {
+    if leaves_profile(rule, bus, item.target()) {
         Mark::Begins
     } else {
         Mark::Within
     }
-}
-
-// What each item of a trace is.
-fn marks_of<A: Allocator>(
-    alloc: A,
-    geometry: &Geometry,
-    targets: u8,
-    items: &[Item],
-    readies: Readies,
-) -> Result<Vec<Marked, A>, AllocError>
-    requires { targets ≤ 4 }
-    ensures { IfOk result (λ marks. marks.items ≡ marks_of readies geometry.now targets items.now) }
-{
-    let mut state = TraceState::before(geometry, targets, items);
-    let mut marks = Vec::new(alloc);
-    let mut rest = items;
-    'rest: while let Some((first, later)) = rest.split_first() {
-        let item = *first;
-        let _ = readies.go_on_to(&mut state, item, later);
-        marks.push(Marked {
-            target: item.target(),
-            mark: mark_of(&state, item),
-        })?;
-        let _ = state.go_on(item);
-        rest = later;
-    }
-    Ok(marks)
 }
 
 // How many cycles of a target are passed over before the next sequence outside of it begins.
@@ -108,8 +77,8 @@ fn push_begun<A: Allocator>(
     Ok(())
 }
 
-// The sequences that marked items begin.
-fn sequences_of<A: Allocator>(
+/// The sequences that marked items begin.
+pub(crate) fn sequences_of<A: Allocator>(
     alloc: A,
     marks: &[Marked],
 ) -> Result<Vec<OutsideSequence, A>, AllocError>
@@ -124,21 +93,4 @@ fn sequences_of<A: Allocator>(
         rest = later;
     }
     Ok(sequences)
-}
-
-/// The sequences outside of the profile that a trace has on a channel of so many targets of this geometry, 4 at most, in the order of time. One begins with a
-/// command that isn't in the profile, or with an address that the profile hasn't of 90 or EC. Its cycles are passed over, up to the next command of its
-/// target that begins a sequence; where that asks for the status, the target's other outputs are passed over too. It takes 2 bytes an item while it works.
-pub fn find_outside<A: Allocator + Clone>(
-    alloc: A,
-    geometry: &Geometry,
-    targets: u8,
-    items: &[Item],
-    readies: Readies,
-) -> Result<Vec<OutsideSequence, A>, AllocError>
-    requires { targets ≤ 4 }
-    ensures { IfOk result (λ sequences. sequences.items ≡ outside_of readies geometry.now targets items.now) }
-{
-    let marks = marks_of(alloc.clone()?, geometry, targets, items, readies)?;
-    sequences_of(alloc, marks.as_slice())
 }

@@ -3,10 +3,13 @@ ghost use Rattle.std.specs.Prelude.{◌≡◌};
 ghost use Rattle.onfi_cycle.specs.Sequence.{target_of};
 ghost use Rattle.onfi_cycle.specs.State.{judged, bus_without};
 ghost use Rattle.trace_faults.specs.Recovery.{done_unless, judged_here, recovered, bus_by, gone_on, gone_on_by, without_sequence};
+ghost use Rattle.trace_faults.specs.OutsideSequences.{mark_of};
 
 use crate::denied::note_busy;
 use crate::outside::{is_opening, leaves_profile, note_standing};
+use crate::outside_sequences::{Mark, mark_inside};
 use crate::trace_state::TraceState;
+use crate::watching::{NoWatcher, TraceWatcher};
 use onfi_cycle::{BusState, Forbidden, Item};
 
 // Goes on after an opener that isn't permitted.
@@ -41,6 +44,13 @@ fn go_on_by(bus: &mut BusState, rule: Option<Forbidden>, item: Item)
     }
 }
 
+/// How an item is judged, and what it is to the sequences outside of the profile.
+#[derive(Clone, Copy)]
+pub(crate) struct Judgement {
+    pub(crate) rule: Option<Forbidden>,
+    pub(crate) mark: Mark,
+}
+
 impl TraceState {
     /// The first rule that an item breaks; None where it is permitted, or passed over.
     pub fn judge(&self, item: Item) -> Option<Forbidden>
@@ -53,16 +63,39 @@ impl TraceState {
         }
     }
 
-    // Goes on by an item that isn't passed over, and tells the first rule that it breaks.
-    fn go_on_inside(&mut self, item: Item) -> Option<Forbidden>
-        ensures rule { result ≡ judged self.old.bus item }
-        ensures state { self.new ≡ gone_on_by (judged self.old.bus item) item self.old }
+    // Goes on by an item that isn't passed over, and breaks this rule first.
+    fn go_on_inside(&mut self, rule: Option<Forbidden>, item: Item)
+        requires { rule ≡ judged self.old.bus item }
+        ensures { self.new ≡ gone_on_by (judged self.old.bus item) item self.old }
     {
-        let rule = self.bus.judge(item);
         note_standing(&mut self.standings, rule, &self.bus, item);
         note_busy(&mut self.shown_busy, &self.bus, item);
         go_on_by(&mut self.bus, rule, item);
-        rule
+    }
+
+    /// The same as [`TraceState::go_on`], and what the item is to the sequences outside of the profile. The watcher sees it before it is gone on by.
+    pub(crate) fn go_on_watched<W: TraceWatcher>(
+        &mut self,
+        watcher: &mut W,
+        place: usize,
+        item: Item,
+    ) -> Judgement
+        ensures rule { result.rule ≡ judged_here self.old item }
+        ensures mark { result.mark ≡ mark_of self.old item }
+        ensures state { self.new ≡ gone_on item self.old }
+    {
+        if self.is_outside(item) {
+            watcher.pass_over(self, place, item);
+            return Judgement {
+                rule: None,
+                mark: Mark::PassedOver,
+            };
+        }
+        let rule = self.bus.judge(item);
+        let mark = mark_inside(rule, &self.bus, item);
+        watcher.see(self, place, item, rule);
+        self.go_on_inside(rule, item);
+        Judgement { rule, mark }
     }
 
     /// Goes on by an item, and tells the first rule that it breaks, None where it is permitted. Of an item that isn't permitted nothing is left; but an
@@ -72,11 +105,7 @@ impl TraceState {
         ensures rule { result ≡ judged_here self.old item }
         ensures state { self.new ≡ gone_on item self.old }
     {
-        if self.is_outside(item) {
-            None
-        } else {
-            self.go_on_inside(item)
-        }
+        self.go_on_watched(&mut NoWatcher, 0, item).rule
     }
 
     /// Drops the sequence that a target is in.

@@ -28,7 +28,7 @@ fn ready_of(lun: Option<LunState>, ce: u8, number: u8, byte: u8) -> Option<Item>
 pub(crate) fn shows_array_ready(byte: u8) -> bool
     ensures { result ≡ has_array_ready byte }
 {
-    byte & 0x20 == 0x20
+    Status(byte).is_array_ready()
 }
 
 // The ready of its array that a byte of a LUN shows.

@@ -3,7 +3,7 @@ use Rattle.seq_inputs.specs.Refusals.{line_of}
 use Rattle.seq_cli.specs.declared.command.Command.{Command}
 use Rattle.seq_inputs.specs.declared.exit.Exit.TheVariants as exit
 use Rattle.trace_commands.specs.Recordings.{fault_line}
-use Rattle.seq_cli.specs.Commands.{IsDone, MayRefuse, MayTell}
+use Rattle.seq_cli.specs.Commands.{IsDone, MayAssume, MayRefuse, MayTell}
 use Rattle.seq_cli.proofs.Endings.{exit_is}
 use Rattle.seq_cli.proofs.command.command_on.Goals as goal
 
@@ -134,5 +134,69 @@ returns-in-ShowPage-clause-refused g c = λ refusal is.
     let k = c.show_page.ensures.refused refusal (exit_is c.show_page.result (exit.Refused refusal) is) in (
       line_of refusal,
       subst (λ (m : Command). MayRefuse m (g.R.Read.remaining c.args.input.now) (g.F.Files.store c.args.files.now) (g.F.Files.store c.show_page.new.files) refusal (line_of refusal)) (sym c.in-ShowPage.is) (k.0, c.show_page.ensures.stays, refl),
+      k.1,
+    )
+
+pub returns-in-CheckTimes-clause-done : goal.returns-in-CheckTimes-clause-done
+returns-in-CheckTimes-clause-done g c = λ is.
+    let k = c.check_times.ensures.done is in
+    (k.0, subst (λ (m : Command). IsDone m (g.R.Read.remaining c.args.input.now) (g.F.Files.store c.args.files.now) (g.F.Files.store c.check_times.new.files) k.0) (sym c.in-CheckTimes.is) (k.1, c.check_times.ensures.stays), k.2)
+
+pub returns-in-CheckTimes-clause-refused : goal.returns-in-CheckTimes-clause-refused
+returns-in-CheckTimes-clause-refused g c = λ refusal is.
+    let k = c.check_times.ensures.refused refusal is in
+    (line_of refusal, subst (λ (m : Command). MayRefuse m (g.R.Read.remaining c.args.input.now) (g.F.Files.store c.args.files.now) (g.F.Files.store c.check_times.new.files) refusal (line_of refusal)) (sym c.in-CheckTimes.is) (k.0, c.check_times.ensures.stays, refl), k.1)
+
+pub returns-in-ListOperations-clause-done : goal.returns-in-ListOperations-clause-done
+returns-in-ListOperations-clause-done g c = λ is.
+    let k = c.list_operations.ensures.done is in
+    (k.0, subst (λ (m : Command). IsDone m (g.R.Read.remaining c.args.input.now) (g.F.Files.store c.args.files.now) (g.F.Files.store c.list_operations.new.files) k.0) (sym c.in-ListOperations.is) (k.1, c.list_operations.ensures.stays), k.2)
+
+pub returns-in-ListOperations-clause-refused : goal.returns-in-ListOperations-clause-refused
+returns-in-ListOperations-clause-refused g c = λ refusal is.
+    let k = c.list_operations.ensures.refused refusal is in
+    (line_of refusal, subst (λ (m : Command). MayRefuse m (g.R.Read.remaining c.args.input.now) (g.F.Files.store c.args.files.now) (g.F.Files.store c.list_operations.new.files) refusal (line_of refusal)) (sym c.in-ListOperations.is) (k.0, c.list_operations.ensures.stays, refl), k.1)
+
+pub returns-in-CheckTimes-clause-assumed : goal.returns-in-CheckTimes-clause-assumed
+returns-in-CheckTimes-clause-assumed g c = λ is.
+    let k = c.check_times.ensures.assumed is in
+    (k.0, subst (λ (m : Command). MayAssume m (g.F.Files.store c.args.files.now) (g.F.Files.store c.check_times.new.files) k.0) (sym c.in-CheckTimes.is) (k.1, c.check_times.ensures.stays), k.2)
+
+pub returns-in-CheckTimes-clause-faulty : goal.returns-in-CheckTimes-clause-faulty
+returns-in-CheckTimes-clause-faulty g c = λ fault is.
+    let k = c.check_times.ensures.faulty fault is in
+    (k.0, subst (λ (m : Command). MayTell m (g.F.Files.store c.args.files.now) (g.F.Files.store c.check_times.new.files) fault k.0) (sym c.in-CheckTimes.is) (k.1, c.check_times.ensures.stays), k.2)
+
+pub returns-in-ListOperations-clause-faulty : goal.returns-in-ListOperations-clause-faulty
+returns-in-ListOperations-clause-faulty g c = λ fault is.
+    let k = c.list_operations.ensures.faulty fault is in
+    (fault_line fault, subst (λ (m : Command). MayTell m (g.F.Files.store c.args.files.now) (g.F.Files.store c.list_operations.new.files) fault (fault_line fault)) (sym c.in-ListOperations.is) (k.0, c.list_operations.ensures.stays, refl), k.1)
+
+pub returns-in-CheckVendor-clause-refused : goal.returns-in-CheckVendor-clause-refused
+returns-in-CheckVendor-clause-refused g c = λ refusal is.
+    let k = c.check_vendor_trace.ensures.refused refusal is in (
+      line_of refusal,
+      subst (λ (m : Command). MayRefuse m (g.R.Read.remaining c.args.input.now) (g.F.Files.store c.args.files.now) (g.F.Files.store c.check_vendor_trace.new.files) refusal (line_of refusal)) (sym c.in-CheckVendor.is) (k.0, k.1, refl),
+      k.2,
+    )
+
+pub returns-in-PrintCapture-clause-done : goal.returns-in-PrintCapture-clause-done
+returns-in-PrintCapture-clause-done g c = λ is.
+    let k = c.print_capture.ensures.done is in
+    (k.0, subst (λ (m : Command). IsDone m (g.R.Read.remaining c.args.input.now) (g.F.Files.store c.args.files.now) (g.F.Files.store c.print_capture.new.files) k.0) (sym c.in-PrintCapture.is) (k.1, c.print_capture.ensures.files), k.2)
+
+pub returns-in-PrintCapture-clause-refused : goal.returns-in-PrintCapture-clause-refused
+returns-in-PrintCapture-clause-refused g c = λ refusal is.
+    let k = c.print_capture.ensures.refused refusal is in (
+      line_of refusal,
+      subst (λ (m : Command). MayRefuse m (g.R.Read.remaining c.args.input.now) (g.F.Files.store c.args.files.now) (g.F.Files.store c.print_capture.new.files) refusal (line_of refusal)) (sym c.in-PrintCapture.is) (k.0, c.print_capture.ensures.files, refl),
+      k.1,
+    )
+
+pub returns-in-PrintCapture-clause-faulty : goal.returns-in-PrintCapture-clause-faulty
+returns-in-PrintCapture-clause-faulty g c = λ fault is.
+    let k = c.print_capture.ensures.faulty fault is in (
+      fault_line fault,
+      subst (λ (m : Command). MayTell m (g.F.Files.store c.args.files.now) (g.F.Files.store c.print_capture.new.files) fault (fault_line fault)) (sym c.in-PrintCapture.is) (k.0, c.print_capture.ensures.files, refl),
       k.1,
     )

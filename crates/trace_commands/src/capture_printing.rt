@@ -1,0 +1,148 @@
+//! The command that prints the trace that a capture shows.
+ghost use Rattle.std.specs.Prelude.{◌≡◌, ◌≤◌, List, ℕ, IfOk, IfErr};
+ghost use Rattle.std.specs.Io.KnownBytes.{Appends};
+ghost use Rattle.seq_inputs.specs.declared.refusal.Refusal.{Refusal};
+ghost use Rattle.seq_inputs.specs.Inputs.{PageIsRefused};
+ghost use Rattle.seq_inputs.specs.Stops.{Tells};
+ghost use Rattle.seq_inputs.specs.Refusals.{line_of};
+ghost use Rattle.trace_commands.specs.declared.recording_fault.RecordingFault.{RecordingFault};
+ghost use Rattle.trace_commands.specs.Captures.{seen_text, IsShown, IsShownFor, CaptureIsRefused, ConversionRefuses};
+ghost use Rattle.trace_commands.specs.Endings.{SaysOf};
+ghost use Rattle.trace_commands.specs.Recordings.{fault_line};
+
+use crate::capture_converter::{CaptureConverter, CaptureTally, push_text};
+use crate::capture_request::CaptureRequest;
+use crate::capture_words::words_of_fault;
+use crate::capturing::say_tally;
+use crate::ending::Ending;
+use crate::mappings::mappings_of;
+use crate::recording_fault::RecordingFault;
+use crate::recording_stop::{RecordingStop, end_stopped};
+use bus_capture::{CaptureFault, CaptureRefusal, Setup, read_capture};
+use seq_files::{Convert, Files};
+use seq_inputs::{
+    Console, Exit, Stop, Style, Words, end_without_memory, finish, geometry_at, read_file,
+};
+use std::alloc::Allocator;
+use std::io::Write;
+
+// The text of a trace, and how much it shows.
+#[derive(Drop)]
+struct ShownTrace<A: Allocator> {
+    text: Vec<u8, A>,
+    tally: CaptureTally,
+}
+
+// What is wrong with a capture, with what the whole of it tells.
+fn words_of<'p, A: Allocator + Clone>(
+    alloc: A,
+    path: &'p str,
+    setup: &Setup<'_>,
+    capture: &[u8],
+    fault: CaptureFault,
+) -> Option<Words<'p, A>>
+    requires few { setup.now.targets ≤ 4 }
+{
+    let mut converter = CaptureConverter::new(alloc.clone().ok()?, setup, false).ok()?;
+    let mut text = Vec::new(alloc.clone().ok()?);
+    let _ = converter.take(capture, &mut text);
+    words_of_fault(alloc, path, &converter, fault)
+}
+
+// Reads a capture: the trace that it shows.
+fn show_capture<'p, A: Allocator + Clone, F: Files>(
+    alloc: A,
+    files: &mut F,
+    request: CaptureRequest<'p>,
+    setup: &Setup<'_>,
+) -> Result<ShownTrace<A>, RecordingStop<'p, A>>
+    requires few { setup.now.targets ≤ 4 }
+    ensures ok { IfOk result (λ shown. IsShown (F.store files.old) request.entry setup.now shown.text.items) }
+    ensures err { IfErr result (SaysOf (λ _. ⊥) (ConversionRefuses (F.store files.old) request.entry setup.now)) }
+    ensures stays { F.store files.new ≡ F.store files.old }
+{
+    let capture = read_file(alloc.clone()?, files, request.input)?;
+    match read_capture(alloc.clone()?, setup, capture.as_slice()) {
+        Ok(seen) => {
+            let mut text = Vec::new(alloc.clone()?);
+            push_text(alloc, request.has_times, seen.stamped.as_slice(), &mut text)?;
+            Ok(ShownTrace {
+                text,
+                tally: CaptureTally {
+                    items: seen.stamped.len(),
+                    unselected: seen.unselected,
+                    strobe_changes: 0,
+                },
+            })
+        }
+        Err(CaptureRefusal::Fault(fault)) => {
+            let words = words_of(alloc, request.input, setup, capture.as_slice(), fault);
+            let fault = RecordingFault::Capture { fault };
+            Err(RecordingStop::Faulty { fault, words })
+        }
+        Err(CaptureRefusal::OutOfMemory) => Err(RecordingStop::Stop(Stop::OutOfMemory)),
+    }
+}
+
+// Reads a page and a capture: the trace that it shows.
+fn show_at<'p, A: Allocator + Clone, F: Files>(
+    alloc: A,
+    files: &mut F,
+    request: CaptureRequest<'p>,
+) -> Result<ShownTrace<A>, RecordingStop<'p, A>>
+    ensures ok { IfOk result (λ shown. IsShownFor (F.store files.old) request.entry shown.text.items) }
+    ensures err { IfErr result (SaysOf (PageIsRefused (F.store files.old) request.entry.page.now) (CaptureIsRefused (F.store files.old) request.entry)) }
+    ensures stays { F.store files.new ≡ F.store files.old }
+{
+    let geometry = geometry_at(alloc.clone()?, files, request.page)?;
+    let mappings = mappings_of(alloc.clone()?, request.mappings)?;
+    let setup = Setup {
+        form: request.form,
+        geometry,
+        targets: request.targets.count(),
+        mappings: mappings.as_slice(),
+        glitch: request.glitch,
+    };
+    match show_capture(alloc, files, request, &setup) {
+        Ok(shown) => Ok(shown),
+        Err(stop) => Err(stop),
+    }
+}
+
+/// Prints the trace that a capture shows, as [`capture_trace`](crate::capture_trace) writes it, so that another command can read it from a pipe. The whole
+/// capture is in memory then. No file is written.
+pub fn print_capture<A: Allocator + Clone, F: Files, W: Write, E: Write, P>(
+    alloc: A,
+    files: &mut F,
+    console: &mut Console<W, E, P>,
+    request: CaptureRequest<'_>,
+) -> Ending
+    ensures done { result ≡ Ending.Exit Exit.Done → (printed : List ℕ)
+        × IsShownFor (F.store files.old) request.entry printed
+        × Appends (W.contents console.old.output) (W.contents console.new.output) printed }
+    ensures assumed { result ≡ Ending.Assumed → ⊥ }
+    ensures refused { (refusal : Refusal) → result ≡ Ending.Exit (Exit.Refused refusal)
+        → Tells (PageIsRefused (F.store files.old) request.entry.page.now) refusal
+        × Appends (W.contents console.old.output) (W.contents console.new.output) (line_of refusal) }
+    ensures faulty { (fault : RecordingFault) → result ≡ Ending.Faulty fault → CaptureIsRefused (F.store files.old) request.entry fault
+        × Appends (W.contents console.old.output) (W.contents console.new.output) (fault_line fault) }
+    ensures files { F.store files.new ≡ F.store files.old }
+{
+    let copy = match alloc.clone() {
+        Ok(copy) => copy,
+        Err(_) => return Ending::Exit(end_without_memory(console)),
+    };
+    match show_at(copy, files, request) {
+        Ok(shown) => {
+            let Ok(text) = str::from_utf8(shown.text.as_slice()) else {
+                return Ending::Exit(end_without_memory(console));
+            };
+            let exit = finish(console, text);
+            if matches!(exit, Exit::Done) {
+                say_tally(&mut console.errors, shown.tally);
+            }
+            Ending::Exit(exit)
+        }
+        Err(stop) => end_stopped(alloc, console, Style::Plain, stop),
+    }
+}

@@ -1,0 +1,78 @@
+//! What is wrong with a capture, with what the whole of it tells.
+
+use crate::capture_converter::CaptureConverter;
+use crate::explaining::words_of_capture;
+use bus_capture::{BusFault, CaptureFault};
+use seq_inputs::Words;
+use shown_text::Shown;
+use std::alloc::Allocator;
+
+// What is wrong with the signal of a line, and which signals there are.
+fn words_with_names<'p, A: Allocator>(
+    alloc: A,
+    path: &'p str,
+    names: &str,
+    fault: CaptureFault,
+) -> Option<Words<'p, A>> {
+    let shown = Shown::path(names);
+    let code = fault.code();
+    let text = format!(in alloc; "{fault}; the signals are `{shown}` ({code})");
+    Words::at(path, None, text)
+}
+
+// What is wrong with the signal of a line; beside it, which signals there are, as far as that is known.
+fn words_of_role<'p, A: Allocator>(
+    alloc: A,
+    path: &'p str,
+    names: Option<Vec<u8, A>>,
+    fault: CaptureFault,
+) -> Option<Words<'p, A>> {
+    let Some(names) = names else {
+        return words_of_capture(alloc, path, None, fault);
+    };
+    match str::from_utf8(names.as_slice()) {
+        Ok(names) => words_with_names(alloc, path, names, fault),
+        Err(_) => words_of_capture(alloc, path, None, fault),
+    }
+}
+
+// The strobes look swapped: where RE# rises first, CLE or ALE is high.
+fn look_swapped<A: Allocator + Clone>(
+    converter: &CaptureConverter<'_, A>,
+    fault: CaptureFault,
+) -> bool {
+    match fault {
+        CaptureFault::Bus { fault, .. } => {
+            fault == BusFault::LatchAtOutput && converter.tally().items == 0
+        }
+        CaptureFault::File(_) | CaptureFault::Role(_) => false,
+    }
+}
+
+fn words_of_swapped<'p, A: Allocator>(
+    alloc: A,
+    path: &'p str,
+    fault: CaptureFault,
+) -> Option<Words<'p, A>> {
+    let code = fault.code();
+    let text = format!(in alloc;
+        "{fault}: WE and RE look swapped, say which one is which by --map WE=NAME,RE=NAME ({code})"
+    );
+    Words::at(path, None, text)
+}
+
+/// What is wrong with a capture of which this much is read.
+pub(crate) fn words_of_fault<'p, A: Allocator + Clone>(
+    alloc: A,
+    path: &'p str,
+    converter: &CaptureConverter<'_, A>,
+    fault: CaptureFault,
+) -> Option<Words<'p, A>> {
+    if matches!(fault, CaptureFault::Role(_)) {
+        return words_of_role(alloc, path, converter.signal_names(), fault);
+    }
+    if look_swapped(converter, fault) {
+        return words_of_swapped(alloc, path, fault);
+    }
+    words_of_capture(alloc, path, converter.line_of(fault), fault)
+}

@@ -1,0 +1,233 @@
+//! A cycle that breaks a rule, and what it came to: why it isn't permitted.
+
+use crate::cause::{Cause, Columns, RowPart, Unwanted};
+use crate::open_sequence::{CommandAt, OpenSequence, Wanted};
+use crate::target_past::{MOST_LUNS, TargetPast};
+use nand_geometry::Geometry;
+use onfi_cycle::{
+    BusState, Command, Cycle, Forbidden, Kind, Latch, Lun, LunState, Register, TailFacts,
+};
+
+/// A cycle of a trace, and the channel to which it came.
+#[derive(Clone, Copy)]
+pub(crate) struct FaultyCycle<'s> {
+    pub(crate) geometry: Geometry,
+    pub(crate) bus: &'s BusState,
+    /// What the trace did to its target before.
+    pub(crate) past: TargetPast,
+    pub(crate) cycle: Cycle,
+}
+
+// The opener of the sequences that a command ends or goes on with.
+fn opener_of(command: Command) -> Option<u8> {
+    match command {
+        Command::ReadConfirm => Some(0x00),
+        Command::ChangeReadColumnConfirm => Some(0x05),
+        Command::BlockEraseConfirm | Command::BlockErasePlane => Some(0x60),
+        Command::ChangeWriteColumn | Command::ProgramConfirm | Command::ProgramPlane => Some(0x80),
+        _ => None,
+    }
+}
+
+impl FaultyCycle<'_> {
+    // What the tail of its target tells.
+    fn tail(&self) -> TailFacts {
+        self.bus.tail(self.cycle.ce).unwrap_or(TailFacts::none())
+    }
+
+    // The sequence that is open on its target.
+    fn open(&self) -> Option<OpenSequence> {
+        Some(OpenSequence {
+            opener: self.past.opener?,
+            wanted: Wanted::of(self.tail())?,
+        })
+    }
+
+    // Where the target wants something else, or nothing.
+    fn unwanted(&self, cycle: Unwanted) -> Cause {
+        match self.open() {
+            Some(open) => Cause::Other { cycle, open },
+            None => Cause::Nothing(cycle),
+        }
+    }
+
+    fn command_misplaced(&self) -> Cause {
+        let command = self.cycle.byte;
+        match (self.open(), opener_of(Command::of(command))) {
+            (None, Some(opener)) => Cause::Unopened { command, opener },
+            (None, None) | (Some(_), _) => self.unwanted(Unwanted::Command(command)),
+        }
+    }
+
+    // The part of a row that isn't there.
+    fn row_outside(&self) -> Cause {
+        let row = self
+            .geometry
+            .parts_of(self.tail().row_with(self.cycle.byte));
+        let parts = self.geometry.parts();
+        let luns = u32::from(parts.luns);
+        if luns <= row.lun {
+            let (part, number, last) = (RowPart::Lun, row.lun, luns.saturating_sub(1));
+            return Cause::RowOutside { part, number, last };
+        }
+        let (part, number, count) = if parts.blocks <= row.block {
+            (RowPart::Block, row.block, parts.blocks)
+        } else {
+            (RowPart::Page, row.page, parts.pages)
+        };
+        Cause::RowOutside {
+            part,
+            number,
+            last: count.saturating_sub(1),
+        }
+    }
+
+    // Since when the LUN of this number works.
+    fn works(&self, lun: u32) -> Option<Cause> {
+        let place = lun as usize;
+        if MOST_LUNS <= place {
+            return None;
+        }
+        let since = self.past.work[place]?;
+        Some(Cause::Works { lun, since })
+    }
+
+    fn lun_busy(&self) -> Option<Cause> {
+        if self.cycle.kind == Kind::Adr {
+            let row = self.tail().row_with(self.cycle.byte);
+            return self.works(self.geometry.parts_of(row).lun);
+        }
+        let luns = self.geometry.parts().luns;
+        if luns == 1 {
+            return self.works(0);
+        }
+        let since = self.past.work[0]?;
+        Some(Cause::AllWork { luns, since })
+    }
+
+    // The LUN of this number, where it drives the bus.
+    fn driver_at(&self, lun: u8) -> Option<LunState> {
+        let ce = self.cycle.ce;
+        let state = self.bus.lun_state(Lun { ce, lun })?;
+        match state.latch {
+            Latch::Off => None,
+            Latch::Status | Latch::Data => Some(state),
+        }
+    }
+
+    // How many LUNs of its target drive the bus.
+    fn count_drivers(&self) -> usize {
+        let mut count: usize = 0;
+        for lun in 0..4u8 {
+            if self.driver_at(lun).is_some() {
+                count = count.saturating_add(1);
+            }
+        }
+        count
+    }
+
+    // The first LUN of its target that drives the bus.
+    fn driver(&self) -> Option<(u8, LunState)> {
+        for lun in 0..4u8 {
+            if let Some(state) = self.driver_at(lun) {
+                return Some((lun, state));
+            }
+        }
+        None
+    }
+
+    fn no_sole_driver(&self) -> Cause {
+        if self.tail().is_open() {
+            if let Some(open) = self.open() {
+                return Cause::Open(open);
+            }
+        }
+        match self.count_drivers() {
+            0 => Cause::NoDriver {
+                reset: self.past.reset,
+            },
+            count => Cause::Drivers { count },
+        }
+    }
+
+    fn data_not_ready(&self) -> Option<Cause> {
+        let (lun, state) = self.driver()?;
+        if state.busy {
+            return self.works(u32::from(lun));
+        }
+        if state.register == Register::Empty {
+            return Some(Cause::NoData { lun });
+        }
+        let asked = self.past.asked?;
+        Some(Cause::ColumnLost { lun, asked })
+    }
+
+    // The column past the register of the LUN that drives the bus.
+    fn register_column(&self, column: Option<u32>) -> Option<Cause> {
+        let (_, state) = self.driver()?;
+        Some(Cause::ColumnOutside {
+            column: u64::from(column.or(state.column)?),
+            of: Columns::Register,
+            length: state.register.len(&self.geometry),
+        })
+    }
+
+    fn page_column(&self, column: u64) -> Cause {
+        Cause::ColumnOutside {
+            column,
+            of: Columns::Page,
+            length: self.geometry.page_len(),
+        }
+    }
+
+    fn column_outside(&self) -> Option<Cause> {
+        let tail = self.tail();
+        let given = tail.column_with(self.cycle.byte);
+        match self.cycle.kind {
+            Kind::Cmd => None,
+            Kind::Dout => self.register_column(None),
+            Kind::Din => {
+                let column = u64::from(tail.column).saturating_add(tail.inputs as u64);
+                Some(self.page_column(column))
+            }
+            Kind::Adr => match tail.opening {
+                Some(opening) if opening.opener == Command::ChangeReadColumn => {
+                    self.register_column(Some(given))
+                }
+                Some(_) | None => Some(self.page_column(u64::from(given))),
+            },
+        }
+    }
+
+    /// Why the cycle breaks this rule, where that has one cause that can be named.
+    pub(crate) fn cause_of(&self, rule: Forbidden) -> Option<Cause> {
+        match rule {
+            Forbidden::SequenceOpen => Some(Cause::Open(self.open()?)),
+            Forbidden::SeveralLuns => Some(Cause::SeveralLuns {
+                command: self.cycle.byte,
+                luns: self.geometry.parts().luns,
+            }),
+            Forbidden::CommandMisplaced => Some(self.command_misplaced()),
+            Forbidden::AddressMisplaced => Some(self.unwanted(Unwanted::Address)),
+            Forbidden::RowOutside => Some(self.row_outside()),
+            Forbidden::LunBusy => self.lun_busy(),
+            Forbidden::InputMisplaced => Some(self.unwanted(Unwanted::Data)),
+            Forbidden::NoSoleDriver => Some(self.no_sole_driver()),
+            Forbidden::DataNotReady => self.data_not_ready(),
+            Forbidden::ColumnOutside => self.column_outside(),
+            Forbidden::NotThere
+            | Forbidden::CommandUnknown
+            | Forbidden::NoColumnToChange
+            | Forbidden::QueueClash
+            | Forbidden::CacheReadMisplaced => None,
+        }
+    }
+
+    /// The opener whose address the cycle is, if it is an address.
+    pub(crate) fn opener_of_address(&self) -> Option<CommandAt> {
+        match self.cycle.kind {
+            Kind::Adr => self.past.opener,
+            Kind::Cmd | Kind::Din | Kind::Dout => None,
+        }
+    }
+}
