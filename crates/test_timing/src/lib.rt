@@ -7,3 +7,5 @@ mod file_tests;
 mod ops_tests;
 #[cfg(test)]
 mod pause_tests;
+#[cfg(test)]
+mod times_tests;
