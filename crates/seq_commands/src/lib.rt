@@ -8,7 +8,9 @@ mod assembling;
 mod assembling_for;
 mod disassembling;
 mod linting;
+mod meeting;
 mod noting;
+mod unshown_run;
 mod upgrading;
 mod verifying;
 

@@ -16,6 +16,8 @@ ghost use Rattle.seq_inputs.specs.Stops.{SaysElse, RefusesNothing, Tells};
 ghost use Rattle.seq_inputs.specs.Refusals.{line_of};
 
 use crate::noting::say_notes;
+use crate::unshown_run::{UnshownRun, say_unshown};
+use micro_claims::Reason;
 use micro_program::Verified;
 use micro_verify::{Counter, TextRefused, VerifyRefusal, verify};
 use micro_word::Text;
@@ -23,8 +25,8 @@ use nand_geometry::Geometry;
 use onfi_cycle::Item;
 use seq_files::{Files, MadeFile, list_made};
 use seq_inputs::{
-    Console, Exit, Fault, Stop, Style, end_without_memory, fail_as, finish, geometry_at, read_file,
-    read_program, words_of_reason, write_files,
+    Console, Exit, Fault, Stop, Style, Words, end_without_memory, fail_as, finish, geometry_at,
+    read_file, read_program, words_of_reason, write_files,
 };
 use std::alloc::Allocator;
 use std::io::Write;
@@ -89,6 +91,27 @@ fn leave_run<'p, A: Allocator + Clone, F: Files>(
     }
 }
 
+// What is said of the refusal of a text, and why no run of it is written, where one was asked for and isn't.
+fn words_of_refusal<'p, A: Allocator + Clone>(
+    alloc: A,
+    path: &'p str,
+    bytes: &[u8],
+    text: &Text<A>,
+    geometry: &Geometry,
+    word: usize,
+    reason: Reason,
+    lacks_run: bool,
+) -> Option<Words<'p, A>> {
+    let copy = alloc.clone().ok()?;
+    let words = words_of_reason(alloc, path, bytes, text, geometry, word, reason)?;
+    if lacks_run {
+        let unshown = UnshownRun::of(text, geometry, word, reason);
+        say_unshown(copy, words, unshown)
+    } else {
+        Some(words)
+    }
+}
+
 // Whether a text is safe for a geometry; the files of the run of its refusal are left.
 fn accept<'p, A: Allocator + Clone, F: Files>(
     alloc: A,
@@ -119,8 +142,11 @@ fn accept<'p, A: Allocator + Clone, F: Files>(
             reason,
             counter: run,
         } => {
+            let lacks_run = run.is_none() && counter != TraceOutputs::NONE;
             leave_run(alloc.clone()?, files, &geometry, counter, run)?;
-            let words = words_of_reason(alloc, path, bytes, &text, &geometry, word, reason);
+            let words = words_of_refusal(
+                alloc, path, bytes, &text, &geometry, word, reason, lacks_run,
+            );
             Err(Stop::refused(Fault::Text { reason, word }, words))
         }
         VerifyRefusal::OutOfMemory => Err(Stop::OutOfMemory),

@@ -2,7 +2,7 @@
 use crate::mistake::{Mistake, make_all};
 use std::test::Fail;
 
-const MISTAKES: [Mistake; 18] = [
+const MISTAKES: [Mistake; 22] = [
     // A second erase while the first one may go on.
     Mistake {
         line: "verify page x",
@@ -124,6 +124,38 @@ const MISTAKES: [Mistake; 18] = [
         file: b"rows 1\nbuffer 8\nbudget 20\ncmd 42\nend 0\n",
         begins: "-:4: word 0, `cmd 42`: ",
         names: &["no command has the byte 42", "(V16)"],
+    },
+    // A run is asked for, and the refusal has none.
+    Mistake {
+        line: "verify page x --counter y",
+        file: b"rows 1\nbuffer 8\nbudget 20\ncmd 60\naddr 2 3\ncmd d0\nwait\nstat\nbrs 01 out\ncmd 60\nout:\nend 0\n",
+        begins: "x:12: word 7, `end 0`: ",
+        names: &["no run is written: only a cycle that may not be permitted (V7) has one"],
+    },
+    Mistake {
+        line: "verify page x --draw y",
+        file: b"rows 1\nbuffer 8\nbudget 20\ncmd 60\naddr 2 3\ncmd d0\nstat\nbrs 01 again\nwait\nagain:\ncmd 60\naddr 2 3\ncmd d0\nwait\nend 0\n",
+        begins: "x:11: word 6, `cmd 60`: ",
+        names: &[
+            "no run is written: only a program without branches and loops has one, and word 4 branches",
+            "the ways from words 4 and 5 meet at word 6",
+        ],
+    },
+    Mistake {
+        line: "verify page x --wave y",
+        file: b"rows 1\nbuffer 8\nbudget 40\nloop 2\ncmd 60\naddr 2 3\ncmd d0\nnext\nend 0\n",
+        begins: "x:5: word 1, `cmd 60`: ",
+        names: &[
+            "no run is written: only a program without branches and loops has one, and word 0 is of a loop",
+        ],
+    },
+    Mistake {
+        line: "verify two x --counter y",
+        file: b"rows 1\nbuffer 8\nbudget 20\ncmd 60\naddr 2 3\ncmd d0\ncmd 60\naddr 2 3\ncmd d0\nwait\nend 0\n",
+        begins: "x:7: word 3, `cmd 60`: ",
+        names: &[
+            "no run is written: only a program for a target of one LUN has one, and this target has 2",
+        ],
     },
     Mistake {
         line: "check page 1 x",
