@@ -6,3 +6,4 @@ pub mod Tried
 pub mod Done
 pub mod Changed
 pub mod Asked
+pub mod Begun

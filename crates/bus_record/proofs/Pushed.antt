@@ -114,7 +114,7 @@ after_fits g limits n i s t permitted is small f =
 views : Kept → List TargetView
 views k = map target_of (take k.count k.targets)
 
-views_count : (k : Kept) → IsSound k → length (map target_of (take k.count k.targets)) ≡ k.count
+pub views_count : (k : Kept) → IsSound k → length (map target_of (take k.count k.targets)) ≡ k.count
 views_count k s = let few = s.few in let room = s.room in let low : k.count ≤ length k.targets = omega (arith, few, room) in length_seen target_of k.count k.targets low
 
 pub fits_there : (k : Kept) → IsSound k → (ce : ℕ) → ce < k.count → (d : OnfiseqTarget) → TargetFits (parts_of k.geometry) (target_of (get_or k.targets ce d))

@@ -8,3 +8,4 @@ pub mod Runs
 pub mod Look
 pub mod Changing
 pub mod Trial
+pub mod Anew

@@ -70,8 +70,8 @@ fn no_channel(geometry: OnfiseqGeometry) -> OnfiseqBus
     }
 }
 
-// The record of a target to which nothing has happened.
-fn fresh_target(luns: u8) -> OnfiseqTarget
+/// The record of a target to which nothing has happened.
+pub(crate) fn fresh_target(luns: u8) -> OnfiseqTarget
     requires { luns ≤ 4 }
     ensures value { (g : Parts) (ce : ℕ) → g.luns ≡ luns → target_of result ≡ target_view g [] ce }
     ensures numbers { IsTarget result }

@@ -5,6 +5,7 @@
 //! nothing.
 #![tactic(auto)]
 
+mod anew;
 mod bus;
 mod item;
 mod look;
@@ -16,6 +17,7 @@ mod target_change;
 mod target_effect;
 mod trial;
 
+pub use anew::{begin_target, drop_sequence};
 pub use bus::{DAMAGED, OnfiseqBus, begin, is_bus, push, push_item, push_numbers};
 pub use item::OnfiseqItem;
 pub use look::{OnfiseqLook, ask, geometry_of, has_lun, look_at_lun, no_look};

@@ -11,6 +11,7 @@ mod geometry;
 mod look;
 mod many;
 mod status;
+mod target;
 
 pub use abi::{OnfiseqAbi, OnfiseqSample, onfiseq_abi, onfiseq_sample};
 pub use bus::{onfiseq_begin, onfiseq_push};
@@ -19,3 +20,4 @@ pub use geometry::{OnfiseqPage, onfiseq_page};
 pub use look::{onfiseq_ask, onfiseq_look};
 pub use many::onfiseq_push_all;
 pub use status::onfiseq_push_status;
+pub use target::{onfiseq_begin_target, onfiseq_drop};

@@ -1,5 +1,5 @@
 -- What the record of a channel stands for.
-use Rattle.std.specs.Prelude.{◌≡◌, ◌==◌, ◌&&◌, not, Bool, if◌then◌else◌, Option, Some, None}
+use Rattle.std.specs.Prelude.{◌≡◌, ℕ, ◌==◌, ◌&&◌, not, Bool, if◌then◌else◌, Option, Some, None}
 use Rattle.onfi_cycle.specs.declared.lun.Lun.{Lun}
 use Rattle.onfi_cycle.specs.State.{BusView}
 use Rattle.bus_record.specs.Bus.{bus_view}
@@ -15,6 +15,11 @@ state_of v = bus_view v.bus
 -- the LUN that has the bus, if one has it
 abbrev pub holder_of : OnfiseqLive → Option Lun
 holder_of v = if v.has_holder == 0 then None else Some (record { ce = v.ce; lun = v.lun })
+
+-- the same, unless it is a LUN of this target
+abbrev pub held_elsewhere : ℕ → Option Lun → Option Lun
+held_elsewhere ce None = None
+held_elsewhere ce (Some l) = if l.ce == ce then None else Some l
 
 -- the record is one that a call left, as far as it can be told, and a channel was begun
 abbrev pub is_live : OnfiseqLive → Bool

@@ -6,6 +6,7 @@
 #![tactic(auto)]
 
 mod abi;
+mod anew;
 mod begin;
 mod bursts;
 mod due;
@@ -18,6 +19,7 @@ mod next;
 mod stop;
 
 pub use abi::{OnfiseqLiveAbi, OnfiseqLiveSample, onfiseq_live_abi, onfiseq_live_sample};
+pub use anew::onfiseq_live_begin_target;
 pub use begin::onfiseq_job_begin;
 pub use finish::{OnfiseqStep, onfiseq_job_finish};
 pub use job::OnfiseqJob;

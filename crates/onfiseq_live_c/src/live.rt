@@ -14,8 +14,8 @@ use onfi_cycle::{Item, Lun};
 // What stands first in a record that a call left: `LIVE`.
 const MAGIC: u32 = 0x4556_494c;
 
-// The answer of a call to which a record was given that no call left.
-const DAMAGED: u32 = 254;
+/// The answer of a call to which a record was given that no call left.
+pub(crate) const DAMAGED: u32 = 254;
 
 /// A channel on whose pins jobs run: its state, and the LUN that has the bus, if one has it.
 #[repr(C)]
@@ -30,8 +30,8 @@ pub struct OnfiseqLive {
 }
 
 impl OnfiseqLive {
-    // Whether the record is one that a call left, as far as it can be told.
-    fn is_live(&self) -> bool
+    /// Whether the record is one that a call left, as far as it can be told.
+    pub(crate) fn is_live(&self) -> bool
         ensures { result ≡ is_live self.now }
     {
         self.magic == MAGIC && self.bus.count != 0

@@ -1,0 +1,47 @@
+use Rattle.std.proofs.Common.{◌≡◌, ℕ, ◌<◌, ◌≤◌, arith, sym, ap, ◌∙◌, subst, refl, slice_set}
+use Rattle.nand_geometry.specs.declared.parts.Parts.{Parts}
+use Rattle.onfi_cycle.specs.State.{Follows, BusView, bus}
+use Rattle.target_record.specs.Geometry.{parts_of}
+use Rattle.bus_record.specs.Anew.{KeepsOthers, begun, bus_begun, elsewhere}
+use Rattle.bus_record.specs.Bus.{bus_view, IsSound}
+use Rattle.bus_record.specs.Kept.{Kept}
+use Rattle.bus_record.proofs.Begun.{begun_follows, stays_beyond, never_beyond, changed_there, keeps_others, sound_anew}
+use Rattle.bus_record.proofs.Runs.{no_target}
+use Rattle.bus_record.proofs.anew.begin_target.Goals as goal
+
+-- the bus is sound, as it stands
+sound : (c : goal.After-number) → IsSound c.args.bus.now
+sound c = subst IsSound c.bus.view_is c.bus.invariant
+
+low : (c : goal.After-number) → c.args.bus.now.count ≤ c.args.ce
+low c = let place = c.from-place.ensures in let beyond = c.if-bus-place.true in subst (λ (x : Kept). x.count ≤ c.args.ce) c.bus.view_is (omega (arith, place, beyond))
+
+pub returns-then-bus-place-clause-state : goal.returns-then-bus-place-clause-state
+returns-then-bus-place-clause-state c = stays_beyond (begun (parts_of c.args.bus.now.geometry) c.args.ce) c.args.bus.now c.args.ce (sound c) (low c)
+
+pub returns-then-bus-place-clause-past : goal.returns-then-bus-place-clause-past
+returns-then-bus-place-clause-past c g n past inside follows = absurd (never_beyond g n c.args.ce c.args.bus.now past (sound c) (low c) inside follows)
+
+pub invariant_of-bus : goal.invariant_of-bus
+invariant_of-bus c =
+    let k : Kept = record { magic = c.bus.inside.magic; geometry = c.bus.inside.geometry; count = c.bus.inside.count; targets = c.bus.inside.targets } in
+    sound_anew k c.args.ce c.from-place.result c.fresh_target.result c.bus.invariant c.from-place.ensures c.if-bus-place.false c.fresh_target.ensures.numbers
+    (λ ce. c.fresh_target.ensures.value (parts_of c.bus.inside.geometry) ce refl)
+
+pub returns-clause-state : goal.returns-clause-state
+returns-clause-state c =
+    let k : Kept = record { magic = c.bus.inside.magic; geometry = c.bus.inside.geometry; count = c.bus.inside.count; targets = c.bus.inside.targets } in
+    changed_there (begun (parts_of k.geometry) c.args.ce) k c.args.ce c.from-place.result no_target c.fresh_target.result c.from-place.ensures c.if-bus-place.false
+    (c.fresh_target.ensures.value (parts_of c.bus.inside.geometry) c.args.ce refl)
+    ∙ ap (λ (x : Kept). bus_begun c.args.ce (bus_view x)) c.bus.view_is
+
+pub returns-clause-others : goal.returns-clause-others
+returns-clause-others c =
+    let k : Kept = record { magic = c.bus.inside.magic; geometry = c.bus.inside.geometry; count = c.bus.inside.count; targets = c.bus.inside.targets } in
+    subst (λ (x : Kept). KeepsOthers c.args.ce x (record { magic = k.magic; geometry = k.geometry; count = k.count; targets = slice_set k.targets c.from-place.result c.fresh_target.result })) c.bus.view_is
+    (keeps_others k c.args.ce c.from-place.result c.fresh_target.result c.from-place.ensures)
+
+pub returns-clause-past : goal.returns-clause-past
+returns-clause-past c g n past inside follows =
+    subst (λ (b : BusView). Follows g n b (elsewhere c.args.ce past)) (sym (returns-clause-state c))
+    (begun_follows g n c.args.ce (bus_view c.args.bus.now) past inside follows)
