@@ -8,7 +8,7 @@ at the root; it takes seconds and proves nothing. It looks at
 - the crates by layer: docs/develop/ARCHITECTURE.md's picture and counts, from crates.txt, whose lines stand under headings;
 - the way of the data, as a picture;
 - what a change of a crate proves again, in minutes: docs/develop/GATE.md, from docs/develop/minutes.tsv, which `gate_minutes.py --table` writes;
-- the wrong bodies of docs/model/PROVED.md, from the edits of the crates and docs/model/WRONG_BODIES.md;
+- the wrong bodies by what they do: docs/model/WRONG_BODIES.md, from the edits of the crates and from the rows of that page that say which were tried;
 - each name in backticks of four pages, which must stand somewhere in the repository;
 - each crate that crates.txt names for another, which must stand in a file of that one.
 
@@ -20,8 +20,12 @@ import sys
 from pathlib import Path
 
 ROOT = Path(__file__).resolve().parent.parent
+WRONG_BODIES = "docs/model/WRONG_BODIES.md"
 LOOKED_UP = ("docs/model/PROVED.md", "docs/model/PROOF.md", "docs/develop/ARCHITECTURE.md", "docs/develop/GATE.md")
 SOURCES = ("crates", "tools", "examples", "bench", "include", "bin", "release")
+# Crates whose wrong bodies were written and not tried since; one that `wrong_bodies.py --write` has tried has a row, and so no such words.
+UNTRIED = ("csv_text", "vendor_file")
+TRIED = re.compile(r"^\| `(\w+)` \| `(\w+)` \| .* \| `?[0-9a-f]+`? \|$", re.M)
 MADE = re.compile(r"(<!-- house: (\w+) -->\n).*?(<!-- end -->)", re.S)
 # Words in backticks that no file of ours has, as they are of the kit, of the system or of another tool.
 ELSEWHERE = set("rt rattle gcc clang main std core apt gtkwave vcd2fst iverilog vvp dac8208d650f15bf".split())
@@ -182,15 +186,21 @@ def meaning_of(edit):
     return found[1] if found else edit.stem.replace("_", " ")
 
 
+def name_edits(crate, names, tried):
+    """The edits of a crate by name, with a word about those that weren't tried."""
+    untried = crate in UNTRIED and not all((crate, name) in tried for name in names)
+    return ", ".join(f"`{name}`" for name in names) + f" of `{crate}`" + (" (written, not tried)" if untried else "")
+
+
 def table_wrong_bodies(crates):
     """The wrong bodies that a clause refuses, by what they do."""
-    rows = {}
+    rows, tried = {}, set(TRIED.findall((ROOT / WRONG_BODIES).read_text(encoding="utf-8")))
     for crate in crates.values():
         for edit in crate.edits("must-fail") + crate.edits("wrong"):
             rows.setdefault(meaning_of(edit), {}).setdefault(crate.name, []).append(edit.stem)
     lines = ["| wrong body | refused |", "|---|---|"]
     for meaning, by_crate in rows.items():
-        named = "; ".join(", ".join(f"`{name}`" for name in names) + f" of `{crate}`" for crate, names in by_crate.items())
+        named = "; ".join(name_edits(crate, names, tried) for crate, names in by_crate.items())
         lines.append(f"| {meaning} | {named} |")
     return "\n".join(lines) + "\n"
 
@@ -241,9 +251,10 @@ def main():
     crates = read_crates()
     made = {"counts": lambda: count_house(crates), "costs": lambda: table_costs(crates), "wrong": lambda: table_wrong_bodies(crates)}
     wanted = {"docs/develop/layers.svg": draw_layers(crates), "docs/develop/data.svg": draw_data()}
-    for page in (*LOOKED_UP, "docs/develop/ARCHITECTURE.md"):
+    for page in (*LOOKED_UP, WRONG_BODIES):
         wanted[page] = make((ROOT / page).read_text(encoding="utf-8"), made)
-    faults = []
+    places = {name for text in wanted.values() for _, name, _ in MADE.findall(text)}
+    faults = [f"no page has a place for `{name}`: a line <!-- house: {name} --> and a line <!-- end -->" for name in made if name not in places]
     for path, text in wanted.items():
         file = ROOT / path
         if "--write" in sys.argv:
