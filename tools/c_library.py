@@ -38,6 +38,7 @@ USERS = (
     ("status", ["{out}/status"], None, 0),
     ("loader", ["{out}/loader", CHIP, ERASE + ".asm", "examples/small_chip/read_spare.asm", "examples/c/no_wait.asm", "examples/c/typing_error.asm"], None, 1),
     ("live", ["{out}/live", CHIP, ERASE + ".asm", "4", "examples/small_chip/read_spare.asm", "0"], None, 0),
+    ("stuck", ["{out}/stuck"], None, 0),
     ("monitor_cpp", ["{out}/monitor_cpp", CHIP], ERASE + ".trace", 0),
     ("page", ["{out}/page", CHIP], "examples/c/busy.trace", 1),
     ("fuzz", ["{out}/fuzz", "100000", "1", CHIP], None, 0),
@@ -140,7 +141,7 @@ def compile_all():
     def run(*words):
         subprocess.run(words, check=True)
 
-    for name in ("layout", "monitor", "status", "loader", "live"):
+    for name in ("layout", "monitor", "status", "loader", "live", "stuck"):
         run(*CC, "examples/c/%s.c" % name, "examples/c/heap.c", *archives, "-o", "%s/%s" % (OUT, name))
     run(*CC, "-std=gnu11", "examples/c/stack.c", "examples/c/heap.c", *archives, "-pthread", "-o", OUT + "/stack")
     write_page_monitor(OUT + "/page.c")
@@ -188,7 +189,7 @@ def compare_words():
 
 
 def try_ranges():
-    """Whether the module for Python refuses what no byte holds, in place of judging another cycle."""
+    """Whether the module for Python refuses what no byte holds, in place of judging another cycle, and knows the ways out."""
     import onfiseq
 
     lib = onfiseq.load(SHARED)
@@ -211,8 +212,22 @@ def try_ranges():
     try:
         monitor.command(0, 0x60)
     except AssertionError:
-        return None
+        return try_ways_out(monitor)
     return "a second opener is taken"
+
+
+def try_ways_out(monitor):
+    """Whether an open sequence can be dropped, and a busy target begun anew."""
+    monitor.drop(0)
+    for byte in (0x60, 0xFF):
+        monitor.command(0, byte)
+        monitor.begin_target(0)
+    monitor.command(0, 0x60)
+    try:
+        monitor.begin_target(1)
+    except AssertionError:
+        return None
+    return "target 1 of one begins anew"
 
 
 def run_bench():

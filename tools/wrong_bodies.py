@@ -71,10 +71,14 @@ def read_rows():
 
 
 def write_rows(rows):
+    """Writes the table anew; the sections after it stay."""
+    with open(PAGE, encoding="utf-8") as page:
+        _, mark, rest = page.read().partition("\n## ")
     with open(PAGE, "w", encoding="utf-8") as page:
         page.write(HEAD)
         for (crate, edit), (clause, commit) in sorted(rows.items()):
             page.write(f"| `{crate}` | `{edit}` | {clause} | `{commit}` |\n")
+        page.write(mark + rest)
 
 
 def prepare(gate, root):

@@ -47,6 +47,8 @@ CALLS = {
     "onfiseq_push": (u32, [ctypes.POINTER(Bus), ctypes.POINTER(Item)]),
     "onfiseq_push_all": (u32, [ctypes.POINTER(Bus), ctypes.POINTER(Item), size, ctypes.POINTER(size)]),
     "onfiseq_push_status": (u32, [ctypes.POINTER(Bus), ctypes.POINTER(Item), ctypes.POINTER(size)]),
+    "onfiseq_begin_target": (u32, [ctypes.POINTER(Bus), u8]),
+    "onfiseq_drop": (u32, [ctypes.POINTER(Bus), u8]),
     "onfiseq_ask": (u32, [ctypes.POINTER(Bus), ctypes.POINTER(Item)]),
     "onfiseq_look": (Look, [ctypes.POINTER(Bus), u8, u8]),
     "onfiseq_verify": (Answer, [ctypes.c_char_p, size, ctypes.c_char_p, size]),
@@ -58,6 +60,7 @@ CALLS = {
     "onfiseq_live_begin": (Live, [ctypes.POINTER(Geometry), u8]),
     "onfiseq_live_ready": (u32, [ctypes.POINTER(Live), u8, u8, flag]),
     "onfiseq_live_array_ready": (u32, [ctypes.POINTER(Live), u8, u8]),
+    "onfiseq_live_begin_target": (u32, [ctypes.POINTER(Live), u8]),
     "onfiseq_job_begin": (Step, [ctypes.POINTER(Live), u8, u8, u32, ctypes.c_char_p, size, size, ctypes.POINTER(Job)]),
     "onfiseq_job_next": (Turn, [ctypes.POINTER(Live), ctypes.POINTER(Job), ctypes.c_char_p, size]),
     "onfiseq_job_finish": (Step, [ctypes.POINTER(Live), ctypes.POINTER(Job), ctypes.c_char_p, size, ctypes.c_char_p, size]),
@@ -149,6 +152,19 @@ class Monitor:
 
     def array_ready(self, ce, lun):
         self.push(ce, "Y", lun)
+
+    def begin_target(self, ce):
+        """A target is as at the start, whatever it was doing: its chip was reset on the pins, or lost its power."""
+        self.leave(self.lib.onfiseq_begin_target, ce)
+
+    def drop(self, ce):
+        """A target forgets its open sequence, and its LUNs stay as they are: for whoever goes on after a cycle that isn't permitted."""
+        self.leave(self.lib.onfiseq_drop, ce)
+
+    def leave(self, call, ce):
+        rule = call(self.bus, in_byte("the target", ce))
+        if rule:
+            raise Broken(self.lib, rule, self.count, Item(ce, ord("-"), 0, 0))
 
     def look(self, ce, lun):
         """The state of a LUN, None where none is there."""
