@@ -374,9 +374,12 @@ fn glitch<'a>(alloc: Global) -> Arg<'a> {
 }
 
 fn capture<'a>(alloc: Global) -> Result<clap::Command<'a>, Error> {
-    let map = Arg::new(alloc, "map").long("map").value_name("ROLE=NAME").help(
-        "Which signal is what, where its name doesn't tell: CE0 to CE3, CLE, ALE, WE, RE, DQ, DQ0 to DQ7, RB0 to RB3; as WE=P17,RE=P18",
-    );
+    let map = Arg::new(alloc, "map")
+        .long("map")
+        .value_name("ROLE=NAME")
+        .help(
+            "Which signal is what, where its name doesn't tell: CE0 to CE3, CLE, ALE, WE, RE, DQ, DQ0 to DQ7, RB0 to RB3; as WE=P17,RE=P18",
+        );
     let csv = Arg::new(alloc, "csv")
         .long("csv")
         .action(ArgAction::SetTrue)
