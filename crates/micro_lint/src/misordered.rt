@@ -24,7 +24,7 @@ impl fmt::Display for Misordered {
         f.write_str(way(self.branched))?;
         write!(
             f,
-            "it programs {row} after {higher} (word {before}), which is in the same block where the base begins a block: program the pages of a block in rising order"
+            "it programs {row} after {higher} (word {before}), in the same block if the base begins one: program the pages of a block in rising order"
         )
     }
 }

@@ -18,7 +18,7 @@ pub struct Rewritten {
 /// What a note of the way that takes no branch begins with.
 pub(crate) fn way(branched: bool) -> &'static str {
     if branched {
-        "where no branch is taken, "
+        "if no branch is taken, "
     } else {
         ""
     }
@@ -31,17 +31,17 @@ impl fmt::Display for Rewritten {
         if before == self.word {
             write!(
                 f,
-                "it programs {row} in two turns, with no erase of its block between: a `rowadd` or an erase is missing in the loop"
+                "it programs {row} in two turns, without an erase between: a `rowadd` or an erase is missing in the loop"
             )
         } else if before < self.word {
             write!(
                 f,
-                "it programs {row}, as word {before} does before, with no erase of its block between: erase it first, or give both parts in one program by `cmd 85`"
+                "it programs {row}, as word {before} does before, without an erase between: erase it first, or give both parts in one program by `cmd 85`"
             )
         } else {
             write!(
                 f,
-                "it programs {row}, as word {before} does in the turn before, with no erase of its block between: erase it first"
+                "it programs {row}, as word {before} does in the turn before, without an erase between: erase it first"
             )
         }
     }

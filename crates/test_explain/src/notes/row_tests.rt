@@ -5,38 +5,38 @@ use std::test::Fail;
 const TWICE: [Try<'static>; 6] = [
     Try {
         words: "cmd 80\naddr 0 5\nput 4\ncmd 10\nwait\nbrs 01 a\ncmd 80\naddr 0 5\nput 4\ncmd 10\nwait\nbrs 01 a\nend 0\na:\nend 1",
-        told: "word 9: where no branch is taken, it programs row 0, as word 3 does before, with no erase of its block between: erase it first, or give both parts in one program by `cmd 85` (N2)\n",
+        told: "word 9: if no branch is taken, it programs row 0, as word 3 does before, without an erase between: erase it first, or give both parts in one program by `cmd 85` (N2)\n",
         ..PLAIN
     },
     // A way without branches; the status is given to the host.
     Try {
         words: "row 2\ncmd 80\naddr 0 5\nput 4\ncmd 10\nwait\nget 1\nrow 6\ncmd 60\naddr 2 3\ncmd d0\nwait\nget 1\nrow 2\ncmd 80\naddr 0 2\naddr 2 3\nput 4\ncmd 10\nwait\nget 1\nend 0",
-        told: "word 18: it programs row 2, as word 4 does before, with no erase of its block between: erase it first, or give both parts in one program by `cmd 85` (N2)\n",
+        told: "word 18: it programs row 2, as word 4 does before, without an erase between: erase it first, or give both parts in one program by `cmd 85` (N2)\n",
         ..PLAIN
     },
     // A loop that never moves on.
     Try {
         words: "loop 4\ncmd 80\naddr 0 5\nput 4\ncmd 10\nwait\nget 1\nnext\nend 0",
-        told: "word 4: it programs row 0 in two turns, with no erase of its block between: a `rowadd` or an erase is missing in the loop (N2)\n",
+        told: "word 4: it programs row 0 in two turns, without an erase between: a `rowadd` or an erase is missing in the loop (N2)\n",
         ..PLAIN
     },
     // Two rows a turn, and one row on.
     Try {
         words: "loop 2\ncmd 80\naddr 0 5\nput 4\ncmd 10\nwait\nget 1\nrowadd 1\ncmd 80\naddr 0 5\nput 4\ncmd 10\nwait\nget 1\nnext\nend 0",
-        told: "word 4: it programs row 1, as word 11 does in the turn before, with no erase of its block between: erase it first (N2)\n",
+        told: "word 4: it programs row 1, as word 11 does in the turn before, without an erase between: erase it first (N2)\n",
         ..PLAIN
     },
     // After ten turns of a loop.
     Try {
         words: "row 11\ncmd 80\naddr 0 5\nput 4\ncmd 10\nwait\nget 1\nrow 1\nloop 10\nrowadd 1\nnext\ncmd 80\naddr 0 5\nput 4\ncmd 10\nwait\nget 1\nend 0",
-        told: "word 14: it programs row 11, as word 4 does before, with no erase of its block between: erase it first, or give both parts in one program by `cmd 85` (N2)\n",
+        told: "word 14: it programs row 11, as word 4 does before, without an erase between: erase it first, or give both parts in one program by `cmd 85` (N2)\n",
         ..PLAIN
     },
     // An erase of the other plane.
     Try {
         parts: TWO_PLANES,
         words: "cmd 80\naddr 0 5\nput 4\ncmd 10\nwait\nget 1\nplane 1\ncmd 60\naddr 2 3\ncmd d0\nwait\nget 1\nplane 0\ncmd 80\naddr 0 5\nput 4\ncmd 10\nwait\nget 1\nend 0",
-        told: "word 16: it programs row 0 of plane 0, as word 3 does before, with no erase of its block between: erase it first, or give both parts in one program by `cmd 85` (N2)\n",
+        told: "word 16: it programs row 0 of plane 0, as word 3 does before, without an erase between: erase it first, or give both parts in one program by `cmd 85` (N2)\n",
     },
 ];
 
@@ -50,14 +50,14 @@ fn rows_programmed_twice(rt: HostRuntime) -> Result<(), Fail> {
 const MISORDERED: [Try<'static>; 2] = [
     Try {
         words: "row 5\ncmd 80\naddr 0 5\nput 4\ncmd 10\nwait\nget 1\nrow 4\ncmd 80\naddr 0 5\nput 4\ncmd 10\nwait\nget 1\nend 0",
-        told: "word 11: it programs row 4 after row 5 (word 4), which is in the same block where the base begins a block: program the pages of a block in rising order (N3)\n",
+        told: "word 11: it programs row 4 after row 5 (word 4), in the same block if the base begins one: program the pages of a block in rising order (N3)\n",
         ..PLAIN
     },
     // A queued program of two planes, of which one has a higher page.
     Try {
         parts: TWO_PLANES,
         words: "row 3\nplane 1\ncmd 80\naddr 0 5\nput 4\ncmd 10\nwait\nget 1\nrow 2\nplane 0\ncmd 80\naddr 0 5\nput 4\ncmd 11\nwait\nplane 1\ncmd 80\naddr 0 5\nput 4\ncmd 10\nwait\nget 1\nend 0",
-        told: "word 19: it programs row 2 of plane 1 after row 3 of plane 1 (word 5), which is in the same block where the base begins a block: program the pages of a block in rising order (N3)\n",
+        told: "word 19: it programs row 2 of plane 1 after row 3 of plane 1 (word 5), in the same block if the base begins one: program the pages of a block in rising order (N3)\n",
     },
 ];
 

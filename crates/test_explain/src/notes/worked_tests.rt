@@ -88,7 +88,7 @@ fn examples_have_no_notes(rt: HostRuntime) -> Result<(), Fail> {
 // A program with several notes.
 const SEVERAL: [Try<'static>; 1] = [Try {
     words: "loop 1\ncmd 80\naddr 0 5\nput 4\ncmd 10\nwait\nnext\ncmd 80\naddr 0 5\nput 4\ncmd 10\nwait\nget 2\nend 0\nend 1",
-    told: "word 0: the loop turns once: leave it and its `next` (word 6) out (N7)\nword 4: nothing looks at whether this program fails: a `brs 01` after its `wait` does (N4)\nword 10: it programs row 0, as word 4 does before, with no erase of its block between: erase it first, or give both parts in one program by `cmd 85` (N2)\nword 12: it reads the status 2 times, and the register may be empty: a read must come first (N1)\nword 14: an `end` stands before it and no branch leads here: leave it out (N6)\n",
+    told: "word 0: the loop turns once: leave it and its `next` (word 6) out (N7)\nword 4: nothing looks at whether this program fails: a `brs 01` after its `wait` does (N4)\nword 10: it programs row 0, as word 4 does before, without an erase between: erase it first, or give both parts in one program by `cmd 85` (N2)\nword 12: it reads the status 2 times, and the register may be empty: a read must come first (N1)\nword 14: an `end` stands before it and no branch leads here: leave it out (N6)\n",
     ..PLAIN
 }];
 
