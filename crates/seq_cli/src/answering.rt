@@ -2,7 +2,10 @@
 
 use crate::command::{Command, command_on};
 use crate::command_line;
+use crate::lent_progress::LentProgress;
 use crate::mistake::Mistake;
+use crate::named_check::NamedCheck;
+use crate::named_lines::NamedLines;
 use clap::Error;
 use clap::error::ErrorKind;
 use seq_files::{FileError, Files};
@@ -14,7 +17,8 @@ use std::io::{self, Read, Write};
 use std::sync::Wait;
 use std::thread::Threads;
 use std::time::Clock;
-use trace_commands::Ending;
+use timing_commands::check_times;
+use trace_commands::{Ending, check_trace, check_vendor_trace};
 use trace_text::CheckProgress;
 
 // Shows the parser's text: help on the output, or a mistake on the errors.
@@ -87,6 +91,30 @@ fn end_of_both(first: Ending, second: Ending) -> Ending {
     }
 }
 
+// Checks one of several traces: what is printed names it, also where it can't be read.
+fn check_named<F: Files, W: Write, E: Write, P: CheckProgress>(
+    alloc: Global,
+    files: &mut F,
+    console: &mut Console<W, E, P>,
+    check: NamedCheck<'_>,
+) -> Ending {
+    let path = check.path();
+    let mut named = Console {
+        output: NamedLines::new(&mut console.output, path),
+        errors: &mut console.errors,
+        progress: LentProgress(&mut console.progress),
+    };
+    let ending = match check {
+        NamedCheck::Plain(request) => check_trace(alloc, files, &mut named, request),
+        NamedCheck::Vendor(request) => check_vendor_trace(alloc, files, &mut named, request),
+        NamedCheck::Times(request) => check_times(alloc, files, &mut named, request),
+    };
+    if matches!(ending, Ending::Exit(Exit::FileFault)) {
+        let _ = writeln!(&mut named.output, "unreadable");
+    }
+    ending
+}
+
 // Does commands one after the other.
 fn do_all<
     T: Threads + Wait + Sync,
@@ -107,7 +135,10 @@ fn do_all<
 ) -> Ending {
     let mut ending = Ending::Exit(Exit::Done);
     for command in commands {
-        let next = command_on(rt, clock, alloc, files, input, console, *command);
+        let next = match NamedCheck::among(commands, *command) {
+            Some(check) => check_named(alloc, files, console, check),
+            None => command_on(rt, clock, alloc, files, input, console, *command),
+        };
         ending = end_of_both(ending, next);
     }
     ending

@@ -8,7 +8,10 @@
 mod answering;
 mod command;
 mod command_line;
+mod lent_progress;
 mod mistake;
+mod named_check;
+mod named_lines;
 mod ops_reading;
 mod progress;
 mod times_reading;

@@ -88,6 +88,29 @@ fn a_run(rt: HostRuntime) -> Result<(), Fail> {
     Ok(())
 }
 
+// Each line names the trace that it is about; one of them isn't legal, and one isn't there.
+#[test]
+fn checks_of_several_traces(rt: HostRuntime) -> Result<(), Fail> {
+    let alloc = rt.alloc();
+    let mut files = MapFiles::new(alloc);
+    files.put("p", &Geometry::of(SMALL_CHIP)?.page())?;
+    files.put("a", b"0 C 70\n0 O e0\n")?;
+    files.put("b", b"0 C 60\n0 C 60\n0 C 42\n")?;
+    let words = owned(
+        alloc,
+        &["onfiseq", "check", "p", "1", "a", "b", "c", "--all"],
+    )?;
+    let mut input: &[u8] = &[];
+    let mut console = new_console(alloc);
+    let exit = answer(&rt, alloc, Ok(words), &mut files, &mut input, &mut console);
+    assert_eq!(rt;
+        str::from_utf8(console.output.as_slice())?,
+        "a: legal\nb: refused F3 at 1\nb: refused F2 at 2\nc: unreadable\n"
+    );
+    assert_eq!(rt; exit.status(), 1);
+    Ok(())
+}
+
 // The erase as assembly text.
 const ERASE_TEXT: &str = "rows 1\nbuffer 0\nbudget 5\ncmd 60\naddr 2 3\ncmd d0\nwait\nend 0\n";
 
