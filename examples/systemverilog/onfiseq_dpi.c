@@ -8,7 +8,10 @@ extern "C" {
 #endif
 void *onfiseq_dpi_open(const char *page_path, int targets);
 int onfiseq_dpi_push(void *channel, int ce, int kind, int byte, int fail);
+int onfiseq_dpi_push_status(void *channel, int ce, int kind, int byte, int fail);
 int onfiseq_dpi_ask(void *channel, int ce, int kind, int byte, int fail);
+int onfiseq_dpi_drop(void *channel, int ce);
+int onfiseq_dpi_begin_target(void *channel, int ce);
 int onfiseq_dpi_is_busy(void *channel, int ce, int lun);
 const char *onfiseq_dpi_words(int rule);
 void onfiseq_dpi_close(void *channel);
@@ -41,10 +44,20 @@ int onfiseq_dpi_push(void *channel, int ce, int kind, int byte, int fail) {
     return (int)onfiseq_push((struct onfiseq_bus *)channel, &item);
 }
 
+int onfiseq_dpi_push_status(void *channel, int ce, int kind, int byte, int fail) {
+    struct onfiseq_item item = item_of(ce, kind, byte, fail);
+    size_t done;
+    return (int)onfiseq_push_status((struct onfiseq_bus *)channel, &item, &done);
+}
+
 int onfiseq_dpi_ask(void *channel, int ce, int kind, int byte, int fail) {
     struct onfiseq_item item = item_of(ce, kind, byte, fail);
     return (int)onfiseq_ask((struct onfiseq_bus *)channel, &item);
 }
+
+int onfiseq_dpi_drop(void *channel, int ce) { return (int)onfiseq_drop((struct onfiseq_bus *)channel, (uint8_t)ce); }
+
+int onfiseq_dpi_begin_target(void *channel, int ce) { return (int)onfiseq_begin_target((struct onfiseq_bus *)channel, (uint8_t)ce); }
 
 int onfiseq_dpi_is_busy(void *channel, int ce, int lun) { return onfiseq_look((struct onfiseq_bus *)channel, (uint8_t)ce, (uint8_t)lun).busy; }
 
