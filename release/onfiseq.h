@@ -141,6 +141,12 @@ uint32_t onfiseq_push_all(struct onfiseq_bus *bus, const struct onfiseq_item *it
  * refused, or 0, and *done says how many went. */
 uint32_t onfiseq_push_status(struct onfiseq_bus *bus, const struct onfiseq_item *item, size_t *done);
 
+/* A way out of every state of a target. Begun anew, it is as at the start, whatever it was doing: for a chip that was reset on the pins or lost its power. Dropped,
+ * it forgets its open sequence and keeps its LUNs: for whoever goes on after a cycle that isn't permitted. The other targets stay as they are. 0; or 1, as of F1,
+ * where no such target is there, or ONFISEQ_DAMAGED, and nothing changes. */
+uint32_t onfiseq_begin_target(struct onfiseq_bus *bus, uint8_t ce);
+uint32_t onfiseq_drop(struct onfiseq_bus *bus, uint8_t ce);
+
 /* What onfiseq_push would answer; nothing changes. */
 uint32_t onfiseq_ask(const struct onfiseq_bus *bus, const struct onfiseq_item *item);
 
@@ -299,6 +305,10 @@ struct onfiseq_step onfiseq_job_finish(struct onfiseq_live *live, struct onfiseq
 /* A LUN, or its array, becomes ready, as R/B# tells: 0, or the number of the rule against it, 1 where it isn't there or isn't busy, or ONFISEQ_DAMAGED. */
 uint32_t onfiseq_live_ready(struct onfiseq_live *live, uint8_t ce, uint8_t lun, bool failed);
 uint32_t onfiseq_live_array_ready(struct onfiseq_live *live, uint8_t ce, uint8_t lun);
+
+/* A target is as at the start, as by onfiseq_begin_target, and lets the bus go where one of its LUNs had it: for a chip that was reset on the pins in the midst of a
+ * job. The jobs of its LUNs are over: begin them again by onfiseq_job_begin, and don't go on with the old records. The jobs of other targets go on. */
+uint32_t onfiseq_live_begin_target(struct onfiseq_live *live, uint8_t ce);
 
 /* ---- what the libraries say of themselves: examples/c/layout.c compares it with this header */
 
