@@ -3,7 +3,8 @@
     python3 examples/hosts/try_bugs.py [PROGRAM]
 
 PROGRAM is the built program (onfiseq when none is given). Each recording is captured and checked, of a host with R/B# and of one that asks for the status:
-first with a note for each sequence outside of the profile, and then with `--vendor linux`, which passes over those.
+with a note for each sequence outside of the profile; of the host with R/B# also with `--vendor linux`, which passes over those. (A vendor file can't say that
+a sequence is polled in its midst and gives data then, as the other host does.)
 """
 import subprocess
 import sys
@@ -21,13 +22,13 @@ def make(folder, words):
     return ran.stdout.strip()
 
 
-def judge(program, folder):
-    """The capture of a recording, the lines that `check --all` prints of it, and those that it prints with `--vendor linux`."""
+def judge(program, folder, polls):
+    """Whether the capture of a recording is its trace, the lines that `check --all` prints of it, and, of a host with R/B#, those with `--vendor linux`."""
     subprocess.run([program, "capture", PAGE, "1", f"{folder}/host.vcd", f"{folder}/seen.trace"], capture_output=True, check=True)
     same = Path(f"{folder}/seen.trace").read_text() == Path(f"{folder}/host.trace").read_text()
     words = [program, "check", PAGE, "1", f"{folder}/seen.trace", "--all"]
     told = [subprocess.run([*words, *more], capture_output=True, text=True).stdout.splitlines() for more in ([], ["--vendor", "linux"])]
-    return same, *told
+    return same, told[0], None if polls else told[1]
 
 
 def main(program):
@@ -35,16 +36,16 @@ def main(program):
     with tempfile.TemporaryDirectory() as folder:
         for polls in ([], ["--polls"]):
             make(folder, polls)
-            same, lines, vendor = judge(program, folder)
-            good = same and len(lines) == NOTES and vendor == ["legal"]
+            same, lines, vendor = judge(program, folder, polls)
+            good = same and len(lines) == NOTES and vendor in (None, ["legal"])
             wrong += not good
-            print(*polls, "no bug:", "fine" if good else lines + vendor)
+            print(*polls, "no bug:", "fine" if good else (lines, vendor))
             for bug in range(1, 21):
                 at = make(folder, [*polls, "--bug", str(bug)])
-                same, lines, vendor = judge(program, folder)
-                good = len(lines) > NOTES and lines[NOTES].endswith(f" at {at}") and vendor == lines[NOTES:]
+                same, lines, vendor = judge(program, folder, polls)
+                good = len(lines) > NOTES and lines[NOTES].endswith(f" at {at}") and vendor in (None, lines[NOTES:])
                 wrong += not good
-                print(*polls, "bug", bug, "at", at, "told" if good else lines[NOTES:] + vendor)
+                print(*polls, "bug", bug, "at", at, "told" if good else (lines[NOTES:], vendor))
     sys.exit(wrong != 0)
 
 
