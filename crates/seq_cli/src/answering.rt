@@ -91,28 +91,42 @@ fn end_of_both(first: Ending, second: Ending) -> Ending {
     }
 }
 
-// Checks one of several traces: what is printed names it, also where it can't be read.
+// Checks a trace; where a file of it can't be read, that is printed too.
+fn check_one<F: Files, W: Write, E: Write, P: CheckProgress>(
+    alloc: Global,
+    files: &mut F,
+    console: &mut Console<W, E, P>,
+    check: NamedCheck<'_>,
+) -> Ending {
+    let ending = match check {
+        NamedCheck::Plain(request) => check_trace(alloc, files, console, request),
+        NamedCheck::Vendor(request) => check_vendor_trace(alloc, files, console, request),
+        NamedCheck::Times(request) => check_times(alloc, files, console, request),
+    };
+    if matches!(ending, Ending::Exit(Exit::FileFault)) {
+        let _ = writeln!(&mut console.output, "unreadable");
+    }
+    ending
+}
+
+// Checks one of several traces: each line that is printed names it.
 fn check_named<F: Files, W: Write, E: Write, P: CheckProgress>(
     alloc: Global,
     files: &mut F,
     console: &mut Console<W, E, P>,
     check: NamedCheck<'_>,
 ) -> Ending {
-    let path = check.path();
+    let Console {
+        output,
+        errors,
+        progress,
+    } = console;
     let mut named = Console {
-        output: NamedLines::new(&mut console.output, path),
-        errors: &mut console.errors,
-        progress: LentProgress(&mut console.progress),
+        output: NamedLines::new(output, check.path()),
+        errors,
+        progress: LentProgress(progress),
     };
-    let ending = match check {
-        NamedCheck::Plain(request) => check_trace(alloc, files, &mut named, request),
-        NamedCheck::Vendor(request) => check_vendor_trace(alloc, files, &mut named, request),
-        NamedCheck::Times(request) => check_times(alloc, files, &mut named, request),
-    };
-    if matches!(ending, Ending::Exit(Exit::FileFault)) {
-        let _ = writeln!(&mut named.output, "unreadable");
-    }
-    ending
+    check_one(alloc, files, &mut named, check)
 }
 
 // Does commands one after the other.
