@@ -65,7 +65,7 @@ impl<A: Allocator + Clone> Data<A> {
         }
     }
 
-    // Goes on by a cycle of the operation; whether a status byte is one of its data.
+    // Goes on by a cycle of the operation.
     fn take(&mut self, alloc: A, cycle: Cycle) -> Result<(), AllocError> {
         match cycle.kind {
             Kind::Cmd => {
@@ -104,9 +104,7 @@ impl<A: Allocator + Clone> Data<A> {
             is_broken: false,
         };
         for item in trace.groups.items(number) {
-            if *item != operation.first {
-                data.take_item(alloc.clone()?, trace.item(*item))?;
-            }
+            data.take_item(alloc.clone()?, trace.item(*item))?;
         }
         Ok(data)
     }

@@ -22,13 +22,6 @@ pub(crate) struct Overlap {
     cycles: u64,
 }
 
-// Work begins or ends at a time.
-#[derive(Clone, Copy, PartialEq, Eq)]
-struct Edge {
-    time: u64,
-    begins: bool,
-}
-
 // The times of a trace where each item has one, and none falls: the first and the last.
 fn ends_of<A: Allocator>(trace: &ListedTrace<A>) -> Option<(u64, u64)> {
     let first = trace.time(0)?;
@@ -55,7 +48,8 @@ fn end_time<A: Allocator>(trace: &ListedTrace<A>, operation: Operation, last: u6
     }
 }
 
-// The times at which work begins and ends, in the order of time.
+// The times at which work begins (false) and ends (true), in the order of time. Beginnings stand before the ends of the same time, so that work of no length ends
+// after it has begun.
 fn edges_of<A: Allocator>(
     alloc: A,
     trace: &ListedTrace<A>,
@@ -65,8 +59,8 @@ fn edges_of<A: Allocator>(
     for operation in trace.operations.iter() {
         if let Some(start) = operation.start {
             if let Some(time) = trace.time(start) {
-                edges.push((time, true))?;
-                edges.push((end_time(trace, *operation, last), false))?;
+                edges.push((time, false))?;
+                edges.push((end_time(trace, *operation, last), true))?;
             }
         }
     }
@@ -111,13 +105,13 @@ impl Overlap {
     fn count(&mut self, edges: &[(u64, bool)], first: u64, last: u64) {
         let mut now = first;
         let mut count: usize = 0;
-        for (time, begins) in edges {
+        for (time, ends) in edges {
             self.add(count, time.saturating_sub(now));
             now = now.max(*time);
-            count = if *begins {
-                count.saturating_add(1)
-            } else {
+            count = if *ends {
                 count.saturating_sub(1)
+            } else {
+                count.saturating_add(1)
             };
         }
         self.add(count, last.saturating_sub(now));

@@ -519,7 +519,13 @@ fn ops<'a>(alloc: Global) -> Result<clap::Command<'a>, Error> {
         "csv",
         "Prints a row of names, then a row an operation",
     )
-    .conflicts_with("json")?;
+    .conflicts_with("json")?
+    .conflicts_with("polls")?
+    .conflicts_with("bytes")?
+    .conflicts_with("no-summary")?;
+    let json = flag(alloc, "json", "Prints an object a line")
+        .conflicts_with("polls")?
+        .conflicts_with("no-summary")?;
     let command = clap::Command::new(alloc, Verb::Ops.word())
         .about(
             "Lists what happened on a bus: the operations of a trace, with their data, polls, times and faults",
@@ -536,7 +542,7 @@ fn ops<'a>(alloc: Global) -> Result<clap::Command<'a>, Error> {
         .arg(flag(alloc, "polls", "Polls have lines of their own"))?
         .arg(flag(alloc, "bytes", "The data stand beneath each line"))?
         .arg(csv)?
-        .arg(flag(alloc, "json", "Prints an object a line"))?
+        .arg(json)?
         .arg(with_value(alloc, "lun", "CE.LUN", "Lists those of one LUN, as in 0.1"))?
         .arg(with_value(alloc, "block", "N", "Lists those of one block"))?
         .arg(with_value(

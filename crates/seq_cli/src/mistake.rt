@@ -1,6 +1,7 @@
 //! A command line that asks for nothing that can be done.
 
 use crate::command::{Command, Paths};
+use crate::named_check::NamedCheck;
 use crate::ops_reading::OpsMistake;
 use crate::times_reading::TimingMistake;
 use clap::Error;
@@ -29,7 +30,7 @@ impl fmt::Display for PathMistake<'_> {
                 "a file to write can't be `-`: what the command prints would be mixed with it",
             ),
             PathMistake::InputTwice => {
-                f.write_str("`-` stands for standard input, which only one file can be read from")
+                f.write_str("`-` stands for standard input, which can be read once")
             }
             PathMistake::WrittenOver(path) => write!(
                 f,
@@ -47,7 +48,7 @@ impl fmt::Display for PathMistake<'_> {
 }
 
 impl<'a> PathMistake<'a> {
-    /// What is wrong with further traces that a check is to read, if something is.
+    /// What is wrong with further traces that a check is to read, if something is. What stands beside the traces is read for each of them, so it can't be a stream.
     pub(crate) fn among(first: Command<'a>, more: &[&'a str]) -> Option<PathMistake<'a>> {
         let Paths { inputs, outputs } = first.paths();
         if more.is_empty() {
@@ -56,8 +57,10 @@ impl<'a> PathMistake<'a> {
         if outputs != [None, None, None] {
             return Some(PathMistake::SeveralWritten);
         }
-        let streams = more.iter().filter(|path| **path == "-").count();
-        if 1 < streams || (streams == 1 && inputs.contains(&Some("-"))) {
+        let named = inputs.iter().filter(|path| **path == Some("-")).count();
+        let further = more.iter().filter(|path| **path == "-").count();
+        let is_trace = NamedCheck::of(first).is_some_and(|check| check.path() == "-");
+        if usize::from(is_trace) < named || 1 < named.saturating_add(further) {
             return Some(PathMistake::InputTwice);
         }
         None

@@ -13,8 +13,8 @@ pub(crate) enum NamedCheck<'a> {
 }
 
 impl<'a> NamedCheck<'a> {
-    // The check that a command is, if it is one.
-    fn of(command: Command<'a>) -> Option<NamedCheck<'a>> {
+    /// The check that a command is, if it is one.
+    pub(crate) fn of(command: Command<'a>) -> Option<NamedCheck<'a>> {
         match command {
             Command::Check(request) => Some(NamedCheck::Plain(request)),
             Command::CheckVendor(request) => Some(NamedCheck::Vendor(request)),

@@ -423,7 +423,10 @@ fn traces_that_do_not_go_together(rt: HostRuntime) -> Result<(), Fail> {
         ("check p 1 a b --write t", Some(PathMistake::SeveralWritten)),
         ("check p 1 a - -", Some(PathMistake::InputTwice)),
         ("check - 1 a -", Some(PathMistake::InputTwice)),
+        ("check - 1 a b", Some(PathMistake::InputTwice)),
+        ("check p 1 a b --vendor -", Some(PathMistake::InputTwice)),
         ("check p 1 a -", None),
+        ("check p 1 - b", None),
     ] {
         let words = words_of(rt.alloc(), line)?;
         assert_eq!(rt;

@@ -86,7 +86,14 @@ struct Row {
     printed: &'static str,
 }
 
-const ROWS: [Row; 16] = [
+// Data of before the recording.
+const CUT: &str = "0 O 12\n0 O 13\n";
+
+// The times are so coarse that the erase takes none.
+const COARSE: &str =
+    "@0 0 C 60\n@10 0 A 00\n@20 0 A 00\n@30 0 A 00\n@40 0 C d0\n@40 0 R 0 0\n@100 0 C 70\n@110 0 O e0\n";
+
+const ROWS: [Row; 18] = [
     // An erase with its polls.
     Row {
         parts: SMALL_CHIP,
@@ -226,6 +233,24 @@ const ROWS: [Row; 16] = [
         form: TEXT,
         lun: None,
         printed: "       0            -  0.0  read             b0 p0 c0; polls 1; ready e0\n       9            -  0.0  read-cache       b0 p0; out 1; polls 1; ready c0\n      14            -  0.0  read-cache-end   b0 p1; out 1; polls 1; ready e0\n      19            -  0.0  column           b0 p1 c512; out 2\n4 operations, 25 cycles, 3 polls, 0 faults\nread 1\nread-cache 1; out 1\nread-cache-end 1; out 1\ncolumn 1; out 2\n",
+    },
+    // Its first byte is the first item of the trace.
+    Row {
+        parts: SMALL_CHIP,
+        trace: CUT,
+        beginning: Beginning::Middle,
+        form: BYTES,
+        lun: None,
+        printed: "       0            -  0.-  cut              out 2\n                           0: 12 13\n1 operation, 2 cycles, 0 polls, 0 faults\ncut 1; out 2\n",
+    },
+    // Work of no length is busy at no time.
+    Row {
+        parts: SMALL_CHIP,
+        trace: COARSE,
+        beginning: Beginning::Start,
+        form: TEXT,
+        lun: None,
+        printed: "       0            0  0.0  erase            b0; busy 0; polls 1; ready e0\n1 operation, 7 cycles, 1 poll, 0 faults\nerase 1; busy least 0, mean 0, most 0\ntime 110: 0 LUNs busy 100 %; bus 63 % (a cycle is 10)\n",
     },
 ];
 

@@ -126,6 +126,20 @@ fn push_mode<A: Allocator>(
     Ok(())
 }
 
+// Adds how many violations there are beside those that are said.
+fn push_more<A: Allocator>(
+    lines: &mut String<A>,
+    alloc: A,
+    request: TimesRequest<'_>,
+    count: usize,
+) -> Result<(), AllocError> {
+    if MOST_SAID < count {
+        let words = format!(in alloc; "and {} more that come too soon", count - MOST_SAID)?;
+        push_message(lines, request.check.style, words.as_str())?;
+    }
+    Ok(())
+}
+
 // What is said of the times of a trace.
 fn words_of<A: Allocator + Clone>(
     alloc: A,
@@ -150,6 +164,7 @@ fn words_of<A: Allocator + Clone>(
             *violation,
         )?;
     }
+    push_more(&mut lines, alloc.clone()?, request, late.len())?;
     push_mode(&mut lines, alloc, request, trace.modes)?;
     if let Some(margins) = &trace.margins {
         push_margins(&mut lines, margins, late.len())?;
