@@ -1,7 +1,7 @@
 /* onfiseq for C and C++: the parameter page of a NAND flash chip, the check of its channel's cycles, the verification of microprograms, their
  * assembly text, and the sequencer that runs them on pins. Everything here is proved where it stands in the libraries; docs/use/C.md says what of, and how it is built and linked.
  *
- *     libonfiseq_c.a          page, check, begin, push.., ask, look     takes no memory, needs memcpy and memset alone
+ *     libonfiseq_c.a          page, check, begin.., push.., drop, ask, look  takes no memory, needs memcpy and memset alone
  *     libonfiseq_verify_c.a   verify, verify_run                        takes memory by malloc, realloc and free
  *     libonfiseq_text_c.a     assemble, disassemble, words              takes memory by malloc, realloc and free
  *     libonfiseq_live_c.a     live_.., job_..                           takes no memory, needs memcpy and memset alone
@@ -142,7 +142,8 @@ uint32_t onfiseq_push_all(struct onfiseq_bus *bus, const struct onfiseq_item *it
 uint32_t onfiseq_push_status(struct onfiseq_bus *bus, const struct onfiseq_item *item, size_t *done);
 
 /* A way out of every state of a target. Begun anew, it is as at the start, whatever it was doing: for a chip that was reset on the pins or lost its power. Dropped,
- * it forgets its open sequence and keeps its LUNs: for whoever goes on after a cycle that isn't permitted. The other targets stay as they are. 0; or 1, as of F1,
+ * it forgets its open sequence and keeps its LUNs: for whoever goes on after a cycle that isn't permitted. Begin a target anew once its chip is ready again. The other
+ * targets stay as they are. 0; or 1, as of F1,
  * where no such target is there, or ONFISEQ_DAMAGED, and nothing changes. */
 uint32_t onfiseq_begin_target(struct onfiseq_bus *bus, uint8_t ce);
 uint32_t onfiseq_drop(struct onfiseq_bus *bus, uint8_t ce);
@@ -167,7 +168,7 @@ struct onfiseq_look onfiseq_look(const struct onfiseq_bus *bus, uint8_t ce, uint
 
 /* ---- microprograms */
 
-/* letter 0: the program is accepted: whatever the die answers, it breaks no rule, stays in its rows and its buffer, and ends within its budget. Else letter and
+/* letter 0: the program is accepted: if no byte ends a `wait` while its LUN works, it breaks no rule and stays in its rows, buffer and budget. Else letter and
  * number are those of the code, as 'V' and 7 of V7, and at is the word or 0: 'P' the page, 'M' the file, 'V' the program; 'O' with 0: memory was refused. */
 struct onfiseq_verdict {
     uint8_t letter;
@@ -228,7 +229,8 @@ struct onfiseq_placed onfiseq_notes(const struct onfiseq_geometry *geometry, con
  *     }
  *
  * Each cycle of the bursts that are told is permitted where it stands, whatever the file, the job's record and the chip's answers are. Where onfiseq_verify
- * accepts the file for the chip, and one job at a time runs on each LUN, 'F' is never answered, whatever the chips say. Both are proved. Several jobs share the channel: one that is answered 'H' waits until the LUN that has the bus lets it go. */
+ * accepts the file of every job for the chip, one job at a time runs on each LUN, and no target began anew, 'F' is never answered, whatever the chips say. Both
+ * are proved. Several jobs share the channel: one that is answered 'H' waits until the LUN that has the bus lets it go. */
 
 /* The loops around a word: the first depth of them, the innermost first. start is its first word, left the turns after this one. */
 struct onfiseq_loop {
@@ -307,7 +309,8 @@ uint32_t onfiseq_live_ready(struct onfiseq_live *live, uint8_t ce, uint8_t lun, 
 uint32_t onfiseq_live_array_ready(struct onfiseq_live *live, uint8_t ce, uint8_t lun);
 
 /* A target is as at the start, as by onfiseq_begin_target, and lets the bus go where one of its LUNs had it: for a chip that was reset on the pins in the midst of a
- * job. The jobs of its LUNs are over: begin them again by onfiseq_job_begin, and don't go on with the old records. The jobs of other targets go on. */
+ * job. The jobs of its LUNs are over: begin them again by onfiseq_job_begin, and don't go on with the old records. The jobs of other targets go on. The answers are
+ * those of onfiseq_begin_target. */
 uint32_t onfiseq_live_begin_target(struct onfiseq_live *live, uint8_t ce);
 
 /* ---- what the libraries say of themselves: examples/c/layout.c compares it with this header */
