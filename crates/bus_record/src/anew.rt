@@ -42,8 +42,8 @@ pub fn begin_target(bus: &mut OnfiseqBus, ce: u8) -> u32
     0
 }
 
-/// The open sequence of a target is forgotten, as if its cycles hadn't been, and its LUNs stay as they are: for whoever goes on after a cycle that isn't permitted. 0; or
-/// 1, the number of F1, where the channel has no such target, and nothing changes.
+/// The open sequence of a target is forgotten, and its LUNs stay as its cycles left them: for whoever goes on after a cycle that isn't permitted. 0; or 1, the number
+/// of F1, where the channel has no such target, and nothing changes.
 pub fn drop_sequence(bus: &mut OnfiseqBus, ce: u8) -> u32
     ensures answer { result ≡ (if nat_lt ce bus.old.count then 0 else 1) }
     ensures state { bus_view bus.new ≡ bus_without ce (bus_view bus.old) }

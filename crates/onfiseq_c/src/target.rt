@@ -25,8 +25,8 @@ pub extern "C" fn onfiseq_begin_target(bus: &mut OnfiseqBus, ce: u8) -> u32
     begin_target(bus, ce)
 }
 
-/// The open sequence of a target is forgotten, as if its cycles hadn't been, and its LUNs stay as they are: for whoever goes on after a cycle that isn't
-/// permitted. The other targets stay as they are. The answers are those of `onfiseq_begin_target`.
+/// The open sequence of a target is forgotten, and its LUNs stay as its cycles left them: for whoever goes on after a cycle that isn't permitted. The other
+/// targets stay as they are. The answers are those of `onfiseq_begin_target`.
 #[unsafe(no_mangle)]
 pub extern "C" fn onfiseq_drop(bus: &mut OnfiseqBus, ce: u8) -> u32
     ensures answer { result ≡ (if is_bus bus.old then (if nat_lt ce bus.old.count then 0 else 1) else 254) }
