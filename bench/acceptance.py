@@ -18,6 +18,7 @@ import onfiseq
 DATA, SPARE, PAGES, BLOCKS, PLANES = 512, 16, 8, 1024, 2
 ROWS, BUFFER, BUDGET = 4096, 1_000_000, 4_000_000_000  # of the header: ample, and the rows are all there are
 WAYS, STATES = 300, 20_000  # no more are gone
+SEQUENCE_OPEN = 0x4603
 OPENERS = {0x00: (0, 5), 0x05: (0, 2), 0x60: (2, 3), 0x80: (0, 5), 0x90: (0, 1), 0xEC: (0, 1)}  # first place of the addresses, how many
 ANY_STATUS = (1 << 256) - 1  # a set of status bytes, a bit for each
 MEETS = [sum(1 << byte for byte in range(256) if byte & mask) for mask in range(256)]
@@ -118,18 +119,31 @@ class State:
         return tuple(getattr(self, name) for name in State.__slots__)
 
 
+u8, u32, u64 = ctypes.c_uint8, ctypes.c_uint32, ctypes.c_uint64
+# The inside of the record of a channel, which the library keeps to itself.
+Queued = onfiseq.record("Queued", page=u64, block=u32, is_program=u8)
+Lun = onfiseq.record("Lun", latch=u8, busy=u8, has_closer=u8, closer=u8, array_busy=u8, register=u8, has_column=u8, lost=u8, column=u32, array_block=u32,
+                     array_page=u64, register_block=u32, register_page=u64, outputs=u64, queued=u64, queue=Queued * 4)
+Target = onfiseq.record("Target", is_open=u8, opener=u8, phase=u8, r1=u8, r2=u8, r3=u8, is_empty=u8, column=u32, addresses=u64, inputs=u64, count=u64, luns=Lun * 4)
+Inside = onfiseq.record("Inside", magic=u32, geometry=onfiseq.Geometry, count=u64, targets=Target * 4)
+assert ctypes.sizeof(Inside) == ctypes.sizeof(onfiseq.Bus)
+
+
 class Oracle:
     """Goes all ways of a program on LUN 0 of a target: both sides of each branch, and each turn of a loop. Its LUN becomes ready where a `wait` finds it busy
     and no sooner. Where the bus is free, on a target of two LUNs, nobody comes, or LUN 1 starts an erase, where it is ready, and is polled, or starts a read."""
 
     def __init__(self, lib, luns):
         self.lib, self.luns, self.page = lib, luns, parameter_page(luns)
-        read = lib.onfiseq_page(self.page, len(self.page))
+        read = lib.onfiseq_read_page(self.page, len(self.page))
         assert read.fault == 0, read.fault
-        self.work = lib.onfiseq_begin(read.geometry, 1)
-        self.target = ctypes.addressof(self.work) + onfiseq.Bus.targets.offset
-        self.size = ctypes.sizeof(onfiseq.Target)
-        self.lun = self.work.targets[0].luns[0]
+        self.work = onfiseq.Bus()
+        code = lib.onfiseq_begin_sized(self.work, ctypes.sizeof(self.work), onfiseq.VERSION, read.geometry, 1)
+        assert code == 0, code
+        self.inside = Inside.from_buffer(self.work)
+        self.target = ctypes.addressof(self.work) + Inside.targets.offset
+        self.size = ctypes.sizeof(Target)
+        self.lun = self.inside.targets[0].luns[0]
         self.fresh = ctypes.string_at(self.target, self.size)
         self.done, self.arrays = onfiseq.size(), {}
         self.keeps_status = False  # two branches after one poll see the same byte, and that of a `wait` says ready
@@ -168,20 +182,20 @@ class Oracle:
                 self.memory.clear()
             self.memory[bus, id(items)] = known
         if isinstance(known, int):
-            raise Broken("F%d" % known)
+            raise Broken(onfiseq.name_of(known))
         return known
 
     def is_open(self, bus):
         self.load(bus)
-        return self.lib.onfiseq_ask(self.work, self.reset) == 3
+        return self.lib.onfiseq_ask(self.work, self.reset) == SEQUENCE_OPEN
 
     def is_busy(self, bus, lun=0):
         self.load(bus)
-        return self.work.targets[0].luns[lun].busy
+        return self.inside.targets[0].luns[lun].busy
 
     def drives_alone(self, bus):
         self.load(bus)
-        luns = self.work.targets[0].luns
+        luns = self.inside.targets[0].luns
         return luns[0].latch != 0 and all(luns[lun].latch == 0 for lun in range(1, self.luns))
 
     def others(self, state):
@@ -291,7 +305,7 @@ class Oracle:
     def end(self, state):
         self.load(state.bus)
         lun = self.lun
-        if lun.busy or lun.queued or (lun.has_closer and lun.closer == 0x31) or self.lib.onfiseq_ask(self.work, self.reset) == 3:
+        if lun.busy or lun.queued or (lun.has_closer and lun.closer == 0x31) or self.lib.onfiseq_ask(self.work, self.reset) == SEQUENCE_OPEN:
             raise Broken("ends too soon")
 
     def run(self, states, words, seen=None):
@@ -328,8 +342,8 @@ class Oracle:
     def kind_of(self, state):
         """What stands in a state, numbers left out."""
         self.load(state.bus)
-        target, lun = self.work.targets[0], self.lun
-        tail = (target.opener, state.want, state.left) if self.lib.onfiseq_ask(self.work, self.reset) == 3 or state.left else None
+        target, lun = self.inside.targets[0], self.lun
+        tail = (target.opener, state.want, state.left) if self.lib.onfiseq_ask(self.work, self.reset) == SEQUENCE_OPEN or state.left else None
         queue = tuple((row.is_program, row.block % PLANES) for row in lun.queue[: lun.queued])
         closer = lun.closer if lun.has_closer and lun.closer in (0x30, 0x31) else 0
         shown = (lun.latch, self.luns > 1 and self.drives_alone(state.bus))

@@ -19,8 +19,9 @@ static double now(void) {
 }
 
 int main(int count, char **words) {
-    struct onfiseq_geometry chip = {512, 16, 4, 8, 1, 0, false, false, false};
-    struct onfiseq_bus bus = onfiseq_begin(&chip, 1);
+    struct onfiseq_geometry chip = {512, 16, 4, 8, 1, 0, 0, 0, 0};
+    struct onfiseq_bus bus;
+    onfiseq_begin(&bus, &chip, 1);
     const char *how = count > 1 ? words[1] : "push";
     size_t times = count > 2 ? strtoul(words[2], NULL, 10) : 1, done, wrong = 0;
     struct onfiseq_item *many = malloc(times * sizeof erase);

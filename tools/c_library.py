@@ -3,6 +3,7 @@
     python3 tools/c_library.py            as .ci/run does: a line for each user, and 1 at the end where one differs
     python3 tools/c_library.py --build    the libraries alone
     python3 tools/c_library.py --fuzz N   N random calls under AddressSanitizer alone, with a new seed
+    python3 tools/c_library.py --damage N   N damaged records, each given to some calls
 
 at the root, after `rt ci`: a library is built over what that proved of the crates below it, which takes a minute or two each, once. It stands in
 crates/NAME/out/libNAME.a; a shared object of all of them, for Python, in out/libonfiseq.so. The users are the programs of examples/c and examples/python;
@@ -39,9 +40,12 @@ USERS = (
     ("loader", ["{out}/loader", CHIP, ERASE + ".asm", "examples/small_chip/read_spare.asm", "examples/c/no_wait.asm", "examples/c/typing_error.asm"], None, 1),
     ("live", ["{out}/live", CHIP, ERASE + ".asm", "4", "examples/small_chip/read_spare.asm", "0"], None, 0),
     ("stuck", ["{out}/stuck"], None, 0),
+    ("exec_op", ["{out}/exec_op", CHIP], None, 0),
+    ("first", ["{out}/first"], None, 0),
     ("monitor_cpp", ["{out}/monitor_cpp", CHIP], ERASE + ".trace", 0),
     ("page", ["{out}/page", CHIP], "examples/c/busy.trace", 1),
     ("fuzz", ["{out}/fuzz", "100000", "1", CHIP], None, 0),
+    ("fuzz_damaged", ["{out}/fuzz", "20000", "1", CHIP, "damaged"], None, 0),
     ("python", [sys.executable, "examples/python/monitor.py", SHARED, CHIP, ERASE + ".asm"], ERASE + ".trace", 0),
     ("python_busy", [sys.executable, "examples/python/monitor.py", SHARED, CHIP, "examples/c/no_wait.asm"], "examples/c/busy.trace", 0),
 )
@@ -126,11 +130,12 @@ int main(int count, char **words) {
 """
 
 
-def write_page_monitor(path):
-    """The monitor that docs/use/C.md shows, as a program."""
-    shown = re.search(r"^```c\n(.*?)^```$", read("docs/use/C.md"), re.M | re.S).group(1)
-    with open(path, "w") as it:
-        it.write(shown.replace("bool begin", "static bool begin").replace("bool see", "static bool see") + CALLER)
+def write_page_programs():
+    """The programs that docs/use/C.md shows: the first is whole, and the monitor has the caller above."""
+    first, monitor = re.findall(r"^```c\n(#include.*?)^```$", read("docs/use/C.md"), re.M | re.S)
+    for name, shown in (("first", first), ("page", monitor.replace("bool begin", "static bool begin").replace("bool see", "static bool see") + CALLER)):
+        with open("%s/%s.c" % (OUT, name), "w") as it:
+            it.write(shown)
 
 
 def compile_all():
@@ -141,11 +146,12 @@ def compile_all():
     def run(*words):
         subprocess.run(words, check=True)
 
-    for name in ("layout", "monitor", "status", "loader", "live", "stuck"):
+    for name in ("layout", "monitor", "status", "loader", "live", "stuck", "exec_op"):
         run(*CC, "examples/c/%s.c" % name, "examples/c/heap.c", *archives, "-o", "%s/%s" % (OUT, name))
     run(*CC, "-std=gnu11", "examples/c/stack.c", "examples/c/heap.c", *archives, "-pthread", "-o", OUT + "/stack")
-    write_page_monitor(OUT + "/page.c")
-    run(*CC, OUT + "/page.c", "examples/c/heap.c", *archives, "-o", OUT + "/page")
+    write_page_programs()
+    for name in ("page", "first"):
+        run(*CC, "%s/%s.c" % (OUT, name), "examples/c/heap.c", *archives, "-o", "%s/%s" % (OUT, name))
     run(*CC, "-g", "-fsanitize=address", "examples/c/fuzz.c", "examples/c/heap.c", *archives, "-o", OUT + "/fuzz")
     run(*CC, "-c", "examples/systemverilog/onfiseq_dpi.c", "-o", OUT + "/onfiseq_dpi.o")
     run(*CC, "-c", "examples/c/heap.c", "-fPIC", "-o", OUT + "/heap.o")
@@ -179,12 +185,13 @@ def compare_words():
     import onfiseq
 
     lib = onfiseq.load(SHARED)
-    known = dict(re.findall(r"^\| ([APFMSV]\d+) \| (.*) \|$", read("docs/use/CODES.md"), re.M))
-    told = {letter: [onfiseq.words(lib, letter, number) for number in range(300)] for letter in string.ascii_uppercase}
-    wrong = [letter + str(at) for letter in "APFMSV" for at, it in enumerate(told[letter]) if it != known.get(letter + str(at), "")]
-    wrong += [letter for letter in "BCDHILNORTUWY" if not told[letter][0] or any(told[letter][1:])]
-    wrong += [letter for letter in "GJKQXZ" if any(told[letter])]
-    wrong += ["E"] * (not all(told["E"][:256]) or any(told["E"][256:]))
+    known = dict(re.findall(r"^\| ([APFMSVX]\d+) \| (.*) \|$", read("docs/use/CODES.md"), re.M))
+    known["D1"] = "the record has another size or version than the library"
+    told = {letter: [onfiseq.words(lib, letter, number) for number in range(256)] for letter in string.ascii_uppercase}
+    wrong = [letter + str(at) for letter in "APFMSVX" for at, it in enumerate(told[letter]) if it != known.get(letter + str(at), "")]
+    wrong += [letter for letter in "BCHILNORTUWY" if not told[letter][0] or any(told[letter][1:])]
+    wrong += [letter for letter in "GJKQZ" if any(told[letter])]
+    wrong += ["E"] * (not all(told["E"])) + ["D"] * (not told["D"][0] or told["D"][1] != known["D1"] or any(told["D"][2:]))
     return "%s hasn't its words" % wrong[0] if wrong or len(known) < 55 else None
 
 
@@ -212,8 +219,26 @@ def try_ranges():
     try:
         monitor.command(0, 0x60)
     except AssertionError:
-        return try_ways_out(monitor)
+        return try_ways_out(monitor) or try_operations(onfiseq, monitor.copy())
     return "a second opener is taken"
+
+
+def try_operations(onfiseq, monitor):
+    """Whether operations go or don't, all of them or none, and a text is read as items."""
+    monitor.begin_target(0)
+    read = (("C", 0x00), ("A", bytes(5)), ("C", 0x30), ("W",), ("O", 528))
+    monitor.operation(0, *read)
+    try:
+        monitor.operation(0, *read, ("O", 1))
+    except onfiseq.Broken as broken:
+        if broken.code != "F14" or "part 5, cycle 0" not in str(broken):
+            return str(broken)
+        monitor.operation(0, *read)
+    else:
+        return "more than a page is read"
+    with open(ERASE + ".trace") as file:
+        items = onfiseq.trace(monitor.lib, "# " + file.name + "\n" + file.read())
+    return None if len(items) == 10 and items[-1].byte == 0xE0 else "a trace has other items"
 
 
 def try_ways_out(monitor):
@@ -257,8 +282,9 @@ def main():
     if sys.argv[1:] == ["--build"]:
         return 0
     compile_all()
-    if sys.argv[1:2] == ["--fuzz"]:
-        return subprocess.run([OUT + "/fuzz", sys.argv[2], str(int(time.time())), CHIP]).returncode
+    if sys.argv[1:2] in (["--fuzz"], ["--damage"]):
+        damaged = ["damaged"] if sys.argv[1] == "--damage" else []
+        return subprocess.run([OUT + "/fuzz", sys.argv[2], str(int(time.time())), CHIP, *damaged]).returncode
     found = {name: run_user(name, *how) for name, *how in USERS}
     found["words"] = compare_words()
     found["python_ranges"] = try_ranges()

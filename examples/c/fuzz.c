@@ -3,10 +3,13 @@
  *    the pushes did;
  *  - verify_run has verify's verdict, its run is legal but for its last cycle, and a short buffer has its beginning;
  *  - a refused item leaves the state as it was, byte for byte; a text that was assembled is disassembled and assembled to the same file;
+ *  - an operation is answered as its cycles are one by one, and all of it happens or none;
+ *  - a record of which bytes were changed, or that holds any bytes, is answered by every call, and stays as it was where it is refused;
  *  - the cycles of each burst that the sequencer tells are permitted, one after another, as push judges them on a copy of its channel; a step that isn't
  *    finished leaves both records as they were; and a program that verify accepts breaks no rule and ends.
  *
- *     fuzz CALLS SEED chip.page */
+ *     fuzz CALLS SEED chip.page            calls of all kinds
+ *     fuzz RECORDS SEED chip.page damaged  so many damaged records, each given to some calls */
 #include "onfiseq.h"
 #include <stdio.h>
 #include <stdlib.h>
@@ -17,7 +20,7 @@ enum { HISTORY = 512 };
 static uint64_t seed;
 static uint8_t page[4096];
 static size_t page_length;
-static unsigned long permitted, refused, accepted, runs, steps, ends;
+static unsigned long permitted, refused, accepted, runs, steps, ends, taken_records, damaged_records;
 
 static uint32_t draw(uint32_t below) {
     seed = seed * 6364136223846793005u + 1442695040888963407u;
@@ -48,14 +51,14 @@ static struct onfiseq_item random_item(uint32_t targets) {
 
 /* One that is permitted, as far as a few draws find one; now and then any. */
 static struct onfiseq_item likely_item(const struct onfiseq_bus *bus) {
-    struct onfiseq_item item = random_item((uint32_t)bus->count);
-    for (int k = 0; k < 300 && draw(1000) && onfiseq_ask(bus, &item) != 0; k++) item = random_item((uint32_t)bus->count);
+    struct onfiseq_item item = random_item(4);
+    for (int k = 0; k < 300 && draw(1000) && onfiseq_ask(bus, &item) != 0; k++) item = random_item(4);
     return item;
 }
 
 /* A look at every LUN that there may be. */
 static void look_around(const struct onfiseq_bus *bus) {
-    struct onfiseq_look look = onfiseq_look(bus, (uint8_t)draw(6), (uint8_t)draw(6));
+    struct onfiseq_look look = onfiseq_look_at(bus, (uint8_t)draw(6), (uint8_t)draw(6));
     must(look.queued <= 4 && look.latch <= 2 && look.register_ <= 3, "a look");
     must(look.is_there || (!look.busy && look.queued == 0), "a look at nothing");
 }
@@ -67,7 +70,7 @@ static size_t complete(const struct onfiseq_bus *bus, struct onfiseq_item item, 
     uint8_t lun = 0;
     int drivers = 0;
     for (uint8_t k = 0; k < 4; k++)
-        if (onfiseq_look(bus, item.ce, k).latch) drivers++, lun = k, look = onfiseq_look(bus, item.ce, k);
+        if (onfiseq_look_at(bus, item.ce, k).latch) drivers++, lun = k, look = onfiseq_look_at(bus, item.ce, k);
     if (drivers == 1 && look.latch == 1 && item.kind == 'O' && item.fail == 0 && (item.byte & 0x40)) {
         if (look.busy) some[count++] = (struct onfiseq_item){item.ce, 'R', lun, item.byte & 1};
         if ((look.array_busy || (look.busy && look.caching)) && (item.byte & 0x20)) some[count++] = (struct onfiseq_item){item.ce, 'Y', lun, 0};
@@ -86,21 +89,118 @@ static size_t play_status(struct onfiseq_bus *bus, struct onfiseq_item *kept) {
     uint32_t answer = onfiseq_push_status(bus, &item, &done);
     must(answer == onfiseq_push_all(&copy, some, count, &other) && done == other, "push_status and push_all differ");
     must(memcmp(&copy, bus, sizeof copy) == 0, "push_status left another state");
-    must(answer || count == 1 || !onfiseq_look(bus, item.ce, some[0].byte).busy, "a LUN that showed that it is ready is busy");
+    must(answer || count == 1 || !onfiseq_look_at(bus, item.ce, some[0].byte).busy, "a LUN that showed that it is ready is busy");
     memcpy(kept, some, done * sizeof *some);
     return done;
+}
+
+/* An operation of random parts. */
+static size_t random_op(struct onfiseq_part *parts) {
+    static const char kinds[] = "CCCAAAIOWX";
+    static const uint8_t bytes[] = {0x00, 0x30, 0x60, 0xd0, 0x70, 0x80, 0x10, 0x05, 0xe0, 0x85};
+    size_t count = draw(6);
+    for (size_t k = 0; k < count; k++) {
+        memset(&parts[k], 0, sizeof parts[k]);
+        parts[k].kind = (uint8_t)kinds[draw(sizeof kinds - 1)];
+        parts[k].count = parts[k].kind == 'C' ? 1 : parts[k].kind == 'A' ? 3 + 2 * draw(2) : draw(1200);
+        if (draw(16) == 0) parts[k].count = draw(draw(4) ? 9 : 0xffffffff);
+        if (parts[k].kind == 'C') parts[k].bytes[0] = bytes[draw(sizeof bytes)];
+    }
+    if (draw(2) == 0 && count > 2) parts[0].kind = 'C', parts[0].count = 1, parts[0].bytes[0] = 0x80, parts[1].kind = 'A', parts[1].count = 5, parts[2].kind = 'I';
+    return count;
+}
+
+/* The cycles of a part one by one; *done says how many went. */
+static uint32_t push_part(struct onfiseq_bus *bus, uint8_t ce, const struct onfiseq_part *part, uint64_t *done) {
+    struct onfiseq_item item = {ce, part->kind, 0, 0};
+    bool is_data = part->kind == 'I' || part->kind == 'O';
+    *done = 0;
+    if (part->kind == 'W') {
+        for (uint8_t lun = 0; lun < 4; lun++) item.kind = 'R', item.byte = lun, onfiseq_push(bus, &item);
+        return 0;
+    }
+    if (!is_data && ((part->kind != 'C' && part->kind != 'A') || part->count > 7)) return ONFISEQ_NO_ITEM;
+    for (; *done < part->count; ++*done) {
+        item.byte = is_data ? (uint8_t)draw(256) : part->bytes[*done];
+        uint32_t answer = onfiseq_push(bus, &item);
+        if (answer) return answer;
+    }
+    return 0;
+}
+
+/* An operation, and its cycles one by one on a copy. */
+static void play_op(struct onfiseq_bus *bus) {
+    struct onfiseq_part parts[6];
+    struct onfiseq_bus copy = *bus, before = *bus;
+    struct onfiseq_spot spot = {77, 77}, other = {78, 78};
+    uint8_t ce = (uint8_t)draw(5);
+    size_t count = random_op(parts), at = 0;
+    uint64_t done = 0;
+    uint32_t asked = onfiseq_ask_op(bus, ce, parts, count, &other), answer = onfiseq_push_op(bus, ce, parts, count, &spot), single = 0;
+    must(asked == answer && spot.part == other.part && spot.cycle == other.cycle, "ask_op and push_op differ");
+    if (!onfiseq_look_at(bus, ce, 0).is_there) {
+        must(answer == ONFISEQ_NOT_THERE && memcmp(&before, bus, sizeof before) == 0, "an operation on no target");
+        return;
+    }
+    while (at < count && (single = push_part(&copy, ce, &parts[at], &done)) == 0) at++;
+    must(answer == single && spot.part == at, "an operation isn't answered as its cycles are");
+    must(answer == 0 || answer == ONFISEQ_NO_ITEM || spot.cycle == done, "another cycle of an operation");
+    must(answer == 0 || memcmp(&before, bus, sizeof before) == 0, "half an operation");
+    for (int k = 0; answer == 0 && k < 20; k++) {
+        struct onfiseq_item item = random_item(4);
+        must(onfiseq_ask(&copy, &item) == onfiseq_ask(bus, &item), "an operation left another state");
+    }
+}
+
+/* Some bytes of a record are changed, or all of them behind the first, which is its magic. */
+static void damage(void *record, size_t size) {
+    uint8_t *bytes = (uint8_t *)record;
+    if (draw(32) == 0)
+        for (size_t k = draw(8) ? 4 : 0; k < size; k++) bytes[k] = (uint8_t)(draw(4) ? 0 : draw(256));
+    for (unsigned k = 1 + draw(3); k > 0; k--) bytes[draw((uint32_t)size)] = (uint8_t)(draw(2) ? draw(256) : draw(8));
+    damaged_records++;
+}
+
+/* A damaged record of a channel is given to calls: what is refused leaves it as it was. */
+static unsigned long play_damaged_bus(const struct onfiseq_bus *whole) {
+    struct onfiseq_bus bus = *whole, copy;
+    struct onfiseq_item some[4];
+    struct onfiseq_part parts[6];
+    struct onfiseq_spot spot;
+    size_t done = 99;
+    damage(&bus, sizeof bus);
+    for (int k = 0; k < 4; k++) some[k] = random_item(draw(8) ? 2 : 4);
+    if (draw(8) == 0) some[0] = likely_item(whole);
+    copy = bus;
+    uint32_t asked = onfiseq_ask(&bus, some), answer = onfiseq_push(&bus, some);
+    must(asked == answer && (answer == 0 || memcmp(&copy, &bus, sizeof bus) == 0), "a damaged record: push");
+    taken_records += answer != ONFISEQ_DAMAGED;
+    answer = onfiseq_push_all(&bus, some, 4, &done);
+    must(done <= 4 && (answer == 0) == (done == 4), "a damaged record: push_all");
+    onfiseq_push_status(&bus, some + 1, &done);
+    copy = bus;
+    answer = onfiseq_push_op(&bus, (uint8_t)draw(5), parts, random_op(parts), &spot);
+    must(answer == 0 || memcmp(&copy, &bus, sizeof bus) == 0, "a damaged record: push_op");
+    onfiseq_look_at(&bus, (uint8_t)draw(6), (uint8_t)draw(6));
+    if (draw(4) == 0) onfiseq_drop(&bus, (uint8_t)draw(5));
+    if (draw(4) == 0) onfiseq_begin_target(&bus, (uint8_t)draw(5));
+    return 8;
 }
 
 /* A record with another magic number is refused by every call, and stays. */
 static void refuse_damaged(struct onfiseq_bus bus) {
     struct onfiseq_item item = likely_item(&bus);
+    struct onfiseq_part part = {1, 'C', {0xff, 0, 0, 0, 0, 0, 0}};
+    struct onfiseq_spot spot;
     size_t done = 99;
-    bus.magic ^= 1u << draw(32);
+    ((uint8_t *)&bus)[draw(4)] ^= (uint8_t)(1u << draw(8)); /* what stands first */
     struct onfiseq_bus copy = bus;
     must(onfiseq_ask(&bus, &item) == ONFISEQ_DAMAGED && onfiseq_push(&bus, &item) == ONFISEQ_DAMAGED, "a damaged record is taken");
+    must(!onfiseq_look_at(&bus, 0, 0).is_there, "a damaged record is looked at");
     must(onfiseq_push_all(&bus, &item, 1, &done) == ONFISEQ_DAMAGED && done == 0, "a damaged record is taken by many");
     must(onfiseq_push_status(&bus, &item, &done) == ONFISEQ_DAMAGED && done == 0, "a damaged record is taken by a status");
-    must(!onfiseq_look(&bus, 0, 0).is_there, "a damaged record is looked at");
+    must(onfiseq_push_op(&bus, 0, &part, 1, &spot) == ONFISEQ_DAMAGED, "a damaged record is taken by an operation");
+    must(onfiseq_drop(&bus, 0) == ONFISEQ_DAMAGED && onfiseq_begin_target(&bus, 0) == ONFISEQ_DAMAGED, "a damaged record is begun anew");
     must(memcmp(&copy, &bus, sizeof bus) == 0, "a damaged record is written");
 }
 
@@ -109,7 +209,14 @@ static unsigned long play_channel(void) {
     static struct onfiseq_item kept[HISTORY], some[8];
     struct onfiseq_geometry chip = random_chip();
     uint8_t targets = (uint8_t)(draw(16) ? 1 + draw(4) : draw(256));
-    struct onfiseq_bus bus = onfiseq_begin(&chip, targets), copy;
+    struct onfiseq_bus bus, copy;
+    struct onfiseq_answer begun = onfiseq_check(&chip, targets, NULL, 0);
+    memset(&bus, draw(2) ? 0 : 0x5a, sizeof bus), copy = bus;
+    uint32_t code = onfiseq_begin(&bus, &chip, targets);
+    must(code == ONFISEQ_CODE(begun.letter, begun.number), "begin and check differ");
+    if (code) return must(memcmp(&copy, &bus, sizeof bus) == 0, "a channel that can't begin is written"), 2;
+    must(onfiseq_begin_sized(&copy, sizeof bus - 8, ONFISEQ_VERSION, &chip, targets) == ONFISEQ_OTHER_VERSION, "another size is taken");
+    must(onfiseq_begin_sized(&copy, sizeof bus, ONFISEQ_VERSION - 1, &chip, targets) == ONFISEQ_OTHER_VERSION, "another version is taken");
     size_t length = 0, steps = draw(HISTORY), stuck = 0, done = 99;
     unsigned long calls = 1;
     for (size_t k = 0; k < steps && length < HISTORY - 20 && stuck < 5; k++) {
@@ -125,6 +232,8 @@ static unsigned long play_channel(void) {
         stuck = answer ? stuck + 1 : 0;
         if (draw(4) == 0) look_around(&bus), calls++;
         if (draw(8) == 0) length += play_status(&bus, kept + length), calls += 2;
+        if (draw(8) == 0) calls += play_damaged_bus(&bus);
+        if (draw(16) == 0) copy = bus, play_op(&copy), calls += 2;
         if (draw(16) == 0) {
             size_t count = draw(8);
             for (size_t j = 0; j < count; j++) some[j] = j ? random_item(targets) : likely_item(&bus);
@@ -140,15 +249,14 @@ static unsigned long play_channel(void) {
     }
     refuse_damaged(bus);
     struct onfiseq_answer answer = onfiseq_check(&chip, targets, kept, length);
-    if (bus.count) must(answer.letter == 0 && answer.at == length, "check refuses what push permitted");
-    else must(answer.letter == 'P' || answer.letter == 'T', "check knows a channel that can't begin");
+    must(answer.letter == 0 && answer.at == length, "check refuses what push permitted");
     return calls + 1;
 }
 
 /* A verdict, with the run of a refusal that has one. */
 static struct onfiseq_verdict verify_file(const uint8_t *file, size_t length) {
     static struct onfiseq_item whole[2048], some[2048], none;
-    struct onfiseq_page chip = onfiseq_page(page, page_length);
+    struct onfiseq_page chip = onfiseq_read_page(page, page_length);
     struct onfiseq_verdict verdict = onfiseq_verify(page, page_length, file, length), other;
     size_t count = 99, again = 98, room = draw(32);
     memset(some, 0x77, sizeof some), memset(&none, 0x77, sizeof none);
@@ -211,7 +319,8 @@ static struct onfiseq_step play_step(struct onfiseq_live *live, struct onfiseq_j
     struct onfiseq_live before = *live;
     struct onfiseq_job old = *job;
     struct onfiseq_turn turn = onfiseq_job_next(live, job, file, length);
-    struct onfiseq_bus bus = live->bus;
+    struct onfiseq_bus bus;
+    memcpy(&bus, live->state + 1, sizeof bus); /* a record of a channel stands in it, behind eight bytes */
     must(memcmp(&before, live, sizeof before) == 0 && memcmp(&old, job, sizeof old) == 0, "next changed a record");
     must(turn.count <= 3 && (turn.letter == 0 || turn.count == 0), "bursts are told of no step");
     must(turn.letter || job->buffer <= sizeof buffer, "a buffer that isn't there");
@@ -253,10 +362,12 @@ static size_t random_file(uint8_t *file) {
 static unsigned long play_jobs(void) {
     static uint8_t files[3][4112];
     struct onfiseq_geometry chip = random_chip();
-    struct onfiseq_live live = onfiseq_live_begin(&chip, (uint8_t)draw(6));
+    struct onfiseq_live live;
     struct onfiseq_job jobs[3];
     size_t lengths[3];
     unsigned turns = 20 + draw(200);
+    memset(&live, draw(2) ? 0 : 0x55, sizeof live);
+    onfiseq_live_begin(&live, &chip, (uint8_t)draw(6));
     memset(jobs, draw(2) ? 0 : 0x55, sizeof jobs);
     for (int k = 0; k < 3; k++) {
         struct onfiseq_job old = jobs[k];
@@ -272,8 +383,39 @@ static unsigned long play_jobs(void) {
         if (draw(8) == 0) onfiseq_live_ready(&live, (uint8_t)draw(4), (uint8_t)draw(4), draw(2));
         if (draw(16) == 0) onfiseq_live_array_ready(&live, (uint8_t)draw(4), (uint8_t)draw(4));
     }
-    if (draw(4) == 0) live.magic ^= 1u << draw(32), must(onfiseq_job_next(&live, &jobs[0], files[0], lengths[0]).letter == 'D', "a damaged channel");
+    ((uint8_t *)&live)[draw(4)] ^= (uint8_t)(1u << draw(8)); /* what stands first */
+    must(onfiseq_job_next(&live, &jobs[0], files[0], lengths[0]).letter == 'D', "a damaged channel");
     return 3 * turns;
+}
+
+/* Damaged records of a channel with jobs, and of the jobs, given to calls. */
+static unsigned long play_damaged_jobs(void) {
+    static uint8_t file[4112];
+    struct onfiseq_geometry chip = random_chip();
+    struct onfiseq_live whole;
+    struct onfiseq_job begun;
+    size_t length = random_file(file);
+    memset(&begun, 0, sizeof begun);
+    if (onfiseq_live_begin(&whole, &chip, (uint8_t)(1 + draw(4)))) return 1;
+    onfiseq_job_begin(&whole, 0, 0, draw(8), file, length, 1024, &begun);
+    for (unsigned k = draw(20); k > 0; k--) play_step(&whole, &begun, file, length, -1);
+    for (int k = 0; k < 200; k++) {
+        struct onfiseq_live live = whole, copy;
+        struct onfiseq_job job = begun, old;
+        damage(&live, sizeof live);
+        if (draw(4) == 0) damage(&job, sizeof job);
+        copy = live, old = job;
+        struct onfiseq_turn turn = onfiseq_job_next(&live, &job, file, length);
+        must(memcmp(&copy, &live, sizeof live) == 0 && memcmp(&old, &job, sizeof job) == 0, "next wrote a damaged record");
+        struct onfiseq_step step = onfiseq_job_finish(&live, &job, file, length, taken, turn.taken <= sizeof taken ? turn.taken : 0);
+        bool goes = step.letter == 0 || step.letter == 'Y' || step.letter == 'W' || (step.letter == 'E' && turn.letter == 0);
+        must(goes || (memcmp(&copy, &live, sizeof live) == 0 && memcmp(&old, &job, sizeof job) == 0), "finish wrote a damaged record");
+        onfiseq_job_begin(&live, (uint8_t)draw(5), (uint8_t)draw(5), draw(8), file, length, 1024, &job);
+        onfiseq_live_ready(&live, (uint8_t)draw(5), (uint8_t)draw(5), draw(2));
+        onfiseq_live_array_ready(&live, (uint8_t)draw(5), (uint8_t)draw(5));
+        if (draw(4) == 0) onfiseq_live_begin_target(&live, (uint8_t)draw(5));
+    }
+    return 1200;
 }
 
 /* An accepted program, whose chip says busy some times and then ready: no rule is broken, and it ends. */
@@ -282,9 +424,10 @@ static unsigned long play_accepted(void) {
     const char *text = "rows 4\nbuffer 32\nbudget 999\nloop 3\ncmd 60\naddr 2 3\ncmd d0\nwait\nrow 3\ncmd 00\naddr 0 5\ncmd 30\nwait\nseek 0\ncmd 00\nget 32\n"
                        "yield\nnext\nstat\nbrs 01 bad\nend 7\nbad:\nend 8\n";
     struct onfiseq_placed made = onfiseq_assemble((const uint8_t *)text, strlen(text), file, sizeof file);
-    struct onfiseq_page chip = onfiseq_page(page, page_length);
-    struct onfiseq_live live = onfiseq_live_begin(&chip.geometry, 1);
+    struct onfiseq_page chip = onfiseq_read_page(page, page_length);
+    struct onfiseq_live live;
     struct onfiseq_job job;
+    must(onfiseq_live_begin(&live, &chip.geometry, 1) == 0, "a channel isn't begun");
     must(made.letter == 0 && onfiseq_verify(page, page_length, file, made.length).letter == 0, "a program that isn't accepted");
     must(onfiseq_job_begin(&live, 0, 0, 4 * draw(8), file, made.length, 32, &job).letter == 0, "a job isn't begun");
     unsigned long count = 0;
@@ -299,16 +442,30 @@ static unsigned long play_accepted(void) {
 
 static unsigned long play_words(void) {
     char text[160];
-    size_t room = draw(sizeof text + 1), length = onfiseq_words((uint8_t)("ABCDEFHILMNOPRSTUVWY?"[draw(21)]), draw(20), text, room);
+    size_t room = draw(sizeof text + 1), length = onfiseq_words(ONFISEQ_CODE("ABCDEFHILMNOPRSTUVWY?"[draw(21)], draw(20)) + (draw(8) ? 0 : draw(0xffffffff)), text, room);
     must(length < 160 && (room == 0 || strlen(text) < room), "words");
     uint8_t *cut = malloc(page_length);
     size_t few = draw((uint32_t)page_length + 1);
     memcpy(cut, page, few);
     if (few) cut[draw((uint32_t)few)] ^= (uint8_t)(1 << draw(8));
-    struct onfiseq_page read = onfiseq_page(cut, few);
+    struct onfiseq_page read = onfiseq_read_page(cut, few);
     must(read.fault <= 9, "a page");
     free(cut);
     return 2;
+}
+
+/* Damaged records of channels, with and without jobs, in states that random items and jobs lead to. */
+static unsigned long play_damaged(void) {
+    struct onfiseq_geometry chip = random_chip();
+    struct onfiseq_bus bus;
+    unsigned long calls = 0;
+    if (onfiseq_begin(&bus, &chip, (uint8_t)(1 + draw(4)))) return 1;
+    for (unsigned k = draw(40); k > 0; k--) {
+        struct onfiseq_item item = likely_item(&bus);
+        onfiseq_push(&bus, &item);
+    }
+    for (int k = 0; k < 200; k++) calls += play_damaged_bus(&bus);
+    return calls + play_damaged_jobs();
 }
 
 int main(int count, char **words) {
@@ -318,13 +475,15 @@ int main(int count, char **words) {
     must(file != NULL, "no page");
     page_length = fread(page, 1, sizeof page, file);
     fclose(file);
-    while (calls < wanted) {
+    while (count > 4 && damaged_records < wanted) calls += play_damaged();
+    while (count <= 4 && calls < wanted) {
         if (draw(4) == 0) calls += draw(4) ? play_jobs() : play_accepted();
         else calls += draw(8) == 0 ? play_channel() : draw(4) ? play_program() : play_words();
     }
-    must(permitted > 0 && refused > 0 && accepted > 0 && runs > 0 && steps > 0 && ends > 0, "nothing was tried");
+    must(count > 4 || (permitted > 0 && refused > 0 && accepted > 0 && runs > 0 && steps > 0 && ends > 0), "nothing was tried");
+    must(damaged_records > 0 && taken_records > 0 && taken_records < damaged_records, "no damage was tried");
     printf("nothing is wrong\n");
-    fprintf(stderr, "%lu calls: %lu items permitted, %lu refused, %lu programs accepted, %lu runs, %lu steps, %lu ends\n", calls, permitted, refused, accepted, runs, steps,
-            ends);
+    fprintf(stderr, "%lu calls: %lu items permitted, %lu refused, %lu programs accepted, %lu runs, %lu steps, %lu ends; %lu damaged records\n", calls, permitted, refused, accepted,
+            runs, steps, ends, damaged_records);
     return 0;
 }

@@ -16,23 +16,22 @@ static void test(int fits, const char *what) {
 /* The next flag of the sample is this field and no other: it is set alone there, and it isn't set where all but it are. */
 #define FLAG(field)                                                                                                      \
     do {                                                                                                                 \
-        struct onfiseq_sample one = onfiseq_sample(1u << flag), others = onfiseq_sample(~(1u << flag));                  \
+        struct onfiseq_sample one = onfiseq_make_sample(1u << flag), others = onfiseq_make_sample(~(1u << flag));                  \
         test(one.field && !others.field && !none.field && all.field, #field);                                            \
         flag++;                                                                                                          \
     } while (0)
 
 static void test_sizes(void) {
-    struct onfiseq_abi abi = onfiseq_abi();
+    struct onfiseq_abi abi = onfiseq_sizes();
     test(abi.version == ONFISEQ_VERSION, "the version");
     SIZE(geometry);
     SIZE(page);
     SIZE(item);
     SIZE(answer);
-    SIZE(queued);
-    SIZE(lun);
-    SIZE(target);
     SIZE(bus);
     SIZE(look);
+    SIZE(part);
+    SIZE(spot);
     SIZE(sample);
 }
 
@@ -43,75 +42,45 @@ static void test_numbers(void) {
     IS(geometry.blocks, 4);
     IS(geometry.luns, 5);
     IS(geometry.plane_bits, 6);
-    IS(look.latch, 7);
-    IS(look.register_, 8);
-    IS(look.block, 9);
-    IS(look.page, 10);
-    IS(look.column, 11);
-    IS(look.queued, 12);
-    IS(target.opener, 26);
-    IS(target.phase, 27);
-    IS(target.r1, 28);
-    IS(target.r2, 29);
-    IS(target.r3, 30);
-    IS(target.column, 31);
-    IS(target.addresses, 32);
-    IS(target.inputs, 33);
-    IS(target.count, 34);
-    IS(item.ce, 39);
-    IS(item.kind, 40);
-    IS(item.byte, 41);
-    IS(item.fail, 42);
-    IS(answer.letter, 43);
-    IS(answer.number, 44);
-    IS(answer.at, 45);
-}
-
-static void test_luns(void) {
-    for (unsigned k = 0; k < 4; k++) {
-        IS(target.luns[k].latch, 13);
-        IS(target.luns[k].closer, 14);
-        IS(target.luns[k].register_, 15);
-        IS(target.luns[k].column, 35 + k);
-        IS(target.luns[k].array_block, 16);
-        IS(target.luns[k].array_page, 17);
-        IS(target.luns[k].register_block, 18);
-        IS(target.luns[k].register_page, 19);
-        IS(target.luns[k].outputs, 20);
-        IS(target.luns[k].queued, 21);
-        for (unsigned row = 0; row < 4; row++) {
-            IS(target.luns[k].queue[row].page, 22 + row);
-            IS(target.luns[k].queue[row].block, (22 + row) ^ 0x80);
-        }
-    }
+    IS(geometry.enhanced, 7);
+    IS(geometry.multi_plane, 8);
+    IS(geometry.cache, 9);
+    IS(look.latch, 10);
+    IS(look.register_, 11);
+    IS(look.block, 12);
+    IS(look.page, 13);
+    IS(look.column, 14);
+    IS(look.queued, 15);
+    IS(item.ce, 16);
+    IS(item.kind, 17);
+    IS(item.byte, 18);
+    IS(item.fail, 19);
+    IS(answer.letter, 20);
+    IS(answer.number, 21);
+    IS(answer.at, 22);
+    IS(part.count, 23);
+    IS(part.kind, 24);
+    for (unsigned k = 0; k < 7; k++) IS(part.bytes[k], 25 + k);
+    IS(spot.part, 32);
+    IS(spot.cycle, 33);
 }
 
 static void test_flags(void) {
-    FLAG(geometry.enhanced);
-    FLAG(geometry.multi_plane);
-    FLAG(geometry.cache);
     FLAG(look.is_there);
     FLAG(look.busy);
     FLAG(look.array_busy);
     FLAG(look.caching);
     FLAG(look.has_column);
-    FLAG(target.luns[3].queue[3].is_program);
-    FLAG(target.luns[3].busy);
-    FLAG(target.luns[3].has_closer);
-    FLAG(target.luns[3].array_busy);
-    FLAG(target.luns[3].has_column);
-    FLAG(target.luns[3].lost);
-    FLAG(target.is_open);
-    FLAG(target.is_empty);
 }
 
-/* The records that no sample holds: a page, and a channel. */
+/* The records that no sample holds: a page, and a channel, which another size or version doesn't begin. */
 static void test_others(void) {
-    struct onfiseq_geometry chip = {512, 16, 4, 8, 2, 1, true, false, true};
-    struct onfiseq_bus bus = onfiseq_begin(&chip, 3);
-    struct onfiseq_page page = onfiseq_page(NULL, 0);
-    test(bus.magic != 0 && bus.count == 3 && bus.geometry.page_bytes == 512 && bus.geometry.cache && !bus.geometry.multi_plane, "bus");
-    test(bus.targets[0].count == 2 && bus.targets[2].count == 2 && bus.targets[2].is_empty, "bus.targets");
+    struct onfiseq_geometry chip = {512, 16, 4, 8, 2, 1, 1, 0, 1};
+    struct onfiseq_bus bus;
+    struct onfiseq_page page = onfiseq_read_page(NULL, 0);
+    test(onfiseq_begin(&bus, &chip, 3) == 0 && onfiseq_look_at(&bus, 2, 1).is_there && !onfiseq_look_at(&bus, 3, 0).is_there && !onfiseq_look_at(&bus, 0, 2).is_there, "bus");
+    test(onfiseq_begin_sized(&bus, sizeof bus, ONFISEQ_VERSION + 1, &chip, 3) == ONFISEQ_OTHER_VERSION, "another version");
+    test(onfiseq_begin_sized(&bus, sizeof bus + 8, ONFISEQ_VERSION, &chip, 3) == ONFISEQ_OTHER_VERSION, "another size");
     test(page.fault == 1 && page.geometry.blocks == 0, "page");
 }
 
@@ -120,7 +89,7 @@ static void test_others(void) {
 #define LIVE(field, number) test(sample.field == (number), #field)
 
 static void test_live_sizes(void) {
-    struct onfiseq_live_abi abi = onfiseq_live_abi();
+    struct onfiseq_live_abi abi = onfiseq_live_sizes();
     test(abi.version == ONFISEQ_VERSION, "the version of the sequencer");
     LIVE_SIZE(loops);
     LIVE_SIZE(job);
@@ -132,7 +101,7 @@ static void test_live_sizes(void) {
 }
 
 static void test_job(void) {
-    struct onfiseq_live_sample sample = onfiseq_live_sample();
+    struct onfiseq_live_sample sample = onfiseq_live_make_sample();
     LIVE(job.magic, 1);
     LIVE(job.ce, 2);
     LIVE(job.lun, 3);
@@ -154,7 +123,7 @@ static void test_job(void) {
 }
 
 static void test_turn(void) {
-    struct onfiseq_live_sample sample = onfiseq_live_sample();
+    struct onfiseq_live_sample sample = onfiseq_live_make_sample();
     LIVE(turn.letter, 23);
     LIVE(turn.number, 24);
     LIVE(turn.count, 25);
@@ -174,22 +143,23 @@ static void test_turn(void) {
 /* A channel of the sequencer, which no sample holds: one that a job of its second target has the bus of. */
 static void test_live(void) {
     static const uint8_t file[20] = {'N', 'M', 'P', '2', 1, 0, 1, 0, 0, 0, 0, 0, 0, 0, 0, 0, 6, 0, 3, 0}; /* col 3 */
-    struct onfiseq_geometry chip = {512, 16, 4, 8, 1, 0, true, false, true};
-    struct onfiseq_live live = onfiseq_live_begin(&chip, 2);
-    struct onfiseq_job job;
-    test(live.bus.count == 2 && live.bus.geometry.page_bytes == 512 && live.magic != 0 && live.has_holder == 0, "live");
+    struct onfiseq_geometry chip = {512, 16, 4, 8, 1, 0, 1, 0, 1};
+    struct onfiseq_live live;
+    struct onfiseq_job job, other;
+    test(onfiseq_live_begin(&live, &chip, 2) == 0, "live");
+    test(onfiseq_live_begin_sized(&live, sizeof live, ONFISEQ_VERSION + 1, &chip, 2) == ONFISEQ_OTHER_VERSION, "another version of live");
     test(onfiseq_job_begin(&live, 1, 0, 5, file, sizeof file, 0, &job).letter == 0, "a job begins");
+    test(onfiseq_job_begin(&live, 0, 0, 5, file, sizeof file, 0, &other).letter == 0, "another job begins");
     test(job.ce == 1 && job.lun == 0 && job.base == 5 && job.index == 5 && job.magic != 0, "job");
     test(onfiseq_job_finish(&live, &job, file, sizeof file, NULL, 0).letter == 0, "a step is finished");
-    test(job.column == 3 && job.at == 1 && live.has_holder == 1 && live.ce == 1 && live.lun == 0, "what a step leaves");
+    test(job.column == 3 && job.at == 1 && onfiseq_job_next(&live, &other, file, sizeof file).letter == 'H', "what a step leaves");
 }
 
 int main(void) {
-    none = onfiseq_sample(0);
-    all = onfiseq_sample(~0u);
+    none = onfiseq_make_sample(0);
+    all = onfiseq_make_sample(~0u);
     test_sizes();
     test_numbers();
-    test_luns();
     test_flags();
     test_others();
     test_live_sizes();

@@ -98,9 +98,9 @@ static bool go_on(struct work *it) {
 
 int main(int count, char **words) {
     size_t page_length = count == 6 ? read_all(words[1], page, sizeof page) : 0;
-    struct onfiseq_page chip = onfiseq_page(page, page_length);
+    struct onfiseq_page chip = onfiseq_read_page(page, page_length);
     if (chip.fault) return say("the page", 'P', chip.fault), 1;
-    live = onfiseq_live_begin(&chip.geometry, JOBS);
+    if (onfiseq_live_begin(&live, &chip.geometry, JOBS)) return 1;
     for (unsigned ce = 0; ce < JOBS; ce++) {
         for (unsigned k = 0; k < PAGES * PAGE; k++) chips[ce].pages[k / PAGE][k % PAGE] = (uint8_t)(k % PAGE);
         if (!load(words[2 + 2 * ce], (uint8_t)ce, (uint32_t)strtoul(words[3 + 2 * ce], NULL, 10), page_length)) return 1;

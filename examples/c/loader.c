@@ -18,7 +18,7 @@ static size_t read_all(const char *path, uint8_t *bytes, size_t room) {
 
 static void say(const char *path, uint8_t letter, uint32_t number, size_t at) {
     char why[160];
-    onfiseq_words(letter, number, why, sizeof why);
+    onfiseq_words(ONFISEQ_CODE(letter, number), why, sizeof why);
     printf("%s: refused %c%u at %zu: %s\n", path, letter, number, at, why);
 }
 
@@ -31,12 +31,12 @@ static void show_item(const struct onfiseq_item *item) {
 /* Shows the run of a refusal on the chip's channel; of a longer one than there is room for, its beginning. */
 static void show_run(size_t page_length, size_t count) {
     size_t room = sizeof run / sizeof *run, shown = count < room ? count : room;
-    struct onfiseq_page chip = onfiseq_page(page, page_length);
+    struct onfiseq_page chip = onfiseq_read_page(page, page_length);
     struct onfiseq_answer answer = onfiseq_check(&chip.geometry, 1, run, shown);
     char why[160];
     for (size_t k = 0; k < shown; k++) {
         show_item(&run[k]);
-        if (answer.letter && k == answer.at) onfiseq_words(answer.letter, answer.number, why, sizeof why), printf("    %s (%c%u)", why, answer.letter, answer.number);
+        if (answer.letter && k == answer.at) onfiseq_words(ONFISEQ_CODE(answer.letter, answer.number), why, sizeof why), printf("    %s (%c%u)", why, answer.letter, answer.number);
         putchar('\n');
     }
     if (shown < count) printf("    and %zu more\n", count - shown);

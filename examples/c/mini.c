@@ -65,7 +65,7 @@ static int refuse(const char *path, uint8_t letter, uint32_t number, unsigned lo
     char words[160] = "";
     if (letter == 'O') end_with(NO_MEMORY, "out of memory", NULL);
     if (letter == 'U') end_with(FILE_FAULT, "file fault", path);
-    onfiseq_words(letter, number, words, sizeof words);
+    onfiseq_words(ONFISEQ_CODE(letter, number), words, sizeof words);
     printf("refused %c%u at %lu\n", letter, (unsigned)number, n);
     fprintf(stderr, "%s: at %lu: %s (%c%u)\n", path, n, words, letter, (unsigned)number);
     return REFUSED;
@@ -77,7 +77,7 @@ static int refuse_item(const char *path, const struct bytes *text, struct onfise
     unsigned long at = (unsigned long)answer.at;
     char words[160] = "";
     for (unsigned long k = 0; k < at; k++) line = strchr(line, '\n') + 1;
-    onfiseq_words(answer.letter, answer.number, words, sizeof words);
+    onfiseq_words(ONFISEQ_CODE(answer.letter, answer.number), words, sizeof words);
     printf("refused %c%u at %lu\n", answer.letter, (unsigned)answer.number, at);
     fprintf(stderr, "%s:%lu: item %lu, `%.*s`: %s (%c%u)\n", path, at + 1, at, (int)strcspn(line, "\n"), line, words, answer.letter, (unsigned)answer.number);
     return REFUSED;
@@ -164,7 +164,7 @@ static int read_trace(const struct bytes *text, struct trace *trace, unsigned lo
 
 static int check(const char *page_path, const char *targets, const char *trace_path) {
     struct bytes page = read_file(page_path), text;
-    struct onfiseq_page chip = onfiseq_page(page.at, page.length);
+    struct onfiseq_page chip = onfiseq_read_page(page.at, page.length);
     struct trace trace = {NULL, 0, 0};
     struct onfiseq_answer answer;
     unsigned long line;
@@ -190,7 +190,7 @@ static uint8_t file[4112];
 
 static int verify(const char *page_path, const char *path) {
     struct bytes page = read_file(page_path), program;
-    struct onfiseq_page chip = onfiseq_page(page.at, page.length);
+    struct onfiseq_page chip = onfiseq_read_page(page.at, page.length);
     struct onfiseq_verdict verdict;
     struct onfiseq_placed made;
     if (chip.fault) return refuse(page_path, 'P', chip.fault, 0);

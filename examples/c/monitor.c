@@ -13,8 +13,8 @@ static bool is_permitted(struct onfiseq_bus *bus, const struct onfiseq_item *ite
     size_t done;
     uint32_t rule = sees_ready ? onfiseq_push(bus, item) : onfiseq_push_status(bus, item, &done);
     if (rule == 0) return true;
-    onfiseq_words('F', rule, why, sizeof why);
-    printf("item %lu, %u %c %02x: %s (F%u)\n", at, item->ce, item->kind, item->byte, why, rule);
+    onfiseq_words(rule, why, sizeof why);
+    printf("item %lu, %u %c %02x: %s (%c%u)\n", at, item->ce, item->kind, item->byte, why, ONFISEQ_LETTER(rule), ONFISEQ_NUMBER(rule));
     return false;
 }
 
@@ -23,15 +23,15 @@ static struct onfiseq_page read_chip(const char *path) {
     FILE *file = fopen(path, "rb");
     size_t length = file ? fread(bytes, 1, sizeof bytes, file) : 0;
     if (file) fclose(file);
-    return onfiseq_page(bytes, length);
+    return onfiseq_read_page(bytes, length);
 }
 
 int main(int count, char **words) {
     struct onfiseq_page chip = read_chip(count > 1 ? words[1] : "");
-    struct onfiseq_bus bus = onfiseq_begin(&chip.geometry, 1);
+    struct onfiseq_bus bus;
     unsigned ce, byte, fail = 0;
     char kind;
-    if (bus.count == 0) return printf("the chip is refused: P%u\n", chip.fault), 2;
+    if (onfiseq_begin(&bus, &chip.geometry, 1)) return printf("the chip is refused: P%u\n", chip.fault), 2;
     sees_ready = count < 3;
     for (unsigned long at = 0; scanf("%u %c %x", &ce, &kind, &byte) == 3; at++) {
         if (kind == 'R' && scanf("%u", &fail) != 1) return 2;

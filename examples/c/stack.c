@@ -20,18 +20,18 @@ static const struct onfiseq_item erase[] = {
 enum { ITEMS = sizeof erase / sizeof *erase };
 
 static void *do_nothing(void *it) { return it; }
-static void *do_page(void *it) { return chip = onfiseq_page(page, page_length).geometry, it; }
+static void *do_page(void *it) { return chip = onfiseq_read_page(page, page_length).geometry, it; }
 static void *do_check(void *it) { return onfiseq_check(&chip, 1, erase, ITEMS), it; }
-static void *do_begin(void *it) { return bus = onfiseq_begin(&chip, 1), it; }
+static void *do_begin(void *it) { return onfiseq_begin(&bus, &chip, 1), it; }
 static void *do_push(void *it) {
     for (int k = 0; k < ITEMS; k++) onfiseq_push(&bus, &erase[k]);
     return it;
 }
 static void *do_push_all(void *it) {
     size_t done;
-    return bus = onfiseq_begin(&chip, 1), onfiseq_push_all(&bus, erase, ITEMS, &done), it;
+    return onfiseq_begin(&bus, &chip, 1), onfiseq_push_all(&bus, erase, ITEMS, &done), it;
 }
-static void *do_look(void *it) { return onfiseq_ask(&bus, erase), onfiseq_look(&bus, 0, 0), it; }
+static void *do_look(void *it) { return onfiseq_ask(&bus, erase), onfiseq_look_at(&bus, 0, 0), it; }
 static void *do_verify(void *it) { return onfiseq_verify(page, page_length, file, file_length), it; }
 static void *do_verify_run(void *it) {
     static struct onfiseq_item run[1024];
@@ -49,7 +49,7 @@ static void *do_job(void *it) {
     static struct onfiseq_live live;
     static struct onfiseq_job job;
     static uint8_t taken[65536];
-    live = onfiseq_live_begin(&chip, 1);
+    onfiseq_live_begin(&live, &chip, 1);
     onfiseq_job_begin(&live, 0, 0, 0, file, file_length, file_length > 10 ? file[8] | (size_t)file[9] << 8 : 0, &job);
     for (int k = 0; k < 5000 && !job.has_ended; k++) {
         struct onfiseq_turn turn = onfiseq_job_next(&live, &job, file, file_length);
@@ -58,7 +58,7 @@ static void *do_job(void *it) {
     }
     return it;
 }
-static void *do_words(void *it) { return onfiseq_words('V', 14, (char *)room, 160), it; }
+static void *do_words(void *it) { return onfiseq_words(ONFISEQ_CODE('V', 14), (char *)room, 160), it; }
 
 static void *do_picture(void *it) { return onfiseq_picture(&chip, 1, erase, ITEMS, room, sizeof room), it; }
 static void *do_notes(void *it) { return onfiseq_notes(&chip, file, file_length, room, sizeof room), it; }

@@ -10,15 +10,16 @@ static const struct onfiseq_item items[] = {
 };
 
 int main(void) {
-    struct onfiseq_geometry chip = {512, 16, 4, 8, 1, 0, false, false, true};
-    struct onfiseq_bus bus = onfiseq_begin(&chip, 1);
+    struct onfiseq_geometry chip = {512, 16, 4, 8, 1, 0, 0, 0, 1};
+    struct onfiseq_bus bus;
+    if (onfiseq_begin(&bus, &chip, 1)) return 1;
     for (size_t k = 0; k < sizeof items / sizeof *items; k++) {
         size_t done;
         uint32_t rule = onfiseq_push_status(&bus, &items[k], &done);
-        if (rule) return printf("item %zu breaks F%u\n", k, rule), 1;
+        if (rule) return printf("item %zu breaks F%u\n", k, ONFISEQ_NUMBER(rule)), 1;
         if (done > 1) printf("item %zu, %c %02x: %zu before it\n", k, items[k].kind, items[k].byte, done - 1);
     }
-    struct onfiseq_look look = onfiseq_look(&bus, 0, 0);
+    struct onfiseq_look look = onfiseq_look_at(&bus, 0, 0);
     printf("LUN 0 is %s, its array is %s\n", look.busy ? "busy" : "ready", look.array_busy ? "busy" : "ready");
     return 0;
 }

@@ -46,17 +46,17 @@ static void run_reset(unsigned ce) {
 }
 
 int main(void) {
-    static const struct onfiseq_geometry chip = {512, 16, 4, 8, 1, 0, false, false, false};
+    static const struct onfiseq_geometry chip = {512, 16, 4, 8, 1, 0, 0, 0, 0};
     struct onfiseq_job job;
-    live = onfiseq_live_begin(&chip, TARGETS);
+    if (onfiseq_live_begin(&live, &chip, TARGETS)) return 1;
     onfiseq_job_begin(&live, 0, 0, 0, program, sizeof program, 16, &job);
     for (int word = 0; word < 2; word++) { /* 80h and its addresses are out; then the data doesn't come */
         onfiseq_job_next(&live, &job, program, sizeof program);
         onfiseq_job_finish(&live, &job, program, sizeof program, NULL, 0);
     }
     for (unsigned ce = 0; ce < TARGETS; ce++) run_reset(ce);
-    printf("target 0 begins anew: %u\n", onfiseq_live_begin_target(&live, 0));
+    printf("target 0 begins anew: %s\n", onfiseq_live_begin_target(&live, 0) == 0 ? "yes" : "no");
     for (unsigned ce = 0; ce < TARGETS; ce++) run_reset(ce);
-    printf("a target that isn't there: %u\n", onfiseq_live_begin_target(&live, TARGETS));
+    printf("a target that isn't there: F%u\n", ONFISEQ_NUMBER(onfiseq_live_begin_target(&live, TARGETS)));
     return 0;
 }

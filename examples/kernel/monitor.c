@@ -9,7 +9,7 @@
 struct monitor {
     struct onfiseq_bus bus;
     uint64_t seen;
-    uint32_t broken; /* the number of the rule that was broken first, 0 where none was */
+    uint32_t broken; /* the code of the rule that was broken first, 0 where none was */
 };
 
 int monitor_begin(struct monitor *it, const struct onfiseq_bus *begun);
@@ -18,7 +18,7 @@ int monitor_is_busy(const struct monitor *it, uint8_t target, uint8_t lun);
 
 /* Begins with a record that user space copied in: it has begun where its first LUN can be looked at. */
 int monitor_begin(struct monitor *it, const struct onfiseq_bus *begun) {
-    struct onfiseq_look look = onfiseq_look(begun, 0, 0);
+    struct onfiseq_look look = onfiseq_look_at(begun, 0, 0);
     if (!look.is_there) return INVALID;
     it->bus = *begun;
     it->seen = 0;
@@ -37,6 +37,6 @@ int monitor_see(struct monitor *it, uint8_t target, uint8_t kind, uint8_t byte, 
 
 /* Whether a LUN works: what the driver has to wait for. */
 int monitor_is_busy(const struct monitor *it, uint8_t target, uint8_t lun) {
-    struct onfiseq_look look = onfiseq_look(&it->bus, target, lun);
+    struct onfiseq_look look = onfiseq_look_at(&it->bus, target, lun);
     return look.is_there && look.busy;
 }

@@ -10,7 +10,7 @@
 import ctypes
 
 u8, u16, u32, u64, flag, size = ctypes.c_uint8, ctypes.c_uint16, ctypes.c_uint32, ctypes.c_uint64, ctypes.c_bool, ctypes.c_size_t
-VERSION, NO_ITEM, DAMAGED = 1, 255, 254
+VERSION = 2
 
 
 def record(name, **fields):
@@ -18,22 +18,20 @@ def record(name, **fields):
     return type(name, (ctypes.Structure,), {"_fields_": list(fields.items())})
 
 
-Geometry = record("Geometry", page_bytes=u32, spare_bytes=u32, pages=u32, blocks=u32, luns=u8, plane_bits=u8, enhanced=flag, multi_plane=flag, cache=flag)
+Geometry = record("Geometry", page_bytes=u32, spare_bytes=u32, pages=u32, blocks=u32, luns=u8, plane_bits=u8, enhanced=u8, multi_plane=u8, cache=u8)
 Page = record("Page", fault=u32, geometry=Geometry)
 Item = record("Item", ce=u8, kind=u8, byte=u8, fail=u8)
 Answer = record("Answer", letter=u8, number=u32, at=u64)
-Queued = record("Queued", page=u64, block=u32, is_program=flag)
-Lun = record("Lun", latch=u8, busy=flag, has_closer=flag, closer=u8, array_busy=flag, register=u8, has_column=flag, lost=flag, column=u32, array_block=u32,
-             array_page=u64, register_block=u32, register_page=u64, outputs=u64, queued=u64, queue=Queued * 4)
-Target = record("Target", is_open=flag, opener=u8, phase=u8, r1=u8, r2=u8, r3=u8, is_empty=flag, column=u32, addresses=u64, inputs=u64, count=u64, luns=Lun * 4)
-Bus = record("Bus", magic=u32, geometry=Geometry, count=u64, targets=Target * 4)
+Bus = record("Bus", state=u64 * 265)
+Part = record("Part", count=u32, kind=u8, bytes=u8 * 7)
+Spot = record("Spot", part=u64, cycle=u64)
 Look = record("Look", is_there=flag, latch=u8, busy=flag, array_busy=flag, caching=flag, register=u8, has_column=flag, block=u32, page=u64, column=u64, queued=u64)
 Placed = record("Placed", letter=u8, number=u32, at=u64, length=u64)
-Abi = record("Abi", version=u32, geometry=u64, page=u64, item=u64, answer=u64, queued=u64, lun=u64, target=u64, bus=u64, look=u64, sample=u64)
+Abi = record("Abi", version=u32, geometry=u64, page=u64, item=u64, answer=u64, bus=u64, look=u64, part=u64, spot=u64, sample=u64)
 Loop = record("Loop", start=u16, left=u16)
 Loops = record("Loops", depth=u8, around=Loop * 4)
 Job = record("Job", magic=u32, ce=u8, lun=u8, has_ended=u8, code=u8, base=u32, buffer=u32, index=u32, place=u32, column=u16, at=u16, plane=u8, status=u8, loops=Loops)
-Live = record("Live", magic=u32, has_holder=u8, ce=u8, lun=u8, bus=Bus)
+Live = record("Live", state=u64 * 266)
 Burst = record("Burst", kind=u8, ce=u8, bytes=u8 * 5, place=u64, len=u64)
 Turn = record("Turn", letter=u8, number=u32, count=u64, taken=u64, bursts=Burst * 3)
 Step = record("Step", letter=u8, number=u32)
@@ -41,30 +39,33 @@ LiveAbi = record("LiveAbi", version=u32, loops=u64, job=u64, live=u64, burst=u64
 
 # What each call answers, and what it takes.
 CALLS = {
-    "onfiseq_page": (Page, [ctypes.c_char_p, size]),
+    "onfiseq_read_page": (Page, [ctypes.c_char_p, size]),
     "onfiseq_check": (Answer, [ctypes.POINTER(Geometry), u8, ctypes.POINTER(Item), size]),
-    "onfiseq_begin": (Bus, [ctypes.POINTER(Geometry), u8]),
+    "onfiseq_begin_sized": (u32, [ctypes.POINTER(Bus), size, u32, ctypes.POINTER(Geometry), u8]),
     "onfiseq_push": (u32, [ctypes.POINTER(Bus), ctypes.POINTER(Item)]),
     "onfiseq_push_all": (u32, [ctypes.POINTER(Bus), ctypes.POINTER(Item), size, ctypes.POINTER(size)]),
     "onfiseq_push_status": (u32, [ctypes.POINTER(Bus), ctypes.POINTER(Item), ctypes.POINTER(size)]),
+    "onfiseq_push_op": (u32, [ctypes.POINTER(Bus), u8, ctypes.POINTER(Part), size, ctypes.POINTER(Spot)]),
+    "onfiseq_ask_op": (u32, [ctypes.POINTER(Bus), u8, ctypes.POINTER(Part), size, ctypes.POINTER(Spot)]),
     "onfiseq_begin_target": (u32, [ctypes.POINTER(Bus), u8]),
     "onfiseq_drop": (u32, [ctypes.POINTER(Bus), u8]),
     "onfiseq_ask": (u32, [ctypes.POINTER(Bus), ctypes.POINTER(Item)]),
-    "onfiseq_look": (Look, [ctypes.POINTER(Bus), u8, u8]),
+    "onfiseq_look_at": (Look, [ctypes.POINTER(Bus), u8, u8]),
     "onfiseq_verify": (Answer, [ctypes.c_char_p, size, ctypes.c_char_p, size]),
     "onfiseq_verify_run": (Answer, [ctypes.c_char_p, size, ctypes.c_char_p, size, ctypes.POINTER(Item), size, ctypes.POINTER(size)]),
     "onfiseq_assemble": (Placed, [ctypes.c_char_p, size, ctypes.c_char_p, size]),
     "onfiseq_disassemble": (Placed, [ctypes.c_char_p, size, ctypes.c_char_p, size]),
-    "onfiseq_words": (size, [u8, u32, ctypes.c_char_p, size]),
-    "onfiseq_abi": (Abi, []),
-    "onfiseq_live_begin": (Live, [ctypes.POINTER(Geometry), u8]),
+    "onfiseq_trace": (Placed, [ctypes.c_char_p, size, u8, ctypes.POINTER(Item), size]),
+    "onfiseq_words": (size, [u32, ctypes.c_char_p, size]),
+    "onfiseq_sizes": (Abi, []),
+    "onfiseq_live_begin_sized": (u32, [ctypes.POINTER(Live), size, u32, ctypes.POINTER(Geometry), u8]),
     "onfiseq_live_ready": (u32, [ctypes.POINTER(Live), u8, u8, flag]),
     "onfiseq_live_array_ready": (u32, [ctypes.POINTER(Live), u8, u8]),
     "onfiseq_live_begin_target": (u32, [ctypes.POINTER(Live), u8]),
     "onfiseq_job_begin": (Step, [ctypes.POINTER(Live), u8, u8, u32, ctypes.c_char_p, size, size, ctypes.POINTER(Job)]),
     "onfiseq_job_next": (Turn, [ctypes.POINTER(Live), ctypes.POINTER(Job), ctypes.c_char_p, size]),
     "onfiseq_job_finish": (Step, [ctypes.POINTER(Live), ctypes.POINTER(Job), ctypes.c_char_p, size, ctypes.c_char_p, size]),
-    "onfiseq_live_abi": (LiveAbi, []),
+    "onfiseq_live_sizes": (LiveAbi, []),
 }
 
 
@@ -74,9 +75,9 @@ def load(path):
     for name, (answers, takes) in CALLS.items():
         call = getattr(lib, name)
         call.restype, call.argtypes = answers, takes
-    sizes = dict(geometry=Geometry, page=Page, item=Item, answer=Answer, queued=Queued, lun=Lun, target=Target, bus=Bus, look=Look)
+    sizes = dict(geometry=Geometry, page=Page, item=Item, answer=Answer, bus=Bus, look=Look, part=Part, spot=Spot)
     live_sizes = dict(loops=Loops, job=Job, live=Live, burst=Burst, turn=Turn, step=Step)
-    for abi, its in ((lib.onfiseq_abi(), sizes), (lib.onfiseq_live_abi(), live_sizes)):
+    for abi, its in ((lib.onfiseq_sizes(), sizes), (lib.onfiseq_live_sizes(), live_sizes)):
         if abi.version != VERSION or any(getattr(abi, name) != ctypes.sizeof(it) for name, it in its.items()):
             raise ValueError("%s isn't the library of this module: version %d" % (path, abi.version))
     return lib
@@ -85,8 +86,13 @@ def load(path):
 def words(lib, letter, number):
     """What a code means."""
     text = ctypes.create_string_buffer(160)
-    lib.onfiseq_words(ord(letter), number, text, len(text))
+    lib.onfiseq_words(ord(letter) << 8 | number, text, len(text))
     return text.value.decode()
+
+
+def name_of(code):
+    """A code as it is written: F9 of 0x4609, and I alone where there is no number."""
+    return chr(code >> 8) + (str(code & 0xFF) if code & 0xFF else "")
 
 
 class Refused(Exception):
@@ -105,13 +111,24 @@ def in_byte(name, number):
     return number
 
 
+def part_of(kind, what=0):
+    """A part of an operation."""
+    if kind in ("I", "O"):
+        return Part(what if isinstance(what, int) else len(what), ord(kind))
+    if kind == "W":
+        return Part(0, ord(kind))
+    bytes_ = bytes([in_byte("the byte", what)]) if isinstance(what, int) else bytes(what)
+    if len(bytes_) > 7:
+        raise ValueError("a part has 7 bytes at most, and not %d" % len(bytes_))
+    return Part(len(bytes_), ord(kind), (u8 * 7)(*bytes_))
+
+
 class Broken(AssertionError):
     """A cycle, or a ready, breaks a rule of the channel. Test frameworks count it as a failed assertion."""
 
-    def __init__(self, lib, number, count, item):
-        said = "item %d, %d %s %02x: " % (count, item.ce, chr(item.kind), item.byte)
-        super().__init__(said + ("no item" if number == NO_ITEM else "no channel" if number == DAMAGED else "%s (F%d)" % (words(lib, "F", number), number)))
-        self.rule, self.count = number, count
+    def __init__(self, lib, code, count, what):
+        super().__init__("item %d, %s: %s (%s)" % (count, what, words(lib, chr(code >> 8), code & 0xFF), name_of(code)))
+        self.code, self.rule, self.count = name_of(code), code & 0xFF, count
 
 
 class Monitor:
@@ -120,20 +137,37 @@ class Monitor:
 
     def __init__(self, lib, page, targets=1, sees_ready=True):
         in_byte("targets", targets)
-        read = lib.onfiseq_page(page, len(page))
+        read = lib.onfiseq_read_page(page, len(page))
         if read.fault:
             raise Refused(lib, "P", read.fault)
         self.lib, self.count, self.sees_ready = lib, 0, sees_ready
-        self.bus = lib.onfiseq_begin(read.geometry, targets)
-        if self.bus.count == 0:
-            raise Refused(lib, "T", 0)
+        self.bus = Bus()
+        code = lib.onfiseq_begin_sized(self.bus, ctypes.sizeof(Bus), VERSION, read.geometry, targets)
+        if code:
+            raise Refused(lib, chr(code >> 8), code & 0xFF)
 
     def push(self, ce, kind, byte, fail=0):
         item = Item(in_byte("the target", ce), ord(kind), in_byte("the byte", byte), in_byte("fail", fail))
         rule = self.lib.onfiseq_push(self.bus, item) if self.sees_ready else self.lib.onfiseq_push_status(self.bus, item, size())
         if rule:
-            raise Broken(self.lib, rule, self.count, item)
+            raise Broken(self.lib, rule, self.count, "%d %s %02x" % (ce, kind, byte))
         self.count += 1
+
+    def operation(self, ce, *parts):
+        """A whole operation, all of it or none. A part is ("C", 0x60), ("A", b"\\0\\4\\0"), ("I", 512) or ("O", 512) with so many bytes of data, or ("W",): R/B# has
+        risen. Data costs the same for any number of bytes."""
+        made, spot = (Part * len(parts))(*(part_of(*it) for it in parts)), Spot()
+        code = self.lib.onfiseq_push_op(self.bus, in_byte("the target", ce), made, len(made), spot)
+        if code:
+            where = "part %d, cycle %d" % (spot.part, spot.cycle)
+            raise Broken(self.lib, code, self.count + sum(it.count for it in made[: spot.part]) + spot.cycle, where)
+        self.count += sum(it.count for it in made)
+
+    def copy(self):
+        """Another monitor that goes on from here by itself."""
+        other = object.__new__(Monitor)
+        other.lib, other.count, other.sees_ready, other.bus = self.lib, self.count, self.sees_ready, Bus.from_buffer_copy(self.bus)
+        return other
 
     def command(self, ce, byte):
         self.push(ce, "C", byte)
@@ -164,12 +198,24 @@ class Monitor:
     def leave(self, call, ce):
         rule = call(self.bus, in_byte("the target", ce))
         if rule:
-            raise Broken(self.lib, rule, self.count, Item(ce, ord("-"), 0, 0))
+            raise Broken(self.lib, rule, self.count, "target %d" % ce)
 
     def look(self, ce, lun):
         """The state of a LUN, None where none is there."""
-        look = self.lib.onfiseq_look(self.bus, in_byte("the target", ce), in_byte("the LUN", lun))
+        look = self.lib.onfiseq_look_at(self.bus, in_byte("the target", ce), in_byte("the LUN", lun))
         return look if look.is_there else None
+
+
+def trace(lib, text, recorded=True):
+    """The items of a trace's text: with comments, blanks and times, or without where recorded is False."""
+    text = text.encode() if isinstance(text, str) else text
+    placed = lib.onfiseq_trace(text, len(text), recorded, None, 0)
+    items = (Item * placed.length)()
+    if placed.letter == ord("B"):
+        placed = lib.onfiseq_trace(text, len(text), recorded, items, len(items))
+    if placed.letter:
+        raise Refused(lib, chr(placed.letter), placed.number, placed.at)
+    return list(items)
 
 
 def verify(lib, page, file):

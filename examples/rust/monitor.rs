@@ -11,7 +11,7 @@ struct Geometry {
     sizes: [u32; 4],
     luns: u8,
     plane_bits: u8,
-    declared: [bool; 3],
+    declared: [u8; 3],
 }
 
 #[repr(C)]
@@ -37,7 +37,7 @@ struct Answer {
 }
 
 unsafe extern "C" {
-    fn onfiseq_page(page: *const u8, length: usize) -> Page;
+    fn onfiseq_read_page(page: *const u8, length: usize) -> Page;
     fn onfiseq_check(geometry: *const Geometry, targets: u8, items: *const Item, count: usize) -> Answer;
 }
 
@@ -53,7 +53,7 @@ fn item(line: &str) -> Option<Item> {
 fn main() {
     let bytes = std::fs::read(std::env::args().nth(1).expect("a page")).expect("a page");
     // SAFETY: each call is given a pointer to as many values as it is told, which nothing else writes.
-    let page = unsafe { onfiseq_page(bytes.as_ptr(), bytes.len()) };
+    let page = unsafe { onfiseq_read_page(bytes.as_ptr(), bytes.len()) };
     assert!(page.fault == 0, "the chip is refused: P{}", page.fault);
     let mut text = String::new();
     std::io::stdin().read_to_string(&mut text).expect("a trace");

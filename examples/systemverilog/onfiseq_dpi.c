@@ -25,11 +25,10 @@ void *onfiseq_dpi_open(const char *page_path, int targets) {
     FILE *file = fopen(page_path, "rb");
     size_t length = file ? fread(page, 1, sizeof page, file) : 0;
     if (file) fclose(file);
-    struct onfiseq_page read = onfiseq_page(page, length);
+    struct onfiseq_page read = onfiseq_read_page(page, length);
     struct onfiseq_bus *bus = (struct onfiseq_bus *)malloc(sizeof *bus);
     if (bus == NULL) return NULL;
-    *bus = onfiseq_begin(&read.geometry, (uint8_t)targets);
-    if (bus->count != 0) return bus;
+    if (targets == (uint8_t)targets && onfiseq_begin(bus, &read.geometry, (uint8_t)targets) == 0) return bus;
     free(bus);
     return NULL;
 }
@@ -59,11 +58,11 @@ int onfiseq_dpi_drop(void *channel, int ce) { return (int)onfiseq_drop((struct o
 
 int onfiseq_dpi_begin_target(void *channel, int ce) { return (int)onfiseq_begin_target((struct onfiseq_bus *)channel, (uint8_t)ce); }
 
-int onfiseq_dpi_is_busy(void *channel, int ce, int lun) { return onfiseq_look((struct onfiseq_bus *)channel, (uint8_t)ce, (uint8_t)lun).busy; }
+int onfiseq_dpi_is_busy(void *channel, int ce, int lun) { return onfiseq_look_at((struct onfiseq_bus *)channel, (uint8_t)ce, (uint8_t)lun).busy; }
 
 const char *onfiseq_dpi_words(int rule) {
     static char text[160];
-    onfiseq_words('F', (uint32_t)rule, text, sizeof text);
+    onfiseq_words((uint32_t)rule, text, sizeof text);
     return text;
 }
 

@@ -71,6 +71,12 @@ def read_given(words):
     return given
 
 
+def version(path):
+    """The version that a header names."""
+    with open(path) as it:
+        return int(re.search(r"(?m)^#define ONFISEQ_VERSION (\d+)$", it.read()).group(1))
+
+
 def read(path):
     """The records and the calls of a header, each by its name, in the header's order."""
     text = read_text(path)
@@ -83,9 +89,15 @@ def read(path):
     return records, calls
 
 
+def shape(path, unused=()):
+    """All that, as JavaScript wants it, but for the calls whose names begin so."""
+    records, calls = read(path)
+    calls = {name: it for name, it in calls.items() if not name.startswith(tuple(unused))}
+    return json.dumps({"records": records, "calls": calls, "version": version(path)})
+
+
 def main():
-    records, calls = read(sys.argv[1])
-    print(json.dumps({"records": records, "calls": calls}))
+    print(shape(sys.argv[1]))
 
 
 if __name__ == "__main__":

@@ -6,12 +6,11 @@ use Rattle.onfi_cycle.specs.declared.forbidden.Forbidden.{Forbidden}
 use Rattle.onfi_cycle.specs.declared.item.Item.{Item}
 use Rattle.onfi_cycle.specs.State.{BusView, Follows, judged, bus_after, bus}
 use Rattle.bus_record.specs.Rule.{by_option}
-use Rattle.onfi_cycle.specs.Codes.{rule_number}
 use Rattle.bus_record.specs.Item.{item_of}
 use Rattle.target_record.specs.Geometry.{parts_of}
 use Rattle.target_record.specs.Record.{target_of}
 use Rattle.bus_record.specs.Kept.{Kept}
-use Rattle.bus_record.specs.Bus.{pushed, bus_pushed, bus_view}
+use Rattle.bus_record.specs.Bus.{rule_code, pushed, bus_pushed, bus_view}
 use Rattle.bus_record.specs.Many.{Went, went, all_pushed, with_item, with_items}
 use Rattle.bus_record.proofs.Pushed.{goes_on_with}
 use Rattle.bus_record.specs.declared.item.OnfiseqItem.{OnfiseqItem}
@@ -22,7 +21,7 @@ zero_first n x y e = rw e refl
 other_second : {X : Type 0} (n : ℕ) (x y : X) → (n ≡ 0 → ⊥) → (if n == 0 then x else y) ≡ y
 other_second n x y e = let not : (n == 0) ≡ false = grind (arith, nat_tests) in rw not refl
 
-stays_on : (b : BusView) (i : Item) (o : Option Forbidden) → (by_option o 0 rule_number ≡ 0 → ⊥) → by_option o (bus_after i b) (λ (rule : Forbidden). b) ≡ b
+stays_on : (b : BusView) (i : Item) (o : Option Forbidden) → (by_option o 0 rule_code ≡ 0 → ⊥) → by_option o (bus_after i b) (λ (rule : Forbidden). b) ≡ b
 stays_on b i None e = absurd (e refl)
 stays_on b i (Some rule) e = refl
 

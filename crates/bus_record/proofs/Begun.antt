@@ -20,7 +20,7 @@ use Rattle.target_record.specs.declared.record.OnfiseqTarget.{OnfiseqTarget}
 use Rattle.bus_record.specs.Anew.{KeepsOthers, begun, bus_begun, elsewhere}
 use Rattle.bus_record.specs.Bus.{IsSound, bus_view}
 use Rattle.bus_record.specs.Kept.{Kept}
-use Rattle.bus_record.proofs.Pushed.{get_seen, set_seen, views_count, sound_after}
+use Rattle.bus_record.proofs.Pushed.{places_of, get_seen, set_seen, views_count, sound_after}
 
 -- 1. one target of a list
 
@@ -134,12 +134,12 @@ beyond c (s ∷ ts) (suc k) h = ap (λ (us : List TargetView). s ∷ us) (beyond
 
 pub stays_beyond : (change : TargetView → TargetView) (k : Kept) (ce : ℕ) → IsSound k → k.count ≤ ce → bus_view k ≡ bus (parts_of k.geometry) (changed_at change ce (bus_view k).targets)
 stays_beyond change k ce s h =
-    let count = views_count k s in
+    let count = views_count k (places_of k s) in
     ap (bus (parts_of k.geometry)) (sym (beyond change (map target_of (take k.count k.targets)) ce (omega (arith, count, h))))
 
 pub never_beyond : (g : Parts) (n ce : ℕ) (k : Kept) (past : List Item) → IsSound k → k.count ≤ ce → ce < n → Follows g n (bus_view k) past → ⊥
 never_beyond g n ce k past s h low f =
-    let count = views_count k s in let same = count_of g n (bus_view k) past f in
+    let count = views_count k (places_of k s) in let same = count_of g n (bus_view k) past f in
     omega (arith, count, same, h, low)
 
 pub changed_there : (change : TargetView → TargetView) (k : Kept) (ce place : ℕ) (d t : OnfiseqTarget) → place ≡ ce → place < k.count → target_of t ≡ change (target_of (get_or k.targets place d))

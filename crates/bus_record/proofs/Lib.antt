@@ -7,3 +7,5 @@ pub mod Done
 pub mod Changed
 pub mod Asked
 pub mod Begun
+pub mod Sound
+pub mod Spots

@@ -20,15 +20,14 @@ use Rattle.std.proofs.lemmas.List.Elements.{All-set}
 use Rattle.onfi_cycle.specs.Sequence.{target_of as target_of_item}
 use Rattle.onfi_cycle.specs.declared.item.Item.{Item}
 use Rattle.onfi_cycle.specs.declared.forbidden.Forbidden.{Forbidden}
-use Rattle.onfi_cycle.specs.declared.forbidden.Forbidden.TheVariants as F
 use Rattle.onfi_cycle.specs.Permitted.{judge}
 use Rattle.onfi_cycle.specs.Bounds.{LunFits, TargetFits, BusFits}
 use Rattle.onfi_cycle.specs.State.{TargetView, BusView, Follows, judged, judged_on, bus_after, target_after, bus}
 use Rattle.onfi_cycle.proofs.Following.{judged_is_broken, bus_goes_on, target_fits, lun_fits_at, applied}
 use Rattle.bus_record.specs.Rule.{by_option}
-use Rattle.onfi_cycle.specs.Codes.{rule_number}
-use Rattle.bus_record.specs.Bus.{pushed, bus_pushed, target_pushed, GoesOn, IsSound, bus_view}
+use Rattle.bus_record.specs.Bus.{rule_code, FitsAt, GoesOn, HasPlaces, IsSound, bus_pushed, bus_view, pushed, target_pushed}
 use Rattle.target_record.specs.Record.{IsTarget}
+use Rattle.target_record.specs.Whole.{IsWhole}
 
 -- parts that make a geometry are those of the geometry
 pub of_ok : (r : Result Parts PageFault) (p g : Parts) → MatchResult r (λ g. (fault_of p ≡ None) × (g ≡ p)) (λ e. fault_of p ≡ Some e) → r ≡ Ok g → g ≡ p
@@ -53,24 +52,10 @@ length_seen f zero xs h = refl
 length_seen f (suc n) [] h = absurd (omega arith)
 length_seen f (suc n) (x ∷ xs) h = let low : n ≤ length xs = omega arith in ap suc (length_seen f n xs low)
 
-pub number_above : (rule : Forbidden) → rule_number rule ≡ 0 → ⊥
-number_above F.NotThere h = cc
-number_above F.CommandUnknown h = cc
-number_above F.SequenceOpen h = cc
-number_above F.SeveralLuns h = cc
-number_above F.NoColumnToChange h = cc
-number_above F.CommandMisplaced h = cc
-number_above F.AddressMisplaced h = cc
-number_above F.RowOutside h = cc
-number_above F.LunBusy h = cc
-number_above F.QueueClash h = cc
-number_above F.InputMisplaced h = cc
-number_above F.NoSoleDriver h = cc
-number_above F.DataNotReady h = cc
-number_above F.ColumnOutside h = cc
-number_above F.CacheReadMisplaced h = cc
+pub number_above : (rule : Forbidden) → rule_code rule ≡ 0 → ⊥
+number_above rule h = omega (arith, h)
 
-none_if_zero : (o : Option Forbidden) → by_option o 0 rule_number ≡ 0 → o ≡ None
+none_if_zero : (o : Option Forbidden) → by_option o 0 rule_code ≡ 0 → o ≡ None
 none_if_zero None h = refl
 none_if_zero (Some rule) h = absurd (number_above rule h)
 
@@ -79,7 +64,7 @@ pub goes_on_with : (g : Parts) (n : ℕ) (s later : BusView) (past : List Item) 
 goes_on_with g n s later past i answer a b f =
     let same = judged_is_broken g n s past i f in
     record {
-      answered = a ∙ ap (λ o. by_option o 0 rule_number) same;
+      answered = a ∙ ap (λ o. by_option o 0 rule_code) same;
       follows = λ zero_is.
           let none : judged s i ≡ None = none_if_zero (judged s i) (sym a ∙ zero_is) in
           let is : later ≡ bus_after i s = b ∙ ap (λ o. by_option o (bus_after i s) (λ (rule : Forbidden). s)) none in
@@ -114,13 +99,16 @@ after_fits g limits n i s t permitted is small f =
 views : Kept → List TargetView
 views k = map target_of (take k.count k.targets)
 
-pub views_count : (k : Kept) → IsSound k → length (map target_of (take k.count k.targets)) ≡ k.count
+pub places_of : (k : Kept) → IsSound k → HasPlaces k
+places_of k s = record { few = s.few; room = s.room }
+
+pub views_count : (k : Kept) → HasPlaces k → length (map target_of (take k.count k.targets)) ≡ k.count
 views_count k s = let few = s.few in let room = s.room in let low : k.count ≤ length k.targets = omega (arith, few, room) in length_seen target_of k.count k.targets low
 
 pub fits_there : (k : Kept) → IsSound k → (ce : ℕ) → ce < k.count → (d : OnfiseqTarget) → TargetFits (parts_of k.geometry) (target_of (get_or k.targets ce d))
 fits_there k s ce low d =
     let some : 1 ≤ k.count = omega (arith, low) in
-    let count = views_count k s in
+    let count = views_count k (places_of k s) in
     let there : ce < length (map target_of (take k.count k.targets)) = omega (arith, low, count) in
     subst (TargetFits (parts_of k.geometry)) (get_seen target_of k.count k.targets ce d low) ((s.fits some).targets ce (target_of d) there)
 
@@ -141,7 +129,7 @@ sound_after k s ce low t numbers fits =
       });
     }
 
-pub judged_there : (k : Kept) → IsSound k → (i : Item) (ce : ℕ) → ce ≡ target_of_item i → ce < k.count → (d : OnfiseqTarget)
+pub judged_there : (k : Kept) → HasPlaces k → (i : Item) (ce : ℕ) → ce ≡ target_of_item i → ce < k.count → (d : OnfiseqTarget)
     → judged (bus_view k) i ≡ judge (parts_of k.geometry) k.count (target_of (get_or k.targets ce d)).tail (target_of (get_or k.targets ce d)).luns i
 judged_there k s i ce place low d =
     let count = views_count k s in
@@ -156,7 +144,7 @@ set_same [] k d = refl
 set_same (x ∷ xs) zero d = refl
 set_same (x ∷ xs) (suc k) d = ap (λ ys. x ∷ ys) (set_same xs k d)
 
-pub state_there : (k : Kept) → IsSound k → (i : Item) (ce : ℕ) → ce ≡ target_of_item i → ce < k.count → (d t : OnfiseqTarget)
+pub state_there : (k : Kept) → HasPlaces k → (i : Item) (ce : ℕ) → ce ≡ target_of_item i → ce < k.count → (d t : OnfiseqTarget)
     → target_of t ≡ target_pushed (parts_of k.geometry) k.count (target_of (get_or k.targets ce d)) i
     → bus (parts_of k.geometry) (map target_of (take k.count (slice_set k.targets ce t))) ≡ bus_pushed (bus_view k) (Some i)
 state_there k s i ce place low d t is =
@@ -212,3 +200,19 @@ pushed_keeps b i = at (judged b i)
     at : (o : Option Forbidden) → IsSameChannel b (by_option o (bus_after i b) (λ (rule : Forbidden). b))
     at None = after_keeps b i
     at (Some rule) = same_channel b
+
+-- a sound channel fits at each target
+pub fits_each : (k : Kept) → IsSound k → (ce : ℕ) → FitsAt k ce
+fits_each k s ce =
+    record {
+      places = places_of k s;
+      whole = λ low d. record {
+        limits = limits_there k s ce low;
+        numbers = let few = s.few in let room = s.room in s.records ce d (omega (arith, low, few, room));
+        fits = fits_there k s ce low d;
+      };
+    }
+
+-- what stands there is whole
+pub there_whole : (k : Kept) (ce at : ℕ) → FitsAt k ce → at ≡ ce → at < k.count → (d : OnfiseqTarget) → IsWhole k.geometry (get_or k.targets at d)
+there_whole k ce at f is low d = subst (λ (n : ℕ). IsWhole k.geometry (get_or k.targets n d)) (sym is) (f.whole (subst (λ (n : ℕ). n < k.count) is low) d)

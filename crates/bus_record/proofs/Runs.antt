@@ -30,11 +30,11 @@ use Rattle.onfi_cycle.specs.Effect.{is_data}
 use Rattle.target_record.specs.Record.{HasRoom, target_of}
 use Rattle.bus_record.specs.Rule.{by_option}
 use Rattle.bus_record.specs.Runs.{inputs_rule, inputs_pushed, outputs_rule, outputs_pushed}
-use Rattle.bus_record.proofs.Pushed.{length_seen, get_seen, set_seen, judged_there, set_same, same_channel, after_keeps}
+use Rattle.bus_record.proofs.Pushed.{places_of, length_seen, get_seen, set_seen, judged_there, set_same, same_channel, after_keeps}
 
 -- what stands where no target does
 abbrev pub no_target : OnfiseqTarget
-no_target = record { is_open = false; opener = 0; phase = 0; r1 = 0; r2 = 0; r3 = 0; is_empty = false; column = 0; addresses = 0; inputs = 0; count = 0; luns = [] }
+no_target = record { is_open = 0; opener = 0; phase = 0; r1 = 0; r2 = 0; r3 = 0; is_empty = 0; column = 0; addresses = 0; inputs = 0; count = 0; luns = [] }
 
 abbrev pub targets_in : Kept → List TargetView
 targets_in k = map target_of (take k.count k.targets)
@@ -61,10 +61,10 @@ inputs_judged k s ce count low some d = at (judge (parts_of k.geometry) k.count 
   where
     at : (o : Option Forbidden) → judge (parts_of k.geometry) k.count (target_of (get_or k.targets ce d)).tail (target_of (get_or k.targets ce d)).luns (cycle ce Din 0) ≡ o
         → first_rule o (against_inputs (parts_of k.geometry) count (target_of (get_or k.targets ce d)).tail) ≡ judged_inputs ce count (bus_view k)
-    at (Some rule) e = judged_first Din (bus_view k) ce count rule some (sym (judged_there k s (cycle ce Din 0) ce refl low d ∙ e))
+    at (Some rule) e = judged_first Din (bus_view k) ce count rule some (sym (judged_there k (places_of k s) (cycle ce Din 0) ce refl low d ∙ e))
     at None e =
         inputs_judged_some (bus_view k) ce count (target_of (get_or k.targets ce d)) (fits_now k s ce low) some (found_there k s ce low d)
-        (sym (judged_there k s (cycle ce Din 0) ce refl low d ∙ e))
+        (sym (judged_there k (places_of k s) (cycle ce Din 0) ce refl low d ∙ e))
 
 pub outputs_judged : (k : Kept) → IsSound k → (ce count : ℕ) → ce < k.count → 0 < count → (d : OnfiseqTarget)
     → outputs_rule (parts_of k.geometry) k.count ce count (target_of (get_or k.targets ce d)) ≡ judged_outputs ce count (bus_view k)
@@ -72,9 +72,9 @@ outputs_judged k s ce count low some d = at (judge (parts_of k.geometry) k.count
   where
     at : (o : Option Forbidden) → judge (parts_of k.geometry) k.count (target_of (get_or k.targets ce d)).tail (target_of (get_or k.targets ce d)).luns (cycle ce Dout 0) ≡ o
         → first_rule o (against_rest (parts_of k.geometry) count (target_of (get_or k.targets ce d)).luns) ≡ judged_outputs ce count (bus_view k)
-    at (Some rule) e = judged_first Dout (bus_view k) ce count rule some (sym (judged_there k s (cycle ce Dout 0) ce refl low d ∙ e))
+    at (Some rule) e = judged_first Dout (bus_view k) ce count rule some (sym (judged_there k (places_of k s) (cycle ce Dout 0) ce refl low d ∙ e))
     at None e =
-        outputs_judged_some (bus_view k) ce count (target_of (get_or k.targets ce d)) some (found_there k s ce low d) (sym (judged_there k s (cycle ce Dout 0) ce refl low d ∙ e))
+        outputs_judged_some (bus_view k) ce count (target_of (get_or k.targets ce d)) some (found_there k s ce low d) (sym (judged_there k (places_of k s) (cycle ce Dout 0) ce refl low d ∙ e))
 
 pub few_there : (k : Kept) → IsSound k → (ce count : ℕ) → ce < k.count → 0 < count → (d : OnfiseqTarget) → judged_outputs ce count (bus_view k) ≡ None
     → AreFew (map (given_on count) (target_of (get_or k.targets ce d)).luns)

@@ -24,7 +24,7 @@ use Rattle.bus_record.specs.Rule.{by_option}
 use Rattle.bus_record.specs.Runs.{inputs_rule, inputs_pushed, outputs_rule, outputs_pushed}
 use Rattle.bus_record.specs.Trial.{tried, tried_view, IsTried}
 use Rattle.target_record.specs.declared.record.OnfiseqTarget.{OnfiseqTarget}
-use Rattle.bus_record.proofs.Pushed.{fits_there, limits_there, sound_after, judged_there, state_there, set_same, set_seen}
+use Rattle.bus_record.proofs.Pushed.{places_of, fits_there, limits_there, sound_after, judged_there, state_there, set_same, set_seen}
 use Rattle.bus_record.proofs.Runs.{inputs_judged, inputs_left, outputs_judged, outputs_left, few_there, run_pushed, run_sound, run_state, no_target}
 
 -- what stands in its place
@@ -59,13 +59,13 @@ pub tried_rule : (k : Kept) (ce : ℕ) (t : OnfiseqTarget) (i : Item) (rule : Op
     → rule ≡ judged (tried_view k ce t) i
 tried_rule k ce t i rule place h is =
     is ∙ (ap (λ (u : OnfiseqTarget). judge (parts_of k.geometry) k.count (target_of u).tail (target_of u).luns i) (sym (same_there k ce t no_target h))
-    ∙ sym (judged_there (tried k ce t) h.sound i ce place h.there no_target))
+    ∙ sym (judged_there (tried k ce t) (places_of (tried k ce t) h.sound) i ce place h.there no_target))
 
 pub tried_state : (k : Kept) (ce : ℕ) (t u : OnfiseqTarget) (i : Item) → ce ≡ target_of_item i → IsTried k ce t → target_of u ≡ target_pushed (parts_of k.geometry) k.count (target_of t) i
     → tried_view k ce u ≡ bus_pushed (tried_view k ce t) (Some i)
 tried_state k ce t u i place h is =
     sym (ap bus_view (again k ce t u))
-    ∙ state_there (tried k ce t) h.sound i ce place h.there no_target u (is ∙ ap (λ (x : OnfiseqTarget). target_pushed (parts_of k.geometry) k.count (target_of x) i) (sym (same_there k ce t no_target h)))
+    ∙ state_there (tried k ce t) (places_of (tried k ce t) h.sound) i ce place h.there no_target u (is ∙ ap (λ (x : OnfiseqTarget). target_pushed (parts_of k.geometry) k.count (target_of x) i) (sym (same_there k ce t no_target h)))
 
 pub tried_after : (s later : BusView) (i : Item) (rule : Option Forbidden) → rule ≡ judged s i → later ≡ bus_pushed s (Some i) → rule ≡ None → later ≡ bus_after i s
 tried_after s later i rule judges is none = is ∙ ap (λ (o : Option Forbidden). by_option o (bus_after i s) (λ (r : Forbidden). s)) (sym judges ∙ none)

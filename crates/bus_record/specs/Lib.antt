@@ -9,3 +9,4 @@ pub mod Look
 pub mod Changing
 pub mod Trial
 pub mod Anew
+pub mod Operation

@@ -5,9 +5,9 @@ ghost use Rattle.onfi_cycle.specs.declared.item.Item.{Item as ItemValue};
 ghost use Rattle.onfi_cycle.specs.State.{Follows, bus_without, without_sequence};
 ghost use Rattle.target_record.specs.Record.{IsTarget, target_of};
 ghost use Rattle.bus_record.specs.Anew.{KeepsOthers, bus_begun, elsewhere};
-ghost use Rattle.bus_record.specs.Bus.{bus_view};
+ghost use Rattle.bus_record.specs.Bus.{IsSound, bus_view};
 
-use crate::bus::{OnfiseqBus, fresh_target};
+use crate::bus::{OnfiseqBus, code_of, fresh_target};
 use onfi_cycle::Forbidden;
 use target_record::{NO_TARGET, OnfiseqTarget};
 
@@ -24,35 +24,39 @@ fn without_sequence(kept: &OnfiseqTarget) -> OnfiseqTarget
     }
 }
 
-/// A target is as at the start, whatever it was doing: its chip was reset on the pins, or lost its power. 0; or 1, the number of F1, where the channel has no
+/// A target is as at the start, whatever it was doing: its chip was reset on the pins, or lost its power. 0; or 4601h, the code of F1, where the channel has no
 /// such target, and nothing changes. A state that follows a past follows what has happened elsewhere.
 pub fn begin_target(bus: &mut OnfiseqBus, ce: u8) -> u32
-    ensures answer { result ≡ (if nat_lt ce bus.old.count then 0 else 1) }
+    requires { IsSound bus.old }
+    ensures answer { result ≡ (if nat_lt ce bus.old.count then 0 else 0x4601) }
     ensures state { bus_view bus.new ≡ bus_begun ce (bus_view bus.old) }
     ensures others { KeepsOthers ce bus.old bus.new }
+    ensures sound { IsSound bus.new }
     ensures refused { bus.old.count ≤ ce → bus.new ≡ bus.old }
     ensures past { (g : Parts) (n : ℕ) (past : List ItemValue) → ce < n → Follows g n (bus_view bus.old) past
         → Follows g n (bus_view bus.new) (elsewhere ce past) }
 {
     let place = usize::from(ce);
     if bus.count <= place {
-        return Forbidden::NotThere.number();
+        return code_of(Forbidden::NotThere);
     }
     bus.targets[place] = fresh_target(bus.geometry.luns);
     0
 }
 
-/// The open sequence of a target is forgotten, and its LUNs stay as its cycles left them: for whoever goes on after a cycle that isn't permitted. 0; or 1, the number
+/// The open sequence of a target is forgotten, and its LUNs stay as its cycles left them: for whoever goes on after a cycle that isn't permitted. 0; or 4601h, the code
 /// of F1, where the channel has no such target, and nothing changes.
 pub fn drop_sequence(bus: &mut OnfiseqBus, ce: u8) -> u32
-    ensures answer { result ≡ (if nat_lt ce bus.old.count then 0 else 1) }
+    requires { IsSound bus.old }
+    ensures answer { result ≡ (if nat_lt ce bus.old.count then 0 else 0x4601) }
     ensures state { bus_view bus.new ≡ bus_without ce (bus_view bus.old) }
     ensures others { KeepsOthers ce bus.old bus.new }
+    ensures sound { IsSound bus.new }
     ensures refused { bus.old.count ≤ ce → bus.new ≡ bus.old }
 {
     let place = usize::from(ce);
     if bus.count <= place {
-        return Forbidden::NotThere.number();
+        return code_of(Forbidden::NotThere);
     }
     bus.targets[place] = without_sequence(&bus.targets[place]);
     0

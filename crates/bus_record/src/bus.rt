@@ -8,7 +8,10 @@ ghost use Rattle.onfi_cycle.specs.Command.{command};
 ghost use Rattle.onfi_cycle.specs.State.{Follows, bus_after, judged, target_view};
 ghost use Rattle.onfi_cycle.specs.Permitted.{judge};
 ghost use Rattle.target_record.specs.Geometry.{parts_of};
-ghost use Rattle.bus_record.specs.Bus.{bus_view, is_bus, CanBegin, IsStep, target_pushed, pushed, bus_pushed};
+ghost use Rattle.bus_record.specs.Bus.{CanBegin, FitsAt, IsSound, IsStep, SoundAreTaken, are_sound, begin_code, bus_pushed, bus_view, fault_code, fits_at, is_bus, is_bus_at, is_sound_bus, pushed, rule_code, target_pushed};
+ghost use Rattle.onfi_cycle.specs.Sequence.{target_of as target_of_item};
+ghost use Rattle.std.specs.List.{All, list_all};
+ghost use Rattle.target_record.specs.Whole.{IsWhole, are_numbers, is_whole};
 ghost use Rattle.target_record.specs.Record.{IsTarget};
 ghost use Rattle.bus_record.specs.Item.{item_of};
 ghost use Rattle.bus_record.specs.Channel.{IsSameChannel};
@@ -19,19 +22,29 @@ ghost use Rattle.nand_geometry.specs.Limits.{InLimits};
 use crate::item::OnfiseqItem;
 use crate::luns_change::{end_array_work_of, end_work_of};
 use crate::target_change::{apply_address, apply_command, apply_input, apply_output};
-use nand_geometry::Geometry;
+use nand_geometry::{Geometry, PageFault};
 use onfi_cycle::{Command, Cycle, Forbidden, Item, Kind, READ_STATUS, TargetState};
-use std::marker::Model;
 use target_record::{
-    NO_TARGET, OnfiseqGeometry, OnfiseqTarget, judge_address_of, judge_command_of, judge_input_of,
-    judge_output_of, judge_there, record_of,
+    NO_TARGET, OnfiseqGeometry, OnfiseqTarget, are_numbers, is_whole, judge_address_of,
+    judge_command_of, judge_input_of, judge_output_of, judge_there, record_of,
 };
 
 // What stands first in a record that a call left: `OBUS`.
 const MAGIC: u32 = 0x5355_424f;
 
 /// The answer of a call to which a record was given that no call left.
-pub const DAMAGED: u32 = 254;
+pub const DAMAGED: u32 = 0x4400;
+
+/// The answer where numbers are no item.
+pub const NO_ITEM: u32 = 0x4900;
+
+/// The code of a rule: the letter F, and its number.
+#[inline(always)]
+pub fn code_of(rule: Forbidden) -> u32
+    ensures { result ≡ rule_code rule }
+{
+    0x4600 + rule.number()
+}
 
 /// The state of a channel. The caller keeps it, and may copy it, but only a call of this library changes it.
 #[repr(C)]
@@ -44,23 +57,11 @@ pub struct OnfiseqBus {
     pub targets: [OnfiseqTarget; 4],
 }
 
-impl Model for OnfiseqBus {
-    ghost use Rattle.bus_record.specs.Kept.{Kept};
-    ghost use Rattle.bus_record.specs.Bus.{IsSound};
-
-    ghost Value = { Kept };
-
-    ghost view = { λ b. record { magic = b.magic; geometry = b.geometry; count = b.count; targets = b.targets } };
-
-    ghost invariant = { λ b. IsSound (record { magic = b.magic; geometry = b.geometry; count = b.count; targets = b.targets }) };
-
-    ghost inverse = { λ k. record { magic = k.magic; geometry = k.geometry; count = k.count; targets = k.targets } };
-}
-
 // The record of no channel.
 fn no_channel(geometry: OnfiseqGeometry) -> OnfiseqBus
     ensures count { result.count ≡ 0 }
     ensures magic { is_bus result ≡ true }
+    ensures sound { IsSound result }
 {
     OnfiseqBus {
         magic: MAGIC,
@@ -87,6 +88,7 @@ fn fresh(geometry: OnfiseqGeometry, targets: u8, luns: u8) -> OnfiseqBus
     ensures follows { Follows (parts_of geometry) targets (bus_view result) [] }
     ensures count { result.count ≡ targets }
     ensures magic { is_bus result ≡ true }
+    ensures sound { IsSound result }
 {
     let target = fresh_target(luns);
     OnfiseqBus {
@@ -103,6 +105,7 @@ pub fn begin(geometry: &OnfiseqGeometry, targets: u8) -> OnfiseqBus
     ensures begins { CanBegin (parts_of geometry.now) targets → Follows (parts_of geometry.now) targets (bus_view result) [] }
     ensures only { 1 ≤ result.count → CanBegin (parts_of geometry.now) targets }
     ensures magic { is_bus result ≡ true }
+    ensures sound { IsSound result }
 {
     match Geometry::of(geometry.parts()) {
         Ok(known) if targets >= 1 && targets <= 4 => fresh(*geometry, targets, known.parts().luns),
@@ -110,12 +113,109 @@ pub fn begin(geometry: &OnfiseqGeometry, targets: u8) -> OnfiseqBus
     }
 }
 
-/// Whether a record is one that a call left, as far as it can be told.
-pub fn is_bus(bus: &OnfiseqBus) -> bool
+/// The caller's record has another size or version.
+pub const OTHER_VERSION: u32 = 0x4401;
+
+// The targets aren't 1 to 4.
+const WRONG_TARGETS: u32 = 0x5400;
+
+// The code of a fault of the geometry.
+fn fault_code(fault: PageFault) -> u32
+    ensures { result ≡ fault_code (Some fault) }
+{
+    0x5000 + fault.number()
+}
+
+/// Whether a channel can begin: 0, or the code of what is against it.
+pub fn begin_code(geometry: &OnfiseqGeometry, targets: u8) -> u32
+    ensures code { result ≡ begin_code (parts_of geometry.now) targets }
+    ensures can { result ≡ 0 → CanBegin (parts_of geometry.now) targets }
+{
+    if targets < 1 || targets > 4 {
+        return WRONG_TARGETS;
+    }
+    match Geometry::of(geometry.parts()) {
+        Err(fault) => fault_code(fault),
+        Ok(_) => 0,
+    }
+}
+
+// Whether what stands first in a record is what a call left.
+#[inline(always)]
+fn is_bus(bus: &OnfiseqBus) -> bool
     ensures { result ≡ is_bus bus.now }
 {
     bus.magic == MAGIC
 }
+
+// Whether the record of this target is one that a target can have, if the channel has it.
+#[inline(always)]
+fn fits_at(bus: &OnfiseqBus, ce: u8) -> bool
+    ensures value { result ≡ fits_at ce bus.now }
+    ensures fits { result ≡ true → FitsAt bus.now ce }
+{
+    if bus.count > 4 {
+        return false;
+    }
+    let place = usize::from(ce);
+    if bus.count <= place {
+        return true;
+    }
+    is_whole(&bus.geometry, &bus.targets[place])
+}
+
+/// Whether a record is one that a call left, for a call about this target. Any numbers may be handed in.
+#[inline(always)]
+pub fn is_bus_at(bus: &OnfiseqBus, ce: u8) -> bool
+    ensures value { result ≡ is_bus_at ce bus.now }
+    ensures fits { result ≡ true → FitsAt bus.now ce }
+{
+    is_bus(bus) && fits_at(bus, ce)
+}
+
+fn are_numbers_of(targets: &[OnfiseqTarget]) -> bool
+    ensures value { result ≡ list_all are_numbers targets.now }
+    ensures numbers { result ≡ true → All IsTarget targets.now }
+{
+    match targets {
+        [] => true,
+        [first, rest @ ..] => are_numbers(first) && are_numbers_of(rest),
+    }
+}
+
+fn are_whole(geometry: &OnfiseqGeometry, targets: &[OnfiseqTarget]) -> bool
+    ensures value { result ≡ list_all (is_whole geometry.now) targets.now }
+    ensures whole { result ≡ true → All (IsWhole geometry.now) targets.now }
+{
+    match targets {
+        [] => true,
+        [first, rest @ ..] => is_whole(geometry, first) && are_whole(geometry, rest),
+    }
+}
+
+/// Whether the record of each target is one that a target can have. Any numbers may be handed in.
+pub fn are_sound(bus: &OnfiseqBus) -> bool
+    ensures value { result ≡ are_sound bus.now }
+    ensures sound { result ≡ true → IsSound bus.now }
+{
+    if bus.count > 4 {
+        return false;
+    }
+    are_numbers_of(&bus.targets) && are_whole(&bus.geometry, &bus.targets[..bus.count])
+}
+
+/// Whether a record is one that a call left, for a call about all its targets. Any numbers may be handed in.
+pub fn is_sound_bus(bus: &OnfiseqBus) -> bool
+    ensures value { result ≡ is_sound_bus bus.now }
+    ensures sound { result ≡ true → IsSound bus.now }
+{
+    is_bus(bus) && are_sound(bus)
+}
+
+/// The record of each channel that permitted items have led there is taken.
+pub fn sound_channels_are_taken()
+    ensures { SoundAreTaken }
+{}
 
 // A target goes on by an output, if that is permitted.
 #[inline(always)]
@@ -335,6 +435,7 @@ pub(crate) fn step_target(
 // As [`push_item`], for each of its callers by itself.
 #[inline(always)]
 fn push_here(bus: &mut OnfiseqBus, item: Item) -> Option<Forbidden>
+    requires { FitsAt bus.old (target_of_item item) }
     ensures rule { result ≡ judged (bus_view bus.old) item }
     ensures state { bus_view bus.new ≡ bus_pushed (bus_view bus.old) (Some item) }
     ensures after { result ≡ None → bus_view bus.new ≡ bus_after item (bus_view bus.old) }
@@ -342,6 +443,7 @@ fn push_here(bus: &mut OnfiseqBus, item: Item) -> Option<Forbidden>
     ensures same { IsSameChannel (bus_view bus.old) (bus_view bus.new) }
     ensures count { bus.new.count ≡ bus.old.count }
     ensures magic { bus.new.magic ≡ bus.old.magic }
+    ensures sound { IsSound bus.old → IsSound bus.new }
 {
     let ce = usize::from(item.target());
     if bus.count <= ce {
@@ -354,6 +456,7 @@ fn push_here(bus: &mut OnfiseqBus, item: Item) -> Option<Forbidden>
 
 /// The channel goes on by an item that is permitted. Else the answer is the first rule that it breaks, and nothing changes.
 pub fn push_item(bus: &mut OnfiseqBus, item: Item) -> Option<Forbidden>
+    requires { FitsAt bus.old (target_of_item item) }
     ensures rule { result ≡ judged (bus_view bus.old) item }
     ensures state { bus_view bus.new ≡ bus_pushed (bus_view bus.old) (Some item) }
     ensures after { result ≡ None → bus_view bus.new ≡ bus_after item (bus_view bus.old) }
@@ -361,20 +464,23 @@ pub fn push_item(bus: &mut OnfiseqBus, item: Item) -> Option<Forbidden>
     ensures same { IsSameChannel (bus_view bus.old) (bus_view bus.new) }
     ensures count { bus.new.count ≡ bus.old.count }
     ensures magic { bus.new.magic ≡ bus.old.magic }
+    ensures sound { IsSound bus.old → IsSound bus.new }
 {
     push_here(bus, item)
 }
 
-/// The channel goes on by an item: 0 where it is permitted, else the number of the first rule that it breaks, and nothing changes.
+/// The channel goes on by an item: 0 where it is permitted, else the code of the first rule that it breaks, and nothing changes.
 pub fn push(bus: &mut OnfiseqBus, item: Item) -> u32
+    requires { FitsAt bus.old (target_of_item item) }
     ensures answer { result ≡ pushed (bus_view bus.old) (Some item) }
     ensures state { bus_view bus.new ≡ bus_pushed (bus_view bus.old) (Some item) }
     ensures refused { (result ≡ 0 → ⊥) → bus.new ≡ bus.old }
     ensures count { bus.new.count ≡ bus.old.count }
     ensures magic { bus.new.magic ≡ bus.old.magic }
+    ensures sound { IsSound bus.old → IsSound bus.new }
 {
     match push_item(bus, item) {
-        Some(rule) => rule.number(),
+        Some(rule) => code_of(rule),
         None => 0,
     }
 }
@@ -382,26 +488,30 @@ pub fn push(bus: &mut OnfiseqBus, item: Item) -> u32
 // The channel goes on by a cycle.
 #[inline(always)]
 fn push_cycle(bus: &mut OnfiseqBus, ce: u8, kind: Kind, byte: u8) -> u32
+    requires { FitsAt bus.old ce }
     ensures answer { result ≡ pushed (bus_view bus.old) (Some (ItemValue.Cyc (record { ce = ce; kind = kind; byte = byte }))) }
     ensures state { bus_view bus.new ≡ bus_pushed (bus_view bus.old) (Some (ItemValue.Cyc (record { ce = ce; kind = kind; byte = byte }))) }
     ensures refused { (result ≡ 0 → ⊥) → bus.new ≡ bus.old }
     ensures count { bus.new.count ≡ bus.old.count }
     ensures magic { bus.new.magic ≡ bus.old.magic }
+    ensures sound { IsSound bus.old → IsSound bus.new }
 {
     match push_here(bus, Item::Cyc(Cycle { ce, kind, byte })) {
-        Some(rule) => rule.number(),
+        Some(rule) => code_of(rule),
         None => 0,
     }
 }
 
-/// The channel goes on by the item that numbers stand for, as [`push`] does; 255 where they are none.
+/// The channel goes on by the item that numbers stand for, as [`push`] does; [`NO_ITEM`] where they are none.
 #[inline(always)]
 pub fn push_numbers(bus: &mut OnfiseqBus, item: &OnfiseqItem) -> u32
+    requires { FitsAt bus.old item.now.ce }
     ensures answer { result ≡ pushed (bus_view bus.old) (item_of item.now) }
     ensures state { bus_view bus.new ≡ bus_pushed (bus_view bus.old) (item_of item.now) }
     ensures refused { (result ≡ 0 → ⊥) → bus.new ≡ bus.old }
     ensures count { bus.new.count ≡ bus.old.count }
     ensures magic { bus.new.magic ≡ bus.old.magic }
+    ensures sound { IsSound bus.old → IsSound bus.new }
 {
     match item.kind {
         b'O' if item.fail == 0 => push_cycle(bus, item.ce, Kind::Dout, item.byte),
@@ -410,7 +520,7 @@ pub fn push_numbers(bus: &mut OnfiseqBus, item: &OnfiseqItem) -> u32
         b'A' if item.fail == 0 => push_cycle(bus, item.ce, Kind::Adr, item.byte),
         _ => match item.item() {
             Some(item) => push(bus, item),
-            None => 255,
+            None => NO_ITEM,
         },
     }
 }

@@ -11,6 +11,7 @@ mod item;
 mod look;
 mod luns_change;
 mod many;
+mod operation;
 mod run;
 mod tail_change;
 mod target_change;
@@ -18,10 +19,14 @@ mod target_effect;
 mod trial;
 
 pub use anew::{begin_target, drop_sequence};
-pub use bus::{DAMAGED, OnfiseqBus, begin, is_bus, push, push_item, push_numbers};
+pub use bus::{
+    DAMAGED, NO_ITEM, OTHER_VERSION, OnfiseqBus, are_sound, begin, begin_code, code_of, is_bus_at,
+    is_sound_bus, push, push_item, push_numbers, sound_channels_are_taken,
+};
 pub use item::OnfiseqItem;
 pub use look::{OnfiseqLook, ask, geometry_of, has_lun, look_at_lun, no_look};
 pub use many::push_all;
+pub use operation::{OnfiseqPart, OnfiseqSpot, ask_op, push_op};
 pub use run::{push_inputs, push_outputs};
 pub use target_record::{OnfiseqGeometry, OnfiseqLun, OnfiseqQueued, OnfiseqTarget};
 pub use trial::{ask_poll, put_target, target_at, try_inputs, try_item, try_outputs, try_poll};

@@ -3,18 +3,20 @@ ghost use Rattle.std.specs.Prelude.{◌≡◌, ◌≤◌, ◌<◌, true, Some, N
 ghost use Rattle.nand_geometry.specs.Limits.{InLimits};
 ghost use Rattle.onfi_cycle.specs.Bounds.{TargetFits};
 ghost use Rattle.onfi_cycle.specs.Look.{look_at, look_on, looked};
-ghost use Rattle.bus_record.specs.Bus.{bus_view, answered_there, pushed};
+ghost use Rattle.bus_record.specs.Bus.{FitsAt, IsSound, answered_there, bus_view, pushed};
+ghost use Rattle.onfi_cycle.specs.Sequence.{target_of as target_of_item};
 ghost use Rattle.target_record.specs.Record.{IsTarget};
 ghost use Rattle.bus_record.specs.Channel.{is_on};
 ghost use Rattle.target_record.specs.Geometry.{parts_of};
 ghost use Rattle.bus_record.specs.Look.{look_of};
 ghost use Rattle.target_record.specs.Record.{IsRecord, lun_of, target_of};
 
-use crate::bus::OnfiseqBus;
+use crate::bus::{OnfiseqBus, code_of};
 use nand_geometry::Geometry;
-use onfi_cycle::{Item, Lun, is_cache_read};
+use onfi_cycle::{Forbidden, Item, Lun, is_cache_read};
 use target_record::{
-    OnfiseqGeometry, OnfiseqLun, OnfiseqTarget, closer_of, judge_there, output_column, queue_len,
+    OnfiseqGeometry, OnfiseqLun, OnfiseqTarget, closer_of, is_set, judge_there, output_column,
+    queue_len,
 };
 
 /// A look at a LUN. `latch`: what it drives the bus with, 0 nothing, 1 its status, 2 data. `register`: what its register holds, 0 nothing, 1 the page of `block`
@@ -66,9 +68,9 @@ fn look_at(kept: &OnfiseqLun) -> OnfiseqLook
     OnfiseqLook {
         is_there: true,
         latch: kept.latch,
-        busy: kept.busy,
-        array_busy: kept.array_busy,
-        caching: is_cache_read(closer_of(kept.has_closer, kept.closer)),
+        busy: is_set(kept.busy),
+        array_busy: is_set(kept.array_busy),
+        caching: is_cache_read(closer_of(is_set(kept.has_closer), kept.closer)),
         register: kept.register,
         has_column: column.is_some(),
         block: kept.register_block,
@@ -92,6 +94,7 @@ fn look_on(kept: &OnfiseqTarget, lun: u8) -> OnfiseqLook
 
 /// A look at a LUN; `is_there` is false, and all is zero, where no such LUN is there.
 pub fn look_at_lun(bus: &OnfiseqBus, ce: u8, lun: u8) -> OnfiseqLook
+    requires { FitsAt bus.now ce }
     ensures { look_of result ≡ looked (bus_view bus.now) (record { ce = ce; lun = lun }) }
 {
     let ce = usize::from(ce);
@@ -110,24 +113,26 @@ fn ask_target(geometry: &OnfiseqGeometry, targets: u8, kept: &OnfiseqTarget, ite
     ensures { result ≡ answered_there (parts_of geometry.now) targets (target_of kept.now) item }
 {
     match judge_there(geometry, targets, kept, item) {
-        Some(rule) => rule.number(),
+        Some(rule) => code_of(rule),
         None => 0,
     }
 }
 
 /// What [`push`](crate::push) would answer to an item; nothing changes.
 pub fn ask(bus: &OnfiseqBus, item: Item) -> u32
+    requires { FitsAt bus.now (target_of_item item) }
     ensures { result ≡ pushed (bus_view bus.now) (Some item) }
 {
     let ce = usize::from(item.target());
     if bus.count <= ce {
-        return 1;
+        return code_of(Forbidden::NotThere);
     }
     ask_target(&bus.geometry, bus.count as u8, &bus.targets[ce], item)
 }
 
 /// The geometry of the targets of a channel; None where none was begun.
 pub fn geometry_of(bus: &OnfiseqBus) -> Option<Geometry>
+    requires { IsSound bus.now }
     ensures some { IfSome result (λ g. g ≡ (bus_view bus.now).geometry) }
     ensures none { IfNone result (bus.now.count ≡ 0) }
 {
@@ -139,6 +144,7 @@ pub fn geometry_of(bus: &OnfiseqBus) -> Option<Geometry>
 
 /// Whether a LUN is there.
 pub fn has_lun(bus: &OnfiseqBus, lun: Lun) -> bool
+    requires { IsSound bus.now }
     ensures value { result ≡ is_on (bus_view bus.now) lun }
     ensures there { result ≡ true → lun.ce < bus.now.count }
 {

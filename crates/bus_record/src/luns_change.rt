@@ -15,7 +15,8 @@ ghost use Rattle.target_record.specs.Record.{HasRoom, IsRecord, lun_of, luns_of}
 use crate::target_effect::TargetEffect;
 use onfi_cycle::{Effect, Latch};
 use target_record::{
-    OnfiseqLun, become_array_ready, become_ready, change, driver, latch_code, latch_of,
+    OnfiseqLun, become_array_ready, become_ready, change, driver, flag, is_set, latch_code,
+    latch_of,
 };
 
 // A LUN goes on by an effect, if it drives the bus.
@@ -122,7 +123,7 @@ fn show_status(kept: &mut OnfiseqLun)
     ensures value { lun_of kept.new ≡ view_after EffectValue.StatusSelected (lun_of kept.old) }
     ensures numbers { IsRecord kept.new }
 {
-    kept.lost = kept.lost || 0 < kept.outputs;
+    kept.lost = flag(is_set(kept.lost) || 0 < kept.outputs);
     kept.latch = latch_code(Latch::Status);
 }
 

@@ -3,7 +3,7 @@ ghost use Rattle.std.specs.Prelude.{◌≡◌, ℕ, List};
 ghost use Rattle.nand_geometry.specs.declared.parts.Parts.{Parts};
 ghost use Rattle.onfi_cycle.specs.declared.item.Item.{Item as ItemValue};
 ghost use Rattle.onfi_cycle.specs.State.{Follows};
-ghost use Rattle.bus_record.specs.Bus.{bus_view};
+ghost use Rattle.bus_record.specs.Bus.{IsSound, bus_view};
 ghost use Rattle.bus_record.specs.Many.{all_pushed, went, with_items};
 
 use crate::bus::{OnfiseqBus, push_numbers};
@@ -11,7 +11,9 @@ use crate::item::OnfiseqItem;
 
 // Pushes items one by one, up to the first that is refused.
 fn push_each(bus: &mut OnfiseqBus, items: &[OnfiseqItem], done: &mut usize) -> u32
+    requires { IsSound bus.old }
     ensures went { went result done.new (bus_view bus.new) ≡ all_pushed (bus_view bus.old) items.now 0 }
+    ensures sound { IsSound bus.new }
     ensures magic { bus.new.magic ≡ bus.old.magic }
     ensures still { done.new ≡ 0 → bus.new ≡ bus.old }
 {
@@ -33,9 +35,11 @@ fn push_each(bus: &mut OnfiseqBus, items: &[OnfiseqItem], done: &mut usize) -> u
 /// Pushes items one by one, up to the first that is refused: the answer is its, or 0, and `done` says how many went. A state that follows a past follows it
 /// then with the first `done` of them. Where none went, no number of the record has changed.
 pub fn push_all(bus: &mut OnfiseqBus, items: &[OnfiseqItem], done: &mut usize) -> u32
+    requires { IsSound bus.old }
     ensures went { went result done.new (bus_view bus.new) ≡ all_pushed (bus_view bus.old) items.now 0 }
     ensures past { (g : Parts) (n : ℕ) (past : List ItemValue) → Follows g n (bus_view bus.old) past
         → Follows g n (bus_view bus.new) (with_items done.new items.now past) }
+    ensures sound { IsSound bus.new }
     ensures magic { bus.new.magic ≡ bus.old.magic }
     ensures still { done.new ≡ 0 → bus.new ≡ bus.old }
 {

@@ -7,7 +7,7 @@ ghost use Rattle.onfi_cycle.specs.Channel.{cycle};
 ghost use Rattle.onfi_cycle.specs.declared.item.Item.{Item as ItemValue};
 ghost use Rattle.onfi_cycle.specs.Inputs.{has_no_room, fed_target, judged_inputs, after_inputs};
 ghost use Rattle.onfi_cycle.specs.Outputs.{has_fewer, against_rest, given_on, given_target, judged_outputs, after_outputs, AreFew};
-ghost use Rattle.bus_record.specs.Bus.{bus_view};
+ghost use Rattle.bus_record.specs.Bus.{IsSound, bus_view};
 ghost use Rattle.target_record.specs.Record.{IsTarget};
 ghost use Rattle.bus_record.specs.Channel.{IsSameChannel};
 ghost use Rattle.target_record.specs.Geometry.{parts_of};
@@ -48,10 +48,10 @@ fn fed(kept: &OnfiseqTarget, count: usize) -> OnfiseqTarget
     ensures numbers { IsTarget result }
 {
     OnfiseqTarget {
-        is_open: false,
+        is_open: 0,
         phase: if kept.phase == 1 { 1 } else { 0 },
         inputs: kept.inputs + count,
-        is_empty: false,
+        is_empty: 0,
         ..*kept
     }
 }
@@ -174,8 +174,10 @@ pub(crate) fn push_outputs_there(
 /// The channel goes on by so many inputs in a row on a target, if each of them is permitted. Else the answer is the first rule that the first forbidden one
 /// breaks, and nothing changes. It costs the same for any number of them.
 pub fn push_inputs(bus: &mut OnfiseqBus, ce: u8, count: usize) -> Option<Forbidden>
+    requires { IsSound bus.old }
     ensures rule { result ≡ judged_inputs ce count (bus_view bus.old) }
     ensures state { result ≡ None → bus_view bus.new ≡ after_inputs ce count (bus_view bus.old) }
+    ensures sound { IsSound bus.new }
     ensures same { IsSameChannel (bus_view bus.old) (bus_view bus.new) }
     ensures count { bus.new.count ≡ bus.old.count }
     ensures magic { bus.new.magic ≡ bus.old.magic }
@@ -194,8 +196,10 @@ pub fn push_inputs(bus: &mut OnfiseqBus, ce: u8, count: usize) -> Option<Forbidd
 
 /// The channel goes on by so many outputs in a row on a target, as [`push_inputs`] does by inputs.
 pub fn push_outputs(bus: &mut OnfiseqBus, ce: u8, count: usize) -> Option<Forbidden>
+    requires { IsSound bus.old }
     ensures rule { result ≡ judged_outputs ce count (bus_view bus.old) }
     ensures state { result ≡ None → bus_view bus.new ≡ after_outputs ce count (bus_view bus.old) }
+    ensures sound { IsSound bus.new }
     ensures same { IsSameChannel (bus_view bus.old) (bus_view bus.new) }
     ensures count { bus.new.count ≡ bus.old.count }
     ensures magic { bus.new.magic ≡ bus.old.magic }

@@ -3,10 +3,10 @@ ghost use Rattle.std.specs.Prelude.{◌≡◌, ◌==◌, ◌&&◌, true, false, 
 ghost use Rattle.onfi_cycle.specs.declared.target_cycle.TargetCycle.{TargetCycle as TargetCycleValue};
 ghost use Rattle.onfi_cycle.specs.Command.{command, is_page_program};
 ghost use Rattle.onfi_cycle.specs.Sequence.{column_after_address, facts_after, next_column_place, opened, phase_after_address};
-ghost use Rattle.target_record.specs.Record.{phase_of, tail_of};
+ghost use Rattle.target_record.specs.Record.{is_set, phase_of, tail_of};
 
 use onfi_cycle::Command;
-use target_record::{OnfiseqTarget, opening_of};
+use target_record::{OnfiseqTarget, is_set, opening_of};
 
 /// The facts of its tail after the command of a byte.
 #[inline(always)]
@@ -19,23 +19,23 @@ pub(crate) fn note_command(kept: &mut OnfiseqTarget, byte: u8, named: Command)
     ensures count { kept.new.count ≡ kept.old.count }
 {
     if named.is_opener() {
-        kept.is_open = true;
+        kept.is_open = 1;
         kept.opener = byte;
         kept.phase = 0;
         kept.r1 = 0;
         kept.r2 = 0;
         kept.r3 = 0;
-        kept.is_empty = false;
+        kept.is_empty = 0;
         kept.column = 0;
         kept.addresses = 0;
         kept.inputs = 0;
-    } else if !kept.is_empty {
+    } else if !is_set(kept.is_empty) {
         kept.phase = if named == Command::ChangeWriteColumn && kept.phase == 1 {
             2
         } else {
             0
         };
-        kept.is_open = false;
+        kept.is_open = 0;
         kept.opener = 0;
         kept.addresses = 0;
         kept.inputs = 0;
@@ -59,7 +59,7 @@ fn column_after_address(place: usize, byte: u8, column: u32) -> u32
 fn ends_program_row(kept: &OnfiseqTarget) -> bool
     ensures { result ≡ opened (λ c n. is_page_program c && n == 4) (tail_of kept.now).opening }
 {
-    match opening_of(kept.is_open, kept.opener, kept.addresses) {
+    match opening_of(is_set(kept.is_open), kept.opener, kept.addresses) {
         None => false,
         Some(opening) => opening.opener == Command::PageProgram && opening.addresses == 4,
     }
@@ -93,14 +93,14 @@ fn column_place(phase: u8) -> usize
 // The facts of its tail after an address behind the opener.
 fn note_opener_address(kept: &mut OnfiseqTarget, byte: u8)
     requires column { kept.old.column < 2 ^ 16 }
-    requires opening { kept.old.is_open ≡ true }
+    requires opening { is_set kept.old.is_open ≡ true }
     requires few { kept.old.addresses ≤ 5 }
     ensures tail { tail_of kept.new ≡ facts_after (TargetCycleValue.AddressCycle byte) (tail_of kept.old) }
     ensures column { kept.new.column < 2 ^ 16 }
     ensures luns { kept.new.luns ≡ kept.old.luns }
     ensures count { kept.new.count ≡ kept.old.count }
 {
-    if !kept.is_empty {
+    if !is_set(kept.is_empty) {
         let phase = phase_after_address(kept);
         kept.column = column_after_address(kept.addresses, byte, kept.column);
         kept.phase = phase;
@@ -115,13 +115,13 @@ fn note_opener_address(kept: &mut OnfiseqTarget, byte: u8)
 // The facts of its tail after an address elsewhere.
 fn note_column_address(kept: &mut OnfiseqTarget, byte: u8)
     requires column { kept.old.column < 2 ^ 16 }
-    requires closed { kept.old.is_open ≡ false }
+    requires closed { is_set kept.old.is_open ≡ false }
     ensures tail { tail_of kept.new ≡ facts_after (TargetCycleValue.AddressCycle byte) (tail_of kept.old) }
     ensures column { kept.new.column < 2 ^ 16 }
     ensures luns { kept.new.luns ≡ kept.old.luns }
     ensures count { kept.new.count ≡ kept.old.count }
 {
-    if !kept.is_empty {
+    if !is_set(kept.is_empty) {
         let phase = phase_after_address(kept);
         kept.column = column_after_address(column_place(kept.phase), byte, kept.column);
         kept.phase = phase;
@@ -139,7 +139,7 @@ pub(crate) fn note_address(kept: &mut OnfiseqTarget, byte: u8)
     ensures luns { kept.new.luns ≡ kept.old.luns }
     ensures count { kept.new.count ≡ kept.old.count }
 {
-    if kept.is_open {
+    if is_set(kept.is_open) {
         note_opener_address(kept, byte);
     } else {
         note_column_address(kept, byte);
@@ -153,8 +153,8 @@ pub(crate) fn note_output(kept: &mut OnfiseqTarget)
     ensures luns { kept.new.luns ≡ kept.old.luns }
     ensures count { kept.new.count ≡ kept.old.count }
 {
-    if !kept.is_empty {
-        kept.is_open = false;
+    if !is_set(kept.is_empty) {
+        kept.is_open = 0;
         kept.opener = 0;
         kept.phase = 0;
         kept.addresses = 0;
@@ -170,8 +170,8 @@ pub(crate) fn note_input(kept: &mut OnfiseqTarget)
     ensures luns { kept.new.luns ≡ kept.old.luns }
     ensures count { kept.new.count ≡ kept.old.count }
 {
-    if !kept.is_empty {
-        kept.is_open = false;
+    if !is_set(kept.is_empty) {
+        kept.is_open = 0;
         kept.opener = 0;
         kept.phase = if kept.phase == 1 { 1 } else { 0 };
         kept.addresses = 0;

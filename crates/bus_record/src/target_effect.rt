@@ -8,7 +8,7 @@ ghost use Rattle.target_record.specs.Record.{tail_of};
 
 use nand_geometry::Geometry;
 use onfi_cycle::{Command, Effect, PageAddress};
-use target_record::{OnfiseqGeometry, OnfiseqTarget, opening_of, tail_of, wants_command};
+use target_record::{OnfiseqGeometry, OnfiseqTarget, is_set, opening_of, tail_of, wants_command};
 
 /// What a cycle does to the LUNs of its target.
 #[derive(Clone, Copy)]
@@ -150,7 +150,7 @@ pub(crate) fn effect_of_address(
     requires { InLimits (parts_of geometry.now) }
     ensures { result ≡ effect_of_address (parts_of geometry.now) (tail_of kept.now) byte }
 {
-    let Some(opening) = opening_of(kept.is_open, kept.opener, kept.addresses) else {
+    let Some(opening) = opening_of(is_set(kept.is_open), kept.opener, kept.addresses) else {
         return TargetEffect::Nothing;
     };
     match opening.opener {

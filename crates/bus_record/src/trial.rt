@@ -7,7 +7,7 @@ ghost use Rattle.onfi_cycle.specs.Channel.{cycle};
 ghost use Rattle.onfi_cycle.specs.declared.item.Kind.{Kind as KindValue};
 ghost use Rattle.onfi_cycle.specs.Sequence.{target_of as target_of_item};
 ghost use Rattle.target_record.specs.Geometry.{parts_of};
-ghost use Rattle.bus_record.specs.Bus.{bus_pushed, bus_view};
+ghost use Rattle.bus_record.specs.Bus.{IsSound, bus_pushed, bus_view};
 ghost use Rattle.bus_record.specs.Channel.{IsSameChannel};
 ghost use Rattle.bus_record.specs.Trial.{IsTried, after_poll, judged_poll, tried_view};
 
@@ -19,7 +19,8 @@ use target_record::OnfiseqTarget;
 /// The record of a target of a channel.
 #[inline(always)]
 pub fn target_at(bus: &OnfiseqBus, ce: u8) -> OnfiseqTarget
-    requires { ce < bus.now.count }
+    requires sound { IsSound bus.now }
+    requires there { ce < bus.now.count }
     ensures tried { IsTried bus.now ce result }
     ensures state { tried_view bus.now ce result ≡ bus_view bus.now }
 {
@@ -33,6 +34,8 @@ pub fn put_target(bus: &mut OnfiseqBus, ce: u8, kept: &OnfiseqTarget)
     ensures state { bus_view bus.new ≡ tried_view bus.old ce kept.now }
     ensures same { IsSameChannel (bus_view bus.old) (bus_view bus.new) }
     ensures count { bus.new.count ≡ bus.old.count }
+    ensures magic { bus.new.magic ≡ bus.old.magic }
+    ensures sound { IsSound bus.new }
 {
     bus.targets[usize::from(ce)] = *kept;
 }
@@ -89,6 +92,7 @@ pub fn try_poll(bus: &OnfiseqBus, kept: &mut OnfiseqTarget, ce: u8) -> Option<Fo
 /// The first rule that a status poll of the one LUN of a target breaks, 70h and an output; nothing changes. Where the 70h is permitted, the output is too.
 #[inline(always)]
 pub fn ask_poll(bus: &OnfiseqBus, ce: u8) -> Option<Forbidden>
+    requires sound { IsSound bus.now }
     requires there { ce < bus.now.count }
     requires one { (parts_of bus.now.geometry).luns ≡ 1 }
     ensures { result ≡ judged_poll ce (bus_view bus.now) }

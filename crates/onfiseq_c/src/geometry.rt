@@ -15,7 +15,7 @@ pub struct OnfiseqPage {
 
 /// Reads the parameter page of a chip.
 #[unsafe(no_mangle)]
-pub extern "C" fn onfiseq_page(page: &[u8]) -> OnfiseqPage
+pub extern "C" fn onfiseq_read_page(page: &[u8]) -> OnfiseqPage
     ensures { page_of (read_of page.now) result }
 {
     match Geometry::read(page) {

@@ -1,12 +1,14 @@
 //! The readies that a status output shows, on a bus whose R/B# isn't seen.
 ghost use Rattle.std.specs.Prelude.{◌≡◌, ◌≤◌, length, if◌then◌else◌};
-ghost use Rattle.bus_record.specs.Bus.{bus_view, is_bus};
+ghost use Rattle.bus_record.specs.Bus.{FitsAt, IsSound, bus_view, is_sound_bus};
 ghost use Rattle.bus_record.specs.Look.{look_of};
 ghost use Rattle.bus_record.specs.Many.{all_pushed, went};
 ghost use Rattle.onfiseq_c.specs.Status.{array_becomes_ready, array_item, becomes_ready, completed, drives, driving_lun, lun_drives, readies_at, readies_of, ready_item, shows_bit};
 
 use arrayvec::ArrayVec;
-use bus_record::{DAMAGED, OnfiseqBus, OnfiseqItem, OnfiseqLook, is_bus, look_at_lun, push_all};
+use bus_record::{
+    DAMAGED, OnfiseqBus, OnfiseqItem, OnfiseqLook, is_sound_bus, look_at_lun, push_all,
+};
 
 // A ready, that of an array, and the item itself.
 type Completed = ArrayVec<OnfiseqItem, 3>;
@@ -19,6 +21,7 @@ fn drives(look: OnfiseqLook) -> bool
 }
 
 fn lun_drives(bus: &OnfiseqBus, ce: u8, lun: u8) -> bool
+    requires { FitsAt bus.now ce }
     ensures { result ≡ lun_drives (bus_view bus.now) ce lun }
 {
     drives(look_at_lun(bus, ce, lun))
@@ -26,6 +29,7 @@ fn lun_drives(bus: &OnfiseqBus, ce: u8, lun: u8) -> bool
 
 // The one LUN of a target that drives the bus.
 fn driving_lun(bus: &OnfiseqBus, ce: u8) -> Option<u8>
+    requires { FitsAt bus.now ce }
     ensures { result ≡ driving_lun (bus_view bus.now) ce }
 {
     let zeroth = lun_drives(bus, ce, 0);
@@ -102,6 +106,7 @@ fn readies_of(item: &OnfiseqItem, lun: u8, look: OnfiseqLook) -> Completed
 
 // The readies that an item shows.
 fn readies(bus: &OnfiseqBus, item: &OnfiseqItem) -> Completed
+    requires { FitsAt bus.now item.now.ce }
     ensures value { result.items ≡ readies_at (bus_view bus.now) item.now (driving_lun (bus_view bus.now) item.now.ce) }
     ensures few { length result.items ≤ 2 }
 {
@@ -120,12 +125,13 @@ pub extern "C" fn onfiseq_push_status(
     item: &OnfiseqItem,
     done: &mut usize,
 ) -> u32
-    ensures went { went result done.new (bus_view bus.new) ≡ (if is_bus bus.old then all_pushed (bus_view bus.old) (completed (bus_view bus.old) item.now) 0
-        else went 254 0 (bus_view bus.old)) }
+    ensures went { went result done.new (bus_view bus.new) ≡ (if is_sound_bus bus.old then all_pushed (bus_view bus.old) (completed (bus_view bus.old) item.now) 0
+        else went 0x4400 0 (bus_view bus.old)) }
+    ensures sound { IsSound bus.old → IsSound bus.new }
     ensures magic { bus.new.magic ≡ bus.old.magic }
     ensures still { done.new ≡ 0 → bus.new ≡ bus.old }
 {
-    if !is_bus(bus) {
+    if !is_sound_bus(bus) {
         *done = 0;
         return DAMAGED;
     }

@@ -1,5 +1,10 @@
 -- A step that came.
-use Rattle.std.proofs.Common.{◌≡◌, ℕ, ◌≤◌, ◌==◌, ◌&&◌, Bool, true, false, not, cond, List, Ok, Err, length, refl, sym, ap, ◌∙◌, subst, arith}
+use Rattle.std.proofs.Common.{◌≡◌, ℕ, zero, suc, ◌≤◌, ◌==◌, ◌&&◌, Bool, true, false, not, cond, List, [], Ok, Err, length, map, take, refl, sym, ap, ◌∙◌, subst, arith}
+use Rattle.nand_geometry.specs.declared.parts.Parts.{Parts}
+use Rattle.onfi_cycle.specs.State.{Follows}
+use Rattle.onfi_cycle.proofs.Following.{count_of}
+use Rattle.target_record.specs.Record.{target_of}
+use Rattle.bus_record.specs.Kept.{Kept}
 use Rattle.std.specs.Prelude.{nat_le, nat_lt}
 use Rattle.std.proofs.lemmas.Bool.Decides.{nat_tests}
 use Rattle.onfi_cycle.specs.State.{BusView}
@@ -7,7 +12,9 @@ use Rattle.micro_word.specs.declared.word.Word.{Word}
 use Rattle.seq_core.specs.Progress.{status_of, outcome_of, is_done}
 use Rattle.seq_core.specs.Calls.{holder_after}
 use Rattle.seq_live.specs.Burst.{taken_by}
+use Rattle.bus_record.specs.Bus.{IsSound, are_sound, bus_view}
 use Rattle.bus_record.specs.Channel.{IsSameChannel, is_on}
+use Rattle.bus_record.proofs.Sound.{sound_are_taken}
 use Rattle.onfiseq_live_c.specs.declared.stop.Stop.TheVariants as stop
 use Rattle.onfiseq_live_c.specs.declared.live.OnfiseqLive.{OnfiseqLive}
 use Rattle.onfiseq_live_c.specs.declared.job.OnfiseqJob.{OnfiseqJob}
@@ -22,18 +29,34 @@ both true true h = (refl, refl)
 both true false h = cc
 both false b h = cc
 
-join : (a b : Bool) → a ≡ true → b ≡ true → a && b ≡ true
+pub join : (a b : Bool) → a ≡ true → b ≡ true → a && b ≡ true
 join a b e f = rw (e, f) refl
 
+-- what is as sound as a live record, and has its magic and count, is live
+pub live_after : (v later : OnfiseqLive) → later.magic ≡ v.magic → later.bus.count ≡ v.bus.count → IsSound later.bus → is_live v ≡ true → is_live later ≡ true
+live_after v later magic count sound live =
+    let a = both (v.magic == 0x4556494c) (not (v.bus.count == 0) && are_sound v.bus) live in
+    let b = both (not (v.bus.count == 0)) (are_sound v.bus) a.1 in
+    join (later.magic == 0x4556494c) (not (later.bus.count == 0) && are_sound later.bus) (ap (λ (m : ℕ). m == 0x4556494c) magic ∙ a.0)
+    (join (not (later.bus.count == 0)) (are_sound later.bus) (ap (λ (m : ℕ). not (m == 0)) count ∙ b.0) (sound_are_taken later.bus sound).whole)
+
+-- a record that goes on where it is live, and else stays, is live as before
+pub live_as_before : (v later : OnfiseqLive) → (is_live v ≡ true → is_live later ≡ true) → (is_live v ≡ false → later ≡ v) → is_live later ≡ is_live v
+live_as_before v later on off = at (is_live v) refl
+  where
+    at : (b : Bool) → is_live v ≡ b → is_live later ≡ is_live v
+    at true e = on e ∙ sym e
+    at false e = ap is_live (off e)
+
 -- what a step leaves is whole
-pub whole_after : (v later : OnfiseqLive) (j next : OnfiseqJob) → are_whole v j ≡ true → later.magic ≡ v.magic → later.bus.count ≡ v.bus.count → IsSameChannel (state_of v) (state_of later)
+pub whole_after : (v later : OnfiseqLive) (j next : OnfiseqJob) → are_whole v j ≡ true → later.magic ≡ v.magic → later.bus.count ≡ v.bus.count → IsSound later.bus → IsSameChannel (state_of v) (state_of later)
     → next.magic ≡ j.magic → next.loops.depth ≤ 4 → lun_in next ≡ lun_in j → are_whole later next ≡ true
-whole_after v later j next whole magic count same tag few lun =
+whole_after v later j next whole magic count sound same tag few lun =
     let a = both (is_live v) (is_whole j && is_on (state_of v) (lun_in j)) whole in
     let b = both (is_whole j) (is_on (state_of v) (lun_in j)) a.1 in
     let c = both (j.magic == 0x424f4a4f) (nat_le j.loops.depth 4) b.0 in
     let shallow : nat_le next.loops.depth 4 ≡ true = grind (arith, nat_tests, few) in
-    let live : is_live later ≡ true = ap (λ (m : ℕ). m == 0x4556494c && not (later.bus.count == 0)) magic ∙ (ap (λ (m : ℕ). v.magic == 0x4556494c && not (m == 0)) count ∙ a.0) in
+    let live = live_after v later magic count sound a.0 in
     let tagged : (next.magic == 0x424f4a4f) ≡ true = ap (λ (m : ℕ). m == 0x424f4a4f) tag ∙ c.0 in
     let on : is_on (state_of later) (lun_in next) ≡ true =
     ap (is_on (state_of later)) lun
@@ -80,3 +103,11 @@ finishes v later j next file bytes word left answer whole is_due many plays stat
       job = job;
       whole = after;
     })
+
+-- a channel that has begun has targets
+pub some_targets : (g : Parts) (n : ℕ) (k : Kept) → 1 ≤ n → Follows g n (bus_view k) [] → not (k.count == 0) ≡ true
+some_targets g n k some f = at k.count (count_of g n (bus_view k) [] f)
+  where
+    at : (m : ℕ) → length (map target_of (take m k.targets)) ≡ n → not (m == 0) ≡ true
+    at zero e = absurd (omega (arith, e, some))
+    at (suc m) e = let above : (suc m == 0) ≡ false = grind (arith, nat_tests) in ap not above

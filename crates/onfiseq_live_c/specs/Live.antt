@@ -2,7 +2,7 @@
 use Rattle.std.specs.Prelude.{◌≡◌, ℕ, ◌==◌, ◌&&◌, not, Bool, if◌then◌else◌, Option, Some, None}
 use Rattle.onfi_cycle.specs.declared.lun.Lun.{Lun}
 use Rattle.onfi_cycle.specs.State.{BusView}
-use Rattle.bus_record.specs.Bus.{bus_view}
+use Rattle.bus_record.specs.Bus.{are_sound, bus_view}
 use Rattle.bus_record.specs.Channel.{is_on}
 use Rattle.onfiseq_live_c.specs.declared.live.OnfiseqLive.{OnfiseqLive}
 use Rattle.onfiseq_live_c.specs.declared.job.OnfiseqJob.{OnfiseqJob}
@@ -21,9 +21,9 @@ abbrev pub held_elsewhere : ℕ → Option Lun → Option Lun
 held_elsewhere ce None = None
 held_elsewhere ce (Some l) = if l.ce == ce then None else Some l
 
--- the record is one that a call left, as far as it can be told, and a channel was begun
+-- the record is one that a call left: what stands first in it, and the record of each target; and a channel was begun
 abbrev pub is_live : OnfiseqLive → Bool
-is_live v = v.magic == 0x4556494c && not (v.bus.count == 0)
+is_live v = v.magic == 0x4556494c && (not (v.bus.count == 0) && are_sound v.bus)
 
 -- both records are, and the job is one of the channel
 abbrev pub are_whole : OnfiseqLive → OnfiseqJob → Bool

@@ -3,7 +3,7 @@ ghost use Rattle.std.specs.Prelude.{◌≡◌};
 
 use crate::finish::OnfiseqStep;
 use crate::job::OnfiseqJob;
-use crate::live::OnfiseqLive;
+use crate::live::{OnfiseqLive, VERSION};
 use crate::loops::{OnfiseqLoop, OnfiseqLoops};
 use crate::next::{OnfiseqBurst, OnfiseqTurn};
 use std::mem::size_of;
@@ -33,11 +33,11 @@ pub struct OnfiseqLiveSample {
 
 /// The version of these calls and records, which counts up where one changes, and their sizes.
 #[unsafe(no_mangle)]
-pub extern "C" fn onfiseq_live_abi() -> OnfiseqLiveAbi
-    ensures { result.version ≡ 1 }
+pub extern "C" fn onfiseq_live_sizes() -> OnfiseqLiveAbi
+    ensures { result.version ≡ 2 }
 {
     OnfiseqLiveAbi {
-        version: 1,
+        version: VERSION,
         loops: size_of::<OnfiseqLoops>(),
         job: size_of::<OnfiseqJob>(),
         live: size_of::<OnfiseqLive>(),
@@ -95,7 +95,7 @@ fn sample_burst(number: u8) -> OnfiseqBurst {
 /// One of each record with a number of its own in each field, in the order of the records and their fields. It is no state of a channel and no job: it is for
 /// tests of a header.
 #[unsafe(no_mangle)]
-pub extern "C" fn onfiseq_live_sample() -> OnfiseqLiveSample
+pub extern "C" fn onfiseq_live_make_sample() -> OnfiseqLiveSample
     ensures { result.step.number ≡ 31 }
 {
     OnfiseqLiveSample {

@@ -2,7 +2,7 @@
 ghost use Rattle.std.specs.Prelude.{◌≡◌, ◌<◌, ◌^◌, IfSome};
 ghost use Rattle.nand_geometry.specs.declared.parts.Parts.{Parts};
 ghost use Rattle.word_file.specs.Words.{continues};
-ghost use Rattle.bus_record.specs.Bus.{bus_view};
+ghost use Rattle.bus_record.specs.Bus.{IsSound, bus_view};
 ghost use Rattle.onfiseq_live_c.specs.Begin.{job_fault, Begins};
 ghost use Rattle.onfiseq_live_c.specs.Live.{state_of};
 
@@ -27,7 +27,8 @@ fn job_fault(
     header: Header,
     continues: bool,
 ) -> Option<JobFault>
-    requires { geometry.now ≡ (bus_view bus.now).geometry }
+    requires geometry { geometry.now ≡ (bus_view bus.now).geometry }
+    requires sound { IsSound bus.now }
     ensures { result ≡ job_fault (bus_view bus.now) lun base buffer header.rows header.buffer continues }
 {
     let end = u64::from(base) + u64::from(header.rows);

@@ -4,7 +4,7 @@ ghost use Rattle.micro_program.specs.Moves.{part};
 ghost use Rattle.onfi_cycle.specs.Channel.{cycle};
 ghost use Rattle.seq_core.specs.Playing.{EndsWithFive};
 ghost use Rattle.seq_live.specs.Burst.{bursts_at};
-ghost use Rattle.bus_record.specs.Bus.{bus_view};
+ghost use Rattle.bus_record.specs.Bus.{IsSound, bus_view};
 ghost use Rattle.bus_record.specs.Trial.{IsTried, tried_view};
 ghost use Rattle.onfiseq_live_c.specs.Bursts.{PollsOne, target_of, AllOn, judged_addresses, after_addresses, judged_burst, after_burst, judged_bursts, after_bursts};
 ghost use Rattle.onfiseq_live_c.specs.Job.{lun_in, registers_in};
@@ -17,6 +17,7 @@ use seq_live::{Burst, Bursts, bursts_of, bursts_without_row, is_poll};
 
 /// The bursts of a word of a job, None where the row of its address isn't there.
 pub(crate) fn bursts_for(bus: &OnfiseqBus, job: &OnfiseqJob, word: Word) -> Option<Bursts>
+    requires sound { IsSound bus.now }
     requires there { job.now.ce < bus.now.count }
     requires range { EndsWithFive word }
     ensures some { IfSome result (λ bursts. bursts_at (bus_view bus.now).geometry (lun_in job.now) (registers_in job.now) word ≡ Some bursts.items) }

@@ -1,7 +1,7 @@
 //! The step of a job's next word, whose bursts are done.
 ghost use Rattle.std.specs.Prelude.{◌≡◌, ◌<◌, ◌≤◌, ◌^◌, Some, None, Ok, Err, true, IfSome, IfNone, length};
 ghost use Rattle.onfi_cycle.specs.declared.item.Item.TheVariants.{Rdy, Ard};
-ghost use Rattle.bus_record.specs.Bus.{bus_view};
+ghost use Rattle.bus_record.specs.Bus.{IsSound, bus_view};
 ghost use Rattle.onfiseq_live_c.specs.Bursts.{PollsOne};
 ghost use Rattle.bus_record.specs.Trial.{IsTried, tried_view};
 ghost use Rattle.seq_core.specs.Playing.{EndsWithFive};
@@ -162,6 +162,7 @@ fn play_bursts(
     job: &OnfiseqJob,
     word: Word,
 ) -> Option<Stop>
+    requires sound { IsSound bus.now }
     requires tried { IsTried bus.now job.now.ce kept.old }
     requires range { EndsWithFive word }
     ensures some { IfSome result (λ stop. played (job_view job.now) word (tried_view bus.now job.now.ce kept.old) ≡ Err stop) }
@@ -180,6 +181,7 @@ fn play_bursts(
 // Goes on by a word of a job.
 #[inline(always)]
 fn play(bus: &OnfiseqBus, kept: &mut OnfiseqTarget, job: &OnfiseqJob, word: Word) -> Option<Stop>
+    requires sound { IsSound bus.now }
     requires tried { IsTried bus.now job.now.ce kept.old }
     requires range { EndsWithFive word }
     ensures some { IfSome result (λ stop. played (job_view job.now) word (tried_view bus.now job.now.ce kept.old) ≡ Err stop) }

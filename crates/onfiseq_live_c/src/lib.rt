@@ -18,12 +18,14 @@ mod loops;
 mod next;
 mod stop;
 
-pub use abi::{OnfiseqLiveAbi, OnfiseqLiveSample, onfiseq_live_abi, onfiseq_live_sample};
+pub use abi::{OnfiseqLiveAbi, OnfiseqLiveSample, onfiseq_live_make_sample, onfiseq_live_sizes};
 pub use anew::onfiseq_live_begin_target;
 pub use begin::onfiseq_job_begin;
 pub use finish::{OnfiseqStep, onfiseq_job_finish};
 pub use job::OnfiseqJob;
-pub use live::{OnfiseqLive, onfiseq_live_array_ready, onfiseq_live_begin, onfiseq_live_ready};
+pub use live::{
+    OnfiseqLive, onfiseq_live_array_ready, onfiseq_live_begin_sized, onfiseq_live_ready,
+};
 pub use loops::{OnfiseqLoop, OnfiseqLoops};
 pub use next::{OnfiseqBurst, OnfiseqTurn, onfiseq_job_next};
 pub use stop::Stop;

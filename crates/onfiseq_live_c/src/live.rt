@@ -1,21 +1,21 @@
 //! A channel on whose pins jobs run, as a record in the caller's memory.
-ghost use Rattle.std.specs.Prelude.{◌≡◌, ◌≤◌, ◌<◌, true, false, [], Some, None, IfSome, IfNone, if◌then◌else◌};
+ghost use Rattle.std.specs.Prelude.{◌≡◌, ◌==◌, ◌&&◌, ◌≤◌, ◌<◌, true, false, [], Some, None, IfSome, IfNone, if◌then◌else◌};
 ghost use Rattle.onfi_cycle.specs.State.{Follows};
 ghost use Rattle.onfi_cycle.specs.declared.item.Item.TheVariants.{Rdy, Ard};
-ghost use Rattle.bus_record.specs.Bus.{CanBegin, pushed, bus_pushed};
+ghost use Rattle.bus_record.specs.Bus.{IsSound, begin_code, bus_pushed, pushed};
 ghost use Rattle.target_record.specs.Geometry.{parts_of};
 ghost use Rattle.onfiseq_live_c.specs.Live.{state_of, holder_of, is_live, are_whole, KeepsHolder};
 
 use crate::job::OnfiseqJob;
-use bus_record::{OnfiseqBus, OnfiseqGeometry, begin, geometry_of, has_lun, push};
+use bus_record::{
+    DAMAGED, OTHER_VERSION, OnfiseqBus, OnfiseqGeometry, are_sound, begin, begin_code, geometry_of,
+    has_lun, push,
+};
 use nand_geometry::Geometry;
 use onfi_cycle::{Item, Lun};
 
 // What stands first in a record that a call left: `LIVE`.
 const MAGIC: u32 = 0x4556_494c;
-
-/// The answer of a call to which a record was given that no call left.
-pub(crate) const DAMAGED: u32 = 254;
 
 /// A channel on whose pins jobs run: its state, and the LUN that has the bus, if one has it.
 #[repr(C)]
@@ -30,17 +30,19 @@ pub struct OnfiseqLive {
 }
 
 impl OnfiseqLive {
-    /// Whether the record is one that a call left, as far as it can be told.
+    /// Whether the record is one that a call left. Any numbers may stand in it.
     pub(crate) fn is_live(&self) -> bool
-        ensures { result ≡ is_live self.now }
+        ensures value { result ≡ is_live self.now }
+        ensures sound { result ≡ true → IsSound self.now.bus }
     {
-        self.magic == MAGIC && self.bus.count != 0
+        self.magic == MAGIC && self.bus.count != 0 && are_sound(&self.bus)
     }
 
     /// The geometry of its channel, where its record is whole.
     pub(crate) fn geometry(&self) -> Option<Geometry>
         ensures some { IfSome result (λ g. g ≡ (state_of self.now).geometry) }
         ensures live { IfSome result (λ g. is_live self.now ≡ true) }
+        ensures sound { IfSome result (λ g. IsSound self.now.bus) }
         ensures none { IfNone result (is_live self.now ≡ false) }
     {
         if !self.is_live() {
@@ -55,6 +57,7 @@ impl OnfiseqLive {
         ensures value { result ≡ are_whole self.now job.now }
         ensures few { result ≡ true → job.now.loops.depth ≤ 4 }
         ensures there { result ≡ true → job.now.ce < self.now.bus.count }
+        ensures sound { result ≡ true → IsSound self.now.bus }
     {
         self.is_live() && job.is_whole() && has_lun(&self.bus, job.on())
     }
@@ -89,27 +92,47 @@ impl OnfiseqLive {
     }
 }
 
-/// A channel of so many targets of this geometry, to which nothing has happened, and on which no job runs. Where the geometry has a fault or the targets
-/// aren't 1 to 4 there is no such channel, and its `bus.count` is 0.
+// How many bytes the record of such a channel has, and the version of the calls and records.
+const LIVE_BYTES: usize = 2128;
+
+pub(crate) const VERSION: u32 = 2;
+
+/// Begins a channel of so many targets of this geometry, to which nothing has happened, and on which no job runs: 0, and its record is written. Else the record
+/// stays as it was, and the answer is 4401h where it has another size or version than those of this library, 5400h where the targets aren't 1 to 4, and 5000h
+/// and n for the fault Pn of the geometry. Whatever stood in the record before is no matter.
 #[unsafe(no_mangle)]
-pub extern "C" fn onfiseq_live_begin(geometry: &OnfiseqGeometry, targets: u8) -> OnfiseqLive
-    ensures begins { CanBegin (parts_of geometry.now) targets → Follows (parts_of geometry.now) targets (state_of result) [] }
-    ensures only { 1 ≤ result.bus.count → CanBegin (parts_of geometry.now) targets }
-    ensures live { 1 ≤ result.bus.count → is_live result ≡ true }
-    ensures free { holder_of result ≡ None }
+pub extern "C" fn onfiseq_live_begin_sized(
+    live: &mut OnfiseqLive,
+    size: usize,
+    version: u32,
+    geometry: &OnfiseqGeometry,
+    targets: u8,
+) -> u32
+    ensures answer { result ≡ (if size == 2128 && version == 2 then begin_code (parts_of geometry.now) targets else 0x4401) }
+    ensures begins { result ≡ 0 → Follows (parts_of geometry.now) targets (state_of live.new) [] }
+    ensures live { result ≡ 0 → is_live live.new ≡ true }
+    ensures free { result ≡ 0 → holder_of live.new ≡ None }
+    ensures refused { (result ≡ 0 → ⊥) → live.new ≡ live.old }
 {
-    OnfiseqLive {
-        magic: MAGIC,
-        has_holder: 0,
-        ce: 0,
-        lun: 0,
-        bus: begin(geometry, targets),
+    if size != LIVE_BYTES || version != VERSION {
+        return OTHER_VERSION;
     }
+    let code = begin_code(geometry, targets);
+    if code == 0 {
+        *live = OnfiseqLive {
+            magic: MAGIC,
+            has_holder: 0,
+            ce: 0,
+            lun: 0,
+            bus: begin(geometry, targets),
+        };
+    }
+    code
 }
 
 // The channel goes on by a ready.
 fn go_on(live: &mut OnfiseqLive, item: Item) -> u32
-    ensures answer { result ≡ (if is_live live.old then pushed (state_of live.old) (Some item) else 254) }
+    ensures answer { result ≡ (if is_live live.old then pushed (state_of live.old) (Some item) else 0x4400) }
     ensures state { state_of live.new ≡ (if is_live live.old then bus_pushed (state_of live.old) (Some item) else state_of live.old) }
     ensures holder { KeepsHolder live.old live.new }
 {
@@ -119,11 +142,11 @@ fn go_on(live: &mut OnfiseqLive, item: Item) -> u32
     push(&mut live.bus, item)
 }
 
-/// A LUN becomes ready, with failure or without, as R/B# tells. 0, or the number of the rule that speaks against it: 1 where the LUN isn't there or isn't
-/// busy. 254 where the record is none. What a poll shows needs no call.
+/// A LUN becomes ready, with failure or without, as R/B# tells. 0, or the code of the rule that speaks against it: 4601h where the LUN isn't there or isn't
+/// busy. 4400h where the record is none. What a poll shows needs no call.
 #[unsafe(no_mangle)]
 pub extern "C" fn onfiseq_live_ready(live: &mut OnfiseqLive, ce: u8, lun: u8, failed: bool) -> u32
-    ensures answer { result ≡ (if is_live live.old then pushed (state_of live.old) (Some (Rdy ce lun failed)) else 254) }
+    ensures answer { result ≡ (if is_live live.old then pushed (state_of live.old) (Some (Rdy ce lun failed)) else 0x4400) }
     ensures state { state_of live.new ≡ (if is_live live.old then bus_pushed (state_of live.old) (Some (Rdy ce lun failed)) else state_of live.old) }
     ensures holder { KeepsHolder live.old live.new }
 {
@@ -134,7 +157,7 @@ pub extern "C" fn onfiseq_live_ready(live: &mut OnfiseqLive, ce: u8, lun: u8, fa
 /// The array of a LUN becomes ready after a cache read. The answers are those of `onfiseq_live_ready`.
 #[unsafe(no_mangle)]
 pub extern "C" fn onfiseq_live_array_ready(live: &mut OnfiseqLive, ce: u8, lun: u8) -> u32
-    ensures answer { result ≡ (if is_live live.old then pushed (state_of live.old) (Some (Ard ce lun)) else 254) }
+    ensures answer { result ≡ (if is_live live.old then pushed (state_of live.old) (Some (Ard ce lun)) else 0x4400) }
     ensures state { state_of live.new ≡ (if is_live live.old then bus_pushed (state_of live.old) (Some (Ard ce lun)) else state_of live.old) }
     ensures holder { KeepsHolder live.old live.new }
 {

@@ -1,7 +1,7 @@
 //! What is to be done on the pins for a job's next word.
 ghost use Rattle.std.specs.Prelude.{◌≡◌, ◌<◌, None, Ok, Err, slice_get};
 ghost use Rattle.seq_core.specs.Playing.{EndsWithFive};
-ghost use Rattle.bus_record.specs.Bus.{bus_view};
+ghost use Rattle.bus_record.specs.Bus.{IsSound, bus_view};
 ghost use Rattle.onfiseq_live_c.specs.Bursts.{PollsOne, poll_of};
 ghost use Rattle.onfiseq_live_c.specs.Job.{job_view};
 ghost use Rattle.onfiseq_live_c.specs.Next.{shown, shown_some, three, told, next_of, turn_of};
@@ -171,6 +171,7 @@ impl OnfiseqTurn {
 // What is to be done for the status poll of a job by 70h.
 #[inline(always)]
 fn tell_poll(bus: &OnfiseqBus, job: &OnfiseqJob, word: Word) -> OnfiseqTurn
+    requires sound { IsSound bus.now }
     requires there { job.now.ce < bus.now.count }
     requires poll { PollsOne (bus_view bus.now).geometry word }
     ensures { result ≡ turn_of (told (bus_view bus.now) (job_view job.now) word) }
@@ -184,6 +185,7 @@ fn tell_poll(bus: &OnfiseqBus, job: &OnfiseqJob, word: Word) -> OnfiseqTurn
 
 // What the bursts of a word of a job say is to be done.
 fn tell_bursts(bus: &OnfiseqBus, job: &OnfiseqJob, word: Word) -> OnfiseqTurn
+    requires sound { IsSound bus.now }
     requires there { job.now.ce < bus.now.count }
     requires range { EndsWithFive word }
     ensures { result ≡ turn_of (told (bus_view bus.now) (job_view job.now) word) }
@@ -201,6 +203,7 @@ fn tell_bursts(bus: &OnfiseqBus, job: &OnfiseqJob, word: Word) -> OnfiseqTurn
 // What is to be done for a word of a job.
 #[inline(always)]
 fn tell(bus: &OnfiseqBus, job: &OnfiseqJob, word: Word) -> OnfiseqTurn
+    requires sound { IsSound bus.now }
     requires there { job.now.ce < bus.now.count }
     requires range { EndsWithFive word }
     ensures { result ≡ turn_of (told (bus_view bus.now) (job_view job.now) word) }

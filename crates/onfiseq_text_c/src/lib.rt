@@ -6,8 +6,10 @@
 
 mod assembly;
 mod failure;
+mod trace;
 mod words;
 
 pub use assembly::{onfiseq_assemble, onfiseq_disassemble};
 pub use failure::Failure;
+pub use trace::{TraceFailure, onfiseq_trace};
 pub use words::onfiseq_words;

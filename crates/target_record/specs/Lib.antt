@@ -1,3 +1,4 @@
-pub mod Geometry
 pub mod Record
+pub mod Geometry
 pub mod Judging
+pub mod Whole

@@ -1,5 +1,5 @@
 -- What the numbers of a target in the caller's memory stand for.
-use Rattle.std.specs.Prelude.{ℕ, ◌≤◌, ◌<◌, ◌^◌, ◌==◌, length, Bool, if◌then◌else◌, List, Option, Some, None, map, take}
+use Rattle.std.specs.Prelude.{ℕ, ◌≤◌, ◌<◌, ◌^◌, ◌==◌, not, length, Bool, if◌then◌else◌, List, Option, Some, None, map, take}
 use Rattle.std.specs.List.{All}
 use Rattle.onfi_cycle.specs.declared.command.Command.{Command}
 use Rattle.onfi_cycle.specs.declared.latch.Latch.{Latch}
@@ -19,6 +19,10 @@ use Rattle.onfi_cycle.specs.State.{TargetView}
 use Rattle.target_record.specs.declared.record.OnfiseqQueued.{OnfiseqQueued}
 use Rattle.target_record.specs.declared.record.OnfiseqLun.{OnfiseqLun}
 use Rattle.target_record.specs.declared.record.OnfiseqTarget.{OnfiseqTarget}
+
+-- a flag is set by any number but 0
+abbrev pub is_set : ℕ → Bool
+is_set n = not (n == 0)
 
 abbrev pub latch_of : ℕ → Latch
 latch_of code = if code == 0 then Off else (if code == 1 then Status else Data)
@@ -43,7 +47,7 @@ abbrev pub given_of : Bool → ℕ → Option ℕ
 given_of has column = if has then Some column else None
 
 abbrev pub queued_of : OnfiseqQueued → Queued
-queued_of q = if q.is_program then Program (page_address q.block q.page) else Erase (page_address q.block q.page)
+queued_of q = if is_set q.is_program then Program (page_address q.block q.page) else Erase (page_address q.block q.page)
 
 abbrev pub queue_of : List OnfiseqQueued → List Queued
 queue_of records = map queued_of records
@@ -51,12 +55,12 @@ queue_of records = map queued_of records
 abbrev pub lun_of : OnfiseqLun → LunView
 lun_of l = record {
   latch = latch_of l.latch;
-  busy = l.busy;
-  closer = closer_of l.has_closer l.closer;
-  array_busy = l.array_busy;
+  busy = is_set l.busy;
+  closer = closer_of (is_set l.has_closer) l.closer;
+  array_busy = is_set l.array_busy;
   array_page = page_address l.array_block l.array_page;
   register = register_of l.register l.register_block l.register_page;
-  column = record { given = given_of l.has_column l.column; outputs = l.outputs; lost = l.lost };
+  column = record { given = given_of (is_set l.has_column) l.column; outputs = l.outputs; lost = is_set l.lost };
   queue = queue_of (take l.queued l.queue);
 }
 
@@ -65,12 +69,12 @@ luns_of records = map lun_of records
 
 abbrev pub tail_of : OnfiseqTarget → TailFacts
 tail_of t = record {
-  opening = opening_of t.is_open t.opener t.addresses;
+  opening = opening_of (is_set t.is_open) t.opener t.addresses;
   phase = phase_of t.phase;
   row = record { r1 = t.r1; r2 = t.r2; r3 = t.r3 };
   column = t.column;
   inputs = t.inputs;
-  is_empty = t.is_empty;
+  is_empty = is_set t.is_empty;
 }
 
 abbrev pub target_of : OnfiseqTarget → TargetView

@@ -3,9 +3,11 @@ ghost use Rattle.std.specs.Prelude.{◌≡◌};
 ghost use Rattle.nand_geometry.specs.Limits.{InLimits, page_len};
 ghost use Rattle.target_record.specs.Geometry.{parts_of, no_geometry};
 
+use crate::record::{flag, is_set};
 use nand_geometry::{Geometry, Parts};
 
 /// A geometry: sizes in bytes, pages of a block, blocks and LUNs; `plane_bits` is the binary logarithm of the planes of a LUN.
+/// `enhanced`, `multi_plane` and `cache` are 0 for no, and anything else for yes.
 #[repr(C)]
 #[derive(Clone, Copy)]
 pub struct OnfiseqGeometry {
@@ -15,9 +17,9 @@ pub struct OnfiseqGeometry {
     pub blocks: u32,
     pub luns: u8,
     pub plane_bits: u8,
-    pub enhanced: bool,
-    pub multi_plane: bool,
-    pub cache: bool,
+    pub enhanced: u8,
+    pub multi_plane: u8,
+    pub cache: u8,
 }
 
 impl OnfiseqGeometry {
@@ -32,9 +34,9 @@ impl OnfiseqGeometry {
             blocks: self.blocks,
             luns: self.luns,
             plane_bits: self.plane_bits,
-            enhanced: self.enhanced,
-            multi_plane: self.multi_plane,
-            cache: self.cache,
+            enhanced: is_set(self.enhanced),
+            multi_plane: is_set(self.multi_plane),
+            cache: is_set(self.cache),
         }
     }
 
@@ -64,9 +66,9 @@ impl OnfiseqGeometry {
             blocks: parts.blocks,
             luns: parts.luns,
             plane_bits: parts.plane_bits,
-            enhanced: parts.enhanced,
-            multi_plane: parts.multi_plane,
-            cache: parts.cache,
+            enhanced: flag(parts.enhanced),
+            multi_plane: flag(parts.multi_plane),
+            cache: flag(parts.cache),
         }
     }
 
@@ -81,9 +83,9 @@ impl OnfiseqGeometry {
             blocks: 0,
             luns: 0,
             plane_bits: 0,
-            enhanced: false,
-            multi_plane: false,
-            cache: false,
+            enhanced: 0,
+            multi_plane: 0,
+            cache: 0,
         }
     }
 }

@@ -22,8 +22,8 @@ ghost use Rattle.target_record.specs.Judging.{named_rule};
 
 use crate::geometry::OnfiseqGeometry;
 use crate::record::{
-    OnfiseqLun, OnfiseqQueued, OnfiseqTarget, closer_of, given_of, latch_of, opening_of, phase_of,
-    queued_of, register_of, tail_of,
+    OnfiseqLun, OnfiseqQueued, OnfiseqTarget, closer_of, given_of, is_set, latch_of, opening_of,
+    phase_of, queued_of, register_of, tail_of,
 };
 use nand_geometry::Geometry;
 use onfi_cycle::{
@@ -57,7 +57,7 @@ pub(crate) fn register(lun: &OnfiseqLun) -> Register
 pub(crate) fn closer(lun: &OnfiseqLun) -> Option<Command>
     ensures { result ≡ (lun_of lun.now).closer }
 {
-    closer_of(lun.has_closer, lun.closer)
+    closer_of(is_set(lun.has_closer), lun.closer)
 }
 
 /// The column of its next output.
@@ -67,9 +67,9 @@ pub fn output_column(lun: &OnfiseqLun) -> Option<u64>
     ensures { result ≡ output_column (lun_of lun.now).column }
 {
     let column = ReadColumn {
-        given: given_of(lun.has_column, lun.column),
+        given: given_of(is_set(lun.has_column), lun.column),
         outputs: lun.outputs,
-        lost: lun.lost,
+        lost: is_set(lun.lost),
     };
     column.output_column()
 }
@@ -97,7 +97,7 @@ pub fn is_caching(lun: &OnfiseqLun) -> bool
 fn may_change_column(lun: &OnfiseqLun) -> bool
     ensures { result ≡ may_change_column (lun_of lun.now) }
 {
-    shows_data(lun) && !lun.busy && register(lun).has_columns()
+    shows_data(lun) && !is_set(lun.busy) && register(lun).has_columns()
 }
 
 // It shows data and has no byte to give: it works, its register is empty, or its column was lost.
@@ -106,7 +106,8 @@ fn has_no_byte(lun: &OnfiseqLun) -> bool
     requires { IsRecord lun.now }
     ensures { result ≡ has_no_byte (lun_of lun.now) }
 {
-    shows_data(lun) && (lun.busy || register(lun).is_empty() || output_column(lun).is_none())
+    shows_data(lun)
+        && (is_set(lun.busy) || register(lun).is_empty() || output_column(lun).is_none())
 }
 
 // It shows data, and its column is past its register.
@@ -127,14 +128,17 @@ fn continues_cache(geometry: &OnfiseqGeometry, lun: &OnfiseqLun) -> bool
     ensures { result ≡ continues_cache (parts_of geometry.now) (lun_of lun.now) }
 {
     let pages = u64::from(geometry.pages);
-    !lun.busy && is_page_read(closer(lun)) && lun.array_page < pages && lun.array_page + 1 < pages
+    !is_set(lun.busy)
+        && is_page_read(closer(lun))
+        && lun.array_page < pages
+        && lun.array_page + 1 < pages
 }
 
 // Read Cache End may come.
 fn ends_cache(lun: &OnfiseqLun) -> bool
     ensures { result ≡ ends_cache (lun_of lun.now) }
 {
-    !lun.busy && is_caching(lun)
+    !is_set(lun.busy) && is_caching(lun)
 }
 
 // ---- the LUNs of a target
@@ -176,7 +180,7 @@ fn some_ready(luns: &[OnfiseqLun]) -> bool
 {
     match luns {
         [] => false,
-        [first, rest @ ..] => !first.busy || some_ready(rest),
+        [first, rest @ ..] => !is_set(first.busy) || some_ready(rest),
     }
 }
 
@@ -222,7 +226,7 @@ fn some_caching(luns: &[OnfiseqLun]) -> bool
 fn is_open(kept: &OnfiseqTarget) -> bool
     ensures { result ≡ is_open (tail_of kept.now) }
 {
-    let opens = match opening_of(kept.is_open, kept.opener, kept.addresses) {
+    let opens = match opening_of(is_set(kept.is_open), kept.opener, kept.addresses) {
         None => false,
         Some(opening) => opening.opener.is_proper_beginning(opening.addresses),
     };
@@ -238,7 +242,7 @@ pub fn wants_command(kept: &OnfiseqTarget, command: Command) -> bool
         Command::ChangeWriteColumn | Command::ProgramConfirm | Command::ProgramPlane => {
             phase_of(kept.phase).takes_inputs()
         }
-        _ => match opening_of(kept.is_open, kept.opener, kept.addresses) {
+        _ => match opening_of(is_set(kept.is_open), kept.opener, kept.addresses) {
             None => false,
             Some(opening) => {
                 opening.opener.closes(command)
@@ -255,9 +259,9 @@ fn is_undeclared(geometry: &OnfiseqGeometry, command: Command) -> bool
     ensures { result ≡ is_undeclared (parts_of geometry.now) command }
 {
     match command {
-        Command::ReadStatusEnhanced => !geometry.enhanced,
-        Command::BlockErasePlane | Command::ProgramPlane => !geometry.multi_plane,
-        Command::ReadCacheSequential | Command::ReadCacheEnd => !geometry.cache,
+        Command::ReadStatusEnhanced => !is_set(geometry.enhanced),
+        Command::BlockErasePlane | Command::ProgramPlane => !is_set(geometry.multi_plane),
+        Command::ReadCacheSequential | Command::ReadCacheEnd => !is_set(geometry.cache),
         _ => false,
     }
 }
@@ -357,7 +361,7 @@ fn queued_clashes(geometry: &Geometry, is_erase: bool, page: PageAddress, queued
     }
 }
 
-fn some_queued_clashes(
+pub(crate) fn some_queued_clashes(
     geometry: &Geometry,
     is_erase: bool,
     page: PageAddress,
@@ -480,7 +484,7 @@ fn judge_named(
     ensures { result ≡ named_rule geometry.now tail row is_outside (lun_of lun.now) }
 {
     let is_of_array = ends_array_row(tail);
-    if is_of_array && lun.busy {
+    if is_of_array && is_set(lun.busy) {
         Some(Forbidden::LunBusy)
     } else if is_refused_by(geometry, tail, PageAddress::of_row(geometry, row), lun) {
         Some(Forbidden::QueueClash)
@@ -597,7 +601,7 @@ fn is_not_busy(luns: &[OnfiseqLun], number: u8) -> bool
 {
     match lun_at(luns, usize::from(number)) {
         None => true,
-        Some(lun) => !lun.busy,
+        Some(lun) => !is_set(lun.busy),
     }
 }
 
@@ -608,7 +612,7 @@ fn is_array_not_busy(luns: &[OnfiseqLun], number: u8) -> bool
 {
     match lun_at(luns, usize::from(number)) {
         None => true,
-        Some(lun) => !lun.array_busy,
+        Some(lun) => !is_set(lun.array_busy),
     }
 }
 

@@ -7,6 +7,7 @@ mod geometry;
 mod judging;
 mod lun_change;
 mod record;
+mod whole;
 
 pub use geometry::OnfiseqGeometry;
 pub use judging::{
@@ -15,6 +16,7 @@ pub use judging::{
 };
 pub use lun_change::{become_array_ready, become_ready, change};
 pub use record::{
-    NO_TARGET, OnfiseqLun, OnfiseqQueued, OnfiseqTarget, closer_of, latch_code, latch_of,
-    opening_of, record_of, tail_of,
+    NO_TARGET, OnfiseqLun, OnfiseqQueued, OnfiseqTarget, closer_of, flag, is_set, latch_code,
+    latch_of, opening_of, record_of, tail_of,
 };
+pub use whole::{are_numbers, is_whole, whole_records_are_taken};

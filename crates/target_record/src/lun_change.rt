@@ -8,7 +8,8 @@ ghost use Rattle.target_record.specs.Record.{IsRecord, lun_of};
 
 use crate::judging::is_caching;
 use crate::record::{
-    NO_ROW, OnfiseqLun, closer_byte, latch_code, latch_of, queued_record, register_record,
+    NO_ROW, OnfiseqLun, closer_byte, flag, is_set, latch_code, latch_of, queued_record,
+    register_record,
 };
 use onfi_cycle::{Command, Effect, Latch, PageAddress, Queued, Register};
 
@@ -19,8 +20,8 @@ fn set_column(kept: &mut OnfiseqLun, column: u32)
     ensures value { lun_of kept.new ≡ record (lun_of kept.old) { column = column_at column } }
     ensures numbers { IsRecord kept.new }
 {
-    kept.has_column = true;
-    kept.lost = false;
+    kept.has_column = 1;
+    kept.lost = 0;
     kept.column = column;
     kept.outputs = 0;
 }
@@ -34,9 +35,9 @@ fn set_register(kept: &mut OnfiseqLun, closer: Command, register: Register)
     ensures numbers { IsRecord kept.new }
 {
     let register = register_record(register);
-    kept.has_closer = true;
+    kept.has_closer = 1;
     kept.closer = closer_byte(Some(closer));
-    kept.array_busy = false;
+    kept.array_busy = 0;
     kept.register = register.code;
     kept.register_block = register.block;
     kept.register_page = register.page;
@@ -62,7 +63,7 @@ fn start_read(kept: &mut OnfiseqLun, page: PageAddress, column: u32)
     ensures numbers { IsRecord kept.new }
 {
     give_register(kept, Command::ReadConfirm, Register::Page(page), column);
-    kept.busy = true;
+    kept.busy = 1;
     kept.array_block = page.block;
     kept.array_page = page.page;
 }
@@ -79,7 +80,7 @@ fn give_cached(kept: &mut OnfiseqLun, closer: Command, next: u64)
         page: kept.array_page,
     };
     give_register(kept, closer, Register::Page(page), 0);
-    kept.busy = true;
+    kept.busy = 1;
     kept.array_page = next;
 }
 
@@ -92,7 +93,7 @@ fn queue_work(kept: &mut OnfiseqLun, closer: Command, row: Queued)
     ensures numbers { IsRecord kept.new }
 {
     set_register(kept, closer, Register::Empty);
-    kept.busy = true;
+    kept.busy = 1;
     let queue = kept.queue;
     kept.queue = [queued_record(row), queue[0], queue[1], queue[2]];
     kept.queued += 1;
@@ -106,7 +107,7 @@ fn start_work(kept: &mut OnfiseqLun, closer: Command)
     ensures numbers { IsRecord kept.new }
 {
     set_register(kept, closer, Register::Empty);
-    kept.busy = true;
+    kept.busy = 1;
     kept.queue = [NO_ROW; 4];
     kept.queued = 0;
 }
@@ -130,7 +131,7 @@ fn read_parameter_page(kept: &mut OnfiseqLun)
     ensures numbers { IsRecord kept.new }
 {
     give_register(kept, Command::ReadParameterPage, Register::ParameterPage, 0);
-    kept.busy = true;
+    kept.busy = 1;
 }
 
 /// A LUN goes on by an effect.
@@ -148,7 +149,7 @@ pub fn change(kept: &mut OnfiseqLun, effect: Effect)
             kept.latch = latch_code(effect.latch_after(latch_of(kept.latch)));
         }
         Effect::StatusSelected | Effect::StatusRowAwaited => {
-            kept.lost = kept.lost || 0 < kept.outputs;
+            kept.lost = flag(is_set(kept.lost) || 0 < kept.outputs);
             kept.latch = latch_code(effect.latch_after(latch_of(kept.latch)));
         }
         Effect::ReadStarted { page, column } => start_read(kept, page, column),
@@ -190,8 +191,8 @@ pub fn become_ready(kept: &mut OnfiseqLun, failed: bool)
 {
     let _failed = failed;
     let caching = is_caching(kept);
-    kept.array_busy = kept.array_busy || kept.busy && caching;
-    kept.busy = false;
+    kept.array_busy = flag(is_set(kept.array_busy) || is_set(kept.busy) && caching);
+    kept.busy = 0;
 }
 
 /// Its array becomes ready.
@@ -200,5 +201,5 @@ pub fn become_array_ready(kept: &mut OnfiseqLun)
     ensures value { lun_of kept.new ≡ view_after EffectValue.ArrayBecameReady (lun_of kept.old) }
     ensures numbers { IsRecord kept.new }
 {
-    kept.array_busy = false;
+    kept.array_busy = 0;
 }

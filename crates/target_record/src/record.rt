@@ -2,7 +2,7 @@
 ghost use Rattle.std.specs.Prelude.{◌≡◌, ◌≤◌, ◌<◌, ◌^◌, length, take, IfSome};
 ghost use Rattle.std.specs.List.{All};
 ghost use Rattle.onfi_cycle.specs.Command.{command};
-ghost use Rattle.target_record.specs.Record.{latch_of, phase_of, closer_of, opening_of, register_of, given_of, queued_of, queue_of, lun_of, luns_of, tail_of, target_of, page_address, IsRecord, HasRoom};
+ghost use Rattle.target_record.specs.Record.{is_set, latch_of, phase_of, closer_of, opening_of, register_of, given_of, queued_of, queue_of, lun_of, luns_of, tail_of, target_of, page_address, IsRecord, HasRoom};
 
 use onfi_cycle::{
     Command, DataPhase, Latch, LunFacts, Opening, PageAddress, Queued, Register, RowBytes,
@@ -15,7 +15,7 @@ use onfi_cycle::{
 pub struct OnfiseqQueued {
     pub page: u64,
     pub block: u32,
-    pub is_program: bool,
+    pub is_program: u8,
 }
 
 /// What is kept of a LUN.
@@ -23,13 +23,13 @@ pub struct OnfiseqQueued {
 #[derive(Clone, Copy)]
 pub struct OnfiseqLun {
     pub latch: u8,
-    pub busy: bool,
-    pub has_closer: bool,
+    pub busy: u8,
+    pub has_closer: u8,
     pub closer: u8,
-    pub array_busy: bool,
+    pub array_busy: u8,
     pub register: u8,
-    pub has_column: bool,
-    pub lost: bool,
+    pub has_column: u8,
+    pub lost: u8,
     pub column: u32,
     pub array_block: u32,
     pub array_page: u64,
@@ -44,18 +44,34 @@ pub struct OnfiseqLun {
 #[repr(C)]
 #[derive(Clone, Copy)]
 pub struct OnfiseqTarget {
-    pub is_open: bool,
+    pub is_open: u8,
     pub opener: u8,
     pub phase: u8,
     pub r1: u8,
     pub r2: u8,
     pub r3: u8,
-    pub is_empty: bool,
+    pub is_empty: u8,
     pub column: u32,
     pub addresses: usize,
     pub inputs: usize,
     pub count: usize,
     pub luns: [OnfiseqLun; 4],
+}
+
+/// Whether a flag of a record is set: any number but 0.
+#[inline(always)]
+pub fn is_set(flag: u8) -> bool
+    ensures { result ≡ is_set flag }
+{
+    flag != 0
+}
+
+/// The flag of a yes or no.
+#[inline(always)]
+pub fn flag(yes: bool) -> u8
+    ensures { is_set result ≡ yes }
+{
+    u8::from(yes)
 }
 
 /// What a LUN drives the bus with, by the number in its record.
@@ -124,7 +140,7 @@ pub(crate) fn queued_of(kept: &OnfiseqQueued) -> Queued
         block: kept.block,
         page: kept.page,
     };
-    if kept.is_program {
+    if is_set(kept.is_program) {
         Queued::Program(at)
     } else {
         Queued::Erase(at)
@@ -139,12 +155,12 @@ pub(crate) fn queued_record(queued: Queued) -> OnfiseqQueued
         Queued::Erase(at) => OnfiseqQueued {
             page: at.page,
             block: at.block,
-            is_program: false,
+            is_program: 0,
         },
         Queued::Program(at) => OnfiseqQueued {
             page: at.page,
             block: at.block,
-            is_program: true,
+            is_program: 1,
         },
     }
 }
@@ -153,7 +169,7 @@ pub(crate) fn queued_record(queued: Queued) -> OnfiseqQueued
 pub(crate) const NO_ROW: OnfiseqQueued = OnfiseqQueued {
     page: 0,
     block: 0,
-    is_program: false,
+    is_program: 0,
 };
 
 // The records of a queue, at the front of the array.
@@ -250,13 +266,13 @@ fn lun_record(lun: &LunFacts<RowQueue>) -> OnfiseqLun
     let queue = queue_records(lun.queue.as_slice());
     OnfiseqLun {
         latch: latch_code(lun.latch),
-        busy: lun.busy,
-        has_closer: lun.closer.is_some(),
+        busy: flag(lun.busy),
+        has_closer: flag(lun.closer.is_some()),
         closer: closer_byte(lun.closer),
-        array_busy: lun.array_busy,
+        array_busy: flag(lun.array_busy),
         register: register.code,
-        has_column: lun.column.given.is_some(),
-        lost: lun.column.lost,
+        has_column: flag(lun.column.given.is_some()),
+        lost: flag(lun.column.lost),
         column: lun.column.given.unwrap_or(0),
         array_block: lun.array_page.block,
         array_page: lun.array_page.page,
@@ -271,13 +287,13 @@ fn lun_record(lun: &LunFacts<RowQueue>) -> OnfiseqLun
 // What stands in the free places of a target.
 const NO_LUN: OnfiseqLun = OnfiseqLun {
     latch: 0,
-    busy: false,
-    has_closer: false,
+    busy: 0,
+    has_closer: 0,
     closer: 0,
-    array_busy: false,
+    array_busy: 0,
     register: 0,
-    has_column: false,
-    lost: false,
+    has_column: 0,
+    lost: 0,
     column: 0,
     array_block: 0,
     array_page: 0,
@@ -290,13 +306,13 @@ const NO_LUN: OnfiseqLun = OnfiseqLun {
 
 /// What stands in the free places of a channel.
 pub const NO_TARGET: OnfiseqTarget = OnfiseqTarget {
-    is_open: false,
+    is_open: 0,
     opener: 0,
     phase: 0,
     r1: 0,
     r2: 0,
     r3: 0,
-    is_empty: true,
+    is_empty: 1,
     column: 0,
     addresses: 0,
     inputs: 0,
@@ -358,7 +374,7 @@ pub fn tail_of(kept: &OnfiseqTarget) -> TailFacts
     ensures { result ≡ tail_of kept.now }
 {
     TailFacts {
-        opening: opening_of(kept.is_open, kept.opener, kept.addresses),
+        opening: opening_of(is_set(kept.is_open), kept.opener, kept.addresses),
         phase: phase_of(kept.phase),
         row: RowBytes {
             r1: kept.r1,
@@ -367,7 +383,7 @@ pub fn tail_of(kept: &OnfiseqTarget) -> TailFacts
         },
         column: kept.column,
         inputs: kept.inputs,
-        is_empty: kept.is_empty,
+        is_empty: is_set(kept.is_empty),
     }
 }
 
@@ -382,13 +398,13 @@ pub fn record_of(target: &TargetState) -> OnfiseqTarget
     let tail = target.tail;
     let luns = lun_records(target.luns.as_slice());
     OnfiseqTarget {
-        is_open: tail.opening.is_some(),
+        is_open: flag(tail.opening.is_some()),
         opener: opener_byte(tail.opening),
         phase: phase_code(tail.phase),
         r1: tail.row.r1,
         r2: tail.row.r2,
         r3: tail.row.r3,
-        is_empty: tail.is_empty,
+        is_empty: flag(tail.is_empty),
         column: tail.column,
         addresses: address_count(tail.opening),
         inputs: tail.inputs,

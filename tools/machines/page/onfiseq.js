@@ -56,6 +56,8 @@ async function onfiseqLoad(bytes, shape) {
         for (const f of shape.records[kind].fields)
             for (let k = 0; k < (f.count || 1); k++) put(f.kind, at + f.at + k * f.size, f.count ? value[f.name][k] : value[f.name]);
     }
+    // What stands in an opaque record has all its bits.
+    const element = (f, at) => f.size === 8 ? view().getBigUint64(at, true) : get(f.kind, at);
     function get(kind, at) {
         const v = view();
         switch (SCALARS[kind]) {
@@ -66,7 +68,7 @@ async function onfiseqLoad(bytes, shape) {
         }
         const answer = {};
         for (const f of shape.records[kind].fields)
-            answer[f.name] = f.count ? Array.from({ length: f.count }, (_, k) => get(f.kind, at + f.at + k * f.size)) : get(f.kind, at + f.at);
+            answer[f.name] = f.count ? Array.from({ length: f.count }, (_, k) => element(f, at + f.at + k * f.size)) : get(f.kind, at + f.at);
         return answer;
     }
     // A call is given its arguments in the order of onfiseq.h, without the lengths of slices; the room of a slice that is written is a number.
@@ -106,8 +108,15 @@ async function onfiseqLoad(bytes, shape) {
     for (const name of Object.keys(shape.calls)) if (module[prefix + name]) lib[name.slice("onfiseq_".length)] = (...given) => call(name, given);
     lib.says = (letter, number) => {
         const text = new Uint8Array(160);
-        lib.words(letter, number, text);
+        lib.words(letter * 256 + number, text);
         return new TextDecoder().decode(text.subarray(0, text.indexOf(0)));
+    };
+    // A channel of so many targets to which nothing has happened.
+    const empty = kind => Object.fromEntries(shape.records[kind].fields.map(f => [f.name, Array.from({ length: f.count }, () => 0n)]));
+    lib.begun = (geometry, targets) => {
+        const bus = empty("onfiseq_bus");
+        lib.begin_sized(bus, shape.records.onfiseq_bus.size, shape.version, geometry, targets);
+        return bus;
     };
     return lib;
 }

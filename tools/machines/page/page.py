@@ -41,14 +41,12 @@ def base64_of(path):
 
 def written(module):
     """The page."""
-    records, calls = header.read("include/onfiseq.h")
-    calls = {name: it for name, it in calls.items() if not name.startswith(UNUSED)}
     examples = {"trace": [example(*it) for it in TRACES], "program": [example(*it) for it in PROGRAMS]}
     text = read(HERE + "/playground.html.in").decode()
     for mark, what in (
         ("/*ONFISEQ_JS*/", read(HERE + "/onfiseq.js").decode()),
         ("/*PLAYGROUND_JS*/", read(HERE + "/playground.js").decode()),
-        ("/*SHAPE*/", json.dumps({"records": records, "calls": calls})),
+        ("/*SHAPE*/", header.shape("include/onfiseq.h", UNUSED)),
         ("/*MODULE*/", base64_of(module)),
         ("/*CHIP*/", base64_of("examples/small_chip/chip.page")),
         ("/*EXAMPLES*/", json.dumps(examples)),

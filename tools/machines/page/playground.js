@@ -42,7 +42,7 @@ function describe(it) {
 }
 function takePage(bytes, fillsForm) {
     page = bytes;
-    chip = lib.page(page);
+    chip = lib.read_page(page);
     $("chip").textContent = chip.fault ? "refused P" + chip.fault + " at 0: " + lib.says("P".charCodeAt(0), chip.fault) : describe(chip.geometry);
     if (fillsForm && !chip.fault) {
         for (const it of NUMBERS) $(it).value = chip.geometry[it];
@@ -94,10 +94,10 @@ function refusedAt(letter, number, items, at) {
 }
 // The items with the readies that status outputs show, or what is refused.
 function withReadies(items, targets) {
-    const bus = lib.begin(chip.geometry, targets), done = { value: 0 };
+    const bus = lib.begun(chip.geometry, targets), done = { value: 0 };
     for (let at = 0; at < items.length; at++) {
         const rule = lib.push_status(bus, items[at], done);
-        if (rule) return refusedAt("F".charCodeAt(0), rule, items, at);
+        if (rule) return refusedAt(rule >> 8, rule & 255, items, at);
     }
     return null;
 }
@@ -275,7 +275,7 @@ onfiseqLoad(bytesOf(MODULE), SHAPE).then(it => {
     texts.trace = EXAMPLES.trace[0].text;
     texts.program = EXAMPLES.program[0].text;
     if (!readLink()) page = bytesOf(SMALL);
-    chip = lib.page(page);
+    chip = lib.read_page(page);
     listen();
     show(mode);
     takePage(page, true);

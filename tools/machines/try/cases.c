@@ -88,7 +88,7 @@ static size_t draw_items(struct onfiseq_bus *bus, uint8_t targets, struct onfise
 static uint64_t sum_of_looks(const struct onfiseq_bus *bus) {
     uint64_t sum = SUM_OF_NOTHING;
     for (unsigned at = 0; at < 25; at++) {
-        struct onfiseq_look look = onfiseq_look(bus, (uint8_t)(at / 5), (uint8_t)(at % 5));
+        struct onfiseq_look look = onfiseq_look_at(bus, (uint8_t)(at / 5), (uint8_t)(at % 5));
         sum_onfiseq_look(&sum, &look);
     }
     return sum;
@@ -97,31 +97,29 @@ static uint64_t sum_of_looks(const struct onfiseq_bus *bus) {
 /* The same items by onfiseq_push_status, and the state after them. */
 static void print_statuses(const struct onfiseq_geometry *chip, uint8_t targets, const struct onfiseq_item *items, size_t count) {
     static unsigned long told[512];
-    struct onfiseq_bus bus = onfiseq_begin(chip, targets);
-    uint64_t sum = SUM_OF_NOTHING;
+    struct onfiseq_bus bus;
+    onfiseq_begin(&bus, chip, targets);
     for (size_t k = 0; k < count; k++) {
         size_t done = 0;
         told[2 * k] = onfiseq_push_status(&bus, &items[k], &done);
         told[2 * k + 1] = (unsigned long)done;
     }
-    sum_onfiseq_bus(&sum, &bus);
     print_numbers("status", told, 2 * count);
-    print_sum("status_bus", sum);
+    print_sum("status_looks", sum_of_looks(&bus));
 }
 
 /* The same items at once, and whole. */
 static void print_whole(const struct onfiseq_geometry *chip, uint8_t targets, const struct onfiseq_item *items, size_t count) {
-    struct onfiseq_bus bus = onfiseq_begin(chip, targets);
+    struct onfiseq_bus bus;
     struct onfiseq_answer answer = onfiseq_check(chip, targets, items, count);
-    uint64_t sum = SUM_OF_NOTHING;
     size_t done = 0;
     unsigned long told[5];
     told[0] = answer.letter, told[1] = answer.number, told[2] = (unsigned long)answer.at;
+    onfiseq_begin(&bus, chip, targets);
     told[3] = onfiseq_push_all(&bus, items, count, &done);
     told[4] = (unsigned long)done;
-    sum_onfiseq_bus(&sum, &bus);
     print_numbers("whole", told, 5);
-    print_sum("whole_bus", sum);
+    print_sum("whole_looks", sum_of_looks(&bus));
 }
 
 static void make_trace(void) {
@@ -129,17 +127,15 @@ static void make_trace(void) {
     static unsigned long rules[256], asked[256];
     struct onfiseq_geometry chip = draw_chip();
     uint8_t targets = (uint8_t)(1 + draw(4));
-    struct onfiseq_bus bus = onfiseq_begin(&chip, targets);
+    struct onfiseq_bus bus;
+    onfiseq_begin(&bus, &chip, targets);
     size_t count = draw_items(&bus, targets, items, rules);
-    uint64_t sum = SUM_OF_NOTHING;
     for (size_t k = 0; k < count; k++) asked[k] = onfiseq_ask(&bus, &items[k]);
-    sum_onfiseq_bus(&sum, &bus);
     printf("{");
     print_chip(&chip, targets);
     print_items("items", items, count);
     print_numbers("push", rules, count);
     print_numbers("ask", asked, count);
-    print_sum("bus", sum);
     print_sum("looks", sum_of_looks(&bus));
     print_statuses(&chip, targets, items, count);
     print_whole(&chip, targets, items, count);
@@ -191,7 +187,7 @@ static void print_verdict(const char *name, struct onfiseq_verdict it) {
 static void print_words(uint8_t letter, uint32_t number) {
     char words[160] = {0};
     uint64_t sum = SUM_OF_NOTHING;
-    size_t room = draw(160), length = onfiseq_words(letter, number, words, room);
+    size_t room = draw(160), length = onfiseq_words(ONFISEQ_CODE(letter, number), words, room);
     unsigned long told[4];
     told[0] = letter, told[1] = number, told[2] = (unsigned long)room, told[3] = (unsigned long)length;
     for (size_t k = 0; k < sizeof words; k++) sum_number(&sum, (uint8_t)words[k]);
@@ -298,10 +294,10 @@ static void print_ready(uint64_t *sum) {
 
 static void make_jobs(void) {
     struct onfiseq_geometry chip = draw_chip();
-    uint64_t sum = SUM_OF_NOTHING, live_sum = SUM_OF_NOTHING;
+    uint64_t sum = SUM_OF_NOTHING;
     uint8_t targets = (uint8_t)(1 + draw(2));
     unsigned steps = draw(60);
-    live = onfiseq_live_begin(&chip, targets);
+    onfiseq_live_begin(&live, &chip, targets);
     printf("{\"live\":1,");
     print_chip(&chip, targets);
     for (unsigned k = 0; k < JOBS; k++) begin_work(&works[k], k);
@@ -312,9 +308,7 @@ static void make_jobs(void) {
         else print_step(&works[which], which, &sum);
     }
     printf("]");
-    sum_onfiseq_live(&live_sum, &live);
     print_sum("answers", sum);
-    print_sum("channel", live_sum);
     printf("}\n");
 }
 
@@ -322,16 +316,16 @@ static void make_jobs(void) {
 
 static void print_samples(void) {
     uint64_t sum = SUM_OF_NOTHING;
-    struct onfiseq_abi abi = onfiseq_abi();
-    struct onfiseq_live_abi live_abi = onfiseq_live_abi();
-    struct onfiseq_live_sample live_sample = onfiseq_live_sample();
-    struct onfiseq_page declared = onfiseq_page(page, page_length);
+    struct onfiseq_abi abi = onfiseq_sizes();
+    struct onfiseq_live_abi live_abi = onfiseq_live_sizes();
+    struct onfiseq_live_sample live_sample = onfiseq_live_make_sample();
+    struct onfiseq_page declared = onfiseq_read_page(page, page_length);
     sum_onfiseq_abi(&sum, &abi);
     sum_onfiseq_live_abi(&sum, &live_abi);
     sum_onfiseq_live_sample(&sum, &live_sample);
     sum_onfiseq_page(&sum, &declared);
     for (unsigned bit = 0; bit < 32; bit++) {
-        struct onfiseq_sample sample = onfiseq_sample((uint32_t)1 << bit);
+        struct onfiseq_sample sample = onfiseq_make_sample((uint32_t)1 << bit);
         sum_onfiseq_sample(&sum, &sample);
     }
     printf("{\"samples\":1");

@@ -133,8 +133,7 @@ class Comparison:
     def node_is_same(self, module, reference):
         """Tries the WebAssembly module in Node, by replay.js."""
         with open(self.room + "/shape.json", "w") as it:
-            records, calls = header.read("include/onfiseq.h")
-            it.write(header.json.dumps({"records": records, "calls": calls}))
+            it.write(header.shape("include/onfiseq.h"))
         begun = time.time()
         ran = subprocess.run(["node", HERE + "/replay.js", module, self.room + "/shape.json", CHIP, reference], stdout=subprocess.PIPE, text=True)
         print("compare: wasm32 in Node: %s, %.0f s" % (ran.stdout.strip(), time.time() - begun), flush=True)

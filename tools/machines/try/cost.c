@@ -24,9 +24,9 @@ static size_t count, done;
 
 static unsigned do_page(void) {
     static const uint8_t page[256] = {'O', 'N', 'F', 'I'};
-    return onfiseq_page(page, sizeof page).fault == 0;
+    return onfiseq_read_page(page, sizeof page).fault == 0;
 }
-static unsigned do_begin(void) { return bus = onfiseq_begin(&chip, 1), bus.count == 0; }
+static unsigned do_begin(void) { return onfiseq_begin(&bus, &chip, 1) != 0; }
 static unsigned do_push(void) {
     unsigned wrong = 0;
     for (size_t k = 0; k < count; k++) wrong += onfiseq_push(&bus, &items[k]);
@@ -44,7 +44,7 @@ static unsigned do_ask(void) {
 }
 static unsigned do_look(void) {
     unsigned wrong = 0;
-    for (size_t k = 0; k < count; k++) wrong += !onfiseq_look(&bus, 0, 0).is_there;
+    for (size_t k = 0; k < count; k++) wrong += !onfiseq_look_at(&bus, 0, 0).is_there;
     return wrong;
 }
 static unsigned do_push_all(void) { return onfiseq_push_all(&bus, items, count, &done); }
@@ -58,7 +58,7 @@ static unsigned do_step(void) {
     return 0;
 }
 static unsigned begin_job(void) {
-    live = onfiseq_live_begin(&chip, 1);
+    onfiseq_live_begin(&live, &chip, 1);
     return onfiseq_job_begin(&live, 0, 0, 0, file, sizeof file, 0, &job).letter;
 }
 

@@ -12,7 +12,7 @@ class Sum {
         this.low = low >>> 0;
     }
     number(it) {
-        let low = Number(it) % 4294967296, high = Math.floor(Number(it) / 4294967296);
+        let low = Number(BigInt(it) % 4294967296n), high = Number(BigInt(it) / 4294967296n);
         for (let k = 0; k < 4; k++, low = Math.floor(low / 256)) this.byte(low & 255);
         for (let k = 0; k < 4; k++, high = Math.floor(high / 256)) this.byte(high & 255);
     }
@@ -31,7 +31,7 @@ class Sum {
 const bytesOf = text => Uint8Array.from((text.match(/../g) || []).map(it => parseInt(it, 16)));
 const itemOf = ([ce, kind, byte, fail]) => ({ ce, kind, byte, fail });
 function geometryOf([page_bytes, spare_bytes, pages, blocks, luns, plane_bits, enhanced, multi_plane, cache]) {
-    return { page_bytes, spare_bytes, pages, blocks, luns, plane_bits, enhanced: enhanced !== 0, multi_plane: multi_plane !== 0, cache: cache !== 0 };
+    return { page_bytes, spare_bytes, pages, blocks, luns, plane_bits, enhanced, multi_plane, cache };
 }
 
 class Replay {
@@ -51,28 +51,33 @@ class Replay {
 
     samples(it) {
         const sum = new Sum(this.shape);
-        sum.record("onfiseq_abi", this.lib.abi()).record("onfiseq_live_abi", this.lib.live_abi()).record("onfiseq_live_sample", this.lib.live_sample());
-        sum.record("onfiseq_page", this.lib.page(this.page));
-        for (let bit = 0; bit < 32; bit++) sum.record("onfiseq_sample", this.lib.sample(Math.pow(2, bit)));
+        sum.record("onfiseq_abi", this.lib.sizes()).record("onfiseq_live_abi", this.lib.live_sizes()).record("onfiseq_live_sample", this.lib.live_make_sample());
+        sum.record("onfiseq_page", this.lib.read_page(this.page));
+        for (let bit = 0; bit < 32; bit++) sum.record("onfiseq_sample", this.lib.make_sample(Math.pow(2, bit)));
         this.same("samples", sum.text(), it.sum);
+    }
+    begun(chip, targets) { return this.lib.begun(chip, targets); }
+    begunLive(chip, targets) {
+        const live = this.empty("onfiseq_live");
+        this.lib.live_begin_sized(live, this.shape.records.onfiseq_live.size, this.shape.version, chip, targets);
+        return live;
     }
     looks(bus) {
         const sum = new Sum(this.shape);
-        for (let at = 0; at < 25; at++) sum.record("onfiseq_look", this.lib.look(bus, Math.floor(at / 5), at % 5));
+        for (let at = 0; at < 25; at++) sum.record("onfiseq_look", this.lib.look_at(bus, Math.floor(at / 5), at % 5));
         return sum.text();
     }
     trace(it) {
-        const chip = geometryOf(it.chip), items = it.items.map(itemOf), bus = this.lib.begin(chip, it.targets);
+        const chip = geometryOf(it.chip), items = it.items.map(itemOf), bus = this.begun(chip, it.targets);
         this.same("push", items.map(item => this.lib.push(bus, item)), it.push);
         this.same("ask", items.map(item => this.lib.ask(bus, item)), it.ask);
-        this.same("bus", this.sum("onfiseq_bus", bus), it.bus);
         this.same("looks", this.looks(bus), it.looks);
-        const status = this.lib.begin(chip, it.targets), done = { value: 0 };
+        const status = this.begun(chip, it.targets), done = { value: 0 };
         this.same("push_status", items.flatMap(item => [this.lib.push_status(status, item, done), done.value]), it.status);
-        this.same("bus of push_status", this.sum("onfiseq_bus", status), it.status_bus);
-        const whole = this.lib.begin(chip, it.targets), answer = this.lib.check(chip, it.targets, items), rule = this.lib.push_all(whole, items, done);
+        this.same("looks of push_status", this.looks(status), it.status_looks);
+        const whole = this.begun(chip, it.targets), answer = this.lib.check(chip, it.targets, items), rule = this.lib.push_all(whole, items, done);
         this.same("check, push_all", [answer.letter, answer.number, answer.at, rule, done.value], it.whole);
-        this.same("bus of push_all", this.sum("onfiseq_bus", whole), it.whole_bus);
+        this.same("looks of push_all", this.looks(whole), it.whole_looks);
     }
     assembly(it) {
         const file = new Uint8Array(4112), made = this.lib.assemble(new TextEncoder().encode(it.text), file);
@@ -93,7 +98,7 @@ class Replay {
     }
     words(it) {
         const [letter, number, room, length] = it.words, text = new Uint8Array(160), part = text.subarray(0, room), sum = new Sum(this.shape);
-        this.same("words", this.lib.words(letter, number, part), length);
+        this.same("words", this.lib.words(letter * 256 + number, part), length);
         for (const byte of text) sum.number(byte);
         this.same("words", sum.text(), it.words_text);
     }
@@ -115,10 +120,9 @@ class Replay {
         this.same("ready", rule, wanted);
     }
     jobs(it) {
-        const live = this.lib.live_begin(geometryOf(it.chip), it.targets), works = [0, 1, 2].map(k => this.job(live, it, k)), sum = new Sum(this.shape);
+        const live = this.begunLive(geometryOf(it.chip), it.targets), works = [0, 1, 2].map(k => this.job(live, it, k)), sum = new Sum(this.shape);
         for (const step of it.steps.slice(1)) step[0] === 9 ? this.ready(live, step, sum) : this.step(live, works[step[0]], step, sum);
         this.same("answers", sum.text(), it.answers);
-        this.same("channel", this.sum("onfiseq_live", live), it.channel);
     }
     line(text) {
         const it = JSON.parse(text);

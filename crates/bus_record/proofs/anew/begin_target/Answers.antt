@@ -9,36 +9,33 @@ use Rattle.bus_record.proofs.Begun.{begun_follows, stays_beyond, never_beyond, c
 use Rattle.bus_record.proofs.Runs.{no_target}
 use Rattle.bus_record.proofs.anew.begin_target.Goals as goal
 
--- the bus is sound, as it stands
-sound : (c : goal.After-number) → IsSound c.args.bus.now
-sound c = subst IsSound c.bus.view_is c.bus.invariant
-
-low : (c : goal.After-number) → c.args.bus.now.count ≤ c.args.ce
-low c = let place = c.from-place.ensures in let beyond = c.if-bus-place.true in subst (λ (x : Kept). x.count ≤ c.args.ce) c.bus.view_is (omega (arith, place, beyond))
-
 pub returns-then-bus-place-clause-state : goal.returns-then-bus-place-clause-state
-returns-then-bus-place-clause-state c = stays_beyond (begun (parts_of c.args.bus.now.geometry) c.args.ce) c.args.bus.now c.args.ce (sound c) (low c)
+returns-then-bus-place-clause-state c =
+    let place = c.from-place.ensures in let beyond = c.if-bus-place.true in
+    let low : c.args.bus.now.count ≤ c.args.ce = omega (arith, place, beyond) in
+    stays_beyond (begun (parts_of c.args.bus.now.geometry) c.args.ce) c.args.bus.now c.args.ce c.requires low
 
 pub returns-then-bus-place-clause-past : goal.returns-then-bus-place-clause-past
-returns-then-bus-place-clause-past c g n past inside follows = absurd (never_beyond g n c.args.ce c.args.bus.now past (sound c) (low c) inside follows)
+returns-then-bus-place-clause-past c g n past inside follows =
+    let place = c.from-place.ensures in let beyond = c.if-bus-place.true in
+    let low : c.args.bus.now.count ≤ c.args.ce = omega (arith, place, beyond) in
+    absurd (never_beyond g n c.args.ce c.args.bus.now past c.requires low inside follows)
 
-pub invariant_of-bus : goal.invariant_of-bus
-invariant_of-bus c =
-    let k : Kept = record { magic = c.bus.inside.magic; geometry = c.bus.inside.geometry; count = c.bus.inside.count; targets = c.bus.inside.targets } in
-    sound_anew k c.args.ce c.from-place.result c.fresh_target.result c.bus.invariant c.from-place.ensures c.if-bus-place.false c.fresh_target.ensures.numbers
-    (λ ce. c.fresh_target.ensures.value (parts_of c.bus.inside.geometry) ce refl)
+pub returns-clause-sound : goal.returns-clause-sound
+returns-clause-sound c =
+    let k : Kept = c.args.bus.now in
+    sound_anew k c.args.ce c.from-place.result c.fresh_target.result c.requires c.from-place.ensures c.if-bus-place.false c.fresh_target.ensures.numbers
+    (λ ce. c.fresh_target.ensures.value (parts_of c.args.bus.now.geometry) ce refl)
 
 pub returns-clause-state : goal.returns-clause-state
 returns-clause-state c =
-    let k : Kept = record { magic = c.bus.inside.magic; geometry = c.bus.inside.geometry; count = c.bus.inside.count; targets = c.bus.inside.targets } in
+    let k : Kept = c.args.bus.now in
     changed_there (begun (parts_of k.geometry) c.args.ce) k c.args.ce c.from-place.result no_target c.fresh_target.result c.from-place.ensures c.if-bus-place.false
-    (c.fresh_target.ensures.value (parts_of c.bus.inside.geometry) c.args.ce refl)
-    ∙ ap (λ (x : Kept). bus_begun c.args.ce (bus_view x)) c.bus.view_is
+    (c.fresh_target.ensures.value (parts_of c.args.bus.now.geometry) c.args.ce refl)
 
 pub returns-clause-others : goal.returns-clause-others
 returns-clause-others c =
-    let k : Kept = record { magic = c.bus.inside.magic; geometry = c.bus.inside.geometry; count = c.bus.inside.count; targets = c.bus.inside.targets } in
-    subst (λ (x : Kept). KeepsOthers c.args.ce x (record { magic = k.magic; geometry = k.geometry; count = k.count; targets = slice_set k.targets c.from-place.result c.fresh_target.result })) c.bus.view_is
+    let k : Kept = c.args.bus.now in
     (keeps_others k c.args.ce c.from-place.result c.fresh_target.result c.from-place.ensures)
 
 pub returns-clause-past : goal.returns-clause-past

@@ -9,23 +9,21 @@ use Rattle.bus_record.proofs.anew.drop_sequence.Goals as goal
 pub returns-then-bus-place-clause-state : goal.returns-then-bus-place-clause-state
 returns-then-bus-place-clause-state c =
     let place = c.from-place.ensures in let beyond = c.if-bus-place.true in
-    let low : c.args.bus.now.count ≤ c.args.ce = subst (λ (x : Kept). x.count ≤ c.args.ce) c.bus.view_is (omega (arith, place, beyond)) in
-    stays_beyond without_sequence c.args.bus.now c.args.ce (subst IsSound c.bus.view_is c.bus.invariant) low
+    let low : c.args.bus.now.count ≤ c.args.ce = (omega (arith, place, beyond)) in
+    stays_beyond without_sequence c.args.bus.now c.args.ce (c.requires) low
 
-pub invariant_of-bus : goal.invariant_of-bus
-invariant_of-bus c =
-    let k : Kept = record { magic = c.bus.inside.magic; geometry = c.bus.inside.geometry; count = c.bus.inside.count; targets = c.bus.inside.targets } in
-    sound_dropped k c.args.ce c.from-place.result _ c.without_sequence.result c.bus.invariant c.from-place.ensures c.if-bus-place.false c.without_sequence.ensures.numbers
+pub returns-clause-sound : goal.returns-clause-sound
+returns-clause-sound c =
+    let k : Kept = c.args.bus.now in
+    sound_dropped k c.args.ce c.from-place.result _ c.without_sequence.result c.requires c.from-place.ensures c.if-bus-place.false c.without_sequence.ensures.numbers
     c.without_sequence.ensures.state
 
 pub returns-clause-state : goal.returns-clause-state
 returns-clause-state c =
-    let k : Kept = record { magic = c.bus.inside.magic; geometry = c.bus.inside.geometry; count = c.bus.inside.count; targets = c.bus.inside.targets } in
+    let k : Kept = c.args.bus.now in
     changed_there without_sequence k c.args.ce c.from-place.result _ c.without_sequence.result c.from-place.ensures c.if-bus-place.false c.without_sequence.ensures.state
-    ∙ ap (λ (x : Kept). bus_without c.args.ce (bus_view x)) c.bus.view_is
 
 pub returns-clause-others : goal.returns-clause-others
 returns-clause-others c =
-    let k : Kept = record { magic = c.bus.inside.magic; geometry = c.bus.inside.geometry; count = c.bus.inside.count; targets = c.bus.inside.targets } in
-    subst (λ (x : Kept). KeepsOthers c.args.ce x (record { magic = k.magic; geometry = k.geometry; count = k.count; targets = slice_set k.targets c.from-place.result c.without_sequence.result })) c.bus.view_is
+    let k : Kept = c.args.bus.now in
     (keeps_others k c.args.ce c.from-place.result c.without_sequence.result c.from-place.ensures)

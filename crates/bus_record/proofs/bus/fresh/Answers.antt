@@ -5,8 +5,8 @@ use Rattle.bus_record.specs.Bus.{bus_view}
 use Rattle.bus_record.proofs.Fresh.{fresh_sound, fresh_follows}
 use Rattle.bus_record.proofs.bus.fresh.Goals as goal
 
-pub invariant_of-result : goal.invariant_of-result
-invariant_of-result c =
+pub returns-clause-sound : goal.returns-clause-sound
+returns-clause-sound c =
     let same = c.from.ensures in let most = c.requires.few in
     let few : c.from.result ≤ 4 = omega (arith, same, most) in
     fresh_sound c.args.geometry c.fresh_target-target.result c.from.result c.requires.limits c.fresh_target-target.ensures.numbers

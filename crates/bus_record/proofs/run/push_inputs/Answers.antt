@@ -13,42 +13,40 @@ use Rattle.bus_record.proofs.run.push_inputs.Goals as goal
 
 pub push_inputs_there-rule-requires-clause-fits : goal.push_inputs_there-rule-requires-clause-fits
 push_inputs_there-rule-requires-clause-fits c =
-    let k : Kept = record { magic = c.bus.inside.magic; geometry = c.bus.inside.geometry; count = c.bus.inside.count; targets = c.bus.inside.targets } in
-    fits_there k c.bus.invariant c.from-place.result c.if-bus-place.false no_target
+    let k : Kept = c.args.bus.now in
+    fits_there k c.requires c.from-place.result c.if-bus-place.false no_target
 
 pub returns-clause-rule : goal.returns-clause-rule
 returns-clause-rule c =
-    let k : Kept = record { magic = c.bus.inside.magic; geometry = c.bus.inside.geometry; count = c.bus.inside.count; targets = c.bus.inside.targets } in
+    let k : Kept = c.args.bus.now in
     let some : 0 < c.args.count = omega (arith, c.if-count-eq0.false) in
     c.push_inputs_there-rule.ensures.rule
     ∙ (ap (λ (m : ℕ). inputs_rule (parts_of k.geometry) k.count m c.args.count (target_of (get_or k.targets c.from-place.result no_target))) (sym c.from-place.ensures)
-    ∙ (inputs_judged k c.bus.invariant c.from-place.result c.args.count c.if-bus-place.false some no_target
-    ∙ (ap (λ (m : ℕ). judged_inputs m c.args.count (bus_view k)) c.from-place.ensures
-    ∙ ap (λ (x : Kept). judged_inputs c.args.ce c.args.count (bus_view x)) c.bus.view_is)))
+    ∙ (inputs_judged k c.requires c.from-place.result c.args.count c.if-bus-place.false some no_target
+    ∙ (ap (λ (m : ℕ). judged_inputs m c.args.count (bus_view k)) c.from-place.ensures)))
 
-pub invariant_of-bus : goal.invariant_of-bus
-invariant_of-bus c =
-    let k : Kept = record { magic = c.bus.inside.magic; geometry = c.bus.inside.geometry; count = c.bus.inside.count; targets = c.bus.inside.targets } in
+pub returns-clause-sound : goal.returns-clause-sound
+returns-clause-sound c =
+    let k : Kept = c.args.bus.now in
     let some : 0 < c.args.count = omega (arith, c.if-count-eq0.false) in
-    run_sound Din inputs_are_data k c.bus.invariant c.from-place.result c.args.count c.if-bus-place.false c.push_inputs_there-rule.new.kept c.push_inputs_there-rule.ensures.numbers
-    (inputs_left k c.bus.invariant c.from-place.result c.args.count c.if-bus-place.false some no_target c.push_inputs_there-rule.new.kept
+    run_sound Din inputs_are_data k c.requires c.from-place.result c.args.count c.if-bus-place.false c.push_inputs_there-rule.new.kept c.push_inputs_there-rule.ensures.numbers
+    (inputs_left k c.requires c.from-place.result c.args.count c.if-bus-place.false some no_target c.push_inputs_there-rule.new.kept
     (c.push_inputs_there-rule.ensures.state
     ∙ ap (λ (m : ℕ). inputs_pushed (parts_of k.geometry) k.count m c.args.count (target_of (get_or k.targets c.from-place.result no_target))) (sym c.from-place.ensures)))
 
 pub returns-clause-state : goal.returns-clause-state
 returns-clause-state c none =
-    let k : Kept = record { magic = c.bus.inside.magic; geometry = c.bus.inside.geometry; count = c.bus.inside.count; targets = c.bus.inside.targets } in
+    let k : Kept = c.args.bus.now in
     let some : 0 < c.args.count = omega (arith, c.if-count-eq0.false) in
-    let left = inputs_left k c.bus.invariant c.from-place.result c.args.count c.if-bus-place.false some no_target c.push_inputs_there-rule.new.kept
+    let left = inputs_left k c.requires c.from-place.result c.args.count c.if-bus-place.false some no_target c.push_inputs_there-rule.new.kept
     (c.push_inputs_there-rule.ensures.state
     ∙ ap (λ (m : ℕ). inputs_pushed (parts_of k.geometry) k.count m c.args.count (target_of (get_or k.targets c.from-place.result no_target))) (sym c.from-place.ensures)) in
     run_state Din c.args.ce c.args.count (bus_view c.args.bus.now) (with_target k c.from-place.result c.push_inputs_there-rule.new.kept)
     (left
-    ∙ (ap (λ (m : ℕ). run_pushed Din m c.args.count (bus_view k)) c.from-place.ensures
-    ∙ ap (λ (x : Kept). run_pushed Din c.args.ce c.args.count (bus_view x)) c.bus.view_is))
+    ∙ (ap (λ (m : ℕ). run_pushed Din m c.args.count (bus_view k)) c.from-place.ensures))
     (sym (returns-clause-rule c) ∙ none)
 
 pub push_inputs_there-rule-requires-clause-limits : goal.push_inputs_there-rule-requires-clause-limits
 push_inputs_there-rule-requires-clause-limits c =
-    let k : Kept = record { magic = c.bus.inside.magic; geometry = c.bus.inside.geometry; count = c.bus.inside.count; targets = c.bus.inside.targets } in
-    limits_there k c.bus.invariant c.from-place.result c.if-bus-place.false
+    let k : Kept = c.args.bus.now in
+    limits_there k c.requires c.from-place.result c.if-bus-place.false

@@ -13,51 +13,49 @@ use Rattle.bus_record.proofs.run.push_outputs.Goals as goal
 
 pub push_outputs_there-rule-requires-clause-fits : goal.push_outputs_there-rule-requires-clause-fits
 push_outputs_there-rule-requires-clause-fits c =
-    let k : Kept = record { magic = c.bus.inside.magic; geometry = c.bus.inside.geometry; count = c.bus.inside.count; targets = c.bus.inside.targets } in
-    fits_there k c.bus.invariant c.from-place.result c.if-bus-place.false no_target
+    let k : Kept = c.args.bus.now in
+    fits_there k c.requires c.from-place.result c.if-bus-place.false no_target
 
 pub push_outputs_there-rule-requires-clause-few : goal.push_outputs_there-rule-requires-clause-few
 push_outputs_there-rule-requires-clause-few c none =
-    let k : Kept = record { magic = c.bus.inside.magic; geometry = c.bus.inside.geometry; count = c.bus.inside.count; targets = c.bus.inside.targets } in
+    let k : Kept = c.args.bus.now in
     let some : 0 < c.args.count = omega (arith, c.if-count-eq0.false) in
-    few_there k c.bus.invariant c.from-place.result c.args.count c.if-bus-place.false some no_target
-    (sym (outputs_judged k c.bus.invariant c.from-place.result c.args.count c.if-bus-place.false some no_target)
+    few_there k c.requires c.from-place.result c.args.count c.if-bus-place.false some no_target
+    (sym (outputs_judged k c.requires c.from-place.result c.args.count c.if-bus-place.false some no_target)
     ∙ (ap (λ (m : ℕ). outputs_rule (parts_of k.geometry) k.count m c.args.count (target_of (get_or k.targets c.from-place.result no_target))) c.from-place.ensures
     ∙ none))
 
 pub returns-clause-rule : goal.returns-clause-rule
 returns-clause-rule c =
-    let k : Kept = record { magic = c.bus.inside.magic; geometry = c.bus.inside.geometry; count = c.bus.inside.count; targets = c.bus.inside.targets } in
+    let k : Kept = c.args.bus.now in
     let some : 0 < c.args.count = omega (arith, c.if-count-eq0.false) in
     c.push_outputs_there-rule.ensures.rule
     ∙ (ap (λ (m : ℕ). outputs_rule (parts_of k.geometry) k.count m c.args.count (target_of (get_or k.targets c.from-place.result no_target))) (sym c.from-place.ensures)
-    ∙ (outputs_judged k c.bus.invariant c.from-place.result c.args.count c.if-bus-place.false some no_target
-    ∙ (ap (λ (m : ℕ). judged_outputs m c.args.count (bus_view k)) c.from-place.ensures
-    ∙ ap (λ (x : Kept). judged_outputs c.args.ce c.args.count (bus_view x)) c.bus.view_is)))
+    ∙ (outputs_judged k c.requires c.from-place.result c.args.count c.if-bus-place.false some no_target
+    ∙ (ap (λ (m : ℕ). judged_outputs m c.args.count (bus_view k)) c.from-place.ensures)))
 
-pub invariant_of-bus : goal.invariant_of-bus
-invariant_of-bus c =
-    let k : Kept = record { magic = c.bus.inside.magic; geometry = c.bus.inside.geometry; count = c.bus.inside.count; targets = c.bus.inside.targets } in
+pub returns-clause-sound : goal.returns-clause-sound
+returns-clause-sound c =
+    let k : Kept = c.args.bus.now in
     let some : 0 < c.args.count = omega (arith, c.if-count-eq0.false) in
-    run_sound Dout outputs_are_data k c.bus.invariant c.from-place.result c.args.count c.if-bus-place.false c.push_outputs_there-rule.new.kept c.push_outputs_there-rule.ensures.numbers
-    (outputs_left k c.bus.invariant c.from-place.result c.args.count c.if-bus-place.false some no_target c.push_outputs_there-rule.new.kept
+    run_sound Dout outputs_are_data k c.requires c.from-place.result c.args.count c.if-bus-place.false c.push_outputs_there-rule.new.kept c.push_outputs_there-rule.ensures.numbers
+    (outputs_left k c.requires c.from-place.result c.args.count c.if-bus-place.false some no_target c.push_outputs_there-rule.new.kept
     (c.push_outputs_there-rule.ensures.state
     ∙ ap (λ (m : ℕ). outputs_pushed (parts_of k.geometry) k.count m c.args.count (target_of (get_or k.targets c.from-place.result no_target))) (sym c.from-place.ensures)))
 
 pub returns-clause-state : goal.returns-clause-state
 returns-clause-state c none =
-    let k : Kept = record { magic = c.bus.inside.magic; geometry = c.bus.inside.geometry; count = c.bus.inside.count; targets = c.bus.inside.targets } in
+    let k : Kept = c.args.bus.now in
     let some : 0 < c.args.count = omega (arith, c.if-count-eq0.false) in
-    let left = outputs_left k c.bus.invariant c.from-place.result c.args.count c.if-bus-place.false some no_target c.push_outputs_there-rule.new.kept
+    let left = outputs_left k c.requires c.from-place.result c.args.count c.if-bus-place.false some no_target c.push_outputs_there-rule.new.kept
     (c.push_outputs_there-rule.ensures.state
     ∙ ap (λ (m : ℕ). outputs_pushed (parts_of k.geometry) k.count m c.args.count (target_of (get_or k.targets c.from-place.result no_target))) (sym c.from-place.ensures)) in
     run_state Dout c.args.ce c.args.count (bus_view c.args.bus.now) (with_target k c.from-place.result c.push_outputs_there-rule.new.kept)
     (left
-    ∙ (ap (λ (m : ℕ). run_pushed Dout m c.args.count (bus_view k)) c.from-place.ensures
-    ∙ ap (λ (x : Kept). run_pushed Dout c.args.ce c.args.count (bus_view x)) c.bus.view_is))
+    ∙ (ap (λ (m : ℕ). run_pushed Dout m c.args.count (bus_view k)) c.from-place.ensures))
     (sym (returns-clause-rule c) ∙ none)
 
 pub push_outputs_there-rule-requires-clause-limits : goal.push_outputs_there-rule-requires-clause-limits
 push_outputs_there-rule-requires-clause-limits c =
-    let k : Kept = record { magic = c.bus.inside.magic; geometry = c.bus.inside.geometry; count = c.bus.inside.count; targets = c.bus.inside.targets } in
-    limits_there k c.bus.invariant c.from-place.result c.if-bus-place.false
+    let k : Kept = c.args.bus.now in
+    limits_there k c.requires c.from-place.result c.if-bus-place.false

@@ -6,33 +6,29 @@ use Rattle.bus_record.specs.Kept.{Kept}
 use Rattle.bus_record.specs.Trial.{judged_poll}
 use Rattle.bus_record.specs.Bus.{bus_view}
 use Rattle.bus_record.proofs.Asked.{poll_asks}
-use Rattle.bus_record.proofs.Pushed.{fits_there, limits_there, judged_there}
+use Rattle.bus_record.proofs.Pushed.{places_of, fits_there, limits_there, judged_there}
 use Rattle.bus_record.proofs.trial.ask_poll.Goals as goal
 
 pub judge_read_status-requires-clause-limits : goal.judge_read_status-requires-clause-limits
 judge_read_status-requires-clause-limits c =
-    let k : Kept = record { magic = c.bus.inside.magic; geometry = c.bus.inside.geometry; count = c.bus.inside.count; targets = c.bus.inside.targets } in
-    let count : k.count ≡ c.args.bus.now.count = ap (λ (x : Kept). x.count) c.bus.view_is in
+    let k : Kept = c.args.bus.now in
     let same = c.from.ensures in
     let inside = c.requires.there in
-    limits_there k c.bus.invariant c.from.result (omega (arith, same, count, inside))
+    limits_there k c.requires.sound c.from.result (omega (arith, same, inside))
 
 pub judge_read_status-requires-clause-fits : goal.judge_read_status-requires-clause-fits
 judge_read_status-requires-clause-fits c =
-    let k : Kept = record { magic = c.bus.inside.magic; geometry = c.bus.inside.geometry; count = c.bus.inside.count; targets = c.bus.inside.targets } in
-    let count : k.count ≡ c.args.bus.now.count = ap (λ (x : Kept). x.count) c.bus.view_is in
+    let k : Kept = c.args.bus.now in
     let same = c.from.ensures in
     let inside = c.requires.there in
-    fits_there k c.bus.invariant c.from.result (omega (arith, same, count, inside)) _
+    fits_there k c.requires.sound c.from.result (omega (arith, same, inside)) _
 
 pub returns : goal.returns
 returns c =
-    let k : Kept = record { magic = c.bus.inside.magic; geometry = c.bus.inside.geometry; count = c.bus.inside.count; targets = c.bus.inside.targets } in
-    let count : k.count ≡ c.args.bus.now.count = ap (λ (x : Kept). x.count) c.bus.view_is in
+    let k : Kept = c.args.bus.now in
     let same = c.from.ensures in
     let inside = c.requires.there in
-    let low : c.from.result < k.count = omega (arith, same, count, inside) in
-    let at : c.args.ce < k.count = omega (arith, count, inside) in
-    let one : (parts_of k.geometry).luns ≡ 1 = ap (λ (x : Kept). (parts_of x.geometry).luns) c.bus.view_is ∙ c.requires.one in
-    poll_asks k c.bus.invariant c.args.ce at one c.judge_read_status.result (c.judge_read_status.ensures ∙ sym (judged_there k c.bus.invariant (cycle c.args.ce Cmd 0x70) c.from.result c.from.ensures low _))
-    ∙ ap (λ (x : Kept). judged_poll c.args.ce (bus_view x)) c.bus.view_is
+    let low : c.from.result < k.count = omega (arith, same, inside) in
+    let at : c.args.ce < k.count = c.requires.there in
+    let one : (parts_of k.geometry).luns ≡ 1 = c.requires.one in
+    poll_asks k c.requires.sound c.args.ce at one c.judge_read_status.result (c.judge_read_status.ensures ∙ sym (judged_there k (places_of k c.requires.sound) (cycle c.args.ce Cmd 0x70) c.from.result c.from.ensures low _))

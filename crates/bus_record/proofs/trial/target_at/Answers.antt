@@ -8,16 +8,15 @@ use Rattle.bus_record.proofs.trial.target_at.Goals as goal
 
 pub returns-clause-tried : goal.returns-clause-tried
 returns-clause-tried c =
-    let k : Kept = record { magic = c.bus.inside.magic; geometry = c.bus.inside.geometry; count = c.bus.inside.count; targets = c.bus.inside.targets } in
+    let k : Kept = c.args.bus.now in
     let t = get_or k.targets c.from.result no_target in
-    let count : k.count ≡ c.args.bus.now.count = ap (λ (x : Kept). x.count) c.bus.view_is in
     let same = c.from.ensures in
-    let inside = c.requires in
-    let low : c.from.result < k.count = omega (arith, same, count, inside) in
-    subst (λ (x : Kept). IsTried x c.args.ce t) c.bus.view_is (subst (λ (n : ℕ). IsTried k n t) c.from.ensures (taken_out k c.from.result no_target c.bus.invariant low))
+    let inside = c.requires.there in
+    let low : c.from.result < k.count = omega (arith, same, inside) in
+    (subst (λ (n : ℕ). IsTried k n t) c.from.ensures (taken_out k c.from.result no_target c.requires.sound low))
 
 pub returns-clause-state : goal.returns-clause-state
 returns-clause-state c =
-    let k : Kept = record { magic = c.bus.inside.magic; geometry = c.bus.inside.geometry; count = c.bus.inside.count; targets = c.bus.inside.targets } in
+    let k : Kept = c.args.bus.now in
     let t = get_or k.targets c.from.result no_target in
-    subst (λ (x : Kept). tried_view x c.args.ce t ≡ bus_view x) c.bus.view_is (subst (λ (n : ℕ). tried_view k n t ≡ bus_view k) c.from.ensures (taken_view k c.from.result no_target))
+    (subst (λ (n : ℕ). tried_view k n t ≡ bus_view k) c.from.ensures (taken_view k c.from.result no_target))

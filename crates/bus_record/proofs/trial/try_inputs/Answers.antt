@@ -9,35 +9,32 @@ use Rattle.bus_record.proofs.trial.try_inputs.Goals as goal
 
 pub push_inputs_there-requires-clause-limits : goal.push_inputs_there-requires-clause-limits
 push_inputs_there-requires-clause-limits c =
-    let k : Kept = record { magic = c.bus.inside.magic; geometry = c.bus.inside.geometry; count = c.bus.inside.count; targets = c.bus.inside.targets } in
-    tried_limits k c.args.ce c.args.kept.now (subst (λ (x : Kept). IsTried x c.args.ce c.args.kept.now) (sym c.bus.view_is) c.requires)
+    let k : Kept = c.args.bus.now in
+    tried_limits k c.args.ce c.args.kept.now (c.requires)
 
 pub push_inputs_there-requires-clause-numbers : goal.push_inputs_there-requires-clause-numbers
 push_inputs_there-requires-clause-numbers c = tried_numbers c.args.bus.now c.args.ce c.args.kept.now c.requires
 
 pub push_inputs_there-requires-clause-fits : goal.push_inputs_there-requires-clause-fits
 push_inputs_there-requires-clause-fits c =
-    let k : Kept = record { magic = c.bus.inside.magic; geometry = c.bus.inside.geometry; count = c.bus.inside.count; targets = c.bus.inside.targets } in
-    tried_fits k c.args.ce c.args.kept.now (subst (λ (x : Kept). IsTried x c.args.ce c.args.kept.now) (sym c.bus.view_is) c.requires)
+    let k : Kept = c.args.bus.now in
+    tried_fits k c.args.ce c.args.kept.now (c.requires)
 
 pub returns-clause-rule : goal.returns-clause-rule
 returns-clause-rule c =
-    let k : Kept = record { magic = c.bus.inside.magic; geometry = c.bus.inside.geometry; count = c.bus.inside.count; targets = c.bus.inside.targets } in
-    tried_inputs_rule k c.args.ce c.args.count c.args.kept.now c.push_inputs_there.result (subst (λ (x : Kept). IsTried x c.args.ce c.args.kept.now) (sym c.bus.view_is) c.requires) (omega (arith, c.if-count-eq0.false)) c.push_inputs_there.ensures.rule
-    ∙ ap (λ (x : Kept). judged_inputs c.args.ce c.args.count (tried_view x c.args.ce c.args.kept.now)) c.bus.view_is
+    let k : Kept = c.args.bus.now in
+    tried_inputs_rule k c.args.ce c.args.count c.args.kept.now c.push_inputs_there.result (c.requires) (omega (arith, c.if-count-eq0.false)) c.push_inputs_there.ensures.rule
 
 pub returns-clause-state : goal.returns-clause-state
 returns-clause-state c none =
-    let k : Kept = record { magic = c.bus.inside.magic; geometry = c.bus.inside.geometry; count = c.bus.inside.count; targets = c.bus.inside.targets } in
-    let h = subst (λ (x : Kept). IsTried x c.args.ce c.args.kept.now) (sym c.bus.view_is) c.requires in
+    let k : Kept = c.args.bus.now in
+    let h = c.requires in
     let some : 0 < c.args.count = omega (arith, c.if-count-eq0.false) in
-    subst (λ (x : Kept). tried_view x c.args.ce c.push_inputs_there.new.kept ≡ after_run Din c.args.ce c.args.count (tried_view x c.args.ce c.args.kept.now)) c.bus.view_is
     (tried_inputs_state k c.args.ce c.args.count c.args.kept.now c.push_inputs_there.new.kept c.push_inputs_there.result h some
     (tried_inputs_rule k c.args.ce c.args.count c.args.kept.now c.push_inputs_there.result h some c.push_inputs_there.ensures.rule) c.push_inputs_there.ensures.state none)
 
 pub returns-clause-tried : goal.returns-clause-tried
 returns-clause-tried c =
-    let k : Kept = record { magic = c.bus.inside.magic; geometry = c.bus.inside.geometry; count = c.bus.inside.count; targets = c.bus.inside.targets } in
-    let h = subst (λ (x : Kept). IsTried x c.args.ce c.args.kept.now) (sym c.bus.view_is) c.requires in
-    subst (λ (x : Kept). IsTried x c.args.ce c.push_inputs_there.new.kept) c.bus.view_is
+    let k : Kept = c.args.bus.now in
+    let h = c.requires in
     (tried_inputs_sound k c.args.ce c.args.count c.args.kept.now c.push_inputs_there.new.kept h (omega (arith, c.if-count-eq0.false)) c.push_inputs_there.ensures.numbers c.push_inputs_there.ensures.state)

@@ -9,29 +9,27 @@ use Rattle.bus_record.proofs.trial.try_item.Goals as goal
 
 pub step_target-requires-clause-limits : goal.step_target-requires-clause-limits
 step_target-requires-clause-limits c =
-    let k : Kept = record { magic = c.bus.inside.magic; geometry = c.bus.inside.geometry; count = c.bus.inside.count; targets = c.bus.inside.targets } in
-    tried_limits k (target_of_item c.args.item) c.args.kept.now (subst (λ (x : Kept). IsTried x (target_of_item c.args.item) c.args.kept.now) (sym c.bus.view_is) c.requires)
+    let k : Kept = c.args.bus.now in
+    tried_limits k (target_of_item c.args.item) c.args.kept.now (c.requires)
 
 pub step_target-requires-clause-numbers : goal.step_target-requires-clause-numbers
 step_target-requires-clause-numbers c = tried_numbers c.args.bus.now (target_of_item c.args.item) c.args.kept.now c.requires
 
 pub step_target-requires-clause-fits : goal.step_target-requires-clause-fits
 step_target-requires-clause-fits c =
-    let k : Kept = record { magic = c.bus.inside.magic; geometry = c.bus.inside.geometry; count = c.bus.inside.count; targets = c.bus.inside.targets } in
-    tried_fits k (target_of_item c.args.item) c.args.kept.now (subst (λ (x : Kept). IsTried x (target_of_item c.args.item) c.args.kept.now) (sym c.bus.view_is) c.requires)
+    let k : Kept = c.args.bus.now in
+    tried_fits k (target_of_item c.args.item) c.args.kept.now (c.requires)
 
 pub returns-clause-rule : goal.returns-clause-rule
 returns-clause-rule c =
-    let k : Kept = record { magic = c.bus.inside.magic; geometry = c.bus.inside.geometry; count = c.bus.inside.count; targets = c.bus.inside.targets } in
-    tried_rule k (target_of_item c.args.item) c.args.kept.now c.args.item c.step_target.result refl (subst (λ (x : Kept). IsTried x (target_of_item c.args.item) c.args.kept.now) (sym c.bus.view_is) c.requires) c.step_target.ensures.rule
-    ∙ ap (λ (x : Kept). judged (tried_view x (target_of_item c.args.item) c.args.kept.now) c.args.item) c.bus.view_is
+    let k : Kept = c.args.bus.now in
+    tried_rule k (target_of_item c.args.item) c.args.kept.now c.args.item c.step_target.result refl (c.requires) c.step_target.ensures.rule
 
 pub returns-clause-state : goal.returns-clause-state
 returns-clause-state c =
-    let k : Kept = record { magic = c.bus.inside.magic; geometry = c.bus.inside.geometry; count = c.bus.inside.count; targets = c.bus.inside.targets } in
+    let k : Kept = c.args.bus.now in
     let ce = target_of_item c.args.item in
-    subst (λ (x : Kept). tried_view x ce c.step_target.new.kept ≡ bus_pushed (tried_view x ce c.args.kept.now) (Some c.args.item)) c.bus.view_is
-    (tried_state k ce c.args.kept.now c.step_target.new.kept c.args.item refl (subst (λ (x : Kept). IsTried x ce c.args.kept.now) (sym c.bus.view_is) c.requires) c.step_target.ensures.state)
+    (tried_state k ce c.args.kept.now c.step_target.new.kept c.args.item refl (c.requires) c.step_target.ensures.state)
 
 pub returns-clause-after : goal.returns-clause-after
 returns-clause-after c none =
@@ -39,7 +37,6 @@ returns-clause-after c none =
 
 pub returns-clause-tried : goal.returns-clause-tried
 returns-clause-tried c =
-    let k : Kept = record { magic = c.bus.inside.magic; geometry = c.bus.inside.geometry; count = c.bus.inside.count; targets = c.bus.inside.targets } in
+    let k : Kept = c.args.bus.now in
     let ce = target_of_item c.args.item in
-    subst (λ (x : Kept). IsTried x ce c.step_target.new.kept) c.bus.view_is
-    (tried_sound k ce c.args.kept.now c.step_target.new.kept (subst (λ (x : Kept). IsTried x ce c.args.kept.now) (sym c.bus.view_is) c.requires) c.step_target.ensures.numbers c.step_target.ensures.fits)
+    (tried_sound k ce c.args.kept.now c.step_target.new.kept (c.requires) c.step_target.ensures.numbers c.step_target.ensures.fits)

@@ -10,33 +10,30 @@ use Rattle.bus_record.proofs.trial.try_read_status.Goals as goal
 
 pub step_read_status-requires-clause-limits : goal.step_read_status-requires-clause-limits
 step_read_status-requires-clause-limits c =
-    let k : Kept = record { magic = c.bus.inside.magic; geometry = c.bus.inside.geometry; count = c.bus.inside.count; targets = c.bus.inside.targets } in
-    tried_limits k c.args.ce c.args.kept.now (subst (λ (x : Kept). IsTried x c.args.ce c.args.kept.now) (sym c.bus.view_is) c.requires)
+    let k : Kept = c.args.bus.now in
+    tried_limits k c.args.ce c.args.kept.now (c.requires)
 
 pub step_read_status-requires-clause-numbers : goal.step_read_status-requires-clause-numbers
 step_read_status-requires-clause-numbers c = tried_numbers c.args.bus.now c.args.ce c.args.kept.now c.requires
 
 pub step_read_status-requires-clause-fits : goal.step_read_status-requires-clause-fits
 step_read_status-requires-clause-fits c =
-    let k : Kept = record { magic = c.bus.inside.magic; geometry = c.bus.inside.geometry; count = c.bus.inside.count; targets = c.bus.inside.targets } in
-    tried_fits k c.args.ce c.args.kept.now (subst (λ (x : Kept). IsTried x c.args.ce c.args.kept.now) (sym c.bus.view_is) c.requires)
+    let k : Kept = c.args.bus.now in
+    tried_fits k c.args.ce c.args.kept.now (c.requires)
 
 pub returns-clause-rule : goal.returns-clause-rule
 returns-clause-rule c =
-    let k : Kept = record { magic = c.bus.inside.magic; geometry = c.bus.inside.geometry; count = c.bus.inside.count; targets = c.bus.inside.targets } in
-    tried_rule k c.args.ce c.args.kept.now (cycle c.args.ce Cmd 0x70) c.step_read_status.result refl (subst (λ (x : Kept). IsTried x c.args.ce c.args.kept.now) (sym c.bus.view_is) c.requires) c.step_read_status.ensures.rule
-    ∙ ap (λ (x : Kept). judged (tried_view x c.args.ce c.args.kept.now) (cycle c.args.ce Cmd 0x70)) c.bus.view_is
+    let k : Kept = c.args.bus.now in
+    tried_rule k c.args.ce c.args.kept.now (cycle c.args.ce Cmd 0x70) c.step_read_status.result refl (c.requires) c.step_read_status.ensures.rule
 
 pub returns-clause-after : goal.returns-clause-after
 returns-clause-after c none =
-    let k : Kept = record { magic = c.bus.inside.magic; geometry = c.bus.inside.geometry; count = c.bus.inside.count; targets = c.bus.inside.targets } in
-    let state = subst (λ (x : Kept). tried_view x c.args.ce c.step_read_status.new.kept ≡ bus_pushed (tried_view x c.args.ce c.args.kept.now) (Some (cycle c.args.ce Cmd 0x70))) c.bus.view_is
-    (tried_state k c.args.ce c.args.kept.now c.step_read_status.new.kept (cycle c.args.ce Cmd 0x70) refl (subst (λ (x : Kept). IsTried x c.args.ce c.args.kept.now) (sym c.bus.view_is) c.requires) c.step_read_status.ensures.state) in
+    let k : Kept = c.args.bus.now in
+    let state = (tried_state k c.args.ce c.args.kept.now c.step_read_status.new.kept (cycle c.args.ce Cmd 0x70) refl (c.requires) c.step_read_status.ensures.state) in
     tried_after (tried_view c.args.bus.now c.args.ce c.args.kept.now) (tried_view c.args.bus.now c.args.ce c.step_read_status.new.kept) (cycle c.args.ce Cmd 0x70) c.step_read_status.result (returns-clause-rule c) state none
 
 pub returns-clause-tried : goal.returns-clause-tried
 returns-clause-tried c =
-    let k : Kept = record { magic = c.bus.inside.magic; geometry = c.bus.inside.geometry; count = c.bus.inside.count; targets = c.bus.inside.targets } in
+    let k : Kept = c.args.bus.now in
     let ce = c.args.ce in
-    subst (λ (x : Kept). IsTried x ce c.step_read_status.new.kept) c.bus.view_is
-    (tried_sound k ce c.args.kept.now c.step_read_status.new.kept (subst (λ (x : Kept). IsTried x ce c.args.kept.now) (sym c.bus.view_is) c.requires) c.step_read_status.ensures.numbers c.step_read_status.ensures.fits)
+    (tried_sound k ce c.args.kept.now c.step_read_status.new.kept (c.requires) c.step_read_status.ensures.numbers c.step_read_status.ensures.fits)

@@ -2,7 +2,7 @@ use Rattle.std.proofs.Common.{◌≡◌, Ok, sym, ap, subst, true, ◌∙◌}
 use Rattle.onfi_cycle.specs.declared.lun.Lun.{Lun}
 use Rattle.seq_core.specs.Progress.{status_of, outcome_of}
 use Rattle.seq_core.specs.Calls.{holder_after}
-use Rattle.bus_record.specs.Bus.{bus_view}
+use Rattle.bus_record.specs.Bus.{IsSound, bus_view}
 use Rattle.bus_record.specs.Channel.{IsSameChannel}
 use Rattle.bus_record.specs.Kept.{Kept}
 use Rattle.bus_record.specs.Trial.{tried_view}
@@ -37,5 +37,5 @@ returns c =
     let whole : are_whole v j ≡ true = sym c.has_job.ensures.value ∙ c.if-not-has_job.false in
     finishes v c.hand_over.new.self j c.go_on.new.self c.args.file.now c.args.taken.now word (tried_view v.bus j.ce c.play.new.kept) c.of.result
     whole is_due (c.if-taken-taken_by.false ∙ c.taken_by.ensures) plays (ap bus_view bus_is ∙ c.put_target.ensures.state) holder job answered
-    (whole_after v c.hand_over.new.self j c.go_on.new.self whole c.hand_over.ensures.magic count same c.go_on.ensures.whole.0 c.go_on.ensures.whole.1
+    (whole_after v c.hand_over.new.self j c.go_on.new.self whole c.hand_over.ensures.magic count (subst IsSound (sym bus_is) c.put_target.ensures.sound) same c.go_on.ensures.whole.0 c.go_on.ensures.whole.1
     (same_lun_after j c.go_on.new.self word (status_of word c.args.taken.now) job))
