@@ -24,7 +24,7 @@ except onfiseq.Broken as broken:
 """
 NODE = """const { load } = require("onfiseq"), fs = require("fs");
 load().then(lib => {
-    const chip = lib.page(new Uint8Array(fs.readFileSync(process.argv[2])));
+    const chip = lib.read_page(new Uint8Array(fs.readFileSync(process.argv[2])));
     const item = { ce: 0, kind: 67, byte: 0x60, fail: 0 }, answer = lib.check(chip.geometry, 1, [item, item]);
     console.log("refused", String.fromCharCode(answer.letter) + answer.number, lib.says(answer.letter, answer.number));
 });
