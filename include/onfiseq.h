@@ -24,8 +24,8 @@
  * No call aborts, and none keeps anything behind your back. A call may be made from several
  * threads at once, as long as they don't share what it writes.
  *
- * Any bytes may stand in a record that you hand in: one that no call left is answered
- * ONFISEQ_DAMAGED, and stays as it is. What you owe, since a proof ends at the border to C:
+ * Any bytes may stand in a record that you hand in: one whose numbers no channel can have is
+ * answered ONFISEQ_DAMAGED, and stays as it is. What you owe, as a proof ends at the border to C:
  *  - a pointer isn't null, is aligned, and points to as many whole values as stand behind it; with
  *    a count of 0 a slice's pointer may be any, null too;
  *  - what a call writes by a pointer that isn't const overlaps nothing else that it is given, and
@@ -83,7 +83,7 @@ enum onfiseq_code {
     ONFISEQ_COLUMN_OUTSIDE = 0x460e,     /**< F14 */
     ONFISEQ_CACHE_READ_MISPLACED = 0x460f, /**< F15 */
     ONFISEQ_PAGE_FAULT = 0x5000,         /**< and n for the fault Pn of a page or a geometry */
-    ONFISEQ_DAMAGED = 0x4400,            /**< the record isn't one that a call left */
+    ONFISEQ_DAMAGED = 0x4400,            /**< the record isn't one that a channel can have */
     ONFISEQ_OTHER_VERSION = 0x4401,      /**< the record to begin has another size or version */
     ONFISEQ_NO_ITEM = 0x4900,            /**< the numbers are no item, or no part */
     ONFISEQ_WRONG_TARGETS = 0x5400       /**< the targets aren't 1 to 4 */
