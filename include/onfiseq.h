@@ -352,7 +352,12 @@ struct onfiseq_placed onfiseq_notes(const struct onfiseq_geometry *geometry, con
  *
  *     struct onfiseq_turn turn = onfiseq_job_next(&live, &job, file, length);
  *     if (turn.letter == 0) {
- *         for (size_t k = 0; k < turn.count; k++) do_on_pins(&turn.bursts[k], buffer, taken);
+ *         uint8_t status, *taken = &status;
+ *         for (size_t k = 0; k < turn.count; k++) {
+ *             const struct onfiseq_burst *burst = &turn.bursts[k];
+ *             if (burst->kind == 'O') taken = buffer + burst->place;
+ *             do_on_pins(burst, buffer, taken);
+ *         }
  *         step = onfiseq_job_finish(&live, &job, file, length, taken, turn.taken);
  *     }
  *
@@ -396,7 +401,8 @@ struct onfiseq_live {
  * What is to be done on the pins in one go, with the chip enable ce low and the others high:
  *   'C' 'A'   give bytes[place] to bytes[place + len - 1], one cycle each, with CLE or ALE high
  *   'I'       give len bytes of the job's buffer, from place on
- *   'O'       take len bytes from the chip
+ *   'O'       take len bytes from the chip into the job's buffer, from place on
+ *   'S'       take a status from it, len bytes, which are one
  */
 struct onfiseq_burst {
     uint8_t kind, ce, bytes[5];

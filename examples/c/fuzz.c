@@ -307,9 +307,12 @@ static uint8_t buffer[4096], taken[65536];
 
 /* The cycles of a burst on a copy of the channel: each is permitted. */
 static void push_burst(struct onfiseq_bus *bus, const struct onfiseq_burst *burst) {
+    bool is_output = burst->kind == 'O' || burst->kind == 'S';
+    must(burst->kind != 'S' || burst->len == 1, "a status of more than a byte");
+    must(burst->kind != 'O' || burst->place + burst->len <= sizeof buffer, "an output past the buffer");
     for (size_t k = 0; k < burst->len; k++) {
-        uint8_t byte = burst->kind == 'O' ? (uint8_t)draw(256) : burst->kind == 'I' ? buffer[burst->place + k] : burst->bytes[burst->place + k];
-        struct onfiseq_item item = {burst->ce, burst->kind, byte, 0};
+        uint8_t byte = is_output ? (uint8_t)draw(256) : burst->kind == 'I' ? buffer[burst->place + k] : burst->bytes[burst->place + k];
+        struct onfiseq_item item = {burst->ce, is_output ? 'O' : burst->kind, byte, 0};
         must(onfiseq_push(bus, &item) == 0, "a burst that isn't permitted");
     }
 }

@@ -40,13 +40,14 @@ static struct chip chips[JOBS];
 
 static void do_on_pins(const struct onfiseq_burst *burst, const uint8_t *buffer, uint8_t *taken) {
     struct chip *chip = &chips[burst->ce];
-    const uint8_t *bytes = (burst->kind == 'I' ? buffer : burst->bytes) + burst->place;
-    printf("%u %c", burst->ce, burst->kind);
+    bool is_output = burst->kind == 'O' || burst->kind == 'S';
+    const uint8_t *bytes = burst->kind == 'I' ? buffer + burst->place : burst->bytes + (is_output ? 0 : burst->place);
+    printf("%u %c", burst->ce, is_output ? 'O' : burst->kind);
     for (size_t k = 0; k < burst->len; k++) {
-        if (burst->kind == 'O') taken[k] = give_byte(chip);
+        if (is_output) taken[k] = give_byte(chip);
         if (burst->kind == 'C') take_command(chip, bytes[k]);
         if (burst->kind == 'A') chip->address[chip->addresses++ % 5] = bytes[k];
-        printf(" %02x", burst->kind == 'O' ? taken[k] : bytes[k]);
+        printf(" %02x", is_output ? taken[k] : bytes[k]);
     }
     putchar('\n');
 }
@@ -86,12 +87,15 @@ static bool load(const char *path, uint8_t ce, uint32_t base, size_t page_length
     return begun.letter ? say(path, begun.letter, begun.number) : true;
 }
 
-/* Does the next word of a job, if it is due. What a `get` takes, which is a burst of its own, belongs at the job's place in the buffer; a poll takes a status. */
+/* Does the next word of a job, if it is due. What a `get` takes belongs at its burst's place in the buffer; a poll takes a status. */
 static bool go_on(struct work *it) {
     struct onfiseq_turn turn = onfiseq_job_next(&live, &it->job, it->file, it->length);
-    uint8_t status, *taken = turn.count == 1 ? it->buffer + it->job.place : &status;
+    uint8_t status, *taken = &status;
     if (turn.letter) return turn.letter == 'H' || say("a step", turn.letter, turn.number);
-    for (size_t k = 0; k < turn.count; k++) do_on_pins(&turn.bursts[k], it->buffer, taken);
+    for (size_t k = 0; k < turn.count; k++) {
+        if (turn.bursts[k].kind == 'O') taken = it->buffer + turn.bursts[k].place;
+        do_on_pins(&turn.bursts[k], it->buffer, taken);
+    }
     struct onfiseq_step step = onfiseq_job_finish(&live, &it->job, it->file, it->length, taken, turn.taken);
     return step.letter == 0 || step.letter == 'W' || step.letter == 'Y' || step.letter == 'E' || say("a step", step.letter, step.number);
 }

@@ -21,7 +21,7 @@ static void do_on_pins(const struct onfiseq_turn *turn, uint8_t *taken) {
     for (size_t k = 0; k < turn->count; k++) {
         const struct onfiseq_burst *burst = &turn->bursts[k];
         if (burst->kind == 'C' && burst->bytes[0] != 0x70) polls[burst->ce] = 0;
-        if (burst->kind == 'O') taken[0] = polls[burst->ce]++ ? 0xe0 : 0x80;
+        if (burst->kind == 'S') taken[0] = polls[burst->ce]++ ? 0xe0 : 0x80;
     }
 }
 

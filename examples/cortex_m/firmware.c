@@ -46,14 +46,15 @@ static uint8_t give_byte(void) {
 /* ---- the pins */
 
 static void do_on_pins(const struct onfiseq_burst *burst, const uint8_t *buffer, uint8_t *taken) {
-    const uint8_t *bytes = (burst->kind == 'I' ? buffer : burst->bytes) + burst->place;
-    char kind[3] = {(char)burst->kind, ' ', 0};
+    bool is_output = burst->kind == 'O' || burst->kind == 'S';
+    const uint8_t *bytes = burst->kind == 'I' ? buffer + burst->place : burst->bytes + (is_output ? 0 : burst->place);
+    char kind[3] = {(char)(is_output ? 'O' : burst->kind), ' ', 0};
     print(kind);
     for (size_t k = 0; k < burst->len; k++) {
-        if (burst->kind == 'O') taken[k] = give_byte();
+        if (is_output) taken[k] = give_byte();
         if (burst->kind == 'C') take_command(bytes[k]);
         if (burst->kind == 'A') address[addresses++ % 5] = bytes[k];
-        print_byte(burst->kind == 'O' ? taken[k] : bytes[k]);
+        print_byte(is_output ? taken[k] : bytes[k]);
     }
     print("\n");
 }
@@ -72,15 +73,18 @@ static bool refused(const char *what, uint8_t letter, uint32_t number) {
     return false;
 }
 
-/* Runs the job of a word file at a row to its end. What a `get` takes belongs at the job's place in the buffer; a poll takes a status. */
+/* Runs the job of a word file at a row to its end. What a `get` takes belongs at its burst's place in the buffer; a poll takes a status. */
 static bool run_job(const uint8_t *file, size_t length, uint32_t row) {
     struct onfiseq_job job;
     struct onfiseq_step step = onfiseq_job_begin(&live, 0, 0, row, file, length, file[8] | (size_t)file[9] << 8, &job);
     while (step.letter == 0 || step.letter == 'W' || step.letter == 'Y') {
         struct onfiseq_turn turn = onfiseq_job_next(&live, &job, file, length);
-        uint8_t status, *taken = turn.count == 1 ? buffer + job.place : &status;
+        uint8_t status, *taken = &status;
         if (turn.letter) return turn.letter == 'E' || refused("a turn is refused:", turn.letter, turn.number);
-        for (size_t k = 0; k < turn.count; k++) do_on_pins(&turn.bursts[k], buffer, taken);
+        for (size_t k = 0; k < turn.count; k++) {
+            if (turn.bursts[k].kind == 'O') taken = buffer + turn.bursts[k].place;
+            do_on_pins(&turn.bursts[k], buffer, taken);
+        }
         step = onfiseq_job_finish(&live, &job, file, length, taken, (size_t)turn.taken);
     }
     if (step.letter != 'E') return refused("a step is refused:", step.letter, step.number);

@@ -1,5 +1,5 @@
 -- What a job tells to be done now.
-use Rattle.std.specs.Prelude.{ℕ, not, if◌then◌else◌, List, [], ◌∷◌, Option, Some, None, Result, Ok, Err, length, slice_get}
+use Rattle.std.specs.Prelude.{ℕ, ◌==◌, not, Bool, false, if◌then◌else◌, List, [], ◌∷◌, Option, Some, None, Result, Ok, Err, length, slice_get}
 use Rattle.onfi_cycle.specs.declared.forbidden.Forbidden.{Forbidden}
 use Rattle.onfi_cycle.specs.State.{BusView}
 use Rattle.micro_word.specs.declared.word.Word.{Word}
@@ -50,21 +50,27 @@ burst kind ce bytes place len = record { kind = kind; ce = ce; bytes = bytes; pl
 abbrev pub no_bytes : List ℕ
 no_bytes = 0 ∷ (0 ∷ (0 ∷ (0 ∷ (0 ∷ []))))
 
--- C, A, I and O
-abbrev pub shown : Burst → OnfiseqBurst
-shown (Command ce byte) = burst 67 ce (byte ∷ (0 ∷ (0 ∷ (0 ∷ (0 ∷ []))))) 0 1
-shown (Address ce five from count) = burst 65 ce five from count
-shown (Input ce place len) = burst 73 ce no_bytes place len
-shown (Output ce len) = burst 79 ce no_bytes 0 len
+-- C, A, I, and for outputs S where they are a status, else O with the place in the buffer that they go into
+abbrev pub shown : Bool → ℕ → Burst → OnfiseqBurst
+shown status into (Command ce byte) = burst 67 ce (byte ∷ (0 ∷ (0 ∷ (0 ∷ (0 ∷ []))))) 0 1
+shown status into (Address ce five from count) = burst 65 ce five from count
+shown status into (Input ce place len) = burst 73 ce no_bytes place len
+shown status into (Output ce len) = burst (if status then 83 else 79) ce no_bytes (if status then 0 else into) len
 
-abbrev pub shown_some : Option Burst → OnfiseqBurst
-shown_some None = burst 0 0 no_bytes 0 0
-shown_some (Some b) = shown b
+abbrev pub shown_some : Bool → ℕ → Option Burst → OnfiseqBurst
+shown_some status into None = burst 0 0 no_bytes 0 0
+shown_some status into (Some b) = shown status into b
 
 -- the first three
-abbrev pub three : List Burst → List OnfiseqBurst
-three bursts = shown_some (slice_get bursts 0) ∷ (shown_some (slice_get bursts 1) ∷ (shown_some (slice_get bursts 2) ∷ []))
+abbrev pub three : Bool → ℕ → List Burst → List OnfiseqBurst
+three status into bursts =
+    shown_some status into (slice_get bursts 0) ∷ (shown_some status into (slice_get bursts 1) ∷ (shown_some status into (slice_get bursts 2) ∷ []))
 
-abbrev pub turn_of : Result Told Stop → OnfiseqTurn
-turn_of (Ok t) = record { letter = 0; number = 0; count = length t.bursts; taken = t.taken; bursts = three t.bursts }
-turn_of (Err stop) = record { letter = letter_of stop; number = number_of stop; count = 0; taken = 0; bursts = three [] }
+-- the outputs of a `get` are a burst of its own; those of a poll come after its command
+abbrev pub is_status : List Burst → Bool
+is_status bursts = not (length bursts == 1)
+
+-- what is told of a job whose next bytes stand at this place of its buffer
+abbrev pub turn_of : ℕ → Result Told Stop → OnfiseqTurn
+turn_of into (Ok t) = record { letter = 0; number = 0; count = length t.bursts; taken = t.taken; bursts = three (is_status t.bursts) into t.bursts }
+turn_of into (Err stop) = record { letter = letter_of stop; number = number_of stop; count = 0; taken = 0; bursts = three false 0 [] }

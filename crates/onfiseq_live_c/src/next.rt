@@ -1,5 +1,5 @@
 //! What is to be done on the pins for a job's next word.
-ghost use Rattle.std.specs.Prelude.{◌≡◌, ◌<◌, None, Ok, Err, slice_get};
+ghost use Rattle.std.specs.Prelude.{◌≡◌, ◌<◌, false, None, Ok, Err, slice_get};
 ghost use Rattle.seq_core.specs.Playing.{EndsWithFive};
 ghost use Rattle.bus_record.specs.Bus.{IsSound, bus_view};
 ghost use Rattle.onfiseq_live_c.specs.Bursts.{PollsOne, poll_of};
@@ -17,7 +17,8 @@ use onfi_cycle::READ_STATUS;
 use seq_live::{Burst, taken_by};
 
 /// What is to be done on the pins in one go, with the chip enable `ce` low and the others high. `kind` is a letter: C and A give `len` of the bytes, from
-/// `place` on, with CLE or ALE high; I gives `len` bytes of the job's buffer, from `place` on; O takes `len` bytes from the chip.
+/// `place` on, with CLE or ALE high; I gives `len` bytes of the job's buffer, from `place` on; O takes `len` bytes from the chip into it, from `place` on; S takes
+/// a status.
 #[repr(C)]
 #[derive(Clone, Copy)]
 pub struct OnfiseqBurst {
@@ -43,8 +44,8 @@ pub struct OnfiseqTurn {
 impl OnfiseqBurst {
     // A burst as numbers.
     #[inline(always)]
-    fn of(burst: Burst) -> OnfiseqBurst
-        ensures { result ≡ shown burst }
+    fn of(burst: Burst, status: bool, into: u32) -> OnfiseqBurst
+        ensures { result ≡ shown status into burst }
     {
         match burst {
             Burst::Command { ce, byte } => OnfiseqBurst {
@@ -73,11 +74,18 @@ impl OnfiseqBurst {
                 place,
                 len,
             },
+            Burst::Output { ce, len } if status => OnfiseqBurst {
+                kind: b'S',
+                ce,
+                bytes: [0; 5],
+                place: 0,
+                len,
+            },
             Burst::Output { ce, len } => OnfiseqBurst {
                 kind: b'O',
                 ce,
                 bytes: [0; 5],
-                place: 0,
+                place: into as usize,
                 len,
             },
         }
@@ -86,7 +94,7 @@ impl OnfiseqBurst {
     // What stands where there is no burst: all 0.
     #[inline(always)]
     fn none() -> OnfiseqBurst
-        ensures { result ≡ shown_some None }
+        ensures { result ≡ shown_some false 0 None }
     {
         OnfiseqBurst {
             kind: 0,
@@ -98,45 +106,45 @@ impl OnfiseqBurst {
     }
 
     // The burst of this number as numbers, all 0 where there are fewer.
-    fn at(bursts: &[Burst], number: usize) -> OnfiseqBurst
-        ensures { result ≡ shown_some (slice_get bursts.now number) }
+    fn at(bursts: &[Burst], number: usize, status: bool, into: u32) -> OnfiseqBurst
+        ensures { result ≡ shown_some status into (slice_get bursts.now number) }
     {
         match bursts.get(number) {
-            Some(burst) => OnfiseqBurst::of(*burst),
+            Some(burst) => OnfiseqBurst::of(*burst, status, into),
             None => OnfiseqBurst::none(),
         }
     }
 }
 
 // The first three bursts as numbers.
-fn three(bursts: &[Burst]) -> [OnfiseqBurst; 3]
-    ensures { result ≡ three bursts.now }
+fn three(bursts: &[Burst], status: bool, into: u32) -> [OnfiseqBurst; 3]
+    ensures { result ≡ three status into bursts.now }
 {
     [
-        OnfiseqBurst::at(bursts, 0),
-        OnfiseqBurst::at(bursts, 1),
-        OnfiseqBurst::at(bursts, 2),
+        OnfiseqBurst::at(bursts, 0, status, into),
+        OnfiseqBurst::at(bursts, 1, status, into),
+        OnfiseqBurst::at(bursts, 2, status, into),
     ]
 }
 
 impl OnfiseqTurn {
     // Nothing is due.
     fn stopped(stop: Stop) -> OnfiseqTurn
-        ensures { result ≡ turn_of (Err stop) }
+        ensures { result ≡ turn_of 0 (Err stop) }
     {
         OnfiseqTurn {
             letter: stop.letter(),
             number: stop.number(),
             count: 0,
             taken: 0,
-            bursts: three(&[]),
+            bursts: three(&[], false, 0),
         }
     }
 
     // A status poll by 70h is due.
     #[inline(always)]
     fn of_poll(ce: u8) -> OnfiseqTurn
-        ensures { result ≡ turn_of (Ok (record { bursts = poll_of ce; taken = 1 })) }
+        ensures { result ≡ turn_of 0 (Ok (record { bursts = poll_of ce; taken = 1 })) }
     {
         OnfiseqTurn {
             letter: 0,
@@ -144,26 +152,30 @@ impl OnfiseqTurn {
             count: 2,
             taken: 1,
             bursts: [
-                OnfiseqBurst::of(Burst::Command {
-                    ce,
-                    byte: READ_STATUS,
-                }),
-                OnfiseqBurst::of(Burst::Output { ce, len: 1 }),
+                OnfiseqBurst::of(
+                    Burst::Command {
+                        ce,
+                        byte: READ_STATUS,
+                    },
+                    true,
+                    0,
+                ),
+                OnfiseqBurst::of(Burst::Output { ce, len: 1 }, true, 0),
                 OnfiseqBurst::none(),
             ],
         }
     }
 
     // These bursts are due.
-    fn told(bursts: &[Burst], taken: usize) -> OnfiseqTurn
-        ensures { result ≡ turn_of (Ok (record { bursts = bursts.now; taken = taken })) }
+    fn told(bursts: &[Burst], taken: usize, into: u32) -> OnfiseqTurn
+        ensures { result ≡ turn_of into (Ok (record { bursts = bursts.now; taken = taken })) }
     {
         OnfiseqTurn {
             letter: 0,
             number: 0,
             count: bursts.len(),
             taken,
-            bursts: three(bursts),
+            bursts: three(bursts, bursts.len() != 1, into),
         }
     }
 }
@@ -174,7 +186,7 @@ fn tell_poll(bus: &OnfiseqBus, job: &OnfiseqJob, word: Word) -> OnfiseqTurn
     requires sound { IsSound bus.now }
     requires there { job.now.ce < bus.now.count }
     requires poll { PollsOne (bus_view bus.now).geometry word }
-    ensures { result ≡ turn_of (told (bus_view bus.now) (job_view job.now) word) }
+    ensures { result ≡ turn_of job.now.place (told (bus_view bus.now) (job_view job.now) word) }
 {
     let _word = word;
     match ask_poll(bus, job.ce) {
@@ -188,7 +200,7 @@ fn tell_bursts(bus: &OnfiseqBus, job: &OnfiseqJob, word: Word) -> OnfiseqTurn
     requires sound { IsSound bus.now }
     requires there { job.now.ce < bus.now.count }
     requires range { EndsWithFive word }
-    ensures { result ≡ turn_of (told (bus_view bus.now) (job_view job.now) word) }
+    ensures { result ≡ turn_of job.now.place (told (bus_view bus.now) (job_view job.now) word) }
 {
     let Some(bursts) = bursts_for(bus, job, word) else {
         return OnfiseqTurn::stopped(Stop::RowOutside);
@@ -196,7 +208,7 @@ fn tell_bursts(bus: &OnfiseqBus, job: &OnfiseqJob, word: Word) -> OnfiseqTurn
     let mut kept = target_at(bus, job.ce);
     match try_bursts(bus, &mut kept, job.ce, bursts.as_slice()) {
         Some(rule) => OnfiseqTurn::stopped(Stop::Breaks(rule)),
-        None => OnfiseqTurn::told(bursts.as_slice(), taken_by(word)),
+        None => OnfiseqTurn::told(bursts.as_slice(), taken_by(word), job.place),
     }
 }
 
@@ -206,7 +218,7 @@ fn tell(bus: &OnfiseqBus, job: &OnfiseqJob, word: Word) -> OnfiseqTurn
     requires sound { IsSound bus.now }
     requires there { job.now.ce < bus.now.count }
     requires range { EndsWithFive word }
-    ensures { result ≡ turn_of (told (bus_view bus.now) (job_view job.now) word) }
+    ensures { result ≡ turn_of job.now.place (told (bus_view bus.now) (job_view job.now) word) }
 {
     if polls_one(bus, word) {
         tell_poll(bus, job, word)
@@ -219,7 +231,7 @@ fn tell(bus: &OnfiseqBus, job: &OnfiseqJob, word: Word) -> OnfiseqTurn
 /// are told is permitted where it stands, as the state of the channel judges it.
 #[unsafe(no_mangle)]
 pub extern "C" fn onfiseq_job_next(live: &OnfiseqLive, job: &OnfiseqJob, file: &[u8]) -> OnfiseqTurn
-    ensures { result ≡ turn_of (next_of live.now job.now file.now) }
+    ensures { result ≡ turn_of job.now.place (next_of live.now job.now file.now) }
 {
     if !live.has_job(job) {
         return OnfiseqTurn::stopped(Stop::Damaged);
