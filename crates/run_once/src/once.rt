@@ -24,8 +24,8 @@ use onfi_cycle::{Item, Lun};
 use seq_core::{Core, Job, Stepped, UnloadedJob};
 use seq_files::read_all;
 use seq_inputs::{
-    Console, Exit, Fault, Stop, fail, finish, push_end_line, read_program, read_words,
-    verify_program, words_of_job,
+    Console, Exit, Fault, Stop, Style, fail, finish, push_end_line, read_program, read_words,
+    say_counted, verify_program, words_of_job,
 };
 use seq_run::{Phase, RunProgress};
 use std::alloc::{AllocError, Allocator};
@@ -274,8 +274,11 @@ fn print_program<A: Allocator, W: Write, E: Write, P: RunProgress>(
     ensures refused { (refusal : Refusal) → result ≡ Exit.Refused refusal → Tells (ProgramMayBeRefused base given.now) refusal
         × Appends (W.contents console.old.output) (W.contents console.new.output) (line_of refusal) }
 {
-    match read_program(alloc, STREAM, given) {
-        Ok(text) => print_run(alloc, console, text, given, base),
+    match read_program(alloc, STREAM, given, &geometry()) {
+        Ok(text) => {
+            say_counted(&mut console.errors, Style::Plain, STREAM, given, &text);
+            print_run(alloc, console, text, given, base)
+        }
         Err(stop) => fail(alloc, console, None, stop),
     }
 }

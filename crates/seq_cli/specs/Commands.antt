@@ -15,12 +15,13 @@ use Rattle.trace_commands.specs.Checks.{TraceIsRefused, IsPassed, CheckRefuses, 
 use Rattle.timing_commands.specs.Times.{IsKept, TimesRefuse}
 use Rattle.operation_commands.specs.Ops.{CanBeListed, IsNoTrace}
 use Rattle.trace_commands.specs.Draws.{IsDrawn}
+use Rattle.trace_commands.specs.TakenPages.{IsPageTaken}
 use Rattle.trace_commands.specs.Captures.{IsCaptured, IsShownFor, CaptureIsRefused}
 use Rattle.trace_commands.specs.VendorChecks.{IsVendorPassed, VendorCheckRefuses, VendorCheckLeaves}
 use Rattle.seq_run.specs.Runs.{IsRunDone, RunIsRefused, RunMayLeave}
 use Rattle.run_once.specs.Once.{IsProgramRun, ProgramMayBeRefused}
 use Rattle.seq_cli.specs.declared.command.Command.{Command}
-use Rattle.seq_cli.specs.declared.command.Command.TheVariants.{Assemble, AssembleFor, Verify, Lint, Once, Run, Capture, PrintCapture, Check, CheckTimes, CheckVendor, ListOperations, Draw, Disassemble, MakePage, ShowPage, Upgrade}
+use Rattle.seq_cli.specs.declared.command.Command.TheVariants.{Assemble, AssembleFor, Verify, Lint, Once, Run, Capture, PrintCapture, Check, CheckTimes, CheckVendor, ListOperations, Draw, Disassemble, MakePage, TakePage, ShowPage, Upgrade}
 
 -- the command is done: this was its input, where that is known, this is left and this was printed
 abbrev pub IsDone : Command → (input : Option (List ℕ)) → (files later : Option Store) → (printed : List ℕ) → Type 0
@@ -39,6 +40,7 @@ IsDone (ListOperations request) input files later printed = CanBeListed files re
 IsDone (Draw request) input files later printed = IsDrawn files later request × (printed ≡ codes "ok\n")
 IsDone (Disassemble file) input files later printed = IsDisassembled files file.now printed × (later ≡ files)
 IsDone (MakePage parts target) input files later printed = IsPageMade files later parts target.now × (printed ≡ codes "ok\n")
+IsDone (TakePage request) input files later printed = IsPageTaken files later request.target.now × (printed ≡ codes "ok\n")
 IsDone (ShowPage page) input files later printed = ((g : Parts) × HasPage files page.now g) × (later ≡ files)
 IsDone (Upgrade file target) input files later printed = IsUpgraded files later file.now target.now × (printed ≡ codes "ok\n")
 
@@ -71,6 +73,7 @@ MayRefuse (ListOperations request) input files later refusal printed =
 MayRefuse (Draw request) input files later refusal printed = Tells (PageIsRefused files request.page.now) refusal × (later ≡ files) × (printed ≡ line_of refusal)
 MayRefuse (Disassemble file) input files later refusal printed = Tells (FileIsRefused files file.now) refusal × (later ≡ files) × (printed ≡ line_of refusal)
 MayRefuse (MakePage parts target) input files later refusal printed = Tells (PartsAreRefused parts) refusal × (later ≡ files) × (printed ≡ line_of refusal)
+MayRefuse (TakePage request) input files later refusal printed = (later ≡ files) × (printed ≡ line_of refusal)
 MayRefuse (ShowPage page) input files later refusal printed = Tells (PageIsRefused files page.now) refusal × (later ≡ files) × (printed ≡ line_of refusal)
 MayRefuse (Upgrade file target) input files later refusal printed = Tells (FileIsRefused files file.now) refusal × (later ≡ files) × (printed ≡ line_of refusal)
 
@@ -84,6 +87,7 @@ MayTell (CheckTimes request) files later fault printed = TimesRefuse files reque
 MayTell (ListOperations request) files later fault printed = IsNoTrace files request.input.now fault × (later ≡ files) × (printed ≡ fault_line fault)
 MayTell (Draw request) files later fault printed =
     TraceIsRefused files request.lines request.page.now request.input.now fault × (later ≡ files) × (printed ≡ fault_line fault)
+MayTell (TakePage request) files later fault printed = (later ≡ files) × (printed ≡ fault_line fault)
 MayTell _ files later fault printed = ⊥
 
 -- what a command may leave, however it ends: the files as they were, or what it writes when it is done
@@ -103,5 +107,6 @@ MayLeave (ListOperations request) files later = later ≡ files
 MayLeave (Draw request) files later = (later ≡ files) ⊎ IsDrawn files later request
 MayLeave (Disassemble file) files later = later ≡ files
 MayLeave (MakePage parts target) files later = (later ≡ files) ⊎ IsPageMade files later parts target.now
+MayLeave (TakePage request) files later = (later ≡ files) ⊎ IsPageTaken files later request.target.now
 MayLeave (ShowPage page) files later = later ≡ files
 MayLeave (Upgrade file target) files later = (later ≡ files) ⊎ IsUpgraded files later file.now target.now

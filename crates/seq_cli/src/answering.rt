@@ -3,7 +3,7 @@
 use crate::command::{Command, command_on};
 use crate::command_line;
 use crate::lent_progress::LentProgress;
-use crate::mistake::Mistake;
+use crate::mistake::{Mistake, PathMistake};
 use crate::named_check::NamedCheck;
 use crate::named_lines::NamedLines;
 use clap::Error;
@@ -129,6 +129,31 @@ fn check_named<F: Files, W: Write, E: Write, P: CheckProgress>(
     check_one(alloc, files, &mut named, check)
 }
 
+// Does a command, unless it would lose a file that it names.
+fn do_one<
+    T: Threads + Wait + Sync,
+    C: Clock,
+    F: Files,
+    R: Read,
+    W: Write,
+    E: Write,
+    P: CheckProgress + RunProgress,
+>(
+    rt: &T,
+    clock: &C,
+    alloc: Global,
+    files: &mut F,
+    input: &mut R,
+    console: &mut Console<W, E, P>,
+    command: Command<'_>,
+) -> Ending {
+    match PathMistake::among_files(alloc, files, command) {
+        Ok(None) => command_on(rt, clock, alloc, files, input, console, command),
+        Ok(Some(mistake)) => Ending::Exit(say_mistake(alloc, console, Mistake::Paths(mistake))),
+        Err(_) => Ending::Exit(end_without_memory(console)),
+    }
+}
+
 // Does commands one after the other.
 fn do_all<
     T: Threads + Wait + Sync,
@@ -151,7 +176,7 @@ fn do_all<
     for command in commands {
         let next = match NamedCheck::among(commands, *command) {
             Some(check) => check_named(alloc, files, console, check),
-            None => command_on(rt, clock, alloc, files, input, console, *command),
+            None => do_one(rt, clock, alloc, files, input, console, *command),
         };
         ending = end_of_both(ending, next);
     }

@@ -23,8 +23,8 @@ use std::thread::Threads;
 use std::time::Clock;
 use timing_commands::{TimesRequest, TimingSource, check_times};
 use trace_commands::{
-    CaptureRequest, CheckRequest, DrawRequest, Ending, VendorCheckRequest, capture_trace,
-    check_trace, check_vendor_trace, draw_trace, print_capture,
+    CaptureRequest, CheckRequest, DrawRequest, Ending, PageRequest, VendorCheckRequest,
+    capture_trace, check_trace, check_vendor_trace, draw_trace, print_capture, take_page,
 };
 use trace_files::TraceOutputs;
 use trace_text::CheckProgress;
@@ -87,6 +87,8 @@ pub enum Command<'a> {
         parts: Parts,
         target: &'a str,
     },
+    /// To take a parameter page of a trace or a capture.
+    TakePage(PageRequest<'a>),
     /// To show what a parameter page declares.
     ShowPage {
         page: &'a str,
@@ -189,6 +191,10 @@ impl<'a> Command<'a> {
                 ([Some(input), None, None], one(None))
             }
             Command::MakePage { parts: _, target } => ([None, None, None], one(Some(target))),
+            Command::TakePage(request) => (
+                [Some(request.input), None, None],
+                one(Some(request.target)),
+            ),
         };
         Paths { inputs, outputs }
     }
@@ -268,6 +274,7 @@ pub fn command_on<
         Command::MakePage { parts, target } => {
             Ending::Exit(make_page(alloc, files, console, parts, target))
         }
+        Command::TakePage(request) => take_page(alloc, files, console, request),
         Command::ShowPage { page } => Ending::Exit(show_page(alloc, files, console, page)),
         Command::Upgrade { input, target } => {
             Ending::Exit(upgrade_file(alloc, files, console, input, target))

@@ -13,7 +13,9 @@ use seq_inputs::Style;
 use seq_run::{MOST_STEPS, RunRequest};
 use std::alloc::Global;
 use timing_commands::TimesRequest;
-use trace_commands::{CaptureRequest, CheckRequest, DrawRequest, Targets, VendorCheckRequest};
+use trace_commands::{
+    CaptureRequest, CheckRequest, DrawRequest, PageRequest, PageSource, Targets, VendorCheckRequest,
+};
 use trace_faults::{Beginning, Readies};
 use trace_files::{DrawForm, Drawing, TraceOutputs};
 use trace_text::TraceForm;
@@ -373,19 +375,27 @@ fn glitch<'a>(alloc: Global) -> Arg<'a> {
         )
 }
 
-fn capture<'a>(alloc: Global) -> Result<clap::Command<'a>, Error> {
-    let map = Arg::new(alloc, "map")
+// Which signals of a capture are what.
+fn map_of<'a>(alloc: Global) -> Arg<'a> {
+    Arg::new(alloc, "map")
         .long("map")
         .value_name("ROLE=NAME")
         .help(
             "Which signal is what, where its name doesn't tell: CE0 to CE3, CLE, ALE, WE, RE, DQ, DQ0 to DQ7, RB0 to RB3; as WE=P17,RE=P18",
-        );
-    let csv = Arg::new(alloc, "csv")
+        )
+}
+
+// Whether a capture is a CSV.
+fn csv_of<'a>(alloc: Global) -> Arg<'a> {
+    Arg::new(alloc, "csv")
         .long("csv")
         .action(ArgAction::SetTrue)
         .help(
             "The capture is a CSV, as Saleae Logic 2, DSView, sigrok-cli and PulseView export it; so is one whose name ends in .csv",
-        );
+        )
+}
+
+fn capture<'a>(alloc: Global) -> Result<clap::Command<'a>, Error> {
     let times = Arg::new(alloc, "times")
         .long("times")
         .action(ArgAction::SetTrue)
@@ -407,8 +417,8 @@ fn capture<'a>(alloc: Global) -> Result<clap::Command<'a>, Error> {
             "OUT",
             "The text of the trace to write; `-` prints it",
         ))?
-        .arg(map)?
-        .arg(csv)?
+        .arg(map_of(alloc))?
+        .arg(csv_of(alloc))?
         .arg(times)?
         .arg(glitch(alloc))?;
     Ok(command)
@@ -612,6 +622,9 @@ fn page<'a>(alloc: Global) -> Result<clap::Command<'a>, Error> {
     let show = Arg::new(alloc, "show").long("show").value_name("PAGE").help(
         "Prints what this parameter page declares: the geometry, how a row is made, the commands, and each copy with its checksum",
     );
+    let from = Arg::new(alloc, "from").long("from").value_name("IN").help(
+        "Takes the page of a trace in which it is read, or of a capture, whose name ends in .vcd or .csv: the first whole copy that is right of the outputs after ECh and address 00h",
+    );
     let cache = Arg::new(alloc, "cache")
         .long("cache")
         .action(ArgAction::SetTrue)
@@ -628,10 +641,13 @@ fn page<'a>(alloc: Global) -> Result<clap::Command<'a>, Error> {
             "Makes a parameter page of a chip's numbers, and prints `ok`; or shows what one declares",
         )
         .after_help(
-            "Examples: onfiseq page chip.page --data 2048 --spare 64 --pages 64 --blocks 1024; onfiseq page --show chip.page",
+            "Examples: onfiseq page chip.page --data 2048 --spare 64 --pages 64 --blocks 1024; onfiseq page chip.page --from boot.vcd; onfiseq page --show chip.page",
         )
         .arg(Arg::new(alloc, "OUT").help("The parameter page to write"))?
         .arg(show)?
+        .arg(from)?
+        .arg(map_of(alloc))?
+        .arg(csv_of(alloc))?
         .arg(chip_number(alloc, "data", "Data bytes of a page"))?
         .arg(chip_number(alloc, "spare", "Spare bytes of a page"))?
         .arg(chip_number(alloc, "pages", "Pages of a block"))?
@@ -845,15 +861,35 @@ fn read_chip<'a>(matches: &ArgMatches<'a>) -> Result<Parts, Mistake<'a>> {
     })
 }
 
+// What a parameter page is taken of: a capture, where its name or an option says so, and else a trace.
+fn read_page_source<'a>(
+    matches: &ArgMatches<'a>,
+    input: &str,
+) -> Result<PageSource<'a>, Mistake<'a>> {
+    let form = form_of_capture(matches, input);
+    let mappings = read_mappings(matches)?;
+    if form == CaptureForm::Table || input.ends_with(".vcd") || mappings.is_some() {
+        Ok(PageSource::Capture { form, mappings })
+    } else {
+        Ok(PageSource::Trace)
+    }
+}
+
 // What is asked of a parameter page.
 fn read_page<'a>(matches: &ArgMatches<'a>) -> Result<Command<'a>, Mistake<'a>> {
-    match (matches.get_str("show"), matches.get_str("OUT")) {
-        (Some(page), None) => Ok(Command::ShowPage { page }),
-        (None, Some(target)) => Ok(Command::MakePage {
+    let from = matches.get_str("from");
+    match (matches.get_str("show"), matches.get_str("OUT"), from) {
+        (Some(page), None, None) => Ok(Command::ShowPage { page }),
+        (None, Some(target), None) => Ok(Command::MakePage {
             parts: read_chip(matches)?,
             target,
         }),
-        (Some(_), Some(_)) | (None, None) => Err(Mistake::NoPage),
+        (None, Some(target), Some(input)) => Ok(Command::TakePage(PageRequest {
+            source: read_page_source(matches, input)?,
+            input,
+            target,
+        })),
+        (Some(_), Some(_), _) | (Some(_), _, Some(_)) | (None, None, _) => Err(Mistake::NoPage),
     }
 }
 
@@ -1052,6 +1088,7 @@ fn with_trace<'a>(command: Command<'a>, input: &'a str) -> Command<'a> {
         | Command::ListOperations(_)
         | Command::Disassemble { .. }
         | Command::MakePage { .. }
+        | Command::TakePage(_)
         | Command::ShowPage { .. }
         | Command::Upgrade { .. } => command,
     }

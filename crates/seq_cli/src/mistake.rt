@@ -5,7 +5,9 @@ use crate::named_check::NamedCheck;
 use crate::ops_reading::OpsMistake;
 use crate::times_reading::TimingMistake;
 use clap::Error;
+use seq_files::{Clash, FileError, Files, Use, UsedFile, find_clash};
 use shown_text::Shown;
+use std::alloc::{AllocError, Global};
 use std::fmt;
 
 /// What is wrong with the paths of a command.
@@ -19,6 +21,10 @@ pub enum PathMistake<'a> {
     WrittenOver(&'a str),
     /// Two files would be written to one path.
     WrittenTwice(&'a str),
+    /// What is read by one path would be written over by another.
+    WrittenOverBy { output: &'a str, input: &'a str },
+    /// One file would be written to by two paths.
+    WrittenTwiceBy { output: &'a str, other: &'a str },
     /// The traces of several checks would be written to one file.
     SeveralWritten,
 }
@@ -42,12 +48,73 @@ impl fmt::Display for PathMistake<'_> {
                 "{} would be written twice: each file to write has a path of its own",
                 Shown::path(path)
             ),
+            PathMistake::WrittenOverBy { output, input } => write!(
+                f,
+                "{} would be written over: it is the same file as {}, which is read by this command",
+                Shown::path(output),
+                Shown::path(input)
+            ),
+            PathMistake::WrittenTwiceBy { output, other } => write!(
+                f,
+                "{} would be written twice: it is the same file as {}",
+                Shown::path(output),
+                Shown::path(other)
+            ),
             PathMistake::SeveralWritten => f.write_str("--write takes one trace"),
         }
     }
 }
 
+// The files of these paths, which are used so.
+fn list_uses<'a>(
+    alloc: Global,
+    paths: [Option<&'a str>; 3],
+    usage: Use,
+) -> Result<Vec<UsedFile<'a>>, AllocError> {
+    let mut uses = Vec::new(alloc);
+    for path in paths {
+        if let Some(path) = path {
+            uses.push(UsedFile {
+                path,
+                usage,
+                line: None,
+            })?;
+        }
+    }
+    Ok(uses)
+}
+
+impl<'a> From<Clash<'a>> for PathMistake<'a> {
+    fn from(clash: Clash<'a>) -> Self {
+        let output = clash.output.path;
+        let other = clash.other.path;
+        match clash.other.usage {
+            Use::Written => PathMistake::WrittenTwiceBy { output, other },
+            Use::Read => PathMistake::WrittenOverBy {
+                output,
+                input: other,
+            },
+        }
+    }
+}
+
 impl<'a> PathMistake<'a> {
+    /// What is wrong with the files that this command names, if two of its paths lead to one file that it writes. `upgrade` may write over what it has read.
+    pub(crate) fn among_files<F: Files>(
+        alloc: Global,
+        files: &F,
+        command: Command<'a>,
+    ) -> Result<Option<PathMistake<'a>>, FileError> {
+        if matches!(command, Command::Upgrade { .. }) {
+            return Ok(None);
+        }
+        let Paths { inputs, outputs } = command.paths();
+        let outputs = list_uses(alloc, outputs, Use::Written)?;
+        let inputs = list_uses(alloc, inputs, Use::Read)?;
+        let clash = find_clash(alloc, files, outputs.as_slice(), inputs.as_slice())?;
+        Ok(clash.map(PathMistake::from))
+    }
+
     /// What is wrong with further traces that a check is to read, if something is. What stands beside the traces is read for each of them, so it can't be a stream.
     pub(crate) fn among(first: Command<'a>, more: &[&'a str]) -> Option<PathMistake<'a>> {
         let Paths { inputs, outputs } = first.paths();
@@ -174,7 +241,7 @@ impl fmt::Display for Mistake<'_> {
             ),
             Mistake::NoPage => writeln!(
                 f,
-                "error: page takes --show PAGE, or a file to write with --data, --spare, --pages and --blocks"
+                "error: page takes --show PAGE, or a file to write with --from IN or with --data, --spare, --pages and --blocks"
             ),
             Mistake::PageNumber { option, word } => writeln!(
                 f,

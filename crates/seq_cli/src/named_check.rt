@@ -31,6 +31,7 @@ impl<'a> NamedCheck<'a> {
             | Command::Draw(_)
             | Command::Disassemble { .. }
             | Command::MakePage { .. }
+            | Command::TakePage(_)
             | Command::ShowPage { .. }
             | Command::Upgrade { .. } => None,
         }

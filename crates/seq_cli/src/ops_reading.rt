@@ -107,11 +107,68 @@ fn read_block<'a>(matches: &ArgMatches<'a>) -> Result<Option<u32>, OpsMistake<'a
     }
 }
 
+// The names of operations but for those of openers that have none.
+const KINDS: [&str; 31] = [
+    "column",
+    "column-enhanced",
+    "copyback-program",
+    "copyback-read",
+    "cut",
+    "erase",
+    "erase-plane",
+    "get-features",
+    "id",
+    "lun-get-features",
+    "lun-set-features",
+    "odt-configure",
+    "parameters",
+    "program",
+    "program-cache",
+    "program-plane",
+    "read",
+    "read-cache",
+    "read-cache-end",
+    "read-plane",
+    "ready",
+    "reset",
+    "reset-lun",
+    "resume",
+    "set-features",
+    "status",
+    "synchronous-reset",
+    "unique-id",
+    "volume-select",
+    "zq-long",
+    "zq-short",
+];
+
+// Whether operations have this name.
+fn is_kind(word: &str) -> bool {
+    match word.strip_prefix("unknown-") {
+        Some(byte) => byte.len() == 2 && u8::from_str_radix(byte, 16).is_ok(),
+        None => KINDS.as_slice().contains(&word),
+    }
+}
+
+fn read_kinds<'a>(matches: &ArgMatches<'a>) -> Result<Option<&'a str>, OpsMistake<'a>> {
+    let Some(kinds) = matches.get_str("kind") else {
+        return Ok(None);
+    };
+    match kinds.split(',').find(|kind| !is_kind(kind)) {
+        None => Ok(Some(kinds)),
+        Some(word) => Err(OpsMistake {
+            option: "kind",
+            takes: "names that `ops` prints, with commas between several, as in erase,program",
+            word,
+        }),
+    }
+}
+
 fn read_filter<'a>(matches: &ArgMatches<'a>) -> Result<OpsFilter<'a>, OpsMistake<'a>> {
     Ok(OpsFilter {
         lun: read_lun(matches)?,
         block: read_block(matches)?,
-        kinds: matches.get_str("kind"),
+        kinds: read_kinds(matches)?,
         items: read_items(matches)?,
         from: read_number(matches, "from")?,
         to: read_number(matches, "to")?,

@@ -17,7 +17,7 @@ use Rattle.trace_text.specs.Line.{IsPrintable}
 use Rattle.trace_files.specs.declared.outputs.TraceOutputs.{TraceOutputs}
 use Rattle.trace_files.specs.Files.{files_of}
 use Rattle.seq_inputs.specs.Inputs.{HasPage, PageIsRefused, HasFile, HasProgram, ProgramIsRefused, RefusesSource, RefusesReason}
-use Rattle.seq_inputs.specs.Headed.{with_header, RefusesHeaded}
+use Rattle.seq_inputs.specs.Headed.{HasWordsOf, RefusesHeaded}
 use Rattle.seq_inputs.specs.declared.fault.Fault.{Fault}
 use Rattle.seq_inputs.specs.declared.fault.Fault.TheVariants.{Text}
 
@@ -41,12 +41,6 @@ pub record SourceIsRefused (files : Option Store) (path : List ℕ) (fault : Fau
   pub refuses : RefusesSource text fault
 
 -- ---- asm for a chip
-
--- the lines of the text, whose header may be missing, spell one microprogram, and the other has its words; its own header counts for nothing
-pub record HasWordsOf (text : List ℕ) (y : Microprogram) : Type 0 where
-  pub x : Microprogram
-  pub spelled : Spells (with_header text) x
-  pub same_words : y.words ≡ x.words
 
 -- it is safe for the geometry, and there is nothing against it
 pub record HasSafeWordsOf (g : Parts) (text : List ℕ) (y : Microprogram) : Type 0 where

@@ -9,63 +9,18 @@ ghost use Rattle.seq_inputs.specs.Stops.{Says, Tells};
 ghost use Rattle.seq_inputs.specs.Refusals.{line_of};
 ghost use Rattle.seq_commands.specs.Commands.{HasSafeWordsOf, RefusesFor, AssembleForRefuses, IsAssembledFor};
 
-use micro_lint::{Header, least_header};
+use micro_lint::Header;
 use micro_program::Verified;
 use micro_verify::{TextRefused, VerifyRefusal, verify};
-use micro_word::{Text, Word, write};
+use micro_word::{Text, write};
 use nand_geometry::Geometry;
 use seq_files::Files;
 use seq_inputs::{
     Console, Exit, Fault, Headed, Stop, Words, end_without_memory, fail, finish, geometry_at,
-    read_file, read_headed, words_of_reason, write_file,
+    read_file, read_headed, with_least_header, words_of_reason, write_file,
 };
-use std::alloc::{AllocError, Allocator};
+use std::alloc::Allocator;
 use std::io::Write;
-
-// The largest header that there is.
-const LARGEST_HEADER: Header = Header {
-    rows: 4_096,
-    buffer: 16_777_215,
-    budget: 4_294_967_295,
-};
-
-// The same words.
-fn copy_words<A: Allocator>(alloc: A, words: &[Word]) -> Result<Vec<Word, A>, AllocError>
-    ensures { IfOk result (λ copy. copy.items ≡ words.now) }
-{
-    let mut copy = Vec::new(alloc);
-    copy.extend_from_slice(words)?;
-    Ok(copy)
-}
-
-// The words of a text with another header, or the text as it is where that doesn't fit.
-fn with_header<A: Allocator>(alloc: A, text: Text<A>, header: Header) -> Result<Text<A>, AllocError>
-    ensures { IfOk result (λ y. y.words ≡ text.words) }
-{
-    let words = copy_words(alloc, text.words())?;
-    let Ok(rows) = u16::try_from(header.rows) else {
-        return Ok(text);
-    };
-    match Text::of(rows, header.buffer, header.budget, words) {
-        Ok(headed) => Ok(headed),
-        Err(_) => Ok(text),
-    }
-}
-
-// The words of a text with the least header that is known to be enough for a geometry, or with the largest where none is known.
-fn with_least_header<A: Allocator + Clone>(
-    alloc: A,
-    text: Text<A>,
-    geometry: &Geometry,
-) -> Result<Text<A>, AllocError>
-    ensures { IfOk result (λ y. y.words ≡ text.words) }
-{
-    let text = with_header(alloc.clone()?, text, LARGEST_HEADER)?;
-    match least_header(alloc.clone()?, &text, geometry)? {
-        Some(header) => with_header(alloc, text, header),
-        None => Ok(text),
-    }
-}
 
 // What is against a word of a text, whose line is counted in the text without the header that was added.
 fn words_in_source<'p, A: Allocator + Clone>(

@@ -11,7 +11,7 @@ use crate::noting::{lines_of_header, lines_of_notes, notes_of};
 use crate::verifying::verify_at;
 use micro_program::Verified;
 use seq_files::Files;
-use seq_inputs::{Console, Exit, Style, end_without_memory, fail_as, finish};
+use seq_inputs::{Console, Exit, Style, end_without_memory, fail_as, finish, say_counted};
 use std::alloc::{AllocError, Allocator};
 use std::io::Write;
 use trace_files::TraceOutputs;
@@ -77,7 +77,16 @@ pub fn lint_file<'p, A: Allocator + Clone, F: Files, W: Write, E: Write, P>(
     };
     match verify_at(copy, files, page, input, TraceOutputs::NONE) {
         Ok((bytes, verified)) => match output.lines(alloc, input, bytes.as_slice(), &verified) {
-            Ok(lines) => finish(console, lines.as_str()),
+            Ok(lines) => {
+                say_counted(
+                    &mut console.errors,
+                    output.style(),
+                    input,
+                    bytes.as_slice(),
+                    verified.text(),
+                );
+                finish(console, lines.as_str())
+            }
             Err(_) => end_without_memory(console),
         },
         Err(stop) => fail_as(alloc, console, output.style(), stop),

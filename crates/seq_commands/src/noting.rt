@@ -39,6 +39,7 @@ fn push_said<A: Allocator>(
                 path: words.path,
                 line: words.line,
                 place: place_of(note),
+                time: None,
                 message: &words.text,
             };
             writeln!(lines, "{told}")

@@ -124,9 +124,19 @@ pub(crate) fn say_unshown<'p, A: Allocator>(
     words: Words<'p, A>,
     unshown: UnshownRun,
 ) -> Option<Words<'p, A>> {
-    let Words { path, line, text } = words;
+    let Words {
+        path,
+        line,
+        time,
+        text,
+    } = words;
     match format!(in alloc; "{text}; no run is written: {unshown}") {
-        Ok(text) => Some(Words { path, line, text }),
+        Ok(text) => Some(Words {
+            path,
+            line,
+            time,
+            text,
+        }),
         Err(_) => None,
     }
 }

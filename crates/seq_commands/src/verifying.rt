@@ -26,7 +26,7 @@ use onfi_cycle::Item;
 use seq_files::{Files, MadeFile, list_made};
 use seq_inputs::{
     Console, Exit, Fault, Stop, Style, Words, end_without_memory, fail_as, finish, geometry_at,
-    read_file, read_program, words_of_reason, write_files,
+    read_file, read_program, say_counted, words_of_reason, write_files,
 };
 use std::alloc::Allocator;
 use std::io::Write;
@@ -168,7 +168,7 @@ pub(crate) fn verify_at<'p, A: Allocator + Clone, F: Files>(
 {
     let geometry = geometry_at(alloc.clone()?, files, page)?;
     let bytes = read_file(alloc.clone()?, files, input)?;
-    let text = read_program(alloc.clone()?, input, bytes.as_slice())?;
+    let text = read_program(alloc.clone()?, input, bytes.as_slice(), &geometry)?;
     let verified = accept(
         alloc,
         files,
@@ -215,6 +215,13 @@ pub fn verify_file<A: Allocator + Clone, F: Files, W: Write, E: Write, P>(
         Ok((bytes, verified)) => {
             let exit = finish(console, "accepted\n");
             if !is_quiet && matches!(exit, Exit::Done) {
+                say_counted(
+                    &mut console.errors,
+                    style,
+                    input,
+                    bytes.as_slice(),
+                    verified.text(),
+                );
                 say_notes(
                     alloc,
                     &mut console.errors,

@@ -13,6 +13,11 @@ abbrev pub Holds : Option Store → List ℕ → List ℕ → Type 0
 Holds None path bytes = ⊤
 Holds (Some files) path bytes = files path ≡ Some bytes
 
+-- the name of the file that a path leads to: where it is known what the paths have, each has a file of its own, and the path is its name
+abbrev pub IsNameOf : Option Store → (path name : List ℕ) → Type 0
+IsNameOf None path name = ⊤
+IsNameOf (Some files) path name = name ≡ path
+
 -- a file more, in place of one that had its path
 abbrev pub with_file : Option Store → List ℕ → List ℕ → Option Store
 with_file None path bytes = None

@@ -13,6 +13,9 @@ use thiserror::Error as Described;
 pub enum FileFault {
     #[error("there is no such file")]
     NotFound,
+    /// It is to be written, and its folder isn't there.
+    #[error("there is no such folder to write it into")]
+    NoFolder,
     #[error("permission denied")]
     PermissionDenied,
     #[error("it is a directory")]

@@ -1,6 +1,7 @@
 //! What a command asks of a file system.
 ghost use Rattle.std.specs.Prelude.{◌≡◌, ℕ, List, Option, None, IfOk, IfErr, OnOk, OnErr, map};
-ghost use Rattle.seq_files.specs.Store.{Store, Holds, with_file, with_all, written_of};
+ghost use Rattle.std.specs.String.{string_bytes};
+ghost use Rattle.seq_files.specs.Store.{Store, Holds, IsNameOf, with_file, with_all, written_of};
 ghost use Rattle.seq_files.specs.Converting.{IsMade, IsRefused};
 
 use crate::converting::{Convert, NotConverted};
@@ -12,6 +13,13 @@ use std::alloc::Allocator;
 pub trait Files {
     /// What each path has, where that is known: the bytes of a file, or none.
     ghost store: { Self → Option Store } = { λ _. None };
+
+    /// The name of the file that a path leads to, links followed: two paths lead to one file exactly where this is the same. `-` is standard input.
+    fn identify(&self, path: &str) -> Result<String, FileError>
+        ensures name { IfOk result (λ name. IsNameOf (store self.now) path.now (string_bytes name)) };
+
+    /// Whether a file can be written at this path, as far as that can be tried without changing one.
+    fn try_output(&self, path: &str) -> Result<(), FileError>;
 
     /// All bytes of a file.
     fn read<A: Allocator>(&mut self, alloc: A, path: &str) -> Result<Vec<u8, A>, FileError>

@@ -124,6 +124,14 @@ impl Files for MapFiles {
 
     ghost store = { λ m. Some (files_in m.files.items) };
 
+    fn identify(&self, path: &str) -> Result<String, FileError> {
+        Ok(String::from_str(self.alloc, path)?)
+    }
+
+    fn try_output(&self, _path: &str) -> Result<(), FileError> {
+        Ok(())
+    }
+
     fn read<A: Allocator>(&mut self, alloc: A, path: &str) -> Result<Vec<u8, A>, FileError> {
         self.call()?;
         match self.get(path) {

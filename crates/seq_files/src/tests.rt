@@ -1,8 +1,8 @@
 ghost use Rattle.std.specs.Prelude.{◌≤◌, length};
 
 use crate::{
-    FileError, FileFault, Files, MapFiles, NewFile, NotWritten, SlowReader, SlowWriter, read_all,
-    read_sized, write_text,
+    Clash, FileError, FileFault, Files, MapFiles, NewFile, NotWritten, SlowReader, SlowWriter, Use,
+    UsedFile, find_clash, read_all, read_sized, write_text,
 };
 use std::alloc::Global;
 use std::io::{self, Read};
@@ -211,4 +211,31 @@ fn failed_writes(rt: HostRuntime) {
     let mut slow = SlowWriter::new(rt.alloc(), 2, io::ErrorKind::Interrupted);
     assert_eq!(rt; write_text(&mut slow, "ten bytes."), Ok(()));
     assert_eq!(rt; slow.bytes.as_slice(), b"ten bytes.".as_slice());
+}
+
+// A use of a file by its path.
+const fn used(path: &str, usage: Use) -> UsedFile<'_> {
+    UsedFile {
+        path,
+        usage,
+        line: None,
+    }
+}
+
+#[test]
+fn files_that_would_be_lost(rt: HostRuntime) {
+    let files = MapFiles::new(rt.alloc());
+    let read = used("a", Use::Read);
+    let (a, b) = (used("a", Use::Written), used("b", Use::Written));
+    for (outputs, other, want) in [
+        ([a, b], used("c", Use::Read), None),
+        ([b, a], read, Some((a, read))),
+        ([a, a], used("c", Use::Read), Some((a, a))),
+    ] {
+        let found = find_clash(rt.alloc(), &files, outputs.as_slice(), &[other, other]);
+        let want = want.map(|(output, other)| Clash { output, other });
+        assert_eq!(rt; found, Ok(want));
+    }
+    let found = find_clash(rt.alloc(), &files, &[], &[read, read]);
+    assert_eq!(rt; found, Ok(None));
 }

@@ -1,3 +1,4 @@
+pub mod Headings
 pub mod Refusing
 pub mod Said
 pub mod Verifieds

@@ -12,6 +12,7 @@ use Rattle.micro_word.specs.Reading.{reading as file_reading}
 use Rattle.micro_program.specs.Safe.{IsSafe}
 use Rattle.micro_walk.specs.Faults.{fault_of}
 use Rattle.micro_walk.specs.Verdicts.{MayBe}
+use Rattle.seq_inputs.specs.Headed.{is_headless, HasWordsOf, RefusesHeaded}
 use Rattle.seq_inputs.specs.declared.fault.Fault.{Fault}
 use Rattle.seq_inputs.specs.declared.fault.Fault.TheVariants.{Page, Source, File, Text}
 
@@ -70,21 +71,23 @@ RefusesSource text _ = ⊥
 
 -- ---- microprograms, as an assembly text or as a word file
 
-abbrev pub IsProgramAs : (is_text : Bool) → List ℕ → Microprogram → Type 0
-IsProgramAs true bytes x = Spells bytes x
-IsProgramAs false bytes x = IsFileOf bytes x
+abbrev pub IsProgramAs : (is_headless is_text : Bool) → List ℕ → Microprogram → Type 0
+IsProgramAs true is_text bytes x = HasWordsOf bytes x
+IsProgramAs false true bytes x = Spells bytes x
+IsProgramAs false false bytes x = IsFileOf bytes x
 
--- the bytes are an assembly text that spells the microprogram, or its word file
+-- the bytes are an assembly text without its header, which has the words of the microprogram; or a whole one that spells it, or its word file
 abbrev pub IsProgram : List ℕ → Microprogram → Type 0
-IsProgram bytes x = IsProgramAs (is_source bytes) bytes x
+IsProgram bytes x = IsProgramAs (is_headless bytes) (is_source bytes) bytes x
 
-abbrev pub RefusesProgramAs : (is_text : Bool) → List ℕ → Fault → Type 0
-RefusesProgramAs true bytes fault = RefusesSource bytes fault
-RefusesProgramAs false bytes fault = RefusesFile bytes fault
+abbrev pub RefusesProgramAs : (is_headless is_text : Bool) → List ℕ → Fault → Type 0
+RefusesProgramAs true is_text bytes fault = RefusesHeaded bytes fault
+RefusesProgramAs false true bytes fault = RefusesSource bytes fault
+RefusesProgramAs false false bytes fault = RefusesFile bytes fault
 
 -- the first fault of the text or of the file
 abbrev pub RefusesProgram : List ℕ → Fault → Type 0
-RefusesProgram bytes fault = RefusesProgramAs (is_source bytes) bytes fault
+RefusesProgram bytes fault = RefusesProgramAs (is_headless bytes) (is_source bytes) bytes fault
 
 -- the file at this path is the microprogram's
 pub record HasProgram (files : Option Store) (path : List ℕ) (x : Microprogram) : Type 0 where

@@ -59,6 +59,14 @@ fn say_refusal<A: Allocator, E: Write>(
     }
 }
 
+// Whether a path of a run file counts from where one stands, though the run file lies elsewhere.
+fn counts_from_elsewhere(named: NamedBy<'_>, path: &str) -> bool {
+    match (named.run, named.line) {
+        (Some(run), Some(_)) => run.contains('/') && !path.starts_with('/'),
+        (Some(_) | None, None) | (None, Some(_)) => false,
+    }
+}
+
 // Says of a file or a stream that it couldn't be read or written, and why.
 fn say_file_fault<E: Write>(
     errors: &mut E,
@@ -69,6 +77,12 @@ fn say_file_fault<E: Write>(
     let shown = Shown::path(path);
     writeln!(errors, "file fault {shown}")?;
     write!(errors, "{named}{shown}: {fault}")?;
+    if fault == FileFault::NotFound && counts_from_elsewhere(named, path) {
+        write!(
+            errors,
+            ": paths in a run file count from where `onfiseq` is started, and not from the run file"
+        )?;
+    }
     if path.ends_with('\r') {
         write!(
             errors,

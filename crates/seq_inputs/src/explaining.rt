@@ -1,7 +1,7 @@
 //! What is wrong with a file, in words for whoever wrote it: ``word N, `WORD`: what is wrong (CODE)``, with its line, as far as there is a line and a word.
 
 use crate::fault::Fault;
-use crate::headed::Headed;
+use crate::headed::{HEADER_LINES, Headed, is_headless};
 use crate::reading::is_source;
 use crate::words::Words;
 use micro_asm::{AsmFault, AsmMessage, AsmRefusal, disassemble};
@@ -55,7 +55,7 @@ pub fn words_of_file<'p, A: Allocator>(
     word: usize,
 ) -> Option<Words<'p, A>> {
     let code = fault.code();
-    if is_source(bytes) {
+    if is_source(bytes) || is_headless(bytes) {
         let text = format!(in alloc;
             "it is an assembly text, where a word file is wanted: `onfiseq asm` makes one ({code})"
         );
@@ -77,7 +77,14 @@ pub fn words_of_source<'p, A: Allocator>(
     line: usize,
 ) -> Option<Words<'p, A>> {
     let message = AsmMessage::new(AsmRefusal::Fault { fault, line }, text);
-    Words::at(path, Some(line), format!(in alloc; "{message}"))
+    let words = if fault == AsmFault::HeaderOutOfOrder && is_headless(text.as_bytes()) {
+        format!(in alloc;
+            "{message}; `asm --auto PAGE` counts a header for the chip of a parameter page"
+        )
+    } else {
+        format!(in alloc; "{message}")
+    };
+    Words::at(path, Some(line), words)
 }
 
 /// What is wrong with an assembly text to which a header was added: the line of it, counted with those that were added. The line that has a
@@ -119,9 +126,9 @@ fn is_word(statement: &str) -> bool {
     !statement.is_empty() && !statement.ends_with(':')
 }
 
-// The line of a word in an assembly text, counted from 1, and what stands there. The three lines of the header come first.
-fn find_word(assembly: &str, word: usize) -> Option<(usize, &str)> {
-    let mut left = word.saturating_add(3);
+// The line of a word in an assembly text, counted from 1, and what stands there. So many lines of its header come first.
+fn find_word(assembly: &str, header: usize, word: usize) -> Option<(usize, &str)> {
+    let mut left = word.saturating_add(header);
     for (place, line) in assembly.split('\n').enumerate() {
         let statement = statement_of(line);
         if !is_word(statement) {
@@ -214,12 +221,16 @@ pub fn words_of_note<'p, A: Allocator, M: fmt::Display + Drop>(
 // A word of a microprogram that has these bytes, and this text as assembly.
 fn name_word<'a>(bytes: &'a [u8], assembly: &'a str, word: usize) -> Named<'a> {
     let source = match str::from_utf8(bytes) {
-        Ok(source) if is_source(bytes) => Some(source),
+        Ok(source) if is_headless(bytes) => Some((source, 0)),
+        Ok(source) if is_source(bytes) => Some((source, HEADER_LINES)),
         Ok(_) | Err(_) => None,
     };
     let (line, shown) = match source {
-        Some(source) => find_word(source, word).unzip(),
-        None => (None, find_word(assembly, word).map(|found| found.1)),
+        Some((source, header)) => find_word(source, header, word).unzip(),
+        None => (
+            None,
+            find_word(assembly, HEADER_LINES, word).map(|found| found.1),
+        ),
     };
     Named { line, word, shown }
 }

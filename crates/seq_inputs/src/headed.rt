@@ -1,5 +1,6 @@
 //! An assembly text that may be without its header.
 ghost use Rattle.std.specs.Prelude.{◌≡◌, ◌-◌, IfOk, IfErr, OnOk};
+ghost use Rattle.seq_inputs.specs.Headed.{is_bus_word, is_place_word, is_flow_word, is_word_name, begins_with_word, is_headless, HasWordsOf};
 ghost use Rattle.std.specs.String.{string_bytes};
 ghost use Rattle.micro_asm.specs.Reading.{Spells};
 ghost use Rattle.seq_inputs.specs.Headed.{is_header_name, begins_with_header, has_header, with_header, lines_added, RefusesHeaded};
@@ -10,14 +11,23 @@ use crate::fault::Fault;
 use crate::reading::text_of;
 use crate::stop::Stop;
 use micro_asm::{AsmRefusal, assemble, before_comment, next_field, next_line};
-use micro_word::Text;
+use micro_lint::{Header, least_header};
+use micro_word::{Text, Word};
+use nand_geometry::Geometry;
 use std::alloc::{AllocError, Allocator, Global};
 
 // The header with the largest numbers that there are.
 const LARGEST_HEADER: &str = "rows 4096\nbuffer 16777215\nbudget 4294967295\n";
 
-// How many lines a header has.
-const HEADER_LINES: usize = 3;
+// Its numbers.
+const LARGEST: Header = Header {
+    rows: 4_096,
+    buffer: 16_777_215,
+    budget: 4_294_967_295,
+};
+
+/// How many lines a header has.
+pub(crate) const HEADER_LINES: usize = 3;
 
 /// An assembly text with a header: its own, or the largest in front of it.
 #[derive(Drop)]
@@ -48,6 +58,102 @@ fn has_header(text: &[u8]) -> bool
         rest = after;
     }
     false
+}
+
+// Whether this is the name of a word that brings cycles on the bus.
+fn is_bus_word(name: &[u8]) -> bool
+    ensures { result ≡ is_bus_word name.now }
+{
+    name == b"cmd".as_slice()
+        || (name == b"addr".as_slice()
+            || (name == b"get".as_slice()
+                || (name == b"put".as_slice()
+                    || (name == b"wait".as_slice() || name == b"stat".as_slice()))))
+}
+
+// Whether this is the name of a word that says where the program is to work.
+fn is_place_word(name: &[u8]) -> bool
+    ensures { result ≡ is_place_word name.now }
+{
+    name == b"seek".as_slice()
+        || (name == b"col".as_slice()
+            || (name == b"row".as_slice()
+                || (name == b"rowadd".as_slice() || name == b"plane".as_slice())))
+}
+
+// Whether this is the name of a word that says how the program goes on.
+fn is_flow_word(name: &[u8]) -> bool
+    ensures { result ≡ is_flow_word name.now }
+{
+    name == b"end".as_slice()
+        || (name == b"yield".as_slice()
+            || (name == b"brs".as_slice()
+                || (name == b"jmp".as_slice()
+                    || (name == b"loop".as_slice() || name == b"next".as_slice()))))
+}
+
+// Whether this is the name of a word.
+fn is_word_name(name: &[u8]) -> bool
+    ensures { result ≡ is_word_name name.now }
+{
+    is_bus_word(name) || (is_place_word(name) || is_flow_word(name))
+}
+
+/// Whether a file is taken for an assembly text without its header: its first line that has fields begins with the name of a word.
+#[tactic(auto, unfolding(crate::specs::Headed::begins_with_word))]
+pub fn is_headless(bytes: &[u8]) -> bool
+    ensures { result ≡ is_headless bytes.now }
+{
+    let mut rest = bytes;
+    'lines: while let Some((line, after)) = next_line(rest) {
+        if let Some((name, _)) = next_field(before_comment(line)) {
+            return is_word_name(name);
+        }
+        rest = after;
+    }
+    false
+}
+
+// The same words.
+fn copy_words<A: Allocator>(alloc: A, words: &[Word]) -> Result<Vec<Word, A>, AllocError>
+    ensures { IfOk result (λ copy. copy.items ≡ words.now) }
+{
+    let mut copy = Vec::new(alloc);
+    copy.extend_from_slice(words)?;
+    Ok(copy)
+}
+
+// The words of a text with another header, or the text as it is where that doesn't fit.
+fn replace_header<A: Allocator>(
+    alloc: A,
+    text: Text<A>,
+    header: Header,
+) -> Result<Text<A>, AllocError>
+    ensures { IfOk result (λ y. y.words ≡ text.words) }
+{
+    let words = copy_words(alloc, text.words())?;
+    let Ok(rows) = u16::try_from(header.rows) else {
+        return Ok(text);
+    };
+    match Text::of(rows, header.buffer, header.budget, words) {
+        Ok(headed) => Ok(headed),
+        Err(_) => Ok(text),
+    }
+}
+
+/// The words of a text with the least header that is known to be enough for a geometry, or with the largest where none is known.
+pub fn with_least_header<A: Allocator + Clone>(
+    alloc: A,
+    text: Text<A>,
+    geometry: &Geometry,
+) -> Result<Text<A>, AllocError>
+    ensures { IfOk result (λ y. y.words ≡ text.words) }
+{
+    let text = replace_header(alloc.clone()?, text, LARGEST)?;
+    match least_header(alloc.clone()?, &text, geometry)? {
+        Some(header) => replace_header(alloc, text, header),
+        None => Ok(text),
+    }
 }
 
 impl<A: Allocator> Headed<A> {
@@ -93,4 +199,22 @@ pub fn read_headed<'p, A: Allocator + Clone>(
         }
         Err(AsmRefusal::OutOfMemory) => Err(Stop::OutOfMemory),
     }
+}
+
+/// The microprogram of an assembly text without its header that has this path, with the header that is counted for a geometry.
+#[tactic(auto, using(crate::proofs::Headings::counted))]
+pub(crate) fn read_headless<'p, A: Allocator + Clone>(
+    alloc: A,
+    path: &'p str,
+    bytes: &[u8],
+    geometry: &Geometry,
+) -> Result<Text<A>, Stop<'p, A>>
+    ensures ok { IfOk result (HasWordsOf bytes.now) }
+    ensures err { IfErr result (Says (RefusesHeaded bytes.now)) }
+{
+    let text = match read_headed(alloc.clone()?, path, bytes) {
+        Ok((_, text)) => text,
+        Err(stop) => return Err(stop),
+    };
+    Ok(with_least_header(alloc, text, geometry)?)
 }

@@ -6,6 +6,7 @@
 #![tactic(auto)]
 
 mod console;
+mod counted;
 mod ending;
 mod exit;
 mod explaining;
@@ -20,18 +21,19 @@ mod told;
 mod words;
 
 pub use console::Console;
+pub use counted::say_counted;
 pub use ending::{end_without_memory, fail, fail_as, finish, say_words};
 pub use exit::Exit;
 pub use explaining::{words_of, words_of_job, words_of_note, words_of_reason};
 pub use fault::Fault;
-pub use headed::{Headed, read_headed};
+pub use headed::{Headed, is_headless, read_headed, with_least_header};
 pub use lines::{push_end_line, push_refusal_line};
 pub use reading::{
     geometry_at, geometry_in, is_source, read_file, read_program, read_source, read_words, text_of,
-    verified_at, verify_program, words_at, write_file, write_files,
+    try_file, verified_at, verify_program, words_at, write_file, write_files,
 };
 pub use refusal::Refusal;
 pub use stop::{MOST_BUFFER_BYTES, Stop};
 pub use style::Style;
-pub use told::{Place, Told};
+pub use told::{Place, Quoted, Told};
 pub use words::Words;

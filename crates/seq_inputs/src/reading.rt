@@ -11,6 +11,7 @@ ghost use Rattle.seq_inputs.specs.Stops.{Says, RefusesNothing};
 
 use crate::explaining::{words_of, words_of_file, words_of_reason, words_of_source};
 use crate::fault::Fault;
+use crate::headed::{is_headless, read_headless};
 use crate::stop::Stop;
 use micro_asm::{AsmRefusal, assemble};
 use micro_claims::Fault as TextFault;
@@ -33,6 +34,16 @@ pub fn read_file<'p, A: Allocator, F: Files>(
 {
     match files.read(alloc, path) {
         Ok(bytes) => Ok(bytes),
+        Err(error) => Err(Stop::of_file(path, error)),
+    }
+}
+
+/// Whether a file can be written at this path, as far as that can be tried without changing one.
+pub fn try_file<'p, A: Allocator, F: Files>(files: &F, path: &'p str) -> Result<(), Stop<'p, A>>
+    ensures { IfErr result (λ e. RefusesNothing e) }
+{
+    match files.try_output(path) {
+        Ok(()) => Ok(()),
         Err(error) => Err(Stop::of_file(path, error)),
     }
 }
@@ -211,16 +222,19 @@ pub fn is_source(bytes: &[u8]) -> bool
     false
 }
 
-/// The microprogram of a file that has this path: an assembly text, or a word file of either format.
+/// The microprogram of a file that has this path: an assembly text, or a word file of either format. The header that a text is without is counted for a geometry.
 pub fn read_program<'p, A: Allocator + Clone>(
     alloc: A,
     path: &'p str,
     bytes: &[u8],
+    geometry: &Geometry,
 ) -> Result<Text<A>, Stop<'p, A>>
     ensures ok { IfOk result (IsProgram bytes.now) }
     ensures err { IfErr result (Says (RefusesProgram bytes.now)) }
 {
-    if is_source(bytes) {
+    if is_headless(bytes) {
+        read_headless(alloc, path, bytes, geometry)
+    } else if is_source(bytes) {
         read_source(alloc, path, bytes)
     } else {
         read_words(alloc, path, bytes)
@@ -262,7 +276,7 @@ pub fn verified_at<'p, A: Allocator + Clone, F: Files>(
     ensures stays { F.store files.new ≡ F.store files.old }
 {
     let bytes = read_file(alloc.clone()?, files, path)?;
-    let text = match read_program(alloc.clone()?, path, bytes.as_slice()) {
+    let text = match read_program(alloc.clone()?, path, bytes.as_slice(), &geometry) {
         Ok(text) => text,
         Err(stop) => return Err(stop),
     };

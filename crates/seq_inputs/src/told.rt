@@ -5,9 +5,9 @@ use crate::words::Words;
 use std::alloc::Allocator;
 use std::fmt::{self, Write};
 
-// What a value displays, as the text of a JSON value: between quotes, with what JSON escapes escaped.
+/// What a value displays, as the text of a JSON value: between quotes, with what JSON escapes escaped.
 #[derive(Clone, Copy)]
-struct Quoted<'a, D: fmt::Display>(&'a D);
+pub struct Quoted<'a, D: fmt::Display>(pub &'a D);
 
 // Writes on with the characters as JSON has them between quotes.
 #[derive(Drop)]
@@ -88,6 +88,8 @@ pub struct Told<'a, M: fmt::Display> {
     /// Counted from 1.
     pub line: Option<usize>,
     pub place: Option<Place>,
+    /// The time in front of an item of a recording, in its unit.
+    pub time: Option<u64>,
     pub message: &'a M,
 }
 
@@ -99,6 +101,7 @@ impl<'a, M: fmt::Display> Told<'a, M> {
             path: None,
             line: None,
             place: None,
+            time: None,
             message,
         }
     }
@@ -112,6 +115,7 @@ impl<'a, A: Allocator> Told<'a, String<A>> {
             path: words.path,
             line: words.line,
             place: Place::of(fault),
+            time: words.time,
             message: &words.text,
         }
     }
@@ -131,6 +135,9 @@ impl<M: fmt::Display> fmt::Display for Told<'_, M> {
         }
         if let Some(place) = self.place {
             write!(f, "{place},")?;
+        }
+        if let Some(time) = self.time {
+            write!(f, "\"time\":{time},")?;
         }
         write!(f, "\"message\":{}}}", Quoted(self.message))
     }

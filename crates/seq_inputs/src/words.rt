@@ -9,6 +9,8 @@ use std::fmt;
 pub struct Words<'a, A: Allocator = Global> {
     pub path: Option<&'a str>,
     pub line: Option<usize>,
+    /// The time of the recording that stands in front of it, if one does.
+    pub time: Option<u64>,
     pub text: String<A>,
 }
 
@@ -23,6 +25,7 @@ impl<'a, A: Allocator> Words<'a, A> {
             Ok(text) => Some(Words {
                 path: Some(path),
                 line,
+                time: None,
                 text,
             }),
             Err(_) => None,
@@ -34,21 +37,45 @@ impl<'a, A: Allocator> Words<'a, A> {
         let Words {
             path,
             line: _,
+            time,
             text,
         } = self;
         Words {
             path,
             line: Some(line),
+            time,
+            text,
+        }
+    }
+
+    /// The same at this time of a recording.
+    pub fn at_time(self, time: Option<u64>) -> Words<'a, A> {
+        let Words {
+            path,
+            line,
+            text,
+            ..
+        } = self;
+        Words {
+            path,
+            line,
+            time,
             text,
         }
     }
 
     /// The same so many lines further up, where it is said of a line.
     pub fn lines_up(self, count: usize) -> Words<'a, A> {
-        let Words { path, line, text } = self;
+        let Words {
+            path,
+            line,
+            time,
+            text,
+        } = self;
         Words {
             path,
             line: line.map(|line| line.saturating_sub(count)),
+            time,
             text,
         }
     }
@@ -59,6 +86,7 @@ impl<'a, A: Allocator> Words<'a, A> {
             Ok(text) => Some(Words {
                 path: None,
                 line: None,
+                time: None,
                 text,
             }),
             Err(_) => None,

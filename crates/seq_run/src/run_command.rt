@@ -15,6 +15,7 @@ use crate::phases::{NoClock, Phase, RunProgress, Times};
 use crate::request::RunRequest;
 use crate::running::run_as_planned;
 use crate::summary::{Stats, Summary};
+use crate::used_files::admit_files;
 use crate::writing::write_run;
 use run_file::{RunMessage, RunRefusal, parse_run};
 use run_plan::{PlannedJob, PlannedJobs, RunPlan, plan_run};
@@ -156,6 +157,15 @@ fn admit_steps<E: Write>(errors: &mut E, request: RunRequest<'_>, jobs: &Planned
     admitted
 }
 
+// Says that a run has nothing to do, where its run file has no job.
+fn say_no_job<E: Write>(errors: &mut E, request: RunRequest<'_>, jobs: &PlannedJobs<'_>) {
+    if jobs.all.is_empty() {
+        let path = Shown::path(request.path);
+        let _ = writeln!(errors, "{path}: no line `job` stands there: nothing is run");
+        let _ = errors.flush();
+    }
+}
+
 // Runs the text of the run file.
 fn run_text<R: Threads + Wait + Sync, C: Clock, F: Files, W: Write, E: Write, P: RunProgress>(
     rt: &R,
@@ -183,6 +193,12 @@ fn run_text<R: Threads + Wait + Sync, C: Clock, F: Files, W: Write, E: Write, P:
     };
     if !admit_steps(&mut console.errors, request, &plan.jobs) {
         return Exit::OutOfMemory;
+    }
+    say_no_job(&mut console.errors, request, &plan.jobs);
+    match admit_files(alloc, files, &mut console.errors, request, text) {
+        Ok(true) => {}
+        Ok(false) => return Exit::Usage,
+        Err(stop) => return fail(alloc, console, run, stop),
     }
     match carry_out(rt, alloc, files, console, times, request, plan) {
         Ok(summary) => {

@@ -4,8 +4,10 @@
 ghost use Rattle.std.specs.Prelude.{List, ℕ, ⊤, IfErr, OnOk};
 ghost use Rattle.seq_files.specs.Converting.{IsMade, IsRefused};
 
+use crate::file_names::{folder_of, read_path};
 use seq_files::{
-    Convert, FileError, Files, NewFile, NotConverted, NotWritten, convert_all, read_sized,
+    Convert, FileError, FileFault, Files, NewFile, NotConverted, NotWritten, convert_all,
+    read_sized,
 };
 use std::alloc::{Allocator, Global};
 use std::fs::{self, Metadata, OpenFile, OpenOptions, Permissions};
@@ -17,14 +19,11 @@ use std::rt;
 // How many names are tried for a file in the making: killed runs may have left some.
 const MOST_NAMES: usize = 1_000;
 
-// What has the path `-`: standard input.
-const STDIN: &str = "/dev/stdin";
-
 /// The files of the system.
 #[derive(Clone, Copy)]
 pub struct RealFiles<'a, R: rt::Files> {
-    system: &'a R,
-    alloc: Global,
+    pub(crate) system: &'a R,
+    pub(crate) alloc: Global,
 }
 
 // A file in the making, and the path that it is to have.
@@ -49,11 +48,11 @@ struct Prepared<'p, 'b> {
     part: Option<Part>,
 }
 
-// The folder of a path, with the slash that ends it; nothing for a path without a slash.
-fn folder_of(path: &str) -> &str {
-    match path.rfind('/') {
-        Some(at) => &path[..at + 1],
-        None => "",
+// Why a file isn't written.
+fn output_error(error: &io::Error) -> FileError {
+    match error.kind() {
+        ErrorKind::NotFound => FileError::Fault(FileFault::NoFolder),
+        _ => FileError::of(error),
     }
 }
 
@@ -227,7 +226,10 @@ impl<'a, R: rt::Files> RealFiles<'a, R> {
         place: usize,
         file: NewFile<'p, 'b>,
     ) -> Result<(), FileError> {
-        let part = self.prepare(place, file)?;
+        let part = match self.prepare(place, file) {
+            Ok(part) => part,
+            Err(error) => return Err(output_error(&error)),
+        };
         match prepared.push(Prepared { file, part }) {
             Ok(()) => Ok(()),
             Err(failed) => {
@@ -286,7 +288,7 @@ impl<'a, R: rt::Files> RealFiles<'a, R> {
         for place in 0..prepared.len() {
             if let Err(error) = self.write_open(&prepared[place]) {
                 self.remove_parts(prepared);
-                let error = FileError::of(&error);
+                let error = output_error(&error);
                 return Err(NotWritten { file: place, error });
             }
         }
@@ -298,7 +300,7 @@ impl<'a, R: rt::Files> RealFiles<'a, R> {
         for place in 0..prepared.len() {
             if let Err(error) = self.put_in_place(&prepared[place]) {
                 self.remove_parts(&prepared[place..]);
-                let error = FileError::of(&error);
+                let error = output_error(&error);
                 return Err(NotWritten { file: place, error });
             }
         }
@@ -320,7 +322,21 @@ impl<'a, R: rt::Files> RealFiles<'a, R> {
 impl<'a, R: rt::Files> RealFiles<'a, R> {
     // Opens a file for reading.
     fn open(&self, path: &str) -> io::Result<R::File> {
-        fs::open(self.system, if path == "-" { STDIN } else { path })
+        fs::open(self.system, read_path(path))
+    }
+
+    // Whether a file can be written at this path: a file in the making is made for it and removed again.
+    fn try_begin(&self, path: &str) -> io::Result<()> {
+        if fs::metadata(self.system, path).is_ok_and(|found| found.is_dir()) {
+            return Err(io::Error::from(ErrorKind::IsADirectory));
+        }
+        match self.begin(0, path)? {
+            Some(begun) => {
+                self.remove_part(&begun.part);
+                Ok(())
+            }
+            None => self.find_folder(path),
+        }
     }
 
     // Gives a file in the making that is whole its path; where that fails it is removed.
@@ -348,7 +364,7 @@ impl<'a, R: rt::Files> RealFiles<'a, R> {
         match convert_all(alloc, input, &mut begun.file, converter) {
             Ok(()) => match self.end_part(begun) {
                 Ok(()) => Ok(()),
-                Err(error) => Err(NotConverted::Output(FileError::of(&error))),
+                Err(error) => Err(NotConverted::Output(output_error(&error))),
             },
             Err(error) => {
                 self.remove_part(&begun.part);
@@ -373,7 +389,7 @@ impl<'a, R: rt::Files> RealFiles<'a, R> {
         match convert_all(alloc, input, &mut made, converter) {
             Ok(()) => match self.write_into(path, made.as_slice()) {
                 Ok(()) => Ok(()),
-                Err(error) => Err(NotConverted::Output(FileError::of(&error))),
+                Err(error) => Err(NotConverted::Output(output_error(&error))),
             },
             Err(error) => Err(error),
         }
@@ -381,6 +397,20 @@ impl<'a, R: rt::Files> RealFiles<'a, R> {
 }
 
 impl<'a, R: rt::Files> Files for RealFiles<'a, R> {
+    fn identify(&self, path: &str) -> Result<String, FileError> {
+        match self.name_file(path) {
+            Ok(name) => Ok(name),
+            Err(error) => Err(FileError::of(&error)),
+        }
+    }
+
+    fn try_output(&self, path: &str) -> Result<(), FileError> {
+        match self.try_begin(path) {
+            Ok(()) => Ok(()),
+            Err(error) => Err(output_error(&error)),
+        }
+    }
+
     fn read<A: Allocator>(&mut self, alloc: A, path: &str) -> Result<Vec<u8, A>, FileError> {
         let mut file = self.open(path)?;
         let length = length_of(&file);
@@ -412,7 +442,7 @@ impl<'a, R: rt::Files> Files for RealFiles<'a, R> {
         match self.begin(0, target) {
             Ok(Some(begun)) => self.convert_part(alloc, &mut input, begun, converter),
             Ok(None) => self.convert_into(alloc, &mut input, target, converter),
-            Err(error) => Err(NotConverted::Output(FileError::of(&error))),
+            Err(error) => Err(NotConverted::Output(output_error(&error))),
         }
     }
 }

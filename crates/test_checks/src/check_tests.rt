@@ -248,7 +248,7 @@ fn faults_as_json(rt: HostRuntime) -> Result<(), Fail> {
         &see(rt.alloc(), RECORDED, request)?,
         1,
         "refused F2 at 8\nrefused F3 at 11\n",
-        "{\"code\":\"F2\",\"file\":\"bus.trace\",\"line\":9,\"item\":8,\"message\":\"item 8, `0 C ef`: outside of the profile, 0 cycles passed over (F2)\"}\n{\"code\":\"F3\",\"file\":\"bus.trace\",\"line\":12,\"item\":11,\"message\":\"item 11, `0 C 60`: a sequence is open: `80` (line 10) wants address 2 of 5 next (F3)\"}\n",
+        "{\"code\":\"F2\",\"file\":\"bus.trace\",\"line\":9,\"item\":8,\"message\":\"item 8, `0 C ef`: outside of the profile, 0 cycles passed over (F2)\"}\n{\"code\":\"F3\",\"file\":\"bus.trace\",\"line\":12,\"item\":11,\"message\":\"item 11, `0 C 60`: a sequence is open: `80` (line 10) wants address 2 of 5 next (F3)\"}\n{\"file\":\"bus.trace\",\"verdict\":\"refused\",\"items\":18,\"faults\":2,\"assumed\":0,\"passed_over\":0}\n",
     )
 }
 
@@ -275,7 +275,16 @@ fn files_that_are_refused_as_json(rt: HostRuntime) -> Result<(), Fail> {
     assert_eq!(rt; seen.exit.status(), 2);
     assert_eq!(rt;
         str::from_utf8(seen.errors.as_slice())?,
-        "{\"file\":\"other.trace\",\"message\":\"there is no such file\"}\n"
+        "{\"file\":\"other.trace\",\"message\":\"there is no such file\"}\n{\"file\":\"other.trace\",\"verdict\":\"unreadable\",\"items\":0,\"faults\":0,\"assumed\":0,\"passed_over\":0}\n"
+    );
+    let log = CheckRequest {
+        style: Style::Json,
+        ..LOGGED
+    };
+    let seen = see(rt.alloc(), "@70 0 O e0\n", log)?;
+    assert_eq!(rt;
+        str::from_utf8(seen.errors.as_slice())?,
+        "{\"code\":\"F12\",\"file\":\"bus.trace\",\"line\":1,\"item\":0,\"time\":70,\"message\":\"item 0 at 70, `@70 0 O e0`: no LUN drives the bus: nothing was read yet (F12)\"}\n{\"file\":\"bus.trace\",\"verdict\":\"refused\",\"items\":1,\"faults\":1,\"assumed\":0,\"passed_over\":0}\n"
     );
     Ok(())
 }
@@ -412,7 +421,7 @@ fn a_ready_that_nothing_showed_as_json(rt: HostRuntime) -> Result<(), Fail> {
         &see(rt.alloc(), BY_CLOCK, request)?,
         5,
         "legal\nassumed ready at 5\n",
-        "{\"file\":\"bus.trace\",\"line\":6,\"item\":5,\"message\":\"item 5, `0 C 60`: not shown ready: LUN 0 of target 0 is taken for ready here (else F9: the LUN is busy)\"}\n{\"message\":\"not shown ready: 1 in all\"}\n",
+        "{\"file\":\"bus.trace\",\"line\":6,\"item\":5,\"message\":\"item 5, `0 C 60`: not shown ready: LUN 0 of target 0 is taken for ready here (else F9: the LUN is busy)\"}\n{\"message\":\"not shown ready: 1 in all\"}\n{\"file\":\"bus.trace\",\"verdict\":\"legal\",\"items\":10,\"faults\":0,\"assumed\":1,\"passed_over\":0}\n",
     )
 }
 

@@ -18,6 +18,8 @@ mod lint_tests;
 #[cfg(test)]
 mod middle_tests;
 #[cfg(test)]
+mod page_tests;
+#[cfg(test)]
 mod unshown_tests;
 #[cfg(test)]
 mod vendor_tests;

@@ -171,3 +171,27 @@ fn a_refusal_as_json(rt: HostRuntime) -> Result<(), Fail> {
     );
     Ok(())
 }
+
+// A text without its header, whose header is counted and said; a fault is told in its own line.
+#[test]
+fn a_text_without_its_header(rt: HostRuntime) -> Result<(), Fail> {
+    let text = "; an erase\ncmd 60\naddr 2 3\ncmd d0\nwait\nbrs 01 failed\nend 0\nfailed:\nend 1\n";
+    let said =
+        "read.asm: it has no header, for which `rows 1`, `buffer 0` and `budget 5` are counted\n";
+    expect_seen(
+        &rt,
+        &see_verify(rt.alloc(), text, false)?,
+        "accepted\n",
+        said,
+    )?;
+    expect_seen(&rt, &see_verify(rt.alloc(), text, true)?, "accepted\n", "")?;
+    let seen = see_lint(rt.alloc(), text, LintOutput::Notes)?;
+    expect_seen(&rt, &seen, "no notes\n", said)?;
+    let seen = see_verify(rt.alloc(), "cmd 60\naddr 2 3\ncmd d0\n\nend 0\n", false)?;
+    let errors = str::from_utf8(seen.errors.as_slice())?;
+    assert!(rt;
+        errors.starts_with("read.asm:5: word 3, `end 0`: "),
+        "{errors}"
+    );
+    Ok(())
+}

@@ -302,7 +302,7 @@ fn name_of(asked: Command<'_>) -> &'static str {
         Command::Run(_) => "run",
         Command::Assemble { .. } => "asm",
         Command::Disassemble { .. } => "dis",
-        Command::MakePage { .. } | Command::ShowPage { .. } => "page",
+        Command::MakePage { .. } | Command::TakePage(_) | Command::ShowPage { .. } => "page",
         Command::Upgrade { .. } => "upgrade",
         Command::AssembleFor { .. } => "asm --auto",
         Command::Verify { .. } => "verify",

@@ -2,7 +2,7 @@
 use crate::mistake::{Mistake, make_all};
 use std::test::Fail;
 
-const MISTAKES: [Mistake; 15] = [
+const MISTAKES: [Mistake; 19] = [
     Mistake {
         line: "verify nothing asm",
         file: b"",
@@ -56,6 +56,30 @@ const MISTAKES: [Mistake; 15] = [
         file: b"",
         begins: "error: ",
         names: &["run would be written twice"],
+    },
+    Mistake {
+        line: "ops page 1 x --kind erase,prog",
+        file: b"",
+        begins: "error: ",
+        names: &["--kind", "erase,program", "`prog`"],
+    },
+    Mistake {
+        line: "page out --from x",
+        file: b"0 C 60\n0 A 00\n",
+        begins: "x: ",
+        names: &["no parameter page is read", "ECh", "(P1)"],
+    },
+    Mistake {
+        line: "run x --wave page",
+        file: b"page page\ntargets 1\njob 0 0 0 asm - out\n",
+        begins: "error: ",
+        names: &["page would be written over", "line 1 of x reads it as page"],
+    },
+    Mistake {
+        line: "run x --trace out",
+        file: b"page page\ntargets 1\njob 0 0 0 asm - out\n",
+        begins: "error: ",
+        names: &["out would be written twice", "line 3 of x writes it as out"],
     },
     Mistake {
         line: "once --base 4h",

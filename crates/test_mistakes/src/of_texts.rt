@@ -2,7 +2,19 @@
 use crate::mistake::{Mistake, make_all};
 use std::test::Fail;
 
-const MISTAKES: [Mistake; 20] = [
+const MISTAKES: [Mistake; 22] = [
+    Mistake {
+        line: "asm x out",
+        file: b"; an erase\ncmd 60\naddr 2 3\ncmd d0\nwait\nend 0\n",
+        begins: "x:2: ",
+        names: &["rows", "`asm --auto PAGE`", "(A8)"],
+    },
+    Mistake {
+        line: "dis x",
+        file: b"cmd 60\naddr 2 3\ncmd d0\nwait\nend 0\n",
+        begins: "x: ",
+        names: &["assembly text", "`onfiseq asm`", "(M2)"],
+    },
     Mistake {
         line: "asm x out",
         file: b"rows 1\r\nbuffer 0\r\n",

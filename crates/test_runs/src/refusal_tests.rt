@@ -1,5 +1,6 @@
 // Run files that are refused: what is wrong with a line, and what standard error says of it.
 use crate::tests::{Tried, ask, make_files, play, try_all};
+use seq_inputs::Exit;
 use seq_run::RunRequest;
 use std::test::Fail;
 
@@ -240,7 +241,7 @@ fn reasons_of_programs(rt: HostRuntime) -> Result<(), Fail> {
     Ok(())
 }
 
-// A job's program may be an assembly text.
+// A job's program may be an assembly text, also one without its header.
 #[test]
 fn a_job_of_an_assembly_text(rt: HostRuntime) -> Result<(), Fail> {
     let mut files = make_files(rt.alloc())?;
@@ -248,13 +249,24 @@ fn a_job_of_an_assembly_text(rt: HostRuntime) -> Result<(), Fail> {
         "source",
         b"; erase\nrows 1\nbuffer 0\nbudget 5\ncmd 60\naddr 2 3\ncmd d0\nwait\nend 3\n",
     )?;
-    files.put("run", b"page one\ntargets 1\njob 0 0 0 source - -\n")?;
+    files.put("bare", b"cmd 60\naddr 2 3\ncmd d0\nwait\nend 4\n")?;
+    files.put(
+        "run",
+        b"page one\ntargets 1\njob 0 0 0 source - -\njob 0 0 4 bare - -\n",
+    )?;
     let request = RunRequest {
         is_quiet: true,
         ..ask(1)
     };
     let played = play(&rt, &mut files, request);
-    assert_eq!(rt; str::from_utf8(played.output.as_slice())?, "job 1 end 3\n");
+    assert_eq!(rt;
+        played.seen()?,
+        (Exit::Done, "job 1 end 3\njob 2 end 4\n", "")
+    );
+    files.put("run", b"page one\ntargets 1\n")?;
+    let played = play(&rt, &mut files, request);
+    let said = "run: no line `job` stands there: nothing is run\n";
+    assert_eq!(rt; played.seen()?, (Exit::Done, "", said));
     Ok(())
 }
 

@@ -228,7 +228,7 @@ const ROWS: [Row; 18] = [
         style: Style::Json,
         printed: "refused T4 at 1\n",
         said: Some(
-            "{\"code\":\"T4\",\"file\":\"t.trace\",\"line\":2,\"item\":1,\"message\":\"item 1 at 100, `@100 0 O e0`: 100 ns after the command before, tWHR and tRP want 80 + 25 (T4)\",\"timing\":\"tWHR\",\"seen_ns\":100.0,\"wants_ns\":105.0}\n",
+            "{\"code\":\"T4\",\"file\":\"t.trace\",\"line\":2,\"item\":1,\"time\":100,\"message\":\"item 1 at 100, `@100 0 O e0`: 100 ns after the command before, tWHR and tRP want 80 + 25 (T4)\",\"timing\":\"tWHR\",\"seen_ns\":100.0,\"wants_ns\":105.0}\n{\"file\":\"t.trace\",\"verdict\":\"refused\",\"items\":2,\"faults\":1,\"assumed\":0,\"passed_over\":0}\n",
         ),
         ..ROW
     },

@@ -25,7 +25,7 @@ use std::alloc::{AllocError, Allocator};
 use std::io::Write;
 use trace_commands::{
     CheckRequest, CheckedTrace, Ending, RecordingFault, RecordingStop, end_stopped, judge_file,
-    say_told, tell_legal,
+    say_told, say_unjudged, say_verdict, tell_legal,
 };
 use trace_faults::BrokenRule;
 use trace_text::{CheckProgress, RecordedItem, TraceRefusal, parse_timed};
@@ -216,6 +216,14 @@ fn say_all<A: Allocator + Clone, E: Write>(
             checked.assumed.as_slice(),
         );
         say_times(alloc, errors, request, trace);
+        let faults = checked.told.len().saturating_add(trace.late.len());
+        say_verdict(
+            errors,
+            request.check,
+            &checked.beside,
+            checked.assumed.as_slice(),
+            faults,
+        );
     }
 }
 
@@ -312,6 +320,10 @@ pub fn check_times<A: Allocator + Clone, F: Files, W: Write, E: Write, P: CheckP
     };
     match judge_times(copy, files, &mut console.progress, request) {
         Ok(trace) => tell_found(alloc, console, request, &trace),
-        Err(stop) => end_stopped(alloc, console, request.check.style, stop),
+        Err(stop) => {
+            let ending = end_stopped(alloc, console, request.check.style, stop);
+            say_unjudged(&mut console.errors, request.check, ending);
+            ending
+        }
     }
 }

@@ -5,3 +5,4 @@ pub mod Endings
 pub mod Recordings
 pub mod Targets
 pub mod VendorChecks
+pub mod TakenPages

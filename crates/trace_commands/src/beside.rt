@@ -3,13 +3,15 @@
 
 use crate::cause::Cause;
 use crate::check_request::CheckRequest;
+use crate::check_verdict::{CheckVerdict, Verdict};
+use crate::ending::Ending;
 use crate::explaining::words_at_item;
 use crate::line_cursor::LineCursor;
 use crate::past_watcher::PastWatcher;
 use crate::tally::Tally;
 use crate::telling::push_message;
 use onfi_cycle::Forbidden;
-use seq_inputs::{Place, Style, Told, Words, say_words};
+use seq_inputs::{Exit, Place, Style, Told, Words, say_words};
 use std::alloc::{AllocError, Allocator};
 use std::fmt;
 use std::io::Write;
@@ -121,6 +123,7 @@ fn push_said<A: Allocator>(
                 path: words.path,
                 line: words.line,
                 place: Some(Place::Item(item)),
+                time: words.time,
                 message: &words.text,
             };
             writeln!(lines, "{told}")
@@ -269,6 +272,39 @@ fn push_passed<A: Allocator>(
     push_message(lines, style, words.as_str())
 }
 
+// Adds that a trace has no items that are judged.
+fn push_empty<A: Allocator>(
+    lines: &mut String<A>,
+    style: Style,
+    tally: Tally,
+) -> Result<(), AllocError> {
+    match tally.items() {
+        0 => push_message(lines, style, "0 items are judged"),
+        _ => Ok(()),
+    }
+}
+
+// What a check has come to, with so many faults.
+fn verdict_of<'a, A: Allocator>(
+    request: CheckRequest<'a>,
+    beside: &Beside<A>,
+    assumed: &[NotShown],
+    faults: usize,
+) -> CheckVerdict<'a> {
+    let passed = beside.passed.as_ref().map_or(0, |passed| passed.items);
+    CheckVerdict {
+        path: request.input,
+        verdict: match faults {
+            0 => Verdict::Legal,
+            _ => Verdict::Refused,
+        },
+        items: beside.tally.items(),
+        faults,
+        assumed: assumed.len().saturating_add(beside.unknown.granted.len()),
+        passed_over: passed.saturating_add(beside.unknown.passed_over),
+    }
+}
+
 // What is said beside so many faults.
 fn words_beside<A: Allocator + Clone>(
     alloc: A,
@@ -285,6 +321,7 @@ fn words_beside<A: Allocator + Clone>(
     push_unknown(&mut lines, alloc.clone()?, request, text, &beside.unknown)?;
     push_summary(&mut lines, request, beside.tally, faults)?;
     push_passed(&mut lines, alloc, request.style, &beside.passed)?;
+    push_empty(&mut lines, request.style, beside.tally)?;
     Ok(lines)
 }
 
@@ -303,4 +340,36 @@ pub(crate) fn say_beside<A: Allocator + Clone, E: Write>(
             say_words(errors, words.as_str());
         }
     }
+}
+
+// Says to a tool what a check has come to.
+fn say_as_json<E: Write>(errors: &mut E, style: Style, verdict: CheckVerdict<'_>) {
+    if style == Style::Json {
+        let _ = writeln!(errors, "{verdict}");
+        let _ = errors.flush();
+    }
+}
+
+/// Says to a tool what a check has come to, with so many faults.
+pub fn say_verdict<A: Allocator, E: Write>(
+    errors: &mut E,
+    request: CheckRequest<'_>,
+    beside: &Beside<A>,
+    assumed: &[NotShown],
+    faults: usize,
+) {
+    let verdict = verdict_of(request, beside, assumed, faults);
+    say_as_json(errors, request.style, verdict);
+}
+
+/// Says to a tool what has come of a check that has judged nothing, for which it ended so.
+pub fn say_unjudged<E: Write>(errors: &mut E, request: CheckRequest<'_>, ending: Ending) {
+    let verdict = match ending {
+        Ending::Faulty(_) | Ending::Exit(Exit::Refused(_)) => Verdict::Refused,
+        Ending::Exit(Exit::FileFault) => Verdict::Unreadable,
+        Ending::Exit(Exit::Done | Exit::ReaderGone | Exit::Usage | Exit::OutOfMemory)
+        | Ending::Assumed => return,
+    };
+    let verdict = CheckVerdict::of_nothing(request.input, verdict);
+    say_as_json(errors, request.style, verdict);
 }

@@ -33,8 +33,8 @@ struct ShownTrace<A: Allocator> {
     tally: CaptureTally,
 }
 
-// What is wrong with a capture, with what the whole of it tells.
-fn words_of<'p, A: Allocator + Clone>(
+/// What is wrong with a capture, with what the whole of it tells.
+pub(crate) fn words_of<'p, A: Allocator + Clone>(
     alloc: A,
     path: &'p str,
     setup: &Setup<'_>,

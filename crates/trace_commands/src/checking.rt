@@ -16,7 +16,7 @@ ghost use Rattle.trace_faults.specs.declared.beginning.Beginning.TheVariants.{Mi
 ghost use Rattle.trace_faults.specs.declared.readies.Readies.TheVariants.{Written};
 ghost use Rattle.trace_commands.specs.Checks.{told_of, faults_as, not_shown_as, told_faults, judged_trace, with_copy, IsJudgedText, IsJudgedFile, FileIsRefused, IsJudged, RefusesTrace, TraceIsRefused, IsPassed, ArePrinted, legal_text, faulty_text, may_pass, CheckRefuses, CheckLeaves};
 
-use crate::beside::{Beside, Unknown};
+use crate::beside::{Beside, Unknown, say_unjudged};
 use crate::check_request::CheckRequest;
 use crate::ending::Ending;
 use crate::past_watcher::PastWatcher;
@@ -445,6 +445,10 @@ pub fn check_trace<A: Allocator + Clone, F: Files, W: Write, E: Write, P: CheckP
     };
     match check_at(copy, files, &mut console.progress, request) {
         Ok(found) => tell_found(alloc, console, request, &found),
-        Err(stop) => end_stopped(alloc, console, request.style, stop),
+        Err(stop) => {
+            let ending = end_stopped(alloc, console, request.style, stop);
+            say_unjudged(&mut console.errors, request, ending);
+            ending
+        }
     }
 }

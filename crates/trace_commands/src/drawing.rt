@@ -18,7 +18,8 @@ use crate::recording_stop::{RecordingStop, end_stopped};
 use crate::traces::items_of;
 use seq_files::Files;
 use seq_inputs::{
-    Console, Exit, Style, end_without_memory, finish, geometry_at, read_file, text_of, write_file,
+    Console, Exit, Style, end_without_memory, finish, geometry_at, read_file, text_of, try_file,
+    write_file,
 };
 use std::alloc::Allocator;
 use std::io::Write;
@@ -39,6 +40,7 @@ fn draw_at<'p, A: Allocator + Clone, F: Files>(
     let bytes = read_file(alloc.clone()?, files, request.input)?;
     let text = text_of(request.input, bytes.as_slice())?;
     let items = items_of(alloc.clone()?, request.input, text, request.lines)?;
+    try_file(files, request.target)?;
     let drawing = make_drawing(
         alloc,
         request.form,

@@ -72,7 +72,8 @@ pub fn words_at_item<'p, A: Allocator, M: fmt::Display + Drop>(
         Some(time) => format!(in alloc; "item {item} at {time}, `{shown}`: {message}"),
         None => format!(in alloc; "item {item}, `{shown}`: {message}"),
     };
-    Words::at(path, Some(line.number), words)
+    let words = Words::at(path, Some(line.number), words)?;
+    Some(words.at_time(line.time))
 }
 
 // Why a rule is broken, where that has one cause that can be named, with its code.

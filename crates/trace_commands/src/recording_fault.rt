@@ -102,6 +102,7 @@ impl RecordingFault {
             path: words.path,
             line: words.line,
             place: self.place(),
+            time: words.time,
             message: &words.text,
         }
     }

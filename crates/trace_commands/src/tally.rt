@@ -32,6 +32,13 @@ impl Tally {
         }
     }
 
+    /// How many items there are.
+    pub(crate) fn items(self) -> u64 {
+        let cycles = self.commands.saturating_add(self.addresses);
+        let data = self.inputs.saturating_add(self.outputs);
+        cycles.saturating_add(data).saturating_add(self.readies)
+    }
+
     /// What these items are.
     pub(crate) fn of(items: &[Item]) -> Tally {
         let mut tally = Tally {

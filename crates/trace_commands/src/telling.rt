@@ -7,7 +7,7 @@ ghost use Rattle.trace_commands.specs.declared.recording_fault.RecordingFault.{R
 ghost use Rattle.trace_commands.specs.declared.recording_fault.RecordingFault.TheVariants.{Item as ItemAt};
 ghost use Rattle.trace_commands.specs.Checks.{fault_lines, assumed_line, assumed_lines, legal_text, faulty_text, may_pass};
 
-use crate::beside::{Beside, say_beside};
+use crate::beside::{Beside, say_beside, say_verdict};
 use crate::cause::{Cause, CauseInLine};
 use crate::check_request::CheckRequest;
 use crate::ending::Ending;
@@ -257,6 +257,7 @@ pub fn tell_legal<A: Allocator + Clone, W: Write, E: Write, P>(
                 assumed,
                 0,
             );
+            say_verdict(&mut console.errors, request, beside, assumed, 0);
             if may_pass(request, assumed) {
                 Ending::Exit(Exit::Done)
             } else {
@@ -303,6 +304,7 @@ pub(crate) fn tell_faults<A: Allocator + Clone, W: Write, E: Write, P>(
                 told,
                 assumed,
             );
+            say_verdict(&mut console.errors, request, beside, assumed, told.len());
             Ending::Faulty(fault_of(first))
         }
         exit => Ending::Exit(exit),

@@ -13,7 +13,7 @@ ghost use Rattle.trace_commands.specs.Targets.{count_of};
 ghost use Rattle.trace_commands.specs.Checks.{told_of, RefusesTrace};
 ghost use Rattle.trace_commands.specs.VendorChecks.{IsJudgedVendorText, IsJudgedVendor, IsVendorPassed, VendorTextIsRefused, VendorCheckRefuses, VendorCheckLeaves};
 
-use crate::beside::{Beside, PassedOver, Unknown};
+use crate::beside::{Beside, PassedOver, Unknown, say_unjudged};
 use crate::carried_watcher::{CarriedWatcher, place_at};
 use crate::check_request::CheckRequest;
 use crate::checking::{
@@ -171,7 +171,7 @@ fn judge_vendor_text<'p, A: Allocator + Clone, F: Files>(
         beside: Beside {
             past,
             outside,
-            tally: Tally::of(whole.as_slice()),
+            tally: Tally::of(kept),
             unknown,
             doubts,
             passed: Some(PassedOver {
@@ -249,6 +249,10 @@ pub fn check_vendor_trace<A: Allocator + Clone, F: Files, W: Write, E: Write, P:
     };
     match check_vendor_at(copy, files, request) {
         Ok(found) => tell_found(alloc, console, request.check, &found),
-        Err(stop) => end_stopped(alloc, console, request.check.style, stop),
+        Err(stop) => {
+            let ending = end_stopped(alloc, console, request.check.style, stop);
+            say_unjudged(&mut console.errors, request.check, ending);
+            ending
+        }
     }
 }

@@ -200,3 +200,19 @@ returns-in-PrintCapture-clause-faulty g c = λ fault is.
       subst (λ (m : Command). MayTell m (g.F.Files.store c.args.files.now) (g.F.Files.store c.print_capture.new.files) fault (fault_line fault)) (sym c.in-PrintCapture.is) (k.0, c.print_capture.ensures.files, refl),
       k.1,
     )
+
+pub returns-in-TakePage-clause-refused : goal.returns-in-TakePage-clause-refused
+returns-in-TakePage-clause-refused g c = λ refusal is.
+    let k = c.take_page.ensures.refused refusal is in (
+      line_of refusal,
+      subst (λ (m : Command). MayRefuse m (g.R.Read.remaining c.args.input.now) (g.F.Files.store c.args.files.now) (g.F.Files.store c.take_page.new.files) refusal (line_of refusal)) (sym c.in-TakePage.is) (k.0, refl),
+      k.1,
+    )
+
+pub returns-in-TakePage-clause-faulty : goal.returns-in-TakePage-clause-faulty
+returns-in-TakePage-clause-faulty g c = λ fault is.
+    let k = c.take_page.ensures.faulty fault is in (
+      fault_line fault,
+      subst (λ (m : Command). MayTell m (g.F.Files.store c.args.files.now) (g.F.Files.store c.take_page.new.files) fault (fault_line fault)) (sym c.in-TakePage.is) (k.0, refl),
+      k.1,
+    )

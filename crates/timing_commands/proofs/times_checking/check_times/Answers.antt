@@ -22,10 +22,10 @@ returns-in-Ok-judge_times-clause-faulty g c = λ fault is.
 
 pub returns-in-Err-clause-refused : goal.returns-in-Err-clause-refused
 returns-in-Err-clause-refused g c = λ refusal is.
-    let k = c.end_stopped.ensures.refused refusal is in
+    let k = c.end_stopped-ending.ensures.refused refusal is in
     (refused (PageIsRefused (g.F.Files.store c.args.files.now) c.args.request.check.page.now) (RefusesTimes (g.F.Files.store c.args.files.now) c.args.request) c.in-Err.stop refusal c.in-Err.ensures.err k.0, k.1)
 
 pub returns-in-Err-clause-faulty : goal.returns-in-Err-clause-faulty
 returns-in-Err-clause-faulty g c = λ fault is.
-    let k = c.end_stopped.ensures.faulty fault is in
+    let k = c.end_stopped-ending.ensures.faulty fault is in
     (fault_line fault, inl (wrong (PageIsRefused (g.F.Files.store c.args.files.now) c.args.request.check.page.now) (RefusesTimes (g.F.Files.store c.args.files.now) c.args.request) c.in-Err.stop fault c.in-Err.ensures.err k.0, refl), k.1)

@@ -35,12 +35,12 @@ returns-in-Ok-check_at-clause-faulty g c = λ fault is.
 
 pub returns-in-Err-check_at-clause-refused : goal.returns-in-Err-check_at-clause-refused
 returns-in-Err-check_at-clause-refused g c = λ refusal is.
-    let k = c.end_stopped.ensures.refused refusal is in
+    let k = c.end_stopped-ending.ensures.refused refusal is in
     (refused (PageIsRefused (g.F.Files.store c.args.files.now) c.args.request.page.now) (TraceIsRefused (g.F.Files.store c.args.files.now) c.args.request.form c.args.request.page.now c.args.request.input.now) c.in-Err-check_at.stop refusal c.in-Err-check_at.ensures.err k.0, c.in-Err-check_at.ensures.stays, k.1)
 
 pub returns-in-Err-check_at-clause-faulty : goal.returns-in-Err-check_at-clause-faulty
 returns-in-Err-check_at-clause-faulty g c = λ fault is.
-    let k = c.end_stopped.ensures.faulty fault is in (
+    let k = c.end_stopped-ending.ensures.faulty fault is in (
       fault_line fault,
       inl (wrong (PageIsRefused (g.F.Files.store c.args.files.now) c.args.request.page.now) (TraceIsRefused (g.F.Files.store c.args.files.now) c.args.request.form c.args.request.page.now c.args.request.input.now) c.in-Err-check_at.stop fault c.in-Err-check_at.ensures.err k.0, c.in-Err-check_at.ensures.stays, refl),
       k.1,

@@ -36,12 +36,12 @@ returns-in-Ok-check_vendor_at-clause-faulty g c = λ fault is.
 
 pub returns-in-Err-check_vendor_at-clause-refused : goal.returns-in-Err-check_vendor_at-clause-refused
 returns-in-Err-check_vendor_at-clause-refused g c = λ refusal is.
-    let k = c.end_stopped.ensures.refused refusal is in
+    let k = c.end_stopped-ending.ensures.refused refusal is in
     (refused (PageIsRefused (g.F.Files.store c.args.files.now) c.args.request.check.page.now) (VendorTextIsRefused (g.F.Files.store c.args.files.now) c.args.request) c.in-Err-check_vendor_at.stop refusal c.in-Err-check_vendor_at.ensures.err k.0, c.in-Err-check_vendor_at.ensures.stays, k.1)
 
 pub returns-in-Err-check_vendor_at-clause-faulty : goal.returns-in-Err-check_vendor_at-clause-faulty
 returns-in-Err-check_vendor_at-clause-faulty g c = λ fault is.
-    let k = c.end_stopped.ensures.faulty fault is in (
+    let k = c.end_stopped-ending.ensures.faulty fault is in (
       fault_line fault,
       inl (wrong (PageIsRefused (g.F.Files.store c.args.files.now) c.args.request.check.page.now) (VendorTextIsRefused (g.F.Files.store c.args.files.now) c.args.request) c.in-Err-check_vendor_at.stop fault c.in-Err-check_vendor_at.ensures.err k.0, c.in-Err-check_vendor_at.ensures.stays, refl),
       k.1,

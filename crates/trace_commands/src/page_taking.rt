@@ -1,0 +1,199 @@
+//! The command that takes a parameter page of a trace or a capture.
+ghost use Rattle.std.specs.Prelude.{◌≡◌, ◌⊎◌, Ok, codes, IfOk, IfErr, IfSome, OnOk, OnErr};
+ghost use Rattle.std.specs.Io.KnownBytes.{Appends};
+ghost use Rattle.nand_geometry.specs.declared.parts.Parts.{Parts};
+ghost use Rattle.nand_geometry.specs.Reading.{read_of};
+ghost use Rattle.seq_inputs.specs.declared.refusal.Refusal.{Refusal};
+ghost use Rattle.seq_inputs.specs.Refusals.{line_of};
+ghost use Rattle.trace_commands.specs.declared.recording_fault.RecordingFault.{RecordingFault};
+ghost use Rattle.trace_commands.specs.Recordings.{fault_line};
+ghost use Rattle.trace_commands.specs.TakenPages.{IsPageTaken};
+
+use crate::capture_printing::words_of;
+use crate::ending::Ending;
+use crate::mappings::mappings_of;
+use crate::page_outputs::{COPY_LEN, PageOutputs};
+use crate::page_request::{PageRequest, PageSource};
+use crate::recording_fault::RecordingFault;
+use crate::recording_stop::{RecordingStop, end_stopped};
+use crate::traces::items_of;
+use bus_capture::{CaptureForm, CaptureRefusal, Setup, Stamped, read_capture};
+use nand_geometry::{Geometry, PageFault, SMALL_CHIP};
+use onfi_cycle::Item;
+use seq_files::Files;
+use seq_inputs::{
+    Console, Exit, Fault, Stop, Style, Words, end_without_memory, finish, read_file, text_of,
+    write_file,
+};
+use std::alloc::{AllocError, Allocator};
+use std::io::Write;
+use trace_text::TraceForm;
+
+// The most targets of a channel.
+const TARGETS: u8 = 4;
+
+// The geometry by which a capture is read here: it says when LUNs are ready, which the outputs of a page don't depend on.
+fn any_geometry<'p, A: Allocator>() -> Result<Geometry, RecordingStop<'p, A>> {
+    match Geometry::of(SMALL_CHIP) {
+        Ok(geometry) => Ok(geometry),
+        Err(fault) => Err(RecordingStop::Stop(Stop::refused(Fault::Page { fault }, None))),
+    }
+}
+
+// The first whole copy that a page can be read of.
+fn find_copy(bytes: &[u8]) -> Option<&[u8]>
+    ensures { IfSome result (λ copy. (g : Parts) × (read_of copy.now ≡ Ok g)) }
+{
+    for copy in bytes.chunks_exact(COPY_LEN) {
+        if Geometry::read(copy).is_ok() {
+            return Some(copy);
+        }
+    }
+    None
+}
+
+// The items of a capture, without their times.
+fn items_seen<A: Allocator>(alloc: A, stamped: &[Stamped]) -> Result<Vec<Item, A>, AllocError> {
+    stamped.iter().map(|seen| seen.item).collect(alloc)
+}
+
+// The items of a capture of one target.
+fn items_of_capture<'p, A: Allocator + Clone>(
+    alloc: A,
+    path: &'p str,
+    bytes: &[u8],
+    form: CaptureForm,
+    mappings: Option<&str>,
+) -> Result<Vec<Item, A>, RecordingStop<'p, A>> {
+    let mappings = mappings_of(alloc.clone()?, mappings)?;
+    let setup = Setup {
+        form,
+        geometry: any_geometry()?,
+        targets: 1,
+        mappings: mappings.as_slice(),
+        glitch: 0,
+    };
+    match read_capture(alloc.clone()?, &setup, bytes) {
+        Ok(seen) => Ok(items_seen(alloc, seen.stamped.as_slice())?),
+        Err(CaptureRefusal::Fault(fault)) => {
+            let words = words_of(alloc, path, &setup, bytes, fault);
+            let fault = RecordingFault::Capture { fault };
+            Err(RecordingStop::Faulty { fault, words })
+        }
+        Err(CaptureRefusal::OutOfMemory) => Err(RecordingStop::Stop(Stop::OutOfMemory)),
+    }
+}
+
+// The items of what a page is taken of.
+fn items_at<'p, A: Allocator + Clone>(
+    alloc: A,
+    request: PageRequest<'p>,
+    bytes: &[u8],
+) -> Result<Vec<Item, A>, RecordingStop<'p, A>> {
+    let path = request.input;
+    match request.source {
+        PageSource::Trace => {
+            let text = text_of(path, bytes)?;
+            items_of(alloc, path, text, TraceForm::Recorded)
+        }
+        PageSource::Capture { form, mappings } => {
+            items_of_capture(alloc, path, bytes, form, mappings)
+        }
+    }
+}
+
+// What is wrong with the bytes that a page has on the bus.
+fn fault_of(bytes: &[u8]) -> PageFault {
+    match Geometry::read(bytes) {
+        Ok(_) => PageFault::TooShort,
+        Err(fault) => fault,
+    }
+}
+
+// Why no page is taken, where these are the bytes of its reads.
+fn refuse_outputs<'p, A: Allocator>(alloc: A, path: &'p str, bytes: &[u8]) -> RecordingStop<'p, A> {
+    let fault = fault_of(bytes);
+    let code = fault.code();
+    let words = match bytes.len() {
+        0 => format!(in alloc;
+            "no parameter page is read: no output comes after ECh and address 00h ({code})"
+        ),
+        1..COPY_LEN => format!(in alloc;
+            "the parameter page isn't read whole: {} outputs come after ECh and address 00h, and a copy has 256 ({code})",
+            bytes.len()
+        ),
+        len => format!(in alloc;
+            "of {} copies of the parameter page none is right: {fault} ({code})",
+            len / COPY_LEN
+        ),
+    };
+    let words = Words::at(path, None, words);
+    RecordingStop::Stop(Stop::refused(Fault::Page { fault }, words))
+}
+
+// The outputs of the page reads of the first target that has one from which a page can be read; or else of the first that has some.
+fn outputs_of<A: Allocator + Clone>(alloc: A, items: &[Item]) -> Result<Vec<u8, A>, AllocError> {
+    let mut first = Vec::new(alloc.clone()?);
+    for target in 0..TARGETS {
+        let PageOutputs { bytes, .. } = PageOutputs::of(alloc.clone()?, items, target)?;
+        if find_copy(bytes.as_slice()).is_some() {
+            return Ok(bytes);
+        }
+        if first.is_empty() {
+            first = bytes;
+        }
+    }
+    Ok(first)
+}
+
+// Reads a trace or a capture, and writes the parameter page that is read in it.
+fn take_at<'p, A: Allocator + Clone, F: Files>(
+    alloc: A,
+    files: &mut F,
+    request: PageRequest<'p>,
+) -> Result<(), RecordingStop<'p, A>>
+    ensures ok { OnOk result (IsPageTaken (F.store files.old) (F.store files.new) request.entry.target.now) }
+    ensures stays { OnErr result (F.store files.new ≡ F.store files.old) }
+{
+    let bytes = read_file(alloc.clone()?, files, request.input)?;
+    let items = items_at(alloc.clone()?, request, bytes.as_slice())?;
+    let outputs = outputs_of(alloc.clone()?, items.as_slice())?;
+    match find_copy(outputs.as_slice()) {
+        Some(copy) => {
+            write_file(files, request.target, copy)?;
+            Ok(())
+        }
+        None => Err(refuse_outputs(alloc, request.input, outputs.as_slice())),
+    }
+}
+
+/// Takes the parameter page of a chip of a trace or a capture of its bus: the outputs after ECh and address 00h, a status that is read between left out. The trace may
+/// have faults, and sequences outside of the profile. A capture is read as one of one target.
+///
+/// `Done`: the first whole copy of the page that is right is written, and `ok` is printed. `Refused`: the line `refused NAME at 0` is printed, a P fault of
+/// these outputs. `Faulty`: so is a fault of the trace or the capture, with its line or its time. `FileFault`: a file couldn't be read or written, or the output couldn't be
+/// written. However it ends, files are as they were, or that one file is written whole.
+pub fn take_page<A: Allocator + Clone, F: Files, W: Write, E: Write, P>(
+    alloc: A,
+    files: &mut F,
+    console: &mut Console<W, E, P>,
+    request: PageRequest<'_>,
+) -> Ending
+    ensures done { result ≡ Ending.Exit Exit.Done → IsPageTaken (F.store files.old) (F.store files.new) request.entry.target.now
+        × Appends (W.contents console.old.output) (W.contents console.new.output) (codes "ok\n") }
+    ensures assumed { result ≡ Ending.Assumed → ⊥ }
+    ensures refused { (refusal : Refusal) → result ≡ Ending.Exit (Exit.Refused refusal)
+        → (F.store files.new ≡ F.store files.old) × Appends (W.contents console.old.output) (W.contents console.new.output) (line_of refusal) }
+    ensures faulty { (fault : RecordingFault) → result ≡ Ending.Faulty fault
+        → (F.store files.new ≡ F.store files.old) × Appends (W.contents console.old.output) (W.contents console.new.output) (fault_line fault) }
+    ensures files { (F.store files.new ≡ F.store files.old) ⊎ IsPageTaken (F.store files.old) (F.store files.new) request.entry.target.now }
+{
+    let copy = match alloc.clone() {
+        Ok(copy) => copy,
+        Err(_) => return Ending::Exit(end_without_memory(console)),
+    };
+    match take_at(copy, files, request) {
+        Ok(()) => Ending::Exit(finish(console, "ok\n")),
+        Err(stop) => end_stopped(alloc, console, Style::Plain, stop),
+    }
+}
