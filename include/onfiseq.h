@@ -275,15 +275,30 @@ struct onfiseq_verdict onfiseq_verify(const uint8_t *page, size_t page_length, c
                                       size_t file_length);
 
 /**
- * The same verdict, and the run of a refusal that has one: V7 of a program without branches and
- * loops, for a chip of one LUN. The run is what happens on a channel of one target, from row 0 on,
- * with pages all FF and a buffer of 00, up to the refused word, and last the cycle that isn't
- * permitted then: onfiseq_check of it names the rule. Its items stand at the front of room items,
- * as many as fit, and those behind stay; *count says how many it has, and is 0 where there is none.
+ * A run of a refused program: how many items it has, the word at which it ends, and the number of
+ * the reason there, as 7 of V7. forbidden is 1 where its last item isn't permitted, so that
+ * onfiseq_check of it names the rule; it is 0 for a reason that needs no cycle. All are 0 where
+ * there is no run.
+ */
+struct onfiseq_run {
+    onfiseq_u64 count, at;
+    uint32_t number, forbidden;
+};
+
+/**
+ * The same verdict, and a run of a refusal: what happens on a channel of one target whose LUN 0
+ * runs the program from row 0 on, with a buffer of 00, up to the refused word. V7 of a program
+ * without branches and loops, for a chip of one LUN, has its run; for every other word one is
+ * searched for, in so many steps at most: words that come, in all the runs that are tried; 100,000
+ * take a tenth of a second. It may end at another word, or for another reason; that none is found
+ * promises nothing. Its items stand at the front of room items, as many as fit, and those behind
+ * stay. The search takes memory by malloc, 8 MB and its longest run at most, and gives all of it
+ * back; without memory for it there is no run.
  */
 struct onfiseq_verdict onfiseq_verify_run(const uint8_t *page, size_t page_length,
                                           const uint8_t *file, size_t file_length,
-                                          struct onfiseq_item *items, size_t room, size_t *count);
+                                          onfiseq_u64 steps, struct onfiseq_item *items,
+                                          size_t room, struct onfiseq_run *run);
 
 /**
  * letter 0: all stands at the front of the buffer, length bytes long. Else the buffer is as it was:

@@ -16,6 +16,7 @@ ERASE_AGAIN = "rows 1\nbuffer 0\nbudget 17\ncmd 00\naddr 0 5\ncmd 30\nwait\ncmd 
 # Each picture: where it stands, the command that draws it, what that reads on standard input, and its status. A run has one worker, so its trace is always the same.
 PICTURES = (
     ("docs/use/two_luns.svg", ("run", "examples/two_luns.run", "--quiet"), "", 0),
+    ("docs/use/refused_again.svg", ("verify", "examples/small_chip/chip.page", "examples/retry.asm"), "", 1),
     ("docs/use/refused.svg", ("verify", "examples/small_chip/chip.page", "-"), ERASE_AGAIN, 1),
 )
 

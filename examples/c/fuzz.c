@@ -1,7 +1,7 @@
 /* Random calls of everything in onfiseq.h, for AddressSanitizer, with what one call must say of another:
  *  - ask says what push then answers, push_all does as many pushes, push_status the readies and then the item, and check judges a channel's items as
  *    the pushes did;
- *  - verify_run has verify's verdict, its run is legal but for its last cycle, and a short buffer has its beginning;
+ *  - verify_run has verify's verdict, its run is legal but for a last item that it calls forbidden, and a short buffer has its beginning;
  *  - a refused item leaves the state as it was, byte for byte; a text that was assembled is disassembled and assembled to the same file;
  *  - an operation is answered as its cycles are one by one, and all of it happens or none;
  *  - a record of which bytes were changed, or that holds any bytes, is answered by every call, and stays as it was where it is refused;
@@ -258,19 +258,21 @@ static struct onfiseq_verdict verify_file(const uint8_t *file, size_t length) {
     static struct onfiseq_item whole[2048], some[2048], none;
     struct onfiseq_page chip = onfiseq_read_page(page, page_length);
     struct onfiseq_verdict verdict = onfiseq_verify(page, page_length, file, length), other;
-    size_t count = 99, again = 98, room = draw(32);
+    struct onfiseq_run run = {99, 0, 0, 0}, again = {98, 0, 0, 0};
+    size_t room = draw(32);
     memset(some, 0x77, sizeof some), memset(&none, 0x77, sizeof none);
-    other = onfiseq_verify_run(page, page_length, file, length, whole, sizeof whole / sizeof *whole, &count);
+    other = onfiseq_verify_run(page, page_length, file, length, 1000, whole, sizeof whole / sizeof *whole, &run);
     must(verdict.letter == other.letter && verdict.number == other.number && verdict.at == other.at, "verify and verify_run differ");
-    other = onfiseq_verify_run(page, page_length, file, length, room ? some : NULL, room, &again);
-    must(verdict.letter == other.letter && count == again, "two runs differ");
-    must(count == 0 || (verdict.letter == 'V' && verdict.number == 7), "a run of another refusal");
-    size_t kept = count < room ? count : room;
+    other = onfiseq_verify_run(page, page_length, file, length, 1000, room ? some : NULL, room, &again);
+    must(verdict.letter == other.letter && memcmp(&run, &again, sizeof run) == 0, "two runs differ");
+    must(run.number == 0 || (verdict.letter == 'V' && verdict.number > 5), "a run of another refusal");
+    size_t count = run.count, kept = count < room ? count : room;
     must(memcmp(whole, some, kept * sizeof *some) == 0, "another beginning of a run");
     for (size_t k = kept; k < 64; k++) must(memcmp(&some[k], &none, sizeof none) == 0, "what is behind a run is written");
     size_t shown = count < sizeof whole / sizeof *whole ? count : sizeof whole / sizeof *whole;
     struct onfiseq_answer answer = onfiseq_check(&chip.geometry, 1, whole, shown);
-    must(count == 0 || shown < count || (answer.letter == 'F' && answer.at == count - 1), "a run is legal, or breaks a rule too soon");
+    must(shown < count || run.forbidden == (answer.letter == 'F'), "a run is legal, or breaks a rule, where it says otherwise");
+    must(shown < count || !run.forbidden || answer.at == count - 1, "a run breaks a rule too soon");
     runs += count != 0;
     return verdict;
 }

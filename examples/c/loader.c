@@ -53,9 +53,9 @@ static size_t load(const char *path, size_t page_length) {
         if (made.letter) return say(path, made.letter, made.number, made.at), 0;
         length = made.length;
     }
-    size_t count;
-    struct onfiseq_verdict verdict = onfiseq_verify_run(page, page_length, file, length, run, sizeof run / sizeof *run, &count);
-    if (verdict.letter) return say(path, verdict.letter, verdict.number, verdict.at), show_run(page_length, count), 0;
+    struct onfiseq_run told;
+    struct onfiseq_verdict verdict = onfiseq_verify_run(page, page_length, file, length, 100000, run, sizeof run / sizeof *run, &told);
+    if (verdict.letter) return say(path, verdict.letter, verdict.number, verdict.at), show_run(page_length, told.count), 0;
     return length;
 }
 

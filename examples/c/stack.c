@@ -35,8 +35,8 @@ static void *do_look(void *it) { return onfiseq_ask(&bus, erase), onfiseq_look_a
 static void *do_verify(void *it) { return onfiseq_verify(page, page_length, file, file_length), it; }
 static void *do_verify_run(void *it) {
     static struct onfiseq_item run[1024];
-    size_t length;
-    return onfiseq_verify_run(page, page_length, file, file_length, run, sizeof run / sizeof *run, &length), it;
+    struct onfiseq_run told;
+    return onfiseq_verify_run(page, page_length, file, file_length, 100000, run, sizeof run / sizeof *run, &told), it;
 }
 static void *do_disassemble(void *it) { return onfiseq_disassemble(file, file_length, room, sizeof room), it; }
 static void *do_assemble(void *it) {

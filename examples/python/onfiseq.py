@@ -11,6 +11,7 @@ import ctypes
 
 u8, u16, u32, u64, flag, size = ctypes.c_uint8, ctypes.c_uint16, ctypes.c_uint32, ctypes.c_uint64, ctypes.c_bool, ctypes.c_size_t
 VERSION = 2
+SEARCHED = 100_000  # how many steps the search for the run of a refusal may take
 
 
 def record(name, **fields):
@@ -26,6 +27,7 @@ Bus = record("Bus", state=u64 * 265)
 Part = record("Part", count=u32, kind=u8, bytes=u8 * 7)
 Spot = record("Spot", part=u64, cycle=u64)
 Look = record("Look", is_there=flag, latch=u8, busy=flag, array_busy=flag, caching=flag, register=u8, has_column=flag, block=u32, page=u64, column=u64, queued=u64)
+Run = record("Run", count=u64, at=u64, number=u32, forbidden=u32)
 Placed = record("Placed", letter=u8, number=u32, at=u64, length=u64)
 Abi = record("Abi", version=u32, geometry=u64, page=u64, item=u64, answer=u64, bus=u64, look=u64, part=u64, spot=u64, sample=u64)
 Loop = record("Loop", start=u16, left=u16)
@@ -52,7 +54,7 @@ CALLS = {
     "onfiseq_ask": (u32, [ctypes.POINTER(Bus), ctypes.POINTER(Item)]),
     "onfiseq_look_at": (Look, [ctypes.POINTER(Bus), u8, u8]),
     "onfiseq_verify": (Answer, [ctypes.c_char_p, size, ctypes.c_char_p, size]),
-    "onfiseq_verify_run": (Answer, [ctypes.c_char_p, size, ctypes.c_char_p, size, ctypes.POINTER(Item), size, ctypes.POINTER(size)]),
+    "onfiseq_verify_run": (Answer, [ctypes.c_char_p, size, ctypes.c_char_p, size, u64, ctypes.POINTER(Item), size, ctypes.POINTER(Run)]),
     "onfiseq_assemble": (Placed, [ctypes.c_char_p, size, ctypes.c_char_p, size]),
     "onfiseq_disassemble": (Placed, [ctypes.c_char_p, size, ctypes.c_char_p, size]),
     "onfiseq_trace": (Placed, [ctypes.c_char_p, size, u8, ctypes.POINTER(Item), size]),
@@ -220,11 +222,11 @@ def trace(lib, text, recorded=True):
 
 def verify(lib, page, file):
     """Raises Refused where the microprogram of a word file isn't safe for the chip of a page."""
-    count, takes = size(), (page, len(page), file, len(file))
-    verdict = lib.onfiseq_verify_run(*takes, None, 0, count)
+    told, takes = Run(), (page, len(page), file, len(file), SEARCHED)
+    verdict = lib.onfiseq_verify_run(*takes, None, 0, told)
     if verdict.letter:
-        run = (Item * count.value)()
-        lib.onfiseq_verify_run(*takes, run, len(run), count)
+        run = (Item * told.count)()
+        lib.onfiseq_verify_run(*takes, run, len(run), told)
         raise Refused(lib, chr(verdict.letter), verdict.number, verdict.at, list(run))
 
 

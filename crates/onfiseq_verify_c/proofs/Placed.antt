@@ -4,6 +4,7 @@ use Rattle.std.proofs.lemmas.List.{length-map}
 use Rattle.onfi_cycle.specs.declared.item.Cycle.{Cycle}
 use Rattle.onfi_cycle.specs.declared.item.Item.{Item}
 use Rattle.onfi_cycle.specs.declared.item.Item.TheVariants.{Cyc}
+use Rattle.refused_run.specs.Course.{last_item}
 use Rattle.micro_verify.specs.Lazy.{Counter}
 use Rattle.micro_verify.specs.Playing.{Shown}
 use Rattle.micro_verify.specs.declared.showing.Counter.{Counter as Counted}
@@ -47,3 +48,16 @@ pub run_placed : {A : Type 0} (shown : Option (Counted A)) (x : Counted A) (run 
 run_placed {A = A} shown x run old mid new at is s counted m n =
     let there : Shown (Some x) run = subst (λ (o : Option (Counted A)). Shown o run) is s in
     subst (λ (o : Option Counter). new ≡ placed (told o) old) (sym there.1) (ended x.items.items x.cycle old mid new at counted m n)
+
+map_last : (trace : List Item) (i : Item) → map numbers_of (trace ++ (i ∷ [])) ≡ map numbers_of trace ++ (numbers_of i ∷ [])
+map_last [] i = refl
+map_last (x ∷ trace) i = ap (λ (zs : List OnfiseqItem). numbers_of x ∷ zs) (map_last trace i)
+
+-- the items of a trace are placed, and one item behind them
+pub item_placed : (trace : List Item) (last : Option Item) (i : Item) (old mid new : List OnfiseqItem) (at : ℕ) → last ≡ Some i → at ≡ length trace → mid ≡ placed (map numbers_of trace) old → new ≡ slice_set mid at (numbers_of i) → new ≡ placed (map numbers_of (trace ++ last_item last)) old
+item_placed trace last i old mid new at is counted m n =
+    let there : new ≡ placed (map numbers_of trace ++ (numbers_of i ∷ [])) old =
+    n ∙ ap (λ (zs : List OnfiseqItem). slice_set zs at (numbers_of i)) m
+    ∙ ap (λ (k : ℕ). slice_set (placed (map numbers_of trace) old) k (numbers_of i)) (counted ∙ sym (length-map trace numbers_of))
+    ∙ sym (last_placed (map numbers_of trace) (numbers_of i) old) in
+    subst (λ (o : Option Item). new ≡ placed (map numbers_of (trace ++ last_item o)) old) (sym is) (there ∙ ap (λ (zs : List OnfiseqItem). placed zs old) (sym (map_last trace i)))

@@ -1,11 +1,15 @@
 -- The run of a refusal, in the caller's memory.
-use Rattle.std.specs.Prelude.{◌≡◌, ℕ, if◌then◌else◌, List, [], ◌∷◌, ◌++◌, Option, Some, None, map, length}
+use Rattle.std.specs.Prelude.{◌≡◌, ◌⊎◌, ℕ, if◌then◌else◌, List, [], ◌∷◌, ◌++◌, Option, Some, None, Ok, map, length, reverse}
 use Rattle.nand_geometry.specs.declared.parts.Parts.{Parts}
 use Rattle.onfi_cycle.specs.declared.item.Kind.{Kind}
 use Rattle.onfi_cycle.specs.declared.item.Kind.TheVariants.{Cmd, Adr, Din, Dout}
 use Rattle.onfi_cycle.specs.declared.item.Item.{Item}
 use Rattle.onfi_cycle.specs.declared.item.Item.TheVariants.{Cyc, Rdy, Ard}
-use Rattle.micro_word.specs.Text.{Microprogram}
+use Rattle.nand_geometry.specs.Reading.{read_of}
+use Rattle.micro_word.specs.Text.{Microprogram, IsFileOf}
+use Rattle.micro_claims.specs.Codes.{reason_number}
+use Rattle.refused_run.specs.declared.course.End.{End}
+use Rattle.refused_run.specs.Course.{IsBroken, last_item, task_of}
 use Rattle.micro_verify.specs.Lazy.{Counter}
 use Rattle.micro_verify.specs.Calm.{counter_of}
 use Rattle.micro_verify.specs.Playing.{Shown}
@@ -14,6 +18,7 @@ use Rattle.onfiseq_verify_c.specs.declared.verdict.Found.{Found}
 use Rattle.onfiseq_verify_c.specs.declared.verdict.Found.TheVariants as F
 use Rattle.onfiseq_verify_c.specs.declared.verdict.OnfiseqVerdict.{OnfiseqVerdict}
 use Rattle.onfiseq_verify_c.specs.declared.item.OnfiseqItem.{OnfiseqItem}
+use Rattle.onfiseq_verify_c.specs.declared.run.OnfiseqRun.{OnfiseqRun}
 use Rattle.onfiseq_verify_c.specs.Verify.{FindsText, Finds, IsReadAnd, answer_of}
 
 -- C, A, I and O
@@ -69,17 +74,63 @@ FindsRun page file (F.Page fault) run = Finds page file (F.Page fault) × (run �
 FindsRun page file (F.File fault word) run = Finds page file (F.File fault word) × (run ≡ None)
 FindsRun page file F.OutOfMemory run = Finds page file F.OutOfMemory × (run ≡ None)
 
+-- a run was searched for of the text of a file that a chip's page refuses, and this one was found
+pub record IsSought (page file : List ℕ) (items : List Item) (end : End) : Type 0 where
+  pub g : Parts
+  pub declares : read_of page ≡ Ok g
+  pub x : Microprogram
+  pub is_file : IsFileOf file x
+  pub broken : IsBroken (task_of g x) (reverse items) end
+
 -- the code tells what is found, and its run
 pub record FindsShown {A : Type 0} (page file : List ℕ) (found : Found) (shown : Option (Counted A)) : Type 0 where
   pub run : Option Counter
   pub is_shown : Shown shown run
   pub finds : FindsRun page file found run
 
--- the answer is that of what is found, so many items are told of its run, and they are placed in front of the caller's
-pub record SaysRun (page file : List ℕ) (old new : List OnfiseqItem) (count : ℕ) (v : OnfiseqVerdict) : Type 0 where
+-- ---- what the caller is told
+
+abbrev pub run_told : (count at number forbidden : ℕ) → OnfiseqRun
+run_told count at number forbidden = record { count = count; at = at; number = number; forbidden = forbidden }
+
+-- of a run of so many items that the refusal has by itself, whose last isn't permitted
+abbrev pub run_at : Found → (count : ℕ) → OnfiseqRun
+run_at (F.Text reason word) count = run_told count word (reason_number reason) 1
+run_at F.Accepted count = run_told count 0 0 1
+run_at (F.Page fault) count = run_told count 0 0 1
+run_at (F.File fault word) count = run_told count 0 0 1
+run_at F.OutOfMemory count = run_told count 0 0 1
+
+-- of that run, if there is one
+abbrev pub own_run : Found → Option Counter → OnfiseqRun
+own_run found None = run_told 0 0 0 0
+own_run found (Some c) = run_at found (length (told (Some c)))
+
+abbrev pub is_forbidden : Option Item → ℕ
+is_forbidden None = 0
+is_forbidden (Some item) = 1
+
+-- of a run that was found
+abbrev pub sought_run : List Item → End → OnfiseqRun
+sought_run items end = run_told (length (items ++ last_item end.item)) end.word (reason_number end.reason) (is_forbidden end.item)
+
+-- the run that the refusal has is told, and placed in front of the caller's items; or none
+pub record TellsOwn (found : Found) (run : Option Counter) (old new : List OnfiseqItem) (r : OnfiseqRun) : Type 0 where
+  pub told_of : r ≡ own_run found run
+  pub written : new ≡ placed (told run) old
+
+-- a run that was found is
+pub record TellsSought (page file : List ℕ) (old new : List OnfiseqItem) (r : OnfiseqRun) : Type 0 where
+  pub items : List Item
+  pub end : End
+  pub sought : IsSought page file items end
+  pub told_of : r ≡ sought_run items end
+  pub written : new ≡ placed (map numbers_of (items ++ last_item end.item)) old
+
+-- the answer is that of what is found; a run that was found is told where the refusal has none by itself
+pub record SaysRun (page file : List ℕ) (old new : List OnfiseqItem) (r : OnfiseqRun) (v : OnfiseqVerdict) : Type 0 where
   pub found : Found
   pub run : Option Counter
   pub finds : FindsRun page file found run
   pub answer : v ≡ answer_of found
-  pub counted : count ≡ length (told run)
-  pub written : new ≡ placed (told run) old
+  pub tells : TellsOwn found run old new r ⊎ ((run ≡ None) × TellsSought page file old new r)

@@ -3,6 +3,7 @@ ghost use Rattle.std.specs.Prelude.{◌≡◌, ◌++◌, ◌∷◌, [], Option, 
 ghost use Rattle.onfi_cycle.specs.declared.item.Item.TheVariants.{Cyc};
 ghost use Rattle.micro_verify.specs.Lazy.{Counter as RunValue};
 ghost use Rattle.micro_verify.specs.Playing.{Shown};
+ghost use Rattle.refused_run.specs.Course.{last_item};
 ghost use Rattle.onfiseq_verify_c.specs.Run.{letter_of, numbers_of, told, placed};
 
 use micro_verify::Counter;
@@ -93,6 +94,22 @@ pub(crate) fn place_run(items: &mut [OnfiseqItem], run: Option<Counter>) -> usiz
         ) => {
             place_items(items, trace.as_slice());
             place_item(items, trace.len(), Item::Cyc(cycle));
+            trace.len() + 1
+        }
+    }
+}
+
+/// Writes the items of a run that was found and the one that isn't permitted after them, if it comes to one, in front of the caller's items, as many as fit,
+/// and tells how many there are.
+pub(crate) fn place_found(items: &mut [OnfiseqItem], trace: &[Item], last: Option<Item>) -> usize
+    ensures items { items.new ≡ placed (map numbers_of (trace.now ++ last_item last)) items.old }
+    ensures count { result ≡ length (trace.now ++ last_item last) }
+{
+    place_items(items, trace);
+    match last {
+        None => trace.len(),
+        Some(item) => {
+            place_item(items, trace.len(), item);
             trace.len() + 1
         }
     }

@@ -8,11 +8,13 @@ ghost use Rattle.onfiseq_verify_c.specs.Verify.{Says};
 ghost use Rattle.onfiseq_verify_c.specs.Run.{SaysRun};
 
 mod item;
+mod run;
 mod verdict;
 
-use crate::item::place_run;
+use crate::run::{tell_own, tell_sought};
 use crate::verdict::{Finding, answer_of, finding_of, found_of};
 pub use item::OnfiseqItem;
+pub use run::OnfiseqRun;
 use std::alloc::Global;
 pub use verdict::OnfiseqVerdict;
 
@@ -25,21 +27,30 @@ pub extern "C" fn onfiseq_verify(alloc: Global, page: &[u8], file: &[u8]) -> Onf
     answer_of(found_of(alloc, page, file))
 }
 
-/// Verifies as `onfiseq_verify` does, and tells the run of a refusal that has one (V7, docs/model/PROOF.md): what happens on a channel of one LUN up to the
-/// refused word, and the cycle that isn't permitted then. It is written in front of `items`, as many as fit; those behind stay. `count` says how many
-/// there are: 0 where there is no run.
+/// Verifies as `onfiseq_verify` does, and tells a run of a refusal: what happens on a channel of one target whose LUN 0 runs the program from row 0 on, up to the
+/// refused word, and the item that isn't permitted then, if the reason is one of a cycle. V7 of a program without branches and loops, for a chip of one LUN,
+/// has its run (docs/model/PROOF.md); for another word it is searched for, in so many steps at most: words that come, in all the runs that are tried.
+/// It is written in front of `items`, as many as fit; those behind stay. `run` says how many items it has and where and why it ends: all 0 where there is none.
 #[unsafe(no_mangle)]
 pub extern "C" fn onfiseq_verify_run(
     alloc: Global,
     page: &[u8],
     file: &[u8],
+    steps: u64,
     items: &mut [OnfiseqItem],
-    count: &mut usize,
+    run: &mut OnfiseqRun,
 ) -> OnfiseqVerdict
     ensures says { Says page.now file.now result }
-    ensures run { SaysRun page.now file.now items.old items.new count.new result }
+    ensures run { SaysRun page.now file.now items.old items.new run.new result }
 {
-    let Finding { found, run } = finding_of(alloc, page, file);
-    *count = place_run(items, run);
+    let Finding {
+        found,
+        run: own,
+        sought,
+    } = finding_of(alloc, page, file, steps);
+    *run = match sought {
+        None => tell_own(items, found, own),
+        Some(sought) => tell_sought(items, &sought),
+    };
     answer_of(found)
 }

@@ -1,17 +1,19 @@
 //! What is found of a word file.
-ghost use Rattle.std.specs.Prelude.{◌≡◌, None, Ok, IfOk, IfErr};
+ghost use Rattle.std.specs.Prelude.{◌≡◌, None, Ok, IfOk, IfErr, IfSome, reverse};
+ghost use Rattle.refused_run.specs.Course.{IsBroken, task_of};
 ghost use Rattle.nand_geometry.specs.Reading.{read_of};
 ghost use Rattle.micro_word.specs.Text.{IsFileOf};
 ghost use Rattle.micro_walk.specs.Verdicts.{MayBe};
 ghost use Rattle.micro_verify.specs.Playing.{Shown};
 ghost use Rattle.onfiseq_verify_c.specs.Verify.{Finds, FindsText, LacksProgram, answer_of};
-ghost use Rattle.onfiseq_verify_c.specs.Run.{FindsOrLacks, FindsShown, run_of};
+ghost use Rattle.onfiseq_verify_c.specs.Run.{FindsOrLacks, FindsShown, IsSought, run_of};
 
 use micro_claims::{Fault, Reason};
 use micro_verify::{Counter, counter_of};
 use micro_walk::examine;
 use micro_word::{Text, WordFault, WordRefusal, read};
 use nand_geometry::{Geometry, PageFault};
+use refused_run::{Run, find_run};
 use std::alloc::{AllocError, Global};
 
 /// `letter` is 0 where the program is accepted. Else `letter` and `number` are those of the code, as V and 7 of V7, and `at` is the word or 0: P is a fault of
@@ -39,6 +41,8 @@ pub enum Found {
 pub(crate) struct Finding {
     pub found: Found,
     pub run: Option<Counter>,
+    /// One that was searched for, where the refusal has none by itself.
+    pub sought: Option<Run<Global>>,
 }
 
 impl Finding {
@@ -46,8 +50,13 @@ impl Finding {
     fn without_run(found: Found) -> Finding
         ensures found { result.found ≡ found }
         ensures run { result.run ≡ None }
+        ensures sought { result.sought ≡ None }
     {
-        Finding { found, run: None }
+        Finding {
+            found,
+            run: None,
+            sought: None,
+        }
     }
 }
 
@@ -126,39 +135,65 @@ pub(crate) fn found_of(alloc: Global, page: &[u8], file: &[u8]) -> Found
     }
 }
 
+// A run of a refused text that is searched for, in so many steps at most; none of a text that is refused as a whole, or without memory for it.
+fn seek(program: &Program, fault: Fault, steps: u64) -> Option<Run<Global>>
+    ensures { IfSome result (λ run. IsBroken (task_of program.now.geometry program.now.text) (reverse run.items.items) run.end) }
+{
+    if fault.reason.number() <= 5 {
+        return None;
+    }
+    match find_run(&program.text, &program.geometry, fault, steps) {
+        Ok(found) => found.run,
+        Err(AllocError) => None,
+    }
+}
+
 // A refused text, with the run of its refusal. Memory may be refused to that run alone.
-fn finding_of_fault(program: &Program, fault: Fault) -> Finding
+fn finding_of_fault(program: &Program, fault: Fault, steps: u64) -> Finding
     requires { MayBe program.now.geometry program.now.text fault }
     ensures finds { FindsOrLacks program.now.geometry program.now.text result.found }
     ensures run { Shown result.run (run_of program.now.geometry program.now.text result.found) }
+    ensures alone { IfSome result.sought (λ run. result.run ≡ None) }
+    ensures sought { IfSome result.sought (λ run. IsBroken (task_of program.now.geometry program.now.text) (reverse run.items.items) run.end) }
 {
     let Fault { reason, word } = fault;
+    let found = Found::Text { reason, word };
     match counter_of(&program.text, &program.geometry, fault) {
-        Ok(run) => Finding {
-            found: Found::Text { reason, word },
-            run,
+        Ok(Some(run)) => Finding {
+            found,
+            run: Some(run),
+            sought: None,
+        },
+        Ok(None) => Finding {
+            found,
+            run: None,
+            sought: seek(program, fault, steps),
         },
         Err(AllocError) => Finding::without_run(Found::OutOfMemory),
     }
 }
 
 // What is found of a text, with its run.
-fn finding_of_text(program: &Program) -> Finding
+fn finding_of_text(program: &Program, steps: u64) -> Finding
     ensures finds { FindsOrLacks program.now.geometry program.now.text result.found }
     ensures run { Shown result.run (run_of program.now.geometry program.now.text result.found) }
+    ensures alone { IfSome result.sought (λ run. result.run ≡ None) }
+    ensures sought { IfSome result.sought (λ run. IsBroken (task_of program.now.geometry program.now.text) (reverse run.items.items) run.end) }
 {
     match examine(&program.text, &program.geometry) {
         Ok(_walked) => Finding::without_run(Found::Accepted),
-        Err(fault) => finding_of_fault(program, fault),
+        Err(fault) => finding_of_fault(program, fault, steps),
     }
 }
 
 // What is found of a page and a file, with its run.
-pub(crate) fn finding_of(alloc: Global, page: &[u8], file: &[u8]) -> Finding
-    ensures { FindsShown page.now file.now result.found result.run }
+pub(crate) fn finding_of(alloc: Global, page: &[u8], file: &[u8], steps: u64) -> Finding
+    ensures finds { FindsShown page.now file.now result.found result.run }
+    ensures alone { IfSome result.sought (λ run. result.run ≡ None) }
+    ensures sought { IfSome result.sought (λ run. IsSought page.now file.now run.items.items run.end) }
 {
     match read_program(alloc, page, file) {
-        Ok(program) => finding_of_text(&program),
+        Ok(program) => finding_of_text(&program, steps),
         Err(found) => Finding::without_run(found),
     }
 }

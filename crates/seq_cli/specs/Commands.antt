@@ -27,7 +27,7 @@ use Rattle.seq_cli.specs.declared.command.Command.TheVariants.{Assemble, Assembl
 abbrev pub IsDone : Command → (input : Option (List ℕ)) → (files later : Option Store) → (printed : List ℕ) → Type 0
 IsDone (Assemble text target) input files later printed = IsAssembled files later text.now target.now × (printed ≡ codes "ok\n")
 IsDone (AssembleFor page text target) input files later printed = IsAssembledFor files later page.now text.now target.now × (printed ≡ codes "ok\n")
-IsDone (Verify page text counter quiet style) input files later printed = IsAccepted files page.now text.now × (later ≡ files) × (printed ≡ codes "accepted\n")
+IsDone (Verify page text counter search quiet style) input files later printed = IsAccepted files page.now text.now × (later ≡ files) × (printed ≡ codes "accepted\n")
 IsDone (Lint page text output) input files later printed = IsAccepted files page.now text.now × (later ≡ files)
 IsDone (Once base) input files later printed = IfSome input (λ bytes. IsProgramRun base bytes printed) × (later ≡ files)
 IsDone (Run request) input files later printed = IsRunDone files later request printed
@@ -56,7 +56,7 @@ abbrev pub MayRefuse : Command → (input : Option (List ℕ)) → (files later 
 MayRefuse (Assemble text target) input files later refusal printed = Tells (SourceIsRefused files text.now) refusal × (later ≡ files) × (printed ≡ line_of refusal)
 MayRefuse (AssembleFor page text target) input files later refusal printed =
     Tells (AssembleForRefuses files page.now text.now) refusal × (later ≡ files) × (printed ≡ line_of refusal)
-MayRefuse (Verify page text counter quiet style) input files later refusal printed =
+MayRefuse (Verify page text counter search quiet style) input files later refusal printed =
     Tells (VerifyRefuses files later page.now text.now counter) refusal × (printed ≡ line_of refusal)
 MayRefuse (Lint page text output) input files later refusal printed =
     Tells (VerifyRefuses files files page.now text.now no_outputs) refusal × (later ≡ files) × (printed ≡ line_of refusal)
@@ -94,7 +94,7 @@ MayTell _ files later fault printed = ⊥
 abbrev pub MayLeave : Command → (files later : Option Store) → Type 0
 MayLeave (Assemble text target) files later = (later ≡ files) ⊎ IsAssembled files later text.now target.now
 MayLeave (AssembleFor page text target) files later = (later ≡ files) ⊎ IsAssembledFor files later page.now text.now target.now
-MayLeave (Verify page text counter quiet style) files later = VerifyLeaves files later page.now text.now counter
+MayLeave (Verify page text counter search quiet style) files later = VerifyLeaves files later page.now text.now counter
 MayLeave (Lint page text output) files later = later ≡ files
 MayLeave (Once base) files later = later ≡ files
 MayLeave (Run request) files later = RunMayLeave files later request

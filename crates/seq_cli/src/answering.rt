@@ -53,7 +53,7 @@ fn say_mistake<W: Write, E: Write, P>(
         Mistake::Words(error) => show(alloc, console, &error),
         Mistake::NoCommand
         | Mistake::Base(_)
-        | Mistake::Steps(_)
+        | Mistake::Steps { .. }
         | Mistake::Glitch(_)
         | Mistake::Mapping(_)
         | Mistake::NoPage

@@ -49,6 +49,7 @@ pub enum Command<'a> {
         page: &'a str,
         input: &'a str,
         counter: TraceOutputs<'a>,
+        search: u64,
         is_quiet: bool,
         style: Style,
     },
@@ -160,6 +161,7 @@ impl<'a> Command<'a> {
                 page,
                 input,
                 counter,
+                search: _,
                 is_quiet: _,
                 style: _,
             } => (both(page, input), paths_of(counter)),
@@ -247,10 +249,11 @@ pub fn command_on<
             page,
             input,
             counter,
+            search,
             is_quiet,
             style,
         } => Ending::Exit(verify_file(
-            alloc, files, console, page, input, counter, is_quiet, style,
+            alloc, files, console, page, input, counter, search, is_quiet, style,
         )),
         Command::Lint {
             page,

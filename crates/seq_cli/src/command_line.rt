@@ -115,6 +115,7 @@ impl Verb {
                 page,
                 input,
                 counter: read_outputs(matches, "counter"),
+                search: read_steps("--search", matches.get_str("search"), MOST_SEARCHED)?,
                 is_quiet: matches.get_flag("quiet"),
                 style: read_style(matches),
             },
@@ -186,12 +187,21 @@ fn draw_to<'a>(alloc: Global, help: &'a str) -> Arg<'a> {
         .help(help)
 }
 
+// How many steps a search for the run of a refusal takes at most, if nothing is said.
+const MOST_SEARCHED: u64 = 100_000;
+
 fn verify<'a>(alloc: Global) -> Result<clap::Command<'a>, Error> {
     let counter = Arg::new(alloc, "counter")
         .long("counter")
         .value_name("OUT")
         .help(
-            "Where a refusal has its run (V7): the file to write its trace to, with the cycle that isn't permitted last",
+            "Where a refusal has its run: the file to write its trace to, with the cycle that isn't permitted last",
+        );
+    let search = Arg::new(alloc, "search")
+        .long("search")
+        .value_name("N")
+        .help(
+            "How many steps a search for the run of a refusal may take, 100000 if nothing is said",
         );
     let quiet = Arg::new(alloc, "quiet")
         .long("quiet")
@@ -219,6 +229,7 @@ fn verify<'a>(alloc: Global) -> Result<clap::Command<'a>, Error> {
         .arg(counter)?
         .arg(wave)?
         .arg(draw)?
+        .arg(search)?
         .arg(quiet)?
         .arg(json(alloc, JSON_ERRORS))?;
     Ok(command)
@@ -983,19 +994,23 @@ fn count_workers(word: &str) -> u8 {
     }
 }
 
-// How many words the programs of a run may step at most.
-fn read_max_steps<'a>(given: Option<&'a str>) -> Result<u64, Mistake<'a>> {
-    let Some(word) = given else {
-        return Ok(MOST_STEPS);
-    };
-    u64::from_str_radix(word, 10).map_err(|_| Mistake::Steps(word))
+// How many steps an option allows at most.
+fn read_steps<'a>(
+    option: &'static str,
+    given: Option<&'a str>,
+    most: u64,
+) -> Result<u64, Mistake<'a>> {
+    match given {
+        None => Ok(most),
+        Some(word) => { u64::from_str_radix(word, 10).map_err(|_| Mistake::Steps { option, word }) }
+    }
 }
 
 // What a run is asked for.
 fn read_run<'a>(matches: &ArgMatches<'a>) -> Result<RunRequest<'a>, Mistake<'a>> {
     Ok(RunRequest {
         path: find_word(matches, "FILE"),
-        max_steps: read_max_steps(matches.get_str("max-steps"))?,
+        max_steps: read_steps("--max-steps", matches.get_str("max-steps"), MOST_STEPS)?,
         workers: count_workers(find_word(matches, "workers")),
         is_quiet: matches.get_flag("quiet"),
         trace: read_outputs(matches, "trace"),

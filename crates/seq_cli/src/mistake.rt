@@ -175,8 +175,8 @@ pub enum Mistake<'a> {
     NoCommand,
     /// The index of `--base` isn't a number.
     Base(&'a str),
-    /// The number of `--max-steps` isn't one of 64 bits.
-    Steps(&'a str),
+    /// The number of steps of an option isn't one of 64 bits.
+    Steps { option: &'static str, word: &'a str },
     /// The number of `--glitch` isn't one of 64 bits.
     Glitch(&'a str),
     /// A part of `--map` isn't a role and the name of a signal.
@@ -224,9 +224,9 @@ impl fmt::Display for Mistake<'_> {
                 "error: --base takes a row, 0 to 31, as a decimal number or as 0x and hexadecimal digits, and not `{}`",
                 Shown::line(word)
             ),
-            Mistake::Steps(word) => writeln!(
+            Mistake::Steps { option, word } => writeln!(
                 f,
-                "error: --max-steps takes a decimal number, 0 to 18446744073709551615, and not `{}`",
+                "error: {option} takes a decimal number, 0 to 18446744073709551615, and not `{}`",
                 Shown::line(word)
             ),
             Mistake::Glitch(word) => writeln!(

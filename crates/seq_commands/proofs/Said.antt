@@ -14,7 +14,7 @@ use Rattle.micro_verify.specs.Lazy.{Counter}
 use Rattle.micro_verify.specs.Calm.{counter_of}
 use Rattle.trace_files.specs.declared.outputs.TraceOutputs.{TraceOutputs}
 use Rattle.trace_files.specs.Files.{no_outputs}
-use Rattle.seq_commands.specs.Commands.{VerifyRefuses, VerifyLeaves, RefusesText, LeavesRun}
+use Rattle.seq_commands.specs.Commands.{VerifyRefuses, VerifyLeaves, RefusesText, LeavesShown}
 
 -- what `verify` leaves, however it fails
 left_by : (files later : Option Store) (page input : List ℕ) (counter : TraceOutputs) (f : Fault) → VerifyRefuses files later page input counter f → VerifyLeaves files later page input counter
@@ -30,13 +30,14 @@ left files later page input counter (BuffersTooLarge bytes line) h = record { le
 left files later page input counter OutOfMemory h = record { left = inl h }
 
 -- where no file is asked for of a run, nothing is left
-none_left : (g : Parts) (c : Option Counter) (files later : Option Store) → LeavesRun no_outputs g c files later → later ≡ files
+none_left : (g : Parts) (x : Microprogram) (c : Option Counter) (files later : Option Store) → LeavesShown no_outputs g x c files later → later ≡ files
 unfolding with_all
-none_left g None files later h = h
-none_left g (Some c) files later h = h.1
+none_left g x None files later (inl h) = h
+none_left g x None files later (inr w) = w.written.1
+none_left g x (Some c) files later h = h.1
 
 kept_by : (g : Parts) (x : Microprogram) (files later : Option Store) (f : Fault) → RefusesText g x no_outputs files later f → later ≡ files
-kept_by g x files later (Text reason word) h = none_left g (counter_of g x (record { word = word; reason = reason })) files later h.1
+kept_by g x files later (Text reason word) h = none_left g x (counter_of g x (record { word = word; reason = reason })) files later h.1
 kept_by g x files later _ h = absurd h
 
 kept : (files later : Option Store) (page input : List ℕ) (f : Fault) → VerifyRefuses files later page input no_outputs f → later ≡ files

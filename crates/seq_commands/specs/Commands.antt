@@ -1,9 +1,12 @@
 -- What the commands come to: what was read, what is printed or written of it, and what it may be refused for.
-use Rattle.std.specs.Prelude.{◌≡◌, ◌⊎◌, ◌++◌, ◌∷◌, [], ℕ, ⊤, List, Option, Some, None}
+use Rattle.std.specs.Prelude.{◌≡◌, ◌⊎◌, ◌++◌, ◌∷◌, [], ℕ, ⊤, Bool, true, false, List, Option, Some, None, reverse}
 use Rattle.std.specs.List.{All}
 use Rattle.seq_files.specs.Store.{Store, Holds, with_file, with_all}
 use Rattle.nand_geometry.specs.declared.parts.Parts.{Parts}
+use Rattle.onfi_cycle.specs.declared.item.Item.{Item}
 use Rattle.onfi_cycle.specs.declared.item.Item.TheVariants.{Cyc}
+use Rattle.refused_run.specs.declared.course.End.{End}
+use Rattle.refused_run.specs.Course.{IsBroken, last_item, task_of}
 use Rattle.micro_word.specs.Text.{Microprogram, file2}
 use Rattle.micro_asm.specs.Assembly.{assembly}
 use Rattle.micro_asm.specs.Reading.{Spells}
@@ -122,10 +125,31 @@ abbrev pub LeavesRun : TraceOutputs → Parts → Option Counter → (files late
 LeavesRun outputs g None files later = later ≡ files
 LeavesRun outputs g (Some c) files later = (drawn : List ℕ) × (later ≡ with_all (files_of outputs g 1 (c.items ++ (c.cycle ∷ [])) drawn) files)
 
+-- the files that are asked for of a run on a channel of one target, or none
+abbrev pub WritesFound : TraceOutputs → Parts → List Item → Bool → (files later : Option Store) → Type 0
+WritesFound outputs g items false files later = later ≡ files
+WritesFound outputs g items true files later = (drawn : List ℕ) × (later ≡ with_all (files_of outputs g 1 items drawn) files)
+
+-- those of a run of the microprogram that breaks, and of the item that isn't permitted then, if it comes to one
+pub record WritesRun (outputs : TraceOutputs) (g : Parts) (x : Microprogram) (files later : Option Store) : Type 0 where
+  pub items : List Item
+  pub end : End
+  pub broken : IsBroken (task_of g x) (reverse items) end
+  pub written : WritesFound outputs g (items ++ last_item end.item) true files later
+
+-- a run was found and is left, or files are as they were
+abbrev pub LeavesFound : TraceOutputs → Parts → Microprogram → (files later : Option Store) → Type 0
+LeavesFound outputs g x files later = (later ≡ files) ⊎ WritesRun outputs g x files later
+
+-- what is left of the run of a refusal: of the one that the refusal has, or else of one that was searched for
+abbrev pub LeavesShown : TraceOutputs → Parts → Microprogram → Option Counter → (files later : Option Store) → Type 0
+LeavesShown outputs g x None files later = LeavesFound outputs g x files later
+LeavesShown outputs g x (Some c) files later = LeavesRun outputs g (Some c) files later
+
 -- a reason against the microprogram, for this geometry, with what is left of its run
 abbrev pub RefusesText : Parts → Microprogram → TraceOutputs → (files later : Option Store) → Fault → Type 0
 RefusesText g x counter files later (Text reason word) =
-    MayBe g x (record { word = word; reason = reason }) × LeavesRun counter g (counter_of g x (record { word = word; reason = reason })) files later
+    MayBe g x (record { word = word; reason = reason }) × LeavesShown counter g x (counter_of g x (record { word = word; reason = reason })) files later
 RefusesText g x counter files later _ = ⊥
 
 pub record TextIsRefused (files later : Option Store) (page input : List ℕ) (counter : TraceOutputs) (fault : Fault) : Type 0 where

@@ -10,7 +10,7 @@ mod disassembling;
 mod linting;
 mod meeting;
 mod noting;
-mod unshown_run;
+mod shown_run;
 mod upgrading;
 mod verifying;
 

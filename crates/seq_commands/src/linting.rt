@@ -75,7 +75,7 @@ pub fn lint_file<'p, A: Allocator + Clone, F: Files, W: Write, E: Write, P>(
         Ok(copy) => copy,
         Err(_) => return end_without_memory(console),
     };
-    match verify_at(copy, files, page, input, TraceOutputs::NONE) {
+    match verify_at(copy, files, page, input, TraceOutputs::NONE, 0) {
         Ok((bytes, verified)) => match output.lines(alloc, input, bytes.as_slice(), &verified) {
             Ok(lines) => {
                 say_counted(

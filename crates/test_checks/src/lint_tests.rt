@@ -71,6 +71,7 @@ fn see_verify(alloc: Global, text: &str, is_quiet: bool) -> Result<Seen, Fail> {
         "die.page",
         "read.asm",
         TraceOutputs::NONE,
+        0,
         is_quiet,
         Style::Plain,
     );

@@ -586,6 +586,7 @@ const COMMANDS: [(Command<'static>, u8, &str); 7] = [
             page: "p",
             input: "a",
             counter: TraceOutputs::NONE,
+            search: 100_000,
             is_quiet: false,
             style: Style::Plain,
         },

@@ -163,7 +163,7 @@ fn steps_that_are_none(rt: HostRuntime) -> Result<(), Fail> {
         let line = format!(in rt.alloc(); "run f --max-steps={word}")?;
         let words = words_of(rt.alloc(), line.as_str())?;
         match parse(rt.alloc(), words.as_slice()) {
-            Err(Mistake::Steps(told)) => assert_eq!(rt; told, word),
+            Err(Mistake::Steps { word: told, .. }) => assert_eq!(rt; told, word),
             Ok(_) | Err(_) => return Err("the word is taken".into()),
         }
     }

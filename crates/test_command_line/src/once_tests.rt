@@ -221,7 +221,7 @@ fn kind_of(mistake: &Mistake<'_>) -> UsageKind {
         Mistake::NoCommand => UsageKind::MissingSubcommand,
         Mistake::NoPage => UsageKind::MissingRequiredArgument,
         Mistake::Base(_)
-        | Mistake::Steps(_)
+        | Mistake::Steps { .. }
         | Mistake::Glitch(_)
         | Mistake::Mapping(_)
         | Mistake::Timing(_)
@@ -307,6 +307,7 @@ fn command_lines_of_files(rt: HostRuntime) -> Result<(), Fail> {
                 page: "a",
                 input: "b",
                 counter: TraceOutputs::NONE,
+                search: 100_000,
                 is_quiet: false,
                 style: Style::Plain,
             },
@@ -325,6 +326,7 @@ fn command_lines_of_files(rt: HostRuntime) -> Result<(), Fail> {
                 text: Some("c"),
                 ..TraceOutputs::NONE
             },
+            search: 100_000,
             is_quiet: false,
             style: Style::Plain,
         }),
@@ -345,6 +347,7 @@ fn command_lines_of_files(rt: HostRuntime) -> Result<(), Fail> {
                     path: "d.html",
                 }),
             },
+            search: 100_000,
             is_quiet: false,
             style: Style::Plain,
         }),

@@ -9,6 +9,9 @@ use trace_commands::{CheckRequest, DrawRequest, Ending, check_trace, draw_trace}
 use trace_files::TraceOutputs;
 use trace_text::NoProgress;
 
+// How many steps a search may take.
+const SEARCHED: u64 = 100_000;
+
 /// A command on files.
 #[derive(Clone, Copy)]
 pub(crate) enum Command<'a> {
@@ -54,7 +57,9 @@ impl Command<'_> {
                 counter,
                 is_quiet,
                 style,
-            } => verify_file(alloc, files, console, page, input, counter, is_quiet, style),
+            } => verify_file(
+                alloc, files, console, page, input, counter, SEARCHED, is_quiet, style,
+            ),
             Command::Disassemble { input } => disassemble_file(alloc, files, console, input),
             Command::Upgrade { input, target } => {
                 upgrade_file(alloc, files, console, input, target)

@@ -130,32 +130,41 @@ const MISTAKES: [Mistake; 22] = [
         line: "verify page x --counter y",
         file: b"rows 1\nbuffer 8\nbudget 20\ncmd 60\naddr 2 3\ncmd d0\nwait\nstat\nbrs 01 out\ncmd 60\nout:\nend 0\n",
         begins: "x:12: word 7, `end 0`: ",
-        names: &["no run is written: only a cycle that may not be permitted (V7) has one"],
+        names: &["the LUN must be", "(V14)"],
     },
     Mistake {
         line: "verify page x --draw y",
         file: b"rows 1\nbuffer 8\nbudget 20\ncmd 60\naddr 2 3\ncmd d0\nstat\nbrs 01 again\nwait\nagain:\ncmd 60\naddr 2 3\ncmd d0\nwait\nend 0\n",
         begins: "x:11: word 6, `cmd 60`: ",
-        names: &[
-            "no run is written: only a program without branches and loops has one, and word 4 branches",
-            "the ways from words 4 and 5 meet at word 6",
-        ],
+        names: &["(V7, F9); in its run the poll at word 3 says c0"],
     },
     Mistake {
         line: "verify page x --wave y",
         file: b"rows 1\nbuffer 8\nbudget 40\nloop 2\ncmd 60\naddr 2 3\ncmd d0\nnext\nend 0\n",
         begins: "x:5: word 1, `cmd 60`: ",
-        names: &[
-            "no run is written: only a program without branches and loops has one, and word 0 is of a loop",
-        ],
+        names: &["(V7, F9)"],
     },
     Mistake {
         line: "verify two x --counter y",
         file: b"rows 1\nbuffer 8\nbudget 20\ncmd 60\naddr 2 3\ncmd d0\ncmd 60\naddr 2 3\ncmd d0\nwait\nend 0\n",
         begins: "x:7: word 3, `cmd 60`: ",
+        names: &["(V7, F9)"],
+    },
+    // A right program that the verifier refuses, and a text that is refused as a whole.
+    Mistake {
+        line: "verify page x --counter y",
+        file: b"rows 1\nbuffer 8\nbudget 40\ncmd 00\naddr 0 5\ncmd 30\nwait\ncmd 00\nbrs 01 a\nstat\na:\nget 2\nend 0\n",
+        begins: "x:12: word 7, `get 2`: ",
         names: &[
-            "no run is written: only a program for a target of one LUN has one, and this target has 2",
+            "no run is written: none was found in ",
+            " steps, and the ways from words 5 and 6 meet at word 7",
         ],
+    },
+    Mistake {
+        line: "verify page x --counter y",
+        file: b"rows 1\nbuffer 8\nbudget 40\nstat\n",
+        begins: "x:4: word 0, `stat`: ",
+        names: &["no run is written: the text as a whole is refused", "(V5)"],
     },
     Mistake {
         line: "check page 1 x",

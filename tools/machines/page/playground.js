@@ -116,13 +116,13 @@ function judgeProgram() {
     return judgeFile(file.subarray(0, made.length));
 }
 function judgeFile(file) {
-    const count = { value: 0 }, run = Array.from({ length: 2048 }, () => ({ ce: 0, kind: 0, byte: 0, fail: 0 })), verdict = lib.verify_run(page, file, run, count);
+    const end = { count: 0, at: 0, number: 0, forbidden: 0 }, run = Array.from({ length: 2048 }, () => ({ ce: 0, kind: 0, byte: 0, fail: 0 })), verdict = lib.verify_run(page, file, 100000, run, end);
     if (verdict.letter === 0) {
         assembled = file;
         const told = "accepted\n" + (file.length - 16) / 4 + " words, a file of " + file.length + " bytes. Whatever the die answers, no rule is broken, no row or buffer is left, and it ends within its budget.";
         return { isGood: true, text: told, notes: notesOf(file) };
     }
-    const line = lineOfWord(texts.program, verdict.at), items = run.slice(0, Math.min(count.value, run.length));
+    const line = lineOfWord(texts.program, verdict.at), items = run.slice(0, Math.min(end.count, run.length));
     const told = "refused " + codeOf(verdict.letter, verdict.number) + " at " + verdict.at + (line ? ", line " + line : "") + "\n" + lib.says(verdict.letter, verdict.number);
     return items.length ? { line, text: told, run: items, picture: { items, targets: 1 } } : { line, text: told };
 }

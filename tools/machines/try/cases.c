@@ -224,14 +224,14 @@ static void make_program(void) {
     static struct onfiseq_item run[256];
     printf("{");
     if (make_file()) {
-        size_t count = 0;
-        struct onfiseq_verdict verdict = onfiseq_verify_run(page, page_length, file, file_length, run, sizeof run / sizeof *run, &count);
-        unsigned long counted = (unsigned long)count;
+        struct onfiseq_run end;
+        struct onfiseq_verdict verdict = onfiseq_verify_run(page, page_length, file, file_length, 1000, run, sizeof run / sizeof *run, &end);
+        unsigned long told[] = {(unsigned long)end.count, (unsigned long)end.at, end.number, end.forbidden};
         print_disassembly();
         print_verdict("verdict", onfiseq_verify(page, page_length, file, file_length));
         print_verdict("verdict_run", verdict);
-        print_numbers("count", &counted, 1);
-        print_items("run", run, count < sizeof run / sizeof *run ? count : sizeof run / sizeof *run);
+        print_numbers("run_end", told, 4);
+        print_items("run", run, end.count < sizeof run / sizeof *run ? (size_t)end.count : sizeof run / sizeof *run);
         if (verdict.letter) print_words(verdict.letter, verdict.number);
     }
     printf("}\n");

@@ -87,13 +87,13 @@ class Replay {
     program(it) {
         const file = this.assembly(it);
         if (it.file === undefined) return;
-        const text = new Uint8Array(65536), shown = this.lib.disassemble(file, text), sum = new Sum(this.shape), count = { value: 0 };
+        const text = new Uint8Array(65536), shown = this.lib.disassemble(file, text), sum = new Sum(this.shape), end = { count: 0, at: 0, number: 0, forbidden: 0 };
         for (const byte of text.subarray(0, shown.length)) sum.number(byte);
         this.same("disassemble", [this.placed(shown), sum.text()], [it.shown, it.shown_text]);
-        const run = Array.from({ length: 256 }, () => itemOf([0, 0, 0, 0])), verdict = this.lib.verify_run(this.page, file, run, count);
+        const run = Array.from({ length: 256 }, () => itemOf([0, 0, 0, 0])), verdict = this.lib.verify_run(this.page, file, 1000, run, end);
         this.same("verify", this.verdict(this.lib.verify(this.page, file)), it.verdict);
-        this.same("verify_run", [this.verdict(verdict), [count.value]], [it.verdict_run, it.count]);
-        this.same("run", run.slice(0, count.value).map(item => [item.ce, item.kind, item.byte, item.fail]), it.run);
+        this.same("verify_run", [this.verdict(verdict), [end.count, end.at, end.number, end.forbidden]], [it.verdict_run, it.run_end]);
+        this.same("run", run.slice(0, end.count).map(item => [item.ce, item.kind, item.byte, item.fail]), it.run);
         if (it.words) this.words(it);
     }
     words(it) {

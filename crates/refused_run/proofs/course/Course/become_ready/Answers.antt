@@ -1,0 +1,4 @@
+use Rattle.refused_run.proofs.course.Course.become_ready.Goals as goal
+
+pub invariant_of-self : goal.invariant_of-self
+invariant_of-self g c = (c.ready_on.ensures.run c.self.inside.words.items c.self.inside.bounds (record { run = c.self.invariant })).run
