@@ -2,7 +2,7 @@
 use crate::mistake::{Mistake, make_all};
 use std::test::Fail;
 
-const MISTAKES: [Mistake; 22] = [
+const MISTAKES: [Mistake; 24] = [
     // A second erase while the first one may go on.
     Mistake {
         line: "verify page x",
