@@ -148074,12 +148074,12 @@ uint32_t onfiseq_begin_sized(struct onfiseq_bus *bus, size_t size, uint32_t vers
     u64 at_bus;
     u64 at_geometry;
     begin_call();
-    at_bus = take_room((u64)size * 2120);
-    put_bytes(at_bus, bus, (u64)size * 2120);
+    at_bus = take_room(2120);
+    put_onfiseq_bus(at_bus, bus);
     at_geometry = take_room(24);
     put_onfiseq_geometry(at_geometry, geometry);
     answer = (uint32_t)w2c_w_onfiseq_begin_sized(&module, (u32)at_bus, size, version, (u32)at_geometry, targets);
-    get_bytes(at_bus, bus, (u64)size * 2120);
+    get_onfiseq_bus(at_bus, bus);
     return answer;
 }
 uint32_t onfiseq_push(struct onfiseq_bus *bus, const struct onfiseq_item *item) {
@@ -148313,12 +148313,12 @@ uint32_t onfiseq_live_begin_sized(struct onfiseq_live *live, size_t size, uint32
     u64 at_live;
     u64 at_geometry;
     begin_call();
-    at_live = take_room((u64)size * 2128);
-    put_bytes(at_live, live, (u64)size * 2128);
+    at_live = take_room(2128);
+    put_onfiseq_live(at_live, live);
     at_geometry = take_room(24);
     put_onfiseq_geometry(at_geometry, geometry);
     answer = (uint32_t)w2c_w_onfiseq_live_begin_sized(&module, (u32)at_live, size, version, (u32)at_geometry, targets);
-    get_bytes(at_live, live, (u64)size * 2128);
+    get_onfiseq_live(at_live, live);
     return answer;
 }
 struct onfiseq_step onfiseq_job_begin(const struct onfiseq_live *live, uint8_t ce, uint8_t lun, uint32_t base, const uint8_t *file, size_t file_length, size_t buffer, struct onfiseq_job *job) {

@@ -57,7 +57,8 @@ def read_record(body, records):
 
 
 def read_given(words):
-    """What a call is given. A pointer with a size_t behind it is a slice and its length, but for the last, which the call writes."""
+    """What a call is given. A pointer with a size_t behind it is a slice and its length, but for the last, which the call writes, and for `size`, which is
+    that of the record which the pointer leads to."""
     given = []
     for word in words.split(","):
         if word.strip() in ("void", ""):
@@ -65,7 +66,7 @@ def read_given(words):
         const, kind, star, name = re.match(r"\s*(const )?(struct \w+|\w+)\s+(\*?)(\w+)", word).groups()
         given.append({"name": name, "kind": kind.replace("struct ", ""), "const": bool(const), "by": "pointer" if star else "value"})
     for it, behind in zip(given, given[1:]):
-        if it["by"] == "pointer" and behind["by"] == "value" and behind["kind"] == "size_t":
+        if it["by"] == "pointer" and behind["by"] == "value" and behind["kind"] == "size_t" and behind["name"] != "size":
             it["by"], it["length"] = "slice", behind["name"]
             behind["by"] = "length"
     return given

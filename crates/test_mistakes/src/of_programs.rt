@@ -130,13 +130,13 @@ const MISTAKES: [Mistake; 24] = [
         line: "verify page x --counter y",
         file: b"rows 1\nbuffer 8\nbudget 20\ncmd 60\naddr 2 3\ncmd d0\nwait\nstat\nbrs 01 out\ncmd 60\nout:\nend 0\n",
         begins: "x:12: word 7, `end 0`: ",
-        names: &["the LUN must be", "(V14)"],
+        names: &["ways meet here, and on some of them a sequence is open (V14)"],
     },
     Mistake {
         line: "verify page x --draw y",
         file: b"rows 1\nbuffer 8\nbudget 20\ncmd 60\naddr 2 3\ncmd d0\nstat\nbrs 01 again\nwait\nagain:\ncmd 60\naddr 2 3\ncmd d0\nwait\nend 0\n",
         begins: "x:11: word 6, `cmd 60`: ",
-        names: &["(V7, F9); in its run the poll at word 3 says c0"],
+        names: &["(V7, F9); in its run the poll at word 3 says 81"],
     },
     Mistake {
         line: "verify page x --wave y",
@@ -153,11 +153,11 @@ const MISTAKES: [Mistake; 24] = [
     // A right program that the verifier refuses, and a text that is refused as a whole.
     Mistake {
         line: "verify page x --counter y",
-        file: b"rows 1\nbuffer 8\nbudget 40\ncmd 00\naddr 0 5\ncmd 30\nwait\ncmd 00\nbrs 01 a\nstat\na:\nget 2\nend 0\n",
-        begins: "x:12: word 7, `get 2`: ",
+        file: b"rows 1\nbuffer 8\nbudget 40\nstat\nbrs 01 a\ncmd 00\naddr 0 5\ncmd 30\nwait\ncmd 00\na:\nget 1\nend 0\n",
+        begins: "x:12: word 7, `get 1`: ",
         names: &[
             "no run is written: none was found in ",
-            " steps, and the ways from words 5 and 6 meet at word 7",
+            " steps, and the ways from words 1 and 6 meet at word 7",
         ],
     },
     Mistake {

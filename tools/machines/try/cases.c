@@ -97,7 +97,7 @@ static uint64_t sum_of_looks(const struct onfiseq_bus *bus) {
 /* The same items by onfiseq_push_status, and the state after them. */
 static void print_statuses(const struct onfiseq_geometry *chip, uint8_t targets, const struct onfiseq_item *items, size_t count) {
     static unsigned long told[512];
-    struct onfiseq_bus bus;
+    struct onfiseq_bus bus = {{0}};
     onfiseq_begin(&bus, chip, targets);
     for (size_t k = 0; k < count; k++) {
         size_t done = 0;
@@ -110,7 +110,7 @@ static void print_statuses(const struct onfiseq_geometry *chip, uint8_t targets,
 
 /* The same items at once, and whole. */
 static void print_whole(const struct onfiseq_geometry *chip, uint8_t targets, const struct onfiseq_item *items, size_t count) {
-    struct onfiseq_bus bus;
+    struct onfiseq_bus bus = {{0}};
     struct onfiseq_answer answer = onfiseq_check(chip, targets, items, count);
     size_t done = 0;
     unsigned long told[5];
@@ -127,7 +127,7 @@ static void make_trace(void) {
     static unsigned long rules[256], asked[256];
     struct onfiseq_geometry chip = draw_chip();
     uint8_t targets = (uint8_t)(1 + draw(4));
-    struct onfiseq_bus bus;
+    struct onfiseq_bus bus = {{0}};
     onfiseq_begin(&bus, &chip, targets);
     size_t count = draw_items(&bus, targets, items, rules);
     for (size_t k = 0; k < count; k++) asked[k] = onfiseq_ask(&bus, &items[k]);

@@ -10,9 +10,10 @@ import tempfile
 PROGRAM = "crates/onfiseq/out/onfiseq"
 CC = ["cc", "-O1", "-std=c99", "-Wall", "-Wextra", "-Wpedantic", "-Werror", "-Irelease", "release/onfiseq.c", "examples/c/mini.c"]
 
-# A command with options, or of another form, goes to the program; each that mini runs leaves a letter in a file. What standard error says is the program's.
+# A command with options, or of another form, goes to the program, and so does a text without its header, which mini doesn't count; each that mini runs leaves a letter in a file. What standard error says is the program's.
 CHOOSING = """#!/bin/sh
 case " $* " in *" -"*) exec {program} "$@" ;; esac
+case "$1:$#" in verify:3) grep -aq -e "^ *rows " -e "^NMP" "$3" || exec {program} "$@" ;; esac
 case "$1:$#" in check:4 | verify:3 | asm:3 | dis:2) printf x >> {count} && {program} "$@" > /dev/null; exec {mini} "$@" 2> /dev/null ;; esac
 exec {program} "$@"
 """
