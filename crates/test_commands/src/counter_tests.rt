@@ -1,6 +1,6 @@
 // The runs that `verify` leaves of its refusals.
 use crate::command::Command;
-use crate::tests::{ASSEMBLE, ONE_LUN, TWO_LUNS, do_command, files_of, refused};
+use crate::tests::{ASSEMBLE, ONE_LUN, do_command, files_of, refused};
 use micro_claims::Reason;
 use nand_geometry::Parts;
 use onfi_cycle::Forbidden;
@@ -84,10 +84,6 @@ const BUSY: &str = "0 C 60\n0 A 00\n0 A 00\n0 A 00\n0 C d0\n0 C 60\n";
 // A read of which a part is taken, and another part after a status, which loses the column.
 const COLUMN_LOST: &str =
     "rows 1\nbuffer 8\nbudget 19\ncmd 00\naddr 0 5\ncmd 30\nwait\ncmd 00\nget 4\nstat\ncmd 00\nget 4\nend 0\n";
-
-// The bus is let go before the output.
-const HANDOVER: &str =
-    "rows 1\nbuffer 4\nbudget 12\ncmd 00\naddr 0 5\ncmd 30\nwait\ncmd 00\nyield\nget 4\nend 0\n";
 
 // The files of a die and of the word file of this text.
 fn assemble(rt: &(impl Abort + AllocGlobal), parts: Parts, text: &str) -> Result<MapFiles, Fail> {
@@ -202,21 +198,31 @@ fn a_picture_or_a_page_of_a_run(rt: HostRuntime) -> Result<(), Fail> {
     Ok(())
 }
 
-// A text for several LUNs, one that is accepted, and one of another reason have no run, and no file is written.
+// What happens before the cycle that the budget no longer has.
+const WITHIN_BUDGET: &str = "0 C 60\n0 A 00\n0 A 00\n0 A 00\n";
+
+// A text that is accepted, and one that is refused as a whole, have no run, and no file is written; one of another reason than V7 has its run.
 #[test]
 fn no_run_is_left(rt: HostRuntime) -> Result<(), Fail> {
     let accepted = "rows 1\nbuffer 0\nbudget 5\ncmd 60\naddr 2 3\ncmd d0\nwait\nend 0\n";
+    let whole = "rows 1\nbuffer 0\nbudget 5\nstat\n";
     let short = "rows 1\nbuffer 0\nbudget 4\ncmd 60\naddr 2 3\ncmd d0\nwait\nend 0\n";
     for (parts, text, printed) in [
-        (TWO_LUNS, HANDOVER, "refused V7 at 6\n"),
+        (ONE_LUN, whole, "refused V5 at 0\n"),
         (ONE_LUN, accepted, "accepted\n"),
-        (ONE_LUN, short, "refused V15 at 2\n"),
     ] {
         let mut files = assemble(&rt, parts, text)?;
         let seen = do_command(rt.alloc(), &mut files, VERIFY_ALL);
         assert_eq!(rt; str::from_utf8(seen.output.as_slice())?, printed);
         expect_none(&rt, &files);
     }
+    let mut files = assemble(&rt, ONE_LUN, short)?;
+    let seen = do_command(rt.alloc(), &mut files, VERIFY_ALL);
+    assert_eq!(rt;
+        str::from_utf8(seen.output.as_slice())?,
+        "refused V15 at 2\n"
+    );
+    assert_eq!(rt; files.get("run"), Some(WITHIN_BUDGET.as_bytes()));
     Ok(())
 }
 

@@ -77,7 +77,6 @@ fn sources_that_are_verified(rt: HostRuntime) -> Result<(), Fail> {
             expect_line(&rt, VERIFY, row)?;
         }
     }
-    expect_line(&rt, VERIFY, ("\n ; no header\nwait\n", "A8", 3))?;
     Ok(())
 }
 

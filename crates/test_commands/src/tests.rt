@@ -134,7 +134,7 @@ pub(crate) fn expect(
 ) -> Result<MapFiles, Fail> {
     let mut files = files_of(rt.alloc(), parts, input)?;
     let seen = do_command(rt.alloc(), &mut files, command);
-    let is_done = words.is_empty();
+    let is_done = words.is_empty() || printed == "legal\n";
     assert_eq!(rt; seen.texts()?, (printed, words));
     assert!(rt;
         (seen.exit == Ending::Exit(Exit::Done)) == is_done,
@@ -266,7 +266,7 @@ const ROW: &str = "0 C 60\n0 A 00\n0 A 00\n0 A 00\n0 C d0\n0 C 60\n0 A 00\n0 A 0
 // Traces of a geometry, what is printed of them, and what is said.
 const TRACES: &[(Parts, Input, &str, &str)] = &[
     (ONE_LUN, Input::Text(TRACE), "legal\n", ""),
-    (ONE_LUN, Input::Text(""), "legal\n", ""),
+    (ONE_LUN, Input::Text(""), "legal\n", "0 items are judged\n"),
     (TWO_LUNS, Input::Text(TWO_ERASES), "legal\n", ""),
     // An opener while a LUN is busy is refused on one LUN, and on two LUNs its row is.
     (TWO_LUNS, Input::Text(OPENER), "legal\n", ""),
