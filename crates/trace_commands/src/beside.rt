@@ -1,7 +1,6 @@
 //! What a check says beside the faults: what was judged, which readies nothing showed, what was taken for granted, and which status bytes contradict the
 //! trace.
 
-use crate::cause::Cause;
 use crate::check_request::CheckRequest;
 use crate::check_verdict::{CheckVerdict, Verdict};
 use crate::ending::Ending;
@@ -15,6 +14,7 @@ use seq_inputs::{Exit, Place, Style, Told, Words, say_words};
 use std::alloc::{AllocError, Allocator};
 use std::fmt;
 use std::io::Write;
+use trace_causes::Cause;
 use trace_faults::{Beginning, BrokenRule, DoubtedByte, NotShown, OutsideSequence, UnshownReady};
 
 // How many of a kind are said at most.

@@ -1,7 +1,6 @@
 //! A fault of a trace, and what was seen of it where it stands.
 
-use crate::cause::Cause;
-use crate::open_sequence::CommandAt;
+use trace_causes::{Cause, CommandAt};
 use trace_faults::OutsideSequence;
 
 /// A fault of a trace, and what was seen of it where it stands.

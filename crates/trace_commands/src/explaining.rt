@@ -1,13 +1,12 @@
 //! What is wrong with a recording, in words for whoever made it.
 
-use crate::cause::CauseInLine;
 use crate::line_cursor::ItemLine;
 use bus_capture::CaptureFault;
-use onfi_cycle::Forbidden;
 use seq_inputs::Words;
 use shown_text::Shown;
 use std::alloc::Allocator;
 use std::fmt;
+use trace_causes::{BrokenInWords, CauseInLine};
 use trace_faults::BrokenRule;
 use trace_text::{TraceFault, TraceForm, TraceMessage, TraceRefusal};
 
@@ -76,22 +75,6 @@ pub fn words_at_item<'p, A: Allocator, M: fmt::Display + Drop>(
     Some(words.at_time(line.time))
 }
 
-// Why a rule is broken, where that has one cause that can be named, with its code.
-#[derive(Clone, Copy)]
-struct Coded {
-    rule: Forbidden,
-    cause: Option<CauseInLine>,
-}
-
-impl fmt::Display for Coded {
-    fn fmt<W: fmt::Write>(&self, f: &mut fmt::Formatter<W>) -> fmt::Result {
-        match self.cause {
-            Some(cause) => write!(f, "{cause} ({})", self.rule.code()),
-            None => write!(f, "{} ({})", self.rule, self.rule.code()),
-        }
-    }
-}
-
 /// Which rule an item of a trace breaks, which stands in this line, and why.
 pub(crate) fn words_of_item<'p, A: Allocator>(
     alloc: A,
@@ -101,5 +84,5 @@ pub(crate) fn words_of_item<'p, A: Allocator>(
     cause: Option<CauseInLine>,
 ) -> Option<Words<'p, A>> {
     let BrokenRule { item, rule } = fault;
-    words_at_item(alloc, path, line, item, Coded { rule, cause })
+    words_at_item(alloc, path, line, item, BrokenInWords { rule, cause })
 }

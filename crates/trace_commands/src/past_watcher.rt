@@ -1,14 +1,11 @@
 //! What stands before the first faults of a trace, gathered while the trace is judged.
 
-use crate::cause::Cause;
 use crate::explained_fault::ExplainedFault;
-use crate::faulty_cycle::FaultyCycle;
-use crate::open_sequence::CommandAt;
-use crate::target_past::TargetPast;
 use crate::telling::MOST_SAID;
 use nand_geometry::Geometry;
 use onfi_cycle::{Command, Cycle, Forbidden, Item, Kind, starts_work};
 use std::alloc::Allocator;
+use trace_causes::{Cause, CommandAt, FaultyCycle, TargetLook, TargetPast};
 use trace_faults::{OutsideSequence, TraceState, TraceWatcher};
 
 /// How many targets a channel has at most.
@@ -73,7 +70,7 @@ impl<A: Allocator> PastWatcher<A> {
     // Notes which LUNs of a target work.
     fn note_work(&mut self, state: &TraceState, ce: u8) {
         let mut past = self.past(ce);
-        past.note_work(&state.bus, ce);
+        past.note_work(TargetLook::of(&state.bus, ce));
         self.set_past(ce, past);
     }
 
@@ -82,10 +79,10 @@ impl<A: Allocator> PastWatcher<A> {
         let mut past = self.past(cycle.ce);
         past.note_command(CommandAt {
             byte: cycle.byte,
-            item,
+            item: Some(item),
         });
         if starts_work(Item::Cyc(cycle)) {
-            past.note_work(&state.bus, cycle.ce);
+            past.note_work(TargetLook::of(&state.bus, cycle.ce));
         }
         self.set_past(cycle.ce, past);
     }
@@ -128,7 +125,7 @@ impl<A: Allocator> PastWatcher<A> {
         }
         let faulty = FaultyCycle {
             geometry: self.geometry,
-            bus: &state.bus,
+            target: TargetLook::of(&state.bus, cycle.ce),
             past: self.past(cycle.ce),
             cycle,
         };

@@ -8,7 +8,6 @@ ghost use Rattle.trace_commands.specs.declared.recording_fault.RecordingFault.Th
 ghost use Rattle.trace_commands.specs.Checks.{fault_lines, assumed_line, assumed_lines, legal_text, faulty_text, may_pass};
 
 use crate::beside::{Beside, say_beside, say_verdict};
-use crate::cause::{Cause, CauseInLine};
 use crate::check_request::CheckRequest;
 use crate::ending::Ending;
 use crate::explaining::words_of_item;
@@ -17,6 +16,7 @@ use crate::recording_fault::RecordingFault;
 use seq_inputs::{Console, Exit, Style, Told, end_without_memory, finish, say_words};
 use std::alloc::{AllocError, Allocator};
 use std::io::Write;
+use trace_causes::{Cause, CauseInLine};
 use trace_faults::{BrokenRule, NotShown};
 
 /// How many faults are said in words at most; the lines of the output name all.
@@ -44,8 +44,8 @@ pub fn lines_of<A: Allocator>(alloc: A, told: &[BrokenRule]) -> Result<String<A>
 // A cause, and the line of the command that it names.
 fn place_cause<A: Allocator>(found: &ItemLines<'_, A>, cause: Cause) -> Option<CauseInLine> {
     let line = match cause.named_command() {
-        None => 0,
-        Some(command) => found.line_of(command.item)?.number,
+        None => None,
+        Some(command) => Some(found.line_of(command.item?)?.number),
     };
     Some(CauseInLine { cause, line })
 }
@@ -108,8 +108,8 @@ fn items_named<A: Allocator + Clone>(
     for fault in told.iter().take(MOST_SAID) {
         items.push(fault.item)?;
         if let Some(cause) = beside.cause_of(*fault) {
-            if let Some(command) = cause.named_command() {
-                items.push(command.item)?;
+            if let Some(item) = cause.named_command().and_then(|command| command.item) {
+                items.push(item)?;
             }
         }
     }

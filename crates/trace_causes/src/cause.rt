@@ -5,7 +5,7 @@ use std::fmt;
 
 /// Which part of a row isn't in the geometry.
 #[derive(Clone, Copy)]
-pub(crate) enum RowPart {
+pub enum RowPart {
     Lun,
     Block,
     Page,
@@ -23,7 +23,7 @@ impl fmt::Display for RowPart {
 
 /// What a cycle is that its target doesn't want.
 #[derive(Clone, Copy)]
-pub(crate) enum Unwanted {
+pub enum Unwanted {
     Command(u8),
     Address,
     Data,
@@ -41,7 +41,7 @@ impl fmt::Display for Unwanted {
 
 /// Where a column is to be.
 #[derive(Clone, Copy)]
-pub(crate) enum Columns {
+pub enum Columns {
     Page,
     Register,
 }
@@ -55,9 +55,19 @@ impl fmt::Display for Columns {
     }
 }
 
+/// Since when no LUN of a target drives the bus.
+#[derive(Clone, Copy)]
+pub enum Undriven {
+    /// Since the start: nothing was read.
+    NothingRead,
+    Reset(CommandAt),
+    /// The past isn't known.
+    Unknown,
+}
+
 /// Why an item of a trace isn't permitted.
 #[derive(Clone, Copy)]
-pub(crate) enum Cause {
+pub enum Cause {
     /// It begins a sequence outside of the profile, of which so many cycles are passed over.
     Outside {
         cycles: usize,
@@ -102,9 +112,9 @@ pub(crate) enum Cause {
         luns: u8,
         since: CommandAt,
     },
-    /// No LUN drives the bus: since a reset, or from the beginning.
+    /// No LUN drives the bus.
     NoDriver {
-        reset: Option<CommandAt>,
+        since: Undriven,
     },
     /// So many LUNs drive the bus.
     Drivers {
@@ -117,7 +127,7 @@ pub(crate) enum Cause {
     /// The column was lost when the status was asked for.
     ColumnLost {
         lun: u8,
-        asked: CommandAt,
+        asked: Option<CommandAt>,
     },
     /// The column is past the last one.
     ColumnOutside {
@@ -154,23 +164,39 @@ fn write_several_luns<W: fmt::Write>(
 // Of a target that no LUN drives: since a reset in this line, or from the beginning.
 fn write_no_driver<W: fmt::Write>(
     f: &mut fmt::Formatter<W>,
-    reset: Option<CommandAt>,
-    line: usize,
+    since: Undriven,
+    line: Option<usize>,
 ) -> fmt::Result {
-    match reset {
-        Some(reset) => {
+    match since {
+        Undriven::Reset(reset) => {
             f.write_str("no LUN drives the bus since ")?;
             reset.write_in(f, line)
         }
-        None => f.write_str("no LUN drives the bus: nothing was read yet"),
+        Undriven::NothingRead => f.write_str("no LUN drives the bus: nothing was read yet"),
+        Undriven::Unknown => f.write_str("no LUN drives the bus"),
     }
+}
+
+// Of a column that was lost when the status was asked for, by a command in this line.
+fn write_column_lost<W: fmt::Write>(
+    f: &mut fmt::Formatter<W>,
+    lun: u8,
+    asked: Option<CommandAt>,
+    line: Option<usize>,
+) -> fmt::Result {
+    write!(f, "the column of LUN {lun} is lost since ")?;
+    match asked {
+        Some(asked) => asked.write_in(f, line)?,
+        None => f.write_str("its status was asked for")?,
+    }
+    f.write_str(": `05` gives it a new one")
 }
 
 // Of an address of 90 or EC, which stand in this line, that the profile hasn't.
 fn write_other_address<W: fmt::Write>(
     f: &mut fmt::Formatter<W>,
     opener: CommandAt,
-    line: usize,
+    line: Option<usize>,
     cycles: usize,
 ) -> fmt::Result {
     let address = if opener.byte == 0x90 { "20" } else { "00" };
@@ -194,18 +220,23 @@ fn write_column<W: fmt::Write>(
 
 impl Cause {
     /// The command that its words name, if they name one.
-    pub(crate) fn named_command(self) -> Option<CommandAt> {
+    pub fn named_command(self) -> Option<CommandAt> {
         match self {
             Cause::OtherAddress { opener, .. } => Some(opener),
             Cause::Open(open) | Cause::Other { open, .. } => Some(open.opener),
             Cause::Works { since, .. } | Cause::AllWork { since, .. } => Some(since),
-            Cause::NoDriver { reset } => reset,
-            Cause::ColumnLost { asked, .. } => Some(asked),
+            Cause::NoDriver {
+                since: Undriven::Reset(reset),
+            } => Some(reset),
+            Cause::ColumnLost { asked, .. } => asked,
             Cause::Outside { .. }
             | Cause::SeveralLuns { .. }
             | Cause::Unopened { .. }
             | Cause::Nothing(_)
             | Cause::RowOutside { .. }
+            | Cause::NoDriver {
+                since: Undriven::NothingRead | Undriven::Unknown,
+            }
             | Cause::Drivers { .. }
             | Cause::NoData { .. }
             | Cause::ColumnOutside { .. } => None,
@@ -213,11 +244,11 @@ impl Cause {
     }
 }
 
-/// A cause in words: the command that it names stands in this line, counted from 1.
+/// A cause in words: the command that it names stands in this line, counted from 1, where that is known.
 #[derive(Clone, Copy)]
-pub(crate) struct CauseInLine {
-    pub(crate) cause: Cause,
-    pub(crate) line: usize,
+pub struct CauseInLine {
+    pub cause: Cause,
+    pub line: Option<usize>,
 }
 
 impl fmt::Display for CauseInLine {
@@ -254,14 +285,10 @@ impl fmt::Display for CauseInLine {
                 write!(f, "all {luns} LUNs work, the first of them since ")?;
                 since.write_in(f, line)
             }
-            Cause::NoDriver { reset } => write_no_driver(f, reset, line),
+            Cause::NoDriver { since } => write_no_driver(f, since, line),
             Cause::Drivers { count } => write!(f, "{count} LUNs drive the bus at once"),
             Cause::NoData { lun } => write!(f, "LUN {lun} holds no data: no page was read into it"),
-            Cause::ColumnLost { lun, asked } => {
-                write!(f, "the column of LUN {lun} is lost since ")?;
-                asked.write_in(f, line)?;
-                f.write_str(": `05` gives it a new one")
-            }
+            Cause::ColumnLost { lun, asked } => write_column_lost(f, lun, asked, line),
             Cause::ColumnOutside { column, of, length } => write_column(f, column, of, length),
         }
     }

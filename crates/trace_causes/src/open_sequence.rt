@@ -5,7 +5,7 @@ use std::fmt;
 
 /// What the sequence of a target wants next.
 #[derive(Clone, Copy)]
-pub(crate) enum Wanted {
+pub enum Wanted {
     /// An address, of so many that follow its opener.
     Address { number: usize, count: usize },
     /// The command that closes it.
@@ -33,9 +33,17 @@ fn wanted_by(opening: Opening) -> Option<Wanted> {
     }
 }
 
+/// The opener of the sequence that a tail is in, where one is open.
+pub fn opener_of(tail: TailFacts) -> Option<u8> {
+    match tail.phase {
+        DataPhase::Inputs | DataPhase::FirstColumn | DataPhase::SecondColumn => Some(0x80),
+        DataPhase::Outside => tail.opening?.opener.opcode(),
+    }
+}
+
 impl Wanted {
     /// What a target wants next whose tail has these facts, if it wants anything.
-    pub(crate) fn of(tail: TailFacts) -> Option<Wanted> {
+    pub fn of(tail: TailFacts) -> Option<Wanted> {
         match tail.phase {
             DataPhase::Inputs => Some(Wanted::Data),
             DataPhase::FirstColumn => Some(Wanted::Column { number: 1 }),
@@ -58,29 +66,32 @@ impl fmt::Display for Wanted {
     }
 }
 
-/// A command of a trace, and its item, from 0 on.
+/// A command of a trace, and its item, from 0 on, where that is known.
 #[derive(Clone, Copy)]
-pub(crate) struct CommandAt {
-    pub(crate) byte: u8,
-    pub(crate) item: usize,
+pub struct CommandAt {
+    pub byte: u8,
+    pub item: Option<usize>,
 }
 
 impl CommandAt {
-    /// Writes the command, and the line in which it stands.
+    /// Writes the command, and the line in which it stands, where that is known.
     pub(crate) fn write_in<W: fmt::Write>(
         self,
         f: &mut fmt::Formatter<W>,
-        line: usize,
+        line: Option<usize>,
     ) -> fmt::Result {
-        write!(f, "`{:02x}` (line {line})", self.byte)
+        match line {
+            Some(line) => write!(f, "`{:02x}` (line {line})", self.byte),
+            None => write!(f, "`{:02x}`", self.byte),
+        }
     }
 }
 
 /// The sequence that a target is in: its opener, and what it wants next.
 #[derive(Clone, Copy)]
-pub(crate) struct OpenSequence {
-    pub(crate) opener: CommandAt,
-    pub(crate) wanted: Wanted,
+pub struct OpenSequence {
+    pub opener: CommandAt,
+    pub wanted: Wanted,
 }
 
 impl OpenSequence {
@@ -88,7 +99,7 @@ impl OpenSequence {
     pub(crate) fn write_in<W: fmt::Write>(
         self,
         f: &mut fmt::Formatter<W>,
-        line: usize,
+        line: Option<usize>,
     ) -> fmt::Result {
         self.opener.write_in(f, line)?;
         write!(f, " {}", self.wanted)

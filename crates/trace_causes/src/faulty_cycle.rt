@@ -2,20 +2,19 @@
 
 use crate::cause::{Cause, Columns, RowPart, Unwanted};
 use crate::open_sequence::{CommandAt, OpenSequence, Wanted};
-use crate::target_past::{MOST_LUNS, TargetPast};
+use crate::target_look::{MOST_LUNS, TargetLook};
+use crate::target_past::TargetPast;
 use nand_geometry::Geometry;
-use onfi_cycle::{
-    BusState, Command, Cycle, Forbidden, Kind, Latch, Lun, LunState, Register, TailFacts,
-};
+use onfi_cycle::{Command, Cycle, Forbidden, Kind, Register, TailFacts};
 
-/// A cycle of a trace, and the channel to which it came.
+/// A cycle, and the target to which it came.
 #[derive(Clone, Copy)]
-pub(crate) struct FaultyCycle<'s> {
-    pub(crate) geometry: Geometry,
-    pub(crate) bus: &'s BusState,
-    /// What the trace did to its target before.
-    pub(crate) past: TargetPast,
-    pub(crate) cycle: Cycle,
+pub struct FaultyCycle {
+    pub geometry: Geometry,
+    pub target: TargetLook,
+    /// What is known of what happened to the target before.
+    pub past: TargetPast,
+    pub cycle: Cycle,
 }
 
 // The opener of the sequences that a command ends or goes on with.
@@ -29,10 +28,10 @@ fn opener_of(command: Command) -> Option<u8> {
     }
 }
 
-impl FaultyCycle<'_> {
+impl FaultyCycle {
     // What the tail of its target tells.
     fn tail(&self) -> TailFacts {
-        self.bus.tail(self.cycle.ce).unwrap_or(TailFacts::none())
+        self.target.tail
     }
 
     // The sequence that is open on its target.
@@ -105,66 +104,35 @@ impl FaultyCycle<'_> {
         Some(Cause::AllWork { luns, since })
     }
 
-    // The LUN of this number, where it drives the bus.
-    fn driver_at(&self, lun: u8) -> Option<LunState> {
-        let ce = self.cycle.ce;
-        let state = self.bus.lun_state(Lun { ce, lun })?;
-        match state.latch {
-            Latch::Off => None,
-            Latch::Status | Latch::Data => Some(state),
-        }
-    }
-
-    // How many LUNs of its target drive the bus.
-    fn count_drivers(&self) -> usize {
-        let mut count: usize = 0;
-        for lun in 0..4u8 {
-            if self.driver_at(lun).is_some() {
-                count = count.saturating_add(1);
-            }
-        }
-        count
-    }
-
-    // The first LUN of its target that drives the bus.
-    fn driver(&self) -> Option<(u8, LunState)> {
-        for lun in 0..4u8 {
-            if let Some(state) = self.driver_at(lun) {
-                return Some((lun, state));
-            }
-        }
-        None
-    }
-
     fn no_sole_driver(&self) -> Cause {
         if self.tail().is_open() {
             if let Some(open) = self.open() {
                 return Cause::Open(open);
             }
         }
-        match self.count_drivers() {
+        match self.target.count_drivers() {
             0 => Cause::NoDriver {
-                reset: self.past.reset,
+                since: self.past.undriven,
             },
             count => Cause::Drivers { count },
         }
     }
 
     fn data_not_ready(&self) -> Option<Cause> {
-        let (lun, state) = self.driver()?;
+        let (lun, state) = self.target.driver()?;
         if state.busy {
             return self.works(u32::from(lun));
         }
         if state.register == Register::Empty {
             return Some(Cause::NoData { lun });
         }
-        let asked = self.past.asked?;
+        let asked = self.past.asked;
         Some(Cause::ColumnLost { lun, asked })
     }
 
     // The column past the register of the LUN that drives the bus.
     fn register_column(&self, column: Option<u32>) -> Option<Cause> {
-        let (_, state) = self.driver()?;
+        let (_, state) = self.target.driver()?;
         Some(Cause::ColumnOutside {
             column: u64::from(column.or(state.column)?),
             of: Columns::Register,
@@ -200,7 +168,7 @@ impl FaultyCycle<'_> {
     }
 
     /// Why the cycle breaks this rule, where that has one cause that can be named.
-    pub(crate) fn cause_of(&self, rule: Forbidden) -> Option<Cause> {
+    pub fn cause_of(&self, rule: Forbidden) -> Option<Cause> {
         match rule {
             Forbidden::SequenceOpen => Some(Cause::Open(self.open()?)),
             Forbidden::SeveralLuns => Some(Cause::SeveralLuns {
@@ -224,7 +192,7 @@ impl FaultyCycle<'_> {
     }
 
     /// The opener whose address the cycle is, if it is an address.
-    pub(crate) fn opener_of_address(&self) -> Option<CommandAt> {
+    pub fn opener_of_address(&self) -> Option<CommandAt> {
         match self.cycle.kind {
             Kind::Adr => self.past.opener,
             Kind::Cmd | Kind::Din | Kind::Dout => None,
