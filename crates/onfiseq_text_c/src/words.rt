@@ -13,10 +13,10 @@ use std::fmt::{Display, Write};
 use trace_text::TraceFault;
 
 // Words of a code: the longest have 130 bytes.
-type Words = ArrayString<256>;
+pub(crate) type Words = ArrayString<256>;
 
 // The words of a fault, where there is one: what its Display writes.
-fn shown<T: Display + Copy>(fault: Option<T>) -> Words {
+pub(crate) fn shown<T: Display + Copy>(fault: Option<T>) -> Words {
     let mut words = Words::new();
     if let Some(fault) = fault {
         // The room is twice that of the longest.
@@ -26,14 +26,14 @@ fn shown<T: Display + Copy>(fault: Option<T>) -> Words {
 }
 
 // Words that hang on no number.
-fn spelt(text: &str) -> Words {
+pub(crate) fn spelt(text: &str) -> Words {
     let mut words = Words::new();
     let _ = words.try_push_str(text);
     words
 }
 
 // The words of an answer that has no number.
-fn words_alone(letter: u8) -> &'static str {
+pub(crate) fn words_alone(letter: u8) -> &'static str {
     match letter {
         b'B' => "the buffer is too short",
         b'C' => "the outputs don't give so many bytes",
@@ -52,7 +52,7 @@ fn words_alone(letter: u8) -> &'static str {
 }
 
 // The words of a record that isn't taken.
-fn words_of_record(number: u32) -> &'static str {
+pub(crate) fn words_of_record(number: u32) -> &'static str {
     match number {
         0 => "the record isn't one that a call left",
         1 => "the record has another size or version than the library",

@@ -184,8 +184,9 @@ fn queue_records(queue: &[Queued]) -> [OnfiseqQueued; 4]
     records
 }
 
+/// What a LUN's register holds, by the numbers in its record.
 #[inline(always)]
-pub(crate) fn register_of(code: u8, block: u32, page: u64) -> Register
+pub fn register_of(code: u8, block: u32, page: u64) -> Register
     ensures { result ≡ register_of code block page }
 {
     match code {
