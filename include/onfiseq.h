@@ -9,6 +9,7 @@
  *     onfiseq_verify(page, n, file, m)            a microprogram, before it runs
  *     onfiseq_job_next, onfiseq_job_finish        a microprogram on your pins, word after word
  *     onfiseq_words(code, text, room)             what a code means, in English
+ *     onfiseq_explain(bus, item, text, room)      why an item isn't permitted
  *
  * docs/use/C.md begins with a program of ten lines, and says what is proved and how it is linked:
  *
@@ -253,6 +254,41 @@ struct onfiseq_look {
 
 struct onfiseq_look onfiseq_look_at(const struct onfiseq_bus *bus, uint8_t ce, uint8_t lun);
 
+/* ---- pauses */
+
+/** The pauses that a datasheet asks for before a cycle; how long each is stands there. */
+enum onfiseq_pause {
+    ONFISEQ_TADL = 1, /**< from an address to an input */
+    ONFISEQ_TWHR = 2, /**< from a command, an address or an input to an output */
+    ONFISEQ_TCCS = 3, /**< from a change of the column, by E0h or 85h, to the data */
+    ONFISEQ_TRHW = 4, /**< from an output to a command, an address or an input */
+    ONFISEQ_TWB = 5,  /**< from the cycle that begins work until R/B# and the status tell of it */
+    ONFISEQ_TRR = 6   /**< from a ready to an output */
+};
+
+/**
+ * What came last on a target, for the pauses: one for each, all 0 at the start. onfiseq_note keeps
+ * it. command is the byte of the last command, kind that of the last cycle.
+ */
+struct onfiseq_last {
+    uint8_t kind, command, ready;
+};
+
+/** Each is 0 or one of enum onfiseq_pause, and to be kept: from the last cycle by what that was,
+ *  from it where it began work, and from the ready. */
+struct onfiseq_pauses {
+    uint8_t cycle, busy, ready;
+};
+
+/** The pauses before a cycle of this kind, or before a burst of onfiseq_job_next by its kind. */
+struct onfiseq_pauses onfiseq_pauses_before(const struct onfiseq_last *last, uint8_t kind);
+
+/**
+ * A cycle has come on the target, 'C' with its byte, 'A', 'I', 'O' or 'S', or 'R' where R/B# has
+ * shown a ready. Any other kind changes nothing.
+ */
+void onfiseq_note(struct onfiseq_last *last, uint8_t kind, uint8_t byte);
+
 /* ---- microprograms */
 
 /**
@@ -334,6 +370,14 @@ struct onfiseq_placed onfiseq_trace(const uint8_t *text, size_t text_length, uin
  * snprintf's is; 0 where no answer has this code. 160 bytes are enough for any.
  */
 size_t onfiseq_words(uint32_t code, char *text, size_t room);
+
+/**
+ * Why onfiseq_push would refuse an item, in English: the one cause, with the LUN, or with the
+ * sequence that is open and what it wants next, and the code in parentheses, as `onfiseq check`
+ * says it. As snprintf; 0 where the item is permitted.
+ */
+size_t onfiseq_explain(const struct onfiseq_bus *bus, const struct onfiseq_item *item, char *text,
+                       size_t room);
 
 /* ---- pictures and notes, for people
  *

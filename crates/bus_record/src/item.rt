@@ -15,8 +15,8 @@ pub struct OnfiseqItem {
     pub fail: u8,
 }
 
-// The kind of cycle of a letter.
-fn kind_of(letter: u8) -> Option<Kind>
+/// The kind of cycle of a letter, C, A, I or O.
+pub fn kind_of(letter: u8) -> Option<Kind>
     ensures { result ≡ kind_of letter }
 {
     match letter {

@@ -1,7 +1,8 @@
 -- The pauses that a datasheet asks for before a cycle, by the last cycle of its target and whether a ready came since. Nothing is said of how long they are.
-use Rattle.std.specs.Prelude.{Bool, true, false, ◌&&◌, not, Option, Some, None, if◌then◌else◌}
+use Rattle.std.specs.Prelude.{ℕ, Bool, true, false, ◌&&◌, not, Option, Some, None, if◌then◌else◌}
 use Rattle.onfi_cycle.specs.declared.command.Command.{Command}
-use Rattle.onfi_cycle.specs.declared.command.Command.TheVariants.{ReadConfirm, ChangeReadColumnConfirm, BlockEraseConfirm, BlockErasePlane, ChangeWriteColumn, ProgramConfirm, ProgramPlane, ReadParameterPage, Reset, ReadCacheSequential, ReadCacheEnd}
+use Rattle.onfi_cycle.specs.declared.command.Command.TheVariants.{ReadConfirm, ChangeReadColumnConfirm, BlockEraseConfirm, BlockErasePlane, ChangeWriteColumn, ProgramConfirm, ProgramPlane, ReadParameterPage, Reset, ReadCacheSequential, ReadCacheEnd, Unknown}
+use Rattle.onfi_cycle.specs.Command.{command}
 use Rattle.onfi_cycle.specs.declared.item.Kind.{Kind}
 use Rattle.onfi_cycle.specs.declared.item.Kind.TheVariants.{Cmd, Adr, Din, Dout}
 use Rattle.onfi_pauses.specs.declared.pause.Pause.{Pause}
@@ -82,3 +83,20 @@ of_ready ready Dout = if ready then Some ReadyToOutput else None
 -- the pauses before a cycle: since the last one, since the work, and since the ready
 abbrev pub pauses_before : LastCycle → (ready : Bool) → Kind → Pauses
 pauses_before l ready kind = record { cycle = of_cycle l kind; busy = of_busy (begins_work l) ready kind; ready = of_ready ready kind }
+
+-- ---- the last cycle of a target
+
+-- the command whose addresses come
+abbrev pub command_of : LastCycle → Command
+command_of (last.Command c) = c
+command_of (last.Address c) = c
+command_of last.Nothing = Unknown
+command_of last.Input = Unknown
+command_of last.Output = Unknown
+
+-- once a cycle has come
+abbrev pub last_after : LastCycle → Kind → (byte : ℕ) → LastCycle
+last_after l Cmd byte = last.Command (command byte)
+last_after l Adr byte = last.Address (command_of l)
+last_after l Din byte = last.Input
+last_after l Dout byte = last.Output

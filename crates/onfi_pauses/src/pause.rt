@@ -1,6 +1,6 @@
 //! The pauses before a cycle, by what came last on its target.
 ghost use Rattle.std.specs.Prelude.{◌≡◌};
-ghost use Rattle.onfi_pauses.specs.Pauses.{begins_work, of_output, of_input, of_command, of_cycle, of_busy, of_ready, pauses_before};
+ghost use Rattle.onfi_pauses.specs.Pauses.{begins_work, of_output, of_input, of_command, of_cycle, of_busy, of_ready, pauses_before, command_of, last_after};
 
 use onfi_cycle::{Command, Kind};
 
@@ -62,6 +62,28 @@ impl LastCycle {
             ),
             LastCycle::Address(command) => matches!(command, Command::ReadParameterPage),
             LastCycle::Nothing | LastCycle::Input | LastCycle::Output => false,
+        }
+    }
+
+    // The command whose addresses come.
+    fn command(self) -> Command
+        ensures { result ≡ command_of self }
+    {
+        match self {
+            LastCycle::Command(command) | LastCycle::Address(command) => command,
+            LastCycle::Nothing | LastCycle::Input | LastCycle::Output => Command::Unknown,
+        }
+    }
+
+    /// The last cycle once this one has come.
+    pub fn after(self, kind: Kind, byte: u8) -> LastCycle
+        ensures { result ≡ last_after self kind byte }
+    {
+        match kind {
+            Kind::Cmd => LastCycle::Command(Command::of(byte)),
+            Kind::Adr => LastCycle::Address(self.command()),
+            Kind::Din => LastCycle::Input,
+            Kind::Dout => LastCycle::Output,
         }
     }
 

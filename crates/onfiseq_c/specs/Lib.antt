@@ -1,3 +1,4 @@
 pub mod Geometry
 pub mod Check
 pub mod Status
+pub mod Pauses

@@ -11,6 +11,7 @@ mod geometry;
 mod look;
 mod many;
 mod operation;
+mod pause;
 mod status;
 mod target;
 
@@ -21,5 +22,6 @@ pub use geometry::{OnfiseqPage, onfiseq_read_page};
 pub use look::{onfiseq_ask, onfiseq_look_at};
 pub use many::onfiseq_push_all;
 pub use operation::{onfiseq_ask_op, onfiseq_push_op};
+pub use pause::{OnfiseqLast, OnfiseqPauses, onfiseq_note, onfiseq_pauses_before};
 pub use status::onfiseq_push_status;
 pub use target::{onfiseq_begin_target, onfiseq_drop};

@@ -24,7 +24,7 @@ pub use burst::{Burst, Bursts, MAX_BURSTS, bursts_of, bursts_without_row, taken_
 pub use live::{Live, StepGoingOn};
 pub use live_job::{LiveJob, OnLun};
 pub use out_of_turn::OutOfTurn;
-pub use pause::{LastCycle, Pause, pause_before};
+pub use pause::LastOnTarget;
 pub use pins::{Pins, step_on};
 pub use playing::status_of;
 pub use run::{RunEnd, RunLimits, run_live};

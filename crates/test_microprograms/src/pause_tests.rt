@@ -1,4 +1,5 @@
-use seq_live::{Burst, LastCycle, Pause, pause_before};
+use onfi_pauses::{Pause, Pauses};
+use seq_live::{Burst, LastOnTarget};
 use std::process::Abort;
 use std::test::Fail;
 
@@ -71,12 +72,22 @@ const PAGE: [Wanted; 4] = [
     (Sent::Output, Some(Pause::ToOutput)),
 ];
 
+// The one pause among these, if there is one and no more.
+fn only(pauses: Pauses) -> Option<Pause> {
+    match (pauses.cycle, pauses.busy, pauses.ready) {
+        (Some(pause), None, None) | (None, Some(pause), None) | (None, None, Some(pause)) => Some(
+            pause,
+        ),
+        _ => None,
+    }
+}
+
 // The pauses before these bursts are those that are wanted.
 fn are_wanted(bursts: &[Wanted]) -> bool {
-    let mut last = LastCycle::Nothing;
+    let mut last = LastOnTarget::nothing();
     for (sent, wanted) in bursts {
         let burst = sent.burst();
-        if pause_before(last, burst) != *wanted {
+        if only(last.pauses_before(burst)) != *wanted {
             return false;
         }
         last = last.after(burst);
@@ -84,14 +95,30 @@ fn are_wanted(bursts: &[Wanted]) -> bool {
     true
 }
 
+// The pauses before an output behind these commands, once R/B# has shown a ready.
+fn pauses_behind_ready(commands: &[u8]) -> Pauses {
+    let mut last = LastOnTarget::nothing();
+    for command in commands {
+        last = last.after(Sent::Command(*command).burst());
+    }
+    last.after_ready().pauses_before(Sent::Output.burst())
+}
+
 #[test]
 fn pauses_of_sequences(rt: HostRuntime) -> Result<(), Fail> {
     assert!(&rt; are_wanted(&READ));
     assert!(&rt; are_wanted(&PROGRAM));
     assert!(&rt; are_wanted(&PAGE));
+    Ok(())
+}
+
+// A ready doesn't take the last cycle's place: where R/B# rises between 70h and its output, tWHR is to be kept as well as tRR.
+#[test]
+fn pauses_after_a_ready(rt: HostRuntime) -> Result<(), Fail> {
+    let pauses = pauses_behind_ready(&[0x30, 0x70]);
     assert!(&rt;
-        pause_before(LastCycle::Ready, Sent::Output.burst()) == Some(Pause::ReadyToOutput)
+        pauses.cycle == Some(Pause::ToOutput) && pauses.ready == Some(Pause::ReadyToOutput)
     );
-    assert!(&rt; pause_before(LastCycle::Ready, Sent::Command(0x00).burst()).is_none());
+    assert!(&rt; pauses.busy.is_none());
     Ok(())
 }

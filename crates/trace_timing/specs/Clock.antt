@@ -1,14 +1,14 @@
 -- What is known of one target while times are judged, and which pairs a cycle makes with what is before it.
 use Rattle.std.specs.Prelude.{ℕ, ◌-◌, ◌*◌, ◌^◌, min, Bool, true, false, ◌&&◌, ◌||◌, not, Option, Some, None, if◌then◌else◌}
 use Rattle.onfi_cycle.specs.declared.command.Command.{Command}
-use Rattle.onfi_cycle.specs.declared.command.Command.TheVariants.{ReadStatus, ReadStatusEnhanced, Unknown}
+use Rattle.onfi_cycle.specs.declared.command.Command.TheVariants.{ReadStatus, ReadStatusEnhanced}
 use Rattle.onfi_cycle.specs.declared.item.Kind.{Kind}
 use Rattle.onfi_cycle.specs.declared.item.Kind.TheVariants.{Cmd, Adr, Din, Dout}
 use Rattle.onfi_cycle.specs.Command.{command, is_opener, is_known}
 use Rattle.onfi_pauses.specs.declared.pause.LastCycle.{LastCycle}
 use Rattle.onfi_pauses.specs.declared.pause.LastCycle.TheVariants as last
 use Rattle.onfi_pauses.specs.declared.pause.Pauses.{Pauses}
-use Rattle.onfi_pauses.specs.Pauses.{pauses_before}
+use Rattle.onfi_pauses.specs.Pauses.{last_after, pauses_before}
 use Rattle.trace_timing.specs.declared.clock.Clock.{Clock}
 use Rattle.trace_timing.specs.declared.clock.Pair.{Pair}
 use Rattle.trace_timing.specs.declared.timings.Timings.{Timings}
@@ -53,20 +53,6 @@ abbrev pub ready_pair : Timings → (unit : ℕ) → (one_lun : Bool) → Clock 
 ready_pair t unit one_lun c kind time = pair_of unit c.ready_at time (ready_want t one_lun c kind (pauses_before c.last c.is_ready kind))
 
 -- ---- what is known then
-
--- the command whose addresses come
-abbrev pub command_of : LastCycle → Command
-command_of (last.Command c) = c
-command_of (last.Address c) = c
-command_of last.Nothing = Unknown
-command_of last.Input = Unknown
-command_of last.Output = Unknown
-
-abbrev pub last_after : LastCycle → Kind → (byte : ℕ) → LastCycle
-last_after l Cmd byte = last.Command (command byte)
-last_after l Adr byte = last.Address (command_of l)
-last_after l Din byte = last.Input
-last_after l Dout byte = last.Output
 
 abbrev pub asks_status : Command → Bool
 asks_status ReadStatus = true

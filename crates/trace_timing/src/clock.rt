@@ -1,7 +1,7 @@
 //! What is known of one target while times are judged.
 ghost use Rattle.std.specs.Prelude.{◌≡◌};
 ghost use Rattle.trace_timing.specs.Wanted.{AreBounded};
-ghost use Rattle.trace_timing.specs.Clock.{begun, pair_of, ready_want, cycle_pair, busy_pair, ready_pair, command_of, last_after, asks_status, gives_status, gives_status_after, is_command, clock_after, clock_ready, clock_cut};
+ghost use Rattle.trace_timing.specs.Clock.{begun, pair_of, ready_want, cycle_pair, busy_pair, ready_pair, asks_status, gives_status, gives_status_after, is_command, clock_after, clock_ready, clock_cut};
 
 use crate::timing_fault::TimingFault;
 use crate::timings::{Timings, Want};
@@ -61,28 +61,6 @@ fn gives_status(before: bool, command: Command) -> bool
         asks_status(command)
     } else {
         before
-    }
-}
-
-// The command whose addresses come.
-fn command_of(last: LastCycle) -> Command
-    ensures { result ≡ command_of last }
-{
-    match last {
-        LastCycle::Command(command) | LastCycle::Address(command) => command,
-        LastCycle::Nothing | LastCycle::Input | LastCycle::Output => Command::Unknown,
-    }
-}
-
-// The last cycle, once this one has come.
-fn last_after(last: LastCycle, kind: Kind, byte: u8) -> LastCycle
-    ensures { result ≡ last_after last kind byte }
-{
-    match kind {
-        Kind::Cmd => LastCycle::Command(Command::of(byte)),
-        Kind::Adr => LastCycle::Address(command_of(last)),
-        Kind::Din => LastCycle::Input,
-        Kind::Dout => LastCycle::Output,
     }
 }
 
@@ -182,7 +160,7 @@ impl Clock {
         ensures { result ≡ clock_after self kind byte time }
     {
         Clock {
-            last: last_after(self.last, kind, byte),
+            last: self.last.after(kind, byte),
             at: time,
             is_ready: false,
             ready_at: None,
