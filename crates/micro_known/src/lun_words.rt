@@ -1,0 +1,98 @@
+//! What is known of a LUN, in words.
+
+use crate::span_words::write_span;
+use micro_claims::{Held, KnownLun, LastCloser, OutputColumn, QueuedRows, Shown};
+use std::fmt;
+
+/// Writes what the LUN may show on the bus.
+pub(crate) fn write_shown<W: fmt::Write>(
+    f: &mut fmt::Formatter<W>,
+    shown: Option<Shown>,
+) -> fmt::Result {
+    f.write_str(match shown {
+        None => "an output may have no driver",
+        Some(shown) => match (shown.shows_status(), shown.shows_register()) {
+            (true, true) => "an output gives status or data",
+            (true, false) => "an output gives the status",
+            (false, true) => "an output gives data",
+            (false, false) => "no run comes here",
+        },
+    })
+}
+
+// What a register holds that surely holds something.
+fn held_words(held: Held) -> &'static str {
+    match (
+        held.holds_page(),
+        held.holds_parameters(),
+        held.holds_identifier(),
+    ) {
+        (true, false, false) => "the register holds a page",
+        (false, true, false) => "the register holds the parameter page",
+        (false, false, true) => "the register holds the identifier",
+        (false, false, false) => "no run comes here",
+        (true, true, _) | (true, false, true) | (false, true, true) => {
+            "what the register holds depends on the way"
+        }
+    }
+}
+
+/// Writes what the register of the LUN may hold.
+pub(crate) fn write_register<W: fmt::Write>(
+    f: &mut fmt::Formatter<W>,
+    register: Option<Held>,
+) -> fmt::Result {
+    f.write_str(match register {
+        None => "the register may be empty",
+        Some(held) => held_words(held),
+    })
+}
+
+/// Writes which column the next output gives.
+pub(crate) fn write_output_column<W: fmt::Write>(
+    f: &mut fmt::Formatter<W>,
+    column: &Option<OutputColumn>,
+) -> fmt::Result {
+    match column {
+        None => f.write_str("the next output may have no column"),
+        Some(column) => {
+            f.write_str("the next output is of column ")?;
+            write_span(f, &column.at)
+        }
+    }
+}
+
+/// Writes which rows wait in the queue of the LUN.
+pub(crate) fn write_queue<W: fmt::Write>(
+    f: &mut fmt::Formatter<W>,
+    queue: &QueuedRows,
+) -> fmt::Result {
+    f.write_str(match queue {
+        QueuedRows::NoRows => "no row is queued",
+        QueuedRows::SomeRows { erase: true, .. } => "rows to erase are queued",
+        QueuedRows::SomeRows { erase: false, .. } => "rows to program are queued",
+        QueuedRows::AnyRows => "any rows may be queued",
+    })
+}
+
+/// Writes whether a cache read goes on.
+pub(crate) fn write_cache<W: fmt::Write>(
+    f: &mut fmt::Formatter<W>,
+    last: LastCloser,
+) -> fmt::Result {
+    let may_be_another = last.may_be_30() || last.may_be_other();
+    f.write_str(match (last.may_be_31(), may_be_another) {
+        (true, false) => "a cache read goes on",
+        (true, true) => "a cache read may go on",
+        (false, _) => "no cache read goes on",
+    })
+}
+
+/// Writes whether the LUN works.
+pub(crate) fn write_work<W: fmt::Write>(f: &mut fmt::Formatter<W>, lun: &KnownLun) -> fmt::Result {
+    f.write_str(if lun.busy {
+        "the LUN may be busy"
+    } else {
+        "the LUN is ready"
+    })
+}
