@@ -5,7 +5,6 @@ use crate::known_words::KnownWords;
 use micro_claims::State;
 use micro_word::Word;
 use std::alloc::{AllocError, Allocator};
-use std::fmt;
 
 /// A word, and the words before it that lead there.
 #[derive(Drop)]
@@ -49,6 +48,20 @@ impl<A: Allocator> Ways<A> {
             }
         }
         Ok(Ways { word, from })
+    }
+
+    /// Where ways meet last, up to this word; None where none meet.
+    pub fn met_before(alloc: A, words: &[Word], at: usize) -> Result<Option<Ways<A>>, AllocError>
+    where
+        A: Clone,
+    {
+        for word in (0..=at).rev() {
+            let ways = Ways::to(alloc.clone()?, words, word)?;
+            if ways.meet() {
+                return Ok(Some(ways));
+            }
+        }
+        Ok(None)
     }
 
     /// Whether several ways meet there.

@@ -8,7 +8,6 @@ mod assembling;
 mod assembling_for;
 mod disassembling;
 mod linting;
-mod meeting;
 mod noting;
 mod shown_run;
 mod upgrading;

@@ -1,8 +1,9 @@
 //! What is said of the run of a refusal that was searched for.
 
-use crate::meeting::Meeting;
 use micro_claims::{Fault, Reason};
-use micro_word::Word;
+use micro_known::{KnownWords, Ways, push_brought};
+use micro_word::Text;
+use nand_geometry::Geometry;
 use refused_run::{Choice, End};
 use seq_inputs::Words;
 use std::alloc::{AllocError, Allocator};
@@ -79,24 +80,38 @@ fn words_of_run<A: Allocator + Clone>(
     }
 }
 
-// What is said where none is written.
-fn words_of_none<A: Allocator>(
+// Where ways meet last before a word, and what each of them brings that is forgotten there.
+fn words_of_meeting<A: Allocator + Clone>(
     alloc: A,
-    steps: u64,
-    meeting: Option<Meeting>,
+    text: &Text<A>,
+    geometry: &Geometry,
+    word: usize,
 ) -> Result<String<A>, AllocError> {
-    match meeting {
-        None => format!(in alloc; "; no run is written: none was found in {steps} steps"),
-        Some(meeting) => {
-            format!(in alloc; "; no run is written: none was found in {steps} steps, and {meeting}")
-        }
+    let words = text.words();
+    let mut said = String::new(alloc.clone()?);
+    let Some(ways) = Ways::met_before(alloc.clone()?, words, word)? else {
+        return Ok(said);
+    };
+    if let (Some(first), Some(last)) = (ways.from.first(), ways.from.last()) {
+        let at = ways.word;
+        write!(
+            said,
+            ", and the ways from words {first} and {last} meet at word {at}"
+        )?;
     }
+    let known = KnownWords::find(alloc.clone()?, text, *geometry)?;
+    let mut brought = String::new(alloc.clone()?);
+    if push_brought(&mut brought, alloc, &known, words, &ways)? {
+        write!(said, ": {brought}")?;
+    }
+    Ok(said)
 }
 
 // What is said besides of a refusal.
 fn words_besides<A: Allocator + Clone>(
     alloc: A,
-    words: &[Word],
+    text: &Text<A>,
+    geometry: &Geometry,
     fault: Fault,
     sought: &Sought<A>,
 ) -> Result<String<A>, AllocError> {
@@ -112,7 +127,8 @@ fn words_besides<A: Allocator + Clone>(
             )
         }
         Sought::NotFound { steps } => {
-            words_of_none(alloc, *steps, Meeting::before(words, fault.word))
+            let met = words_of_meeting(alloc.clone()?, text, geometry, fault.word)?;
+            format!(in alloc; "; no run is written: none was found in {steps} steps{met}")
         }
     }
 }
@@ -121,7 +137,8 @@ fn words_besides<A: Allocator + Clone>(
 pub(crate) fn say_sought<'p, A: Allocator + Clone>(
     alloc: A,
     said: Words<'p, A>,
-    words: &[Word],
+    program: &Text<A>,
+    geometry: &Geometry,
     fault: Fault,
     sought: &Sought<A>,
 ) -> Option<Words<'p, A>> {
@@ -131,7 +148,7 @@ pub(crate) fn say_sought<'p, A: Allocator + Clone>(
         time,
         text,
     } = said;
-    let besides = words_besides(alloc.clone().ok()?, words, fault, sought).ok()?;
+    let besides = words_besides(alloc.clone().ok()?, program, geometry, fault, sought).ok()?;
     let text = format!(in alloc; "{text}{besides}").ok()?;
     Some(Words {
         path,

@@ -182,7 +182,7 @@ fn words_of_refusal<'p, A: Allocator + Clone>(
     let copy = alloc.clone().ok()?;
     let TextFault { word, reason } = fault;
     let said = words_of_reason(alloc, path, bytes, text, geometry, word, reason)?;
-    say_sought(copy, said, text.words(), fault, sought)
+    say_sought(copy, said, text, geometry, fault, sought)
 }
 
 // Whether a text is safe for a geometry; the files of the run of its refusal are left.
