@@ -40,6 +40,7 @@ USERS = (
     ("loader", ["{out}/loader", CHIP, ERASE + ".asm", "examples/small_chip/read_spare.asm", "examples/c/no_wait.asm", "examples/c/typing_error.asm"], None, 1),
     ("live", ["{out}/live", CHIP, ERASE + ".asm", "4", "examples/small_chip/read_spare.asm", "0"], None, 0),
     ("stuck", ["{out}/stuck"], None, 0),
+    ("driver", ["{out}/driver"], None, 0),
     ("exec_op", ["{out}/exec_op", CHIP], None, 0),
     ("first", ["{out}/first"], None, 0),
     ("monitor_cpp", ["{out}/monitor_cpp", CHIP], ERASE + ".trace", 0),
@@ -146,7 +147,7 @@ def compile_all():
     def run(*words):
         subprocess.run(words, check=True)
 
-    for name in ("layout", "monitor", "status", "loader", "live", "stuck", "exec_op"):
+    for name in ("layout", "monitor", "status", "loader", "live", "stuck", "driver", "exec_op"):
         run(*CC, "examples/c/%s.c" % name, "examples/c/heap.c", *archives, "-o", "%s/%s" % (OUT, name))
     run(*CC, "-std=gnu11", "examples/c/stack.c", "examples/c/heap.c", *archives, "-pthread", "-o", OUT + "/stack")
     write_page_programs()
