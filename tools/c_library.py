@@ -58,6 +58,8 @@ RUST = (
     ("rust", ["{out}/monitor_rs", CHIP], ERASE + ".trace", 0),
     ("rust_busy", ["{out}/monitor_rs", CHIP], "examples/c/busy.trace", 0),
 )
+# And where cargo is.
+CARGO = (("rust_sys", ["{out}/cargo/debug/examples/watch"], None, 0),)
 
 
 def load_kit():
@@ -233,15 +235,28 @@ def run_rust():
     return {name: run_user(name, *how) for name, *how in RUST}
 
 
+def run_cargo():
+    """Builds the crate onfiseq-sys without a registry, tries it, and runs its example."""
+    names = {"CARGO_TARGET_DIR": os.path.abspath(OUT + "/cargo"), "RUSTFLAGS": "-D warnings"}
+    if archives_at == PORTABLE:
+        names["ONFISEQ_LIB"] = os.path.abspath(os.path.dirname(PORTABLE))
+    for words in (["build", "--no-default-features"], ["build", "--examples"], ["test"]):
+        ran = subprocess.run(["cargo", *words, "--offline", "--quiet"], cwd="examples/rust/onfiseq-sys", env={**os.environ, **names}, stdout=subprocess.PIPE, stderr=subprocess.STDOUT, text=True)
+        if ran.returncode:
+            return {"rust_sys": ran.stdout[-3000:]}
+    return {name: run_user(name, *how) for name, *how in CARGO}
+
+
 def run_all():
     """Runs each user: what differs, by its name."""
     found = {name: run_user(name, *how) for name, *how in USERS}
     found["words"] = compare_words()
     found["python_bench"] = run_python_bench()
-    if shutil.which("rustc"):
-        found.update(run_rust())
-    else:
-        print("c_library: rustc isn't installed, so examples/rust isn't tried")
+    for tool, runs in (("rustc", run_rust), ("cargo", run_cargo)):
+        if shutil.which(tool):
+            found.update(runs())
+        else:
+            print("c_library: %s isn't installed, so its users in examples/rust aren't tried" % tool)
     for tool, bench in simulators.BENCHES.items():
         if shutil.which(tool):
             found[tool] = bench([archive_of("onfiseq_c"), archive_of("onfiseq_text_c")])

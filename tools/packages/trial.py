@@ -87,10 +87,11 @@ def try_wheel(package, room):
 
 
 def try_cargo(package, room):
-    """The cargo project, with no registry."""
+    """The cargo projects, with no registry."""
     top = unpacked(package, room)
     run(["cargo", "build", "--release", "--offline", "--quiet"], top)
     want(run(["target/release/onfiseq-monitor", PAGE], top, TOO_SOON), "F9")
+    want(run(["cargo", "run", "--offline", "--quiet", "--example", "watch"], top + "/onfiseq-sys"), "(F9)")
 
 
 def try_npm(package, room):
