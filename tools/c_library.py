@@ -22,6 +22,8 @@ import sys
 import time
 from concurrent.futures import ThreadPoolExecutor
 
+sys.path.insert(0, "tools/machines")
+import memory
 import simulators
 
 LIBRARIES = ("onfiseq_c", "onfiseq_verify_c", "onfiseq_text_c", "onfiseq_live_c", "onfiseq_show_c")
@@ -32,6 +34,8 @@ SHARED = "out/libonfiseq.so"
 CHIP = "examples/small_chip/chip.page"
 ERASE = "examples/small_chip/erase_block"
 
+LOADER = ["{out}/loader", CHIP, ERASE + ".asm", "examples/small_chip/read_spare.asm", "examples/c/no_wait.asm", "examples/c/typing_error.asm"]
+
 # Each user: its name, the words that run it, its input, and the status that it must end with. {out} is where its programs stand.
 USERS = (
     ("layout", ["{out}/layout"], None, 0),
@@ -39,7 +43,7 @@ USERS = (
     ("monitor_busy", ["{out}/monitor", CHIP], "examples/c/busy.trace", 1),
     ("monitor_status", ["{out}/monitor", CHIP, "no_ready"], "examples/c/no_ready.trace", 0),
     ("status", ["{out}/status"], None, 0),
-    ("loader", ["{out}/loader", CHIP, ERASE + ".asm", "examples/small_chip/read_spare.asm", "examples/c/no_wait.asm", "examples/c/typing_error.asm"], None, 1),
+    ("loader", LOADER, None, 1),
     ("live", ["{out}/live", CHIP, ERASE + ".asm", "4", "examples/small_chip/read_spare.asm", "0"], None, 0),
     ("stuck", ["{out}/stuck"], None, 0),
     ("driver", ["{out}/driver"], None, 0),
@@ -52,6 +56,9 @@ USERS = (
     ("python", [sys.executable, "examples/python/monitor.py", SHARED, CHIP, ERASE + ".asm"], ERASE + ".trace", 0),
     ("python_busy", [sys.executable, "examples/python/monitor.py", SHARED, CHIP, "examples/c/no_wait.asm"], "examples/c/busy.trace", 0),
 )
+
+# The user that brings memory of its own; the one C file doesn't ask it.
+POOL = (("loader_pool", ["{out}/loader_pool"] + LOADER[1:], None, 1),)
 
 # The users in Rust, where rustc is installed.
 RUST = (
@@ -95,7 +102,7 @@ def is_built(path, stamp):
 
 def build(library, crate):
     """Builds the archive of a crate, and says why where it can't."""
-    path, stamp = archive_of(crate.name), crate.stamp()
+    path, stamp = archive_of(crate.name), "%s\nmemory %s\n" % (crate.stamp(), memory.sum_of_sources())
     if is_built(path, stamp):
         return None
     lacking = [below.name for below in crate.below() if not os.path.isfile("%s/format" % below.rlib)]
@@ -108,6 +115,7 @@ def build(library, crate):
     ran = subprocess.run(words, cwd=crate.folder, stdout=subprocess.PIPE, stderr=subprocess.STDOUT, text=True, errors="replace")
     if ran.returncode or not os.path.isfile(path):
         return ran.stdout[-2000:]
+    memory.give(path, library.KIT + "/toolchain", ["-O2", "-fPIC"])
     with open(path + ".stamp", "w") as it:
         it.write(stamp)
     return None
@@ -167,17 +175,17 @@ def compile_all():
         subprocess.run(words, check=True)
 
     for name in ("layout", "monitor", "status", "loader", "live", "stuck", "driver", "exec_op"):
-        run(*CC, "examples/c/%s.c" % name, "examples/c/heap.c", *archives, "-o", "%s/%s" % (OUT, name))
-    if archives_at == BUILT:  # the one C file has neither pictures nor notes
-        run(*CC, "-std=gnu11", "examples/c/stack.c", "examples/c/heap.c", *archives, "-pthread", "-o", OUT + "/stack")
+        run(*CC, "examples/c/%s.c" % name, *archives, "-o", "%s/%s" % (OUT, name))
+    if archives_at == BUILT:  # the one C file has neither pictures nor notes, and asks for memory by realloc
+        run(*CC, "-DROOM=16777216", "examples/c/loader.c", "examples/c/pool.c", *archives, "-o", OUT + "/loader_pool")
+        run(*CC, "-std=gnu11", "examples/c/stack.c", *archives, "-pthread", "-o", OUT + "/stack")
     write_page_programs()
     for name in ("page", "first"):
-        run(*CC, "%s/%s.c" % (OUT, name), "examples/c/heap.c", *archives, "-o", "%s/%s" % (OUT, name))
-    run(*CC, "-g", "-fsanitize=address", "examples/c/fuzz.c", "examples/c/heap.c", *archives, "-o", OUT + "/fuzz")
+        run(*CC, "%s/%s.c" % (OUT, name), *archives, "-o", "%s/%s" % (OUT, name))
+    run(*CC, "-g", "-fsanitize=address", "examples/c/fuzz.c", *archives, "-o", OUT + "/fuzz")
     run(*CC, "-c", simulators.SHIM, "-o", OUT + "/onfiseq_dpi.o")
-    run(*CC, "-c", "examples/c/heap.c", "-fPIC", "-o", OUT + "/heap.o")
-    run(*CXX, "-x", "c++", "examples/c/monitor.c", "-x", "none", OUT + "/heap.o", *archives, "-o", OUT + "/monitor_cpp")
-    run("cc", "-shared", "-o", SHARED, OUT + "/heap.o", "-Wl,--whole-archive", *archives, "-Wl,--no-whole-archive")
+    run(*CXX, "-x", "c++", "examples/c/monitor.c", "-x", "none", *archives, "-o", OUT + "/monitor_cpp")
+    run("cc", "-shared", "-o", SHARED, "-Wl,--whole-archive", *archives, "-Wl,--no-whole-archive")
 
 
 def run_user(name, words, given, status):
@@ -239,7 +247,8 @@ def run_cargo():
     """Builds the crate onfiseq-sys without a registry, tries it, and runs its example."""
     names = {"CARGO_TARGET_DIR": os.path.abspath(OUT + "/cargo"), "RUSTFLAGS": "-D warnings"}
     if archives_at == PORTABLE:
-        names["ONFISEQ_LIB"] = os.path.abspath(os.path.dirname(PORTABLE))
+        # one thread at a time may be in the calls of the one C file
+        names.update({"ONFISEQ_LIB": os.path.abspath(os.path.dirname(PORTABLE)), "RUST_TEST_THREADS": "1"})
     for words in (["build", "--no-default-features"], ["build", "--examples"], ["test"]):
         ran = subprocess.run(["cargo", *words, "--offline", "--quiet"], cwd="examples/rust/onfiseq-sys", env={**os.environ, **names}, stdout=subprocess.PIPE, stderr=subprocess.STDOUT, text=True)
         if ran.returncode:
@@ -249,7 +258,7 @@ def run_cargo():
 
 def run_all():
     """Runs each user: what differs, by its name."""
-    found = {name: run_user(name, *how) for name, *how in USERS}
+    found = {name: run_user(name, *how) for name, *how in USERS + (POOL if archives_at == BUILT else ())}
     found["words"] = compare_words()
     found["python_bench"] = run_python_bench()
     for tool, runs in (("rustc", run_rust), ("cargo", run_cargo)):

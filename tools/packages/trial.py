@@ -32,7 +32,7 @@ load().then(lib => {
 CMAKE = """cmake_minimum_required(VERSION 3.13)
 project(user C)
 find_package(onfiseq REQUIRED CONFIG)
-add_executable(monitor {top}/examples/c/monitor.c {top}/examples/c/heap.c)
+add_executable(monitor {top}/examples/c/monitor.c)
 target_link_libraries(monitor onfiseq::checker onfiseq::text)
 """
 
