@@ -133,11 +133,13 @@ def build_all():
 
 def build_portable():
     """Archives of the same names over release/onfiseq.c: the first has all of its calls."""
-    folder = os.path.dirname(PORTABLE)
+    folder, first = os.path.dirname(PORTABLE), PORTABLE.format(LIBRARIES[0])
+    if os.path.isfile(first) and os.path.getmtime(first) > os.path.getmtime("release/onfiseq.c"):
+        return
     shutil.rmtree(folder, ignore_errors=True)
     os.makedirs(folder)
     subprocess.run(["cc", "-O1", "-fPIC", "-Iinclude", "-c", "release/onfiseq.c", "-o", folder + "/onfiseq.o"], check=True)
-    for name in LIBRARIES:
+    for name in reversed(LIBRARIES):
         subprocess.run(["ar", "rcs", PORTABLE.format(name)] + [folder + "/onfiseq.o"] * (name == LIBRARIES[0]), check=True)
 
 

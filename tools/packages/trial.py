@@ -15,12 +15,12 @@ ERASE = os.path.abspath("examples/small_chip/erase_block.trace")
 TOO_SOON = os.path.abspath("examples/c/busy.trace")
 
 PYTHON = """import onfiseq, sys
-monitor = onfiseq.Monitor(onfiseq.load_own(), open(sys.argv[1], "rb").read())
+monitor = onfiseq.Monitor(onfiseq.load(), open(sys.argv[1], "rb").read())
 monitor.command(0, 0x60)
 try:
     monitor.command(0, 0x60)
-except onfiseq.Broken as broken:
-    print("refused", broken)
+except onfiseq.Fault as fault:
+    print("refused", fault)
 """
 NODE = """const { load } = require("onfiseq"), fs = require("fs");
 load().then(lib => {
