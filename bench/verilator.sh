@@ -11,7 +11,7 @@ cd $room
 sv=$here/examples/systemverilog
 build() {
     verilator --binary --timing --top-module load -O3 -GCOUNT="$2" -GWATCH="$1" -Mdir "obj_$1_$2" -CFLAGS "-O2 -I$here/include" \
-        "$sv/onfiseq_pkg.sv" "$sv/onfiseq_monitor.sv" "$here/bench/load.sv" "$sv/onfiseq_dpi.c" "$here/examples/c/heap.c" \
+        "$sv/onfiseq_pkg.sv" "$sv/onfiseq_monitor.sv" "$here/bench/load.sv" "$sv/onfiseq_dpi.c" \
         "$here/crates/onfiseq_c/out/libonfiseq_c.a" "$here/crates/onfiseq_text_c/out/libonfiseq_text_c.a" > build.log 2>&1 || { tail -20 build.log; exit 1; }
 }
 count() {

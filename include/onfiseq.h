@@ -15,9 +15,9 @@
  *
  *     libonfiseq_c.a         page, channel         no memory, needs memcpy and memset alone
  *     libonfiseq_live_c.a    sequencer on pins     no memory, needs memcpy and memset alone
- *     libonfiseq_verify_c.a  verifier              memory by malloc, all of it given back
- *     libonfiseq_text_c.a    texts and words       memory by malloc, all of it given back
- *     libonfiseq_show_c.a    pictures and notes    memory by malloc, all of it given back
+ *     libonfiseq_verify_c.a  verifier              memory by onfiseq_alloc, all of it given back
+ *     libonfiseq_text_c.a    texts and words       memory by onfiseq_alloc, all of it given back
+ *     libonfiseq_show_c.a    pictures and notes    memory by onfiseq_alloc, all of it given back
  *
  * The header is the same for every processor and byte order. release/onfiseq.c has the calls of
  * the first four libraries for whatever has a C compiler, one thread at a time.
@@ -328,7 +328,7 @@ struct onfiseq_run {
  * searched for, in so many steps at most: words that come, in all the runs that are tried; 100,000
  * take a tenth of a second. It may end at another word, or for another reason; that none is found
  * promises nothing. Its items stand at the front of room items, as many as fit, and those behind
- * stay. The search takes memory by malloc, 8 MB and its longest run at most, and gives all of it
+ * stay. The search takes memory, 8 MB and its longest run at most, and gives all of it
  * back; without memory for it there is no run.
  */
 struct onfiseq_verdict onfiseq_verify_run(const uint8_t *page, size_t page_length,
@@ -539,6 +539,23 @@ uint32_t onfiseq_live_array_ready(struct onfiseq_live *live, uint8_t ce, uint8_t
  * other targets go on. The answers are those of onfiseq_begin_target.
  */
 uint32_t onfiseq_live_begin_target(struct onfiseq_live *live, uint8_t ce);
+
+/* ---- memory
+ *
+ * The libraries that ask for memory ask by these three functions, and bring them over malloc,
+ * realloc and free. A program that defines all three has its own in their place; examples/c/pool.c
+ * does, without a heap. A block is aligned as malloc's are, and a call that returns has given all
+ * of it back. release/onfiseq.c doesn't ask by them: it has its memory by realloc, or in a static
+ * array of ONFISEQ_MEMORY bytes. */
+
+/** A block of so many bytes, 1 at least; NULL where there is none, and the call answers 'O'. */
+void *onfiseq_alloc(size_t size);
+
+/** The block with another size, here or elsewhere: kept bytes of the old one are in use. */
+void *onfiseq_realloc(void *old, size_t kept, size_t size);
+
+/** Gives a block back. */
+void onfiseq_free(void *memory);
 
 /* ---- what the libraries say of themselves: examples/c/layout.c compares it with this header */
 

@@ -4,23 +4,27 @@
     python3 tools/c_library.py --build    the libraries alone
     python3 tools/c_library.py --fuzz N   N random calls under AddressSanitizer alone, with a new seed
     python3 tools/c_library.py --damage N   N damaged records, each given to some calls
+    python3 tools/c_library.py --portable   all users over release/onfiseq.c, which needs no kit
 
 at the root, after `rt ci`: a library is built over what that proved of the crates below it, which takes a minute or two each, once. It stands in
 crates/NAME/out/libNAME.a; a shared object of all of them, for Python, in out/libonfiseq.so. The users are the programs of examples/c and examples/python;
-what each must print stands in the folder `expected` beside it. Where rustc and Verilator are installed, the program of examples/rust and the
-test bench of examples/systemverilog run too.
+what each must print stands in the folder `expected` beside it. Where rustc, Verilator and Icarus Verilog are installed, the programs of examples/rust and the
+test benches of examples/systemverilog and examples/icarus run too.
 """
 import importlib.machinery
 import importlib.util
 import os
 import re
-import resource
 import shutil
 import string
 import subprocess
 import sys
 import time
 from concurrent.futures import ThreadPoolExecutor
+
+sys.path.insert(0, "tools/machines")
+import memory
+import simulators
 
 LIBRARIES = ("onfiseq_c", "onfiseq_verify_c", "onfiseq_text_c", "onfiseq_live_c", "onfiseq_show_c")
 CC = ["cc", "-std=c99", "-Wall", "-Wextra", "-Werror", "-pedantic", "-O2", "-Iinclude"]
@@ -30,6 +34,8 @@ SHARED = "out/libonfiseq.so"
 CHIP = "examples/small_chip/chip.page"
 ERASE = "examples/small_chip/erase_block"
 
+LOADER = ["{out}/loader", CHIP, ERASE + ".asm", "examples/small_chip/read_spare.asm", "examples/c/no_wait.asm", "examples/c/typing_error.asm"]
+
 # Each user: its name, the words that run it, its input, and the status that it must end with. {out} is where its programs stand.
 USERS = (
     ("layout", ["{out}/layout"], None, 0),
@@ -37,9 +43,10 @@ USERS = (
     ("monitor_busy", ["{out}/monitor", CHIP], "examples/c/busy.trace", 1),
     ("monitor_status", ["{out}/monitor", CHIP, "no_ready"], "examples/c/no_ready.trace", 0),
     ("status", ["{out}/status"], None, 0),
-    ("loader", ["{out}/loader", CHIP, ERASE + ".asm", "examples/small_chip/read_spare.asm", "examples/c/no_wait.asm", "examples/c/typing_error.asm"], None, 1),
+    ("loader", LOADER, None, 1),
     ("live", ["{out}/live", CHIP, ERASE + ".asm", "4", "examples/small_chip/read_spare.asm", "0"], None, 0),
     ("stuck", ["{out}/stuck"], None, 0),
+    ("driver", ["{out}/driver"], None, 0),
     ("exec_op", ["{out}/exec_op", CHIP], None, 0),
     ("first", ["{out}/first"], None, 0),
     ("monitor_cpp", ["{out}/monitor_cpp", CHIP], ERASE + ".trace", 0),
@@ -50,11 +57,16 @@ USERS = (
     ("python_busy", [sys.executable, "examples/python/monitor.py", SHARED, CHIP, "examples/c/no_wait.asm"], "examples/c/busy.trace", 0),
 )
 
+# The user that brings memory of its own; the one C file doesn't ask it.
+POOL = (("loader_pool", ["{out}/loader_pool"] + LOADER[1:], None, 1),)
+
 # The users in Rust, where rustc is installed.
 RUST = (
     ("rust", ["{out}/monitor_rs", CHIP], ERASE + ".trace", 0),
     ("rust_busy", ["{out}/monitor_rs", CHIP], "examples/c/busy.trace", 0),
 )
+# And where cargo is.
+CARGO = (("rust_sys", ["{out}/cargo/debug/examples/watch"], None, 0),)
 
 
 def load_kit():
@@ -69,8 +81,13 @@ def load_kit():
     return library
 
 
+# Where the archives stand: of the libraries, or of the one C file.
+BUILT, PORTABLE = "crates/{0}/out/lib{0}.a", OUT + "/portable/lib{0}.a"
+archives_at = BUILT
+
+
 def archive_of(name):
-    return "crates/%s/out/lib%s.a" % (name, name)
+    return archives_at.format(name)
 
 
 def read(path):
@@ -85,7 +102,7 @@ def is_built(path, stamp):
 
 def build(library, crate):
     """Builds the archive of a crate, and says why where it can't."""
-    path, stamp = archive_of(crate.name), crate.stamp()
+    path, stamp = archive_of(crate.name), "%s\nmemory %s\n" % (crate.stamp(), memory.sum_of_sources())
     if is_built(path, stamp):
         return None
     lacking = [below.name for below in crate.below() if not os.path.isfile("%s/format" % below.rlib)]
@@ -98,6 +115,7 @@ def build(library, crate):
     ran = subprocess.run(words, cwd=crate.folder, stdout=subprocess.PIPE, stderr=subprocess.STDOUT, text=True, errors="replace")
     if ran.returncode or not os.path.isfile(path):
         return ran.stdout[-2000:]
+    memory.give(path, library.KIT + "/toolchain", ["-O2", "-fPIC"])
     with open(path + ".stamp", "w") as it:
         it.write(stamp)
     return None
@@ -111,6 +129,18 @@ def build_all():
     for name, why in zip(LIBRARIES, found):
         if why:
             sys.exit("c_library: %s: %s" % (name, why))
+
+
+def build_portable():
+    """Archives of the same names over release/onfiseq.c: the first has all of its calls."""
+    folder, first = os.path.dirname(PORTABLE), PORTABLE.format(LIBRARIES[0])
+    if os.path.isfile(first) and os.path.getmtime(first) > os.path.getmtime("release/onfiseq.c"):
+        return
+    shutil.rmtree(folder, ignore_errors=True)
+    os.makedirs(folder)
+    subprocess.run(["cc", "-O1", "-fPIC", "-Iinclude", "-c", "release/onfiseq.c", "-o", folder + "/onfiseq.o"], check=True)
+    for name in reversed(LIBRARIES):
+        subprocess.run(["ar", "rcs", PORTABLE.format(name)] + [folder + "/onfiseq.o"] * (name == LIBRARIES[0]), check=True)
 
 
 # What calls the monitor of docs/use/C.md, which stands in front of it.
@@ -146,17 +176,18 @@ def compile_all():
     def run(*words):
         subprocess.run(words, check=True)
 
-    for name in ("layout", "monitor", "status", "loader", "live", "stuck", "exec_op"):
-        run(*CC, "examples/c/%s.c" % name, "examples/c/heap.c", *archives, "-o", "%s/%s" % (OUT, name))
-    run(*CC, "-std=gnu11", "examples/c/stack.c", "examples/c/heap.c", *archives, "-pthread", "-o", OUT + "/stack")
+    for name in ("layout", "monitor", "status", "loader", "live", "stuck", "driver", "exec_op"):
+        run(*CC, "examples/c/%s.c" % name, *archives, "-o", "%s/%s" % (OUT, name))
+    if archives_at == BUILT:  # the one C file has neither pictures nor notes, and asks for memory by realloc
+        run(*CC, "-DROOM=16777216", "examples/c/loader.c", "examples/c/pool.c", *archives, "-o", OUT + "/loader_pool")
+        run(*CC, "-std=gnu11", "examples/c/stack.c", *archives, "-pthread", "-o", OUT + "/stack")
     write_page_programs()
     for name in ("page", "first"):
-        run(*CC, "%s/%s.c" % (OUT, name), "examples/c/heap.c", *archives, "-o", "%s/%s" % (OUT, name))
-    run(*CC, "-g", "-fsanitize=address", "examples/c/fuzz.c", "examples/c/heap.c", *archives, "-o", OUT + "/fuzz")
-    run(*CC, "-c", "examples/systemverilog/onfiseq_dpi.c", "-o", OUT + "/onfiseq_dpi.o")
-    run(*CC, "-c", "examples/c/heap.c", "-fPIC", "-o", OUT + "/heap.o")
-    run(*CXX, "-x", "c++", "examples/c/monitor.c", "-x", "none", OUT + "/heap.o", *archives, "-o", OUT + "/monitor_cpp")
-    run("cc", "-shared", "-o", SHARED, OUT + "/heap.o", "-Wl,--whole-archive", *archives, "-Wl,--no-whole-archive")
+        run(*CC, "%s/%s.c" % (OUT, name), *archives, "-o", "%s/%s" % (OUT, name))
+    run(*CC, "-g", "-fsanitize=address", "examples/c/fuzz.c", *archives, "-o", OUT + "/fuzz")
+    run(*CC, "-c", simulators.SHIM, "-o", OUT + "/onfiseq_dpi.o")
+    run(*CXX, "-x", "c++", "examples/c/monitor.c", "-x", "none", *archives, "-o", OUT + "/monitor_cpp")
+    run("cc", "-shared", "-o", SHARED, "-Wl,--whole-archive", *archives, "-Wl,--no-whole-archive")
 
 
 def run_user(name, words, given, status):
@@ -195,109 +226,70 @@ def compare_words():
     return "%s hasn't its words" % wrong[0] if wrong or len(known) < 55 else None
 
 
-def try_ranges():
-    """Whether the module for Python refuses what no byte holds, in place of judging another cycle, and knows the ways out."""
-    import onfiseq
-
-    lib = onfiseq.load(SHARED)
-    with open(CHIP, "rb") as file:
-        page = file.read()
-    monitor = onfiseq.Monitor(lib, page)
-    for name, call in (
-        ("a byte of 160h", lambda: monitor.command(0, 0x160)),
-        ("target 256", lambda: monitor.command(256, 0x60)),
-        ("a byte below 0", lambda: monitor.input(0, -1)),
-        ("257 targets", lambda: onfiseq.Monitor(lib, page, targets=257)),
-        ("a look at target 256", lambda: monitor.look(256, 0)),
-    ):
-        try:
-            call()
-        except ValueError:
-            continue
-        return "%s is taken" % name
-    monitor.command(0, 0x60)
-    try:
-        monitor.command(0, 0x60)
-    except AssertionError:
-        return try_ways_out(monitor) or try_operations(onfiseq, monitor.copy())
-    return "a second opener is taken"
+def run_python_bench():
+    """Runs the test bench of examples/python, by pytest where it is installed; one test wants the checker alone."""
+    checker = OUT + "/libonfiseq_checker.so"
+    subprocess.run(["cc", "-shared", "-o", checker, "-Wl,--whole-archive", archive_of("onfiseq_c"), "-Wl,--no-whole-archive"], check=True)
+    if archives_at == PORTABLE:  # it has all calls
+        checker = ""
+    names = {"ONFISEQ_LIBRARY": SHARED, "ONFISEQ_CHECKER": checker, "PYTHONDONTWRITEBYTECODE": "1"}
+    runner = ["-m", "pytest", "-q", "-p", "no:cacheprovider"] if importlib.util.find_spec("pytest") else []
+    ran = subprocess.run([sys.executable, *runner, "examples/python/test_channel.py"], env={**os.environ, **names}, stdout=subprocess.PIPE, stderr=subprocess.STDOUT, text=True)
+    return ran.stdout[-3000:] if ran.returncode else None
 
 
-def try_operations(onfiseq, monitor):
-    """Whether operations go or don't, all of them or none, and a text is read as items."""
-    monitor.begin_target(0)
-    read = (("C", 0x00), ("A", bytes(5)), ("C", 0x30), ("W",), ("O", 528))
-    monitor.operation(0, *read)
-    try:
-        monitor.operation(0, *read, ("O", 1))
-    except onfiseq.Broken as broken:
-        if broken.code != "F14" or "part 5, cycle 0" not in str(broken):
-            return str(broken)
-        monitor.operation(0, *read)
-    else:
-        return "more than a page is read"
-    with open(ERASE + ".trace") as file:
-        items = onfiseq.trace(monitor.lib, "# " + file.name + "\n" + file.read())
-    return None if len(items) == 10 and items[-1].byte == 0xE0 else "a trace has other items"
+def run_rust():
+    """Builds and runs the users in Rust: what differs, by their names."""
+    words = ["rustc", "-O", "-D", "warnings", "examples/rust/monitor.rs", "-L", os.path.dirname(archive_of("onfiseq_c")), "-l", "static=onfiseq_c"]
+    subprocess.run(words + ["-o", OUT + "/monitor_rs"], check=True)
+    return {name: run_user(name, *how) for name, *how in RUST}
 
 
-def try_ways_out(monitor):
-    """Whether an open sequence can be dropped, and a busy target begun anew."""
-    monitor.drop(0)
-    for byte in (0x60, 0xFF):
-        monitor.command(0, byte)
-        monitor.begin_target(0)
-    monitor.command(0, 0x60)
-    try:
-        monitor.begin_target(1)
-    except AssertionError:
-        return None
-    return "target 1 of one begins anew"
+def run_cargo():
+    """Builds the crate onfiseq-sys without a registry, tries it, and runs its example."""
+    names = {"CARGO_TARGET_DIR": os.path.abspath(OUT + "/cargo"), "RUSTFLAGS": "-D warnings"}
+    if archives_at == PORTABLE:
+        # one thread at a time may be in the calls of the one C file
+        names.update({"ONFISEQ_LIB": os.path.abspath(os.path.dirname(PORTABLE)), "RUST_TEST_THREADS": "1"})
+    for words in (["build", "--no-default-features"], ["build", "--examples"], ["test"]):
+        ran = subprocess.run(["cargo", *words, "--offline", "--quiet"], cwd="examples/rust/onfiseq-sys", env={**os.environ, **names}, stdout=subprocess.PIPE, stderr=subprocess.STDOUT, text=True)
+        if ran.returncode:
+            return {"rust_sys": ran.stdout[-3000:]}
+    return {name: run_user(name, *how) for name, *how in CARGO}
 
 
-def run_bench():
-    """Runs the test bench of examples/systemverilog, which breaks two rules, and says what differs."""
-    room, here = OUT + "/verilator", os.getcwd()
-    shutil.rmtree(room, ignore_errors=True)
-    os.makedirs(room)
-    shutil.copy(CHIP, room)
-    sources = ["examples/systemverilog/" + name for name in ("onfiseq_pkg.sv", "onfiseq_monitor.sv", "bench.sv", "onfiseq_dpi.c")]
-    sources += ["examples/c/heap.c", archive_of("onfiseq_c"), archive_of("onfiseq_text_c")]
-    words = ["verilator", "--binary", "--timing", "--top-module", "bench", "-Mdir", "obj", "-CFLAGS", "-I%s/include" % here]
-    made = subprocess.run(words + ["%s/%s" % (here, it) for it in sources], cwd=room, stdout=subprocess.PIPE, stderr=subprocess.STDOUT, text=True)
-    if made.returncode:
-        return made.stdout[-2000:]
-    ran = subprocess.run(["obj/Vbench", "+verilator+error+limit+9"], cwd=room, stdout=subprocess.PIPE, stderr=subprocess.STDOUT, text=True, preexec_fn=no_core)
-    told = re.findall(r"onfiseq: (.*)", ran.stdout)
-    wanted = ["COMMAND 60: the LUN is busy (F9)", "COMMAND 42: the command is unknown, or the parameter page doesn't declare it (F2)"]
-    return None if told == wanted and "the bench ends, 2 faults, 1 of F9" in ran.stdout else "it printed\n" + ran.stdout
-
-
-def no_core():
-    resource.setrlimit(resource.RLIMIT_CORE, (0, 0))
+def run_all():
+    """Runs each user: what differs, by its name."""
+    found = {name: run_user(name, *how) for name, *how in USERS + (POOL if archives_at == BUILT else ())}
+    found["words"] = compare_words()
+    found["python_bench"] = run_python_bench()
+    for tool, runs in (("rustc", run_rust), ("cargo", run_cargo)):
+        if shutil.which(tool):
+            found.update(runs())
+        else:
+            print("c_library: %s isn't installed, so its users in examples/rust aren't tried" % tool)
+    for tool, bench in simulators.BENCHES.items():
+        if shutil.which(tool):
+            found[tool] = bench([archive_of("onfiseq_c"), archive_of("onfiseq_text_c")])
+        else:
+            print("c_library: %s isn't installed, so its bench isn't tried" % tool)
+    return found
 
 
 def main():
-    build_all()
+    global archives_at
+    if sys.argv[1:] == ["--portable"]:
+        archives_at = PORTABLE
+        build_portable()
+    else:
+        build_all()
     if sys.argv[1:] == ["--build"]:
         return 0
     compile_all()
     if sys.argv[1:2] in (["--fuzz"], ["--damage"]):
         damaged = ["damaged"] if sys.argv[1] == "--damage" else []
         return subprocess.run([OUT + "/fuzz", sys.argv[2], str(int(time.time())), CHIP, *damaged]).returncode
-    found = {name: run_user(name, *how) for name, *how in USERS}
-    found["words"] = compare_words()
-    found["python_ranges"] = try_ranges()
-    if shutil.which("rustc"):
-        words = ["rustc", "-O", "-D", "warnings", "examples/rust/monitor.rs", "-L", "crates/onfiseq_c/out", "-l", "static=onfiseq_c"]
-        subprocess.run(words + ["-o", OUT + "/monitor_rs"], check=True)
-        found.update({name: run_user(name, *how) for name, *how in RUST})
-    else:
-        print("c_library: rustc isn't installed, so examples/rust isn't tried")
-    if shutil.which("verilator"):
-        found["verilator"] = run_bench()
-    else:
-        print("c_library: verilator isn't installed, so examples/systemverilog isn't tried")
+    found = run_all()
     for name, why in found.items():
         print("c_library: %s %s" % (name, "differs: " + why if why else "ok"))
     return 1 if any(found.values()) else 0

@@ -21,8 +21,8 @@ def main():
             else:
                 monitor.push(int(ce), kind, int(rest[0], 16))
         print("every item is permitted, %d of them" % monitor.count)
-    except onfiseq.Broken as broken:
-        print(broken)
+    except onfiseq.Fault as fault:
+        print(fault)
     lun = monitor.look(0, 0)
     print("LUN 0 is %s, its queue has %d rows" % ("busy" if lun.busy else "ready", lun.queued))
     try:

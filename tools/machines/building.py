@@ -6,6 +6,7 @@ import subprocess
 import sys
 
 import calls
+import memory
 import portable
 import retarget
 import stamp
@@ -50,7 +51,7 @@ class Building:
 
     def stamp(self, folder, compilers=()):
         """Writes the stamp of a folder."""
-        files = [HEADER] + ["%s/%s" % (os.path.relpath(HERE), it) for it in ("retarget.py", "targets.py")]
+        files = [HEADER] + ["%s/%s" % (os.path.relpath(HERE), it) for it in ("retarget.py", "targets.py", "memory.py", "c/requests.c", "c/heap.c")]
         write(self.path(folder, "STAMP"), stamp.written(self.kit, self.kit.below(LIBRARIES), files, compilers))
 
     def aarch64(self):
@@ -61,10 +62,10 @@ class Building:
         for name in LIBRARIES:
             archive = self.path("aarch64-linux", "lib%s.a" % name)
             self.kit.build(name, archive, toolchain)
+            memory.give(archive, self.kit.toolchain, ["--target=" + AARCH64, "-O2", "-fPIC"])
             tell(archive)
             self.keep_texts(name, kept)
         shutil.copy(HEADER, self.path("aarch64-linux"))
-        shutil.copy("examples/c/heap.c", self.path("aarch64-linux"))
         self.stamp("aarch64-linux")
         shutil.rmtree(toolchain)
 
@@ -95,10 +96,10 @@ class Building:
         if os.path.exists(archive):
             os.remove(archive)
         run([self.kit.tool("llvm-ar"), "rcsD", archive, *objects.values()])
+        memory.give(archive, self.kit.toolchain, [*words, "-DNARROW"])
         for it in objects.values():
             os.remove(it)
         shutil.copy(HEADER, self.path(name))
-        shutil.copy(HERE + "/c/heap.c", self.path(name))
         write(self.path(name, "onfiseq_calls.c"), calls.written(HEADER, self.calls()))
         self.stamp(name)
         tell(archive)

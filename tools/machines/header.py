@@ -86,7 +86,8 @@ def read(path):
         records[name] = read_record(body, records)
     rest = re.sub(r"struct \w+ \{.*?\};", "", text, flags=re.S)
     for answer, name, words in re.findall(r"(struct \w+|\w+)\s+(onfiseq_\w+)\(([^)]*)\);", rest, re.S):
-        calls[name] = {"answer": answer.replace("struct ", ""), "given": read_given(words)}
+        if answer != "void":  # else it is one of the functions that a program may give
+            calls[name] = {"answer": answer.replace("struct ", ""), "given": read_given(words)}
     return records, calls
 
 

@@ -7,7 +7,7 @@ the same bytes as where it has 64. A load of two values at once is written as tw
 pointer that is made of a number, and a record that is moved as one value.
 
 Each call of onfiseq.h becomes w_ and its name and answers its record by a pointer in front, so that no processor's rules for small records matter: calls.py and
-portable.py write the calls of onfiseq.h over them. What a library asks for memory by has w_ in front too (c/heap.c).
+portable.py write the calls of onfiseq.h over them. What a library asks for memory by has w_ in front too (c/requests.c).
 """
 import re
 import sys

@@ -1,4 +1,4 @@
-"""Writes the cargo project of examples/rust with the static libraries in it, as a tarball.
+"""Writes the cargo projects of examples/rust with the static libraries in them, as a tarball: the monitor, and onfiseq-sys in a folder of its own.
 
     python3 tools/packages/cargo.py FOLDER      at the root
 """
@@ -9,6 +9,8 @@ import tarfile
 
 import version
 
+SOURCES = ("Cargo.toml", "build.rs", "monitor.rs")
+SYS = ("Cargo.toml", "build.rs", "src/lib.rs", "src/sys.rs", "src/channel.rs", "src/fault.rs", "examples/watch.rs", "tests/channel.rs")
 LIBRARIES = ("onfiseq_c", "onfiseq_verify_c", "onfiseq_text_c", "onfiseq_live_c", "onfiseq_show_c")
 
 
@@ -18,8 +20,8 @@ def read(path):
 
 
 def contents():
-    """The files of the project, by their names in it."""
-    files = {name: read("examples/rust/" + name) for name in ("Cargo.toml", "build.rs", "monitor.rs")}
+    """The files of the projects, by their names in the tarball."""
+    files = {name: read("examples/rust/" + name) for name in SOURCES + tuple("onfiseq-sys/" + name for name in SYS)}
     files.update({"lib/lib%s.a" % name: read("crates/%s/out/lib%s.a" % (name, name)) for name in LIBRARIES})
     files["LICENSE"] = read("LICENSE")
     return files

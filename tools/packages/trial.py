@@ -15,12 +15,12 @@ ERASE = os.path.abspath("examples/small_chip/erase_block.trace")
 TOO_SOON = os.path.abspath("examples/c/busy.trace")
 
 PYTHON = """import onfiseq, sys
-monitor = onfiseq.Monitor(onfiseq.load_own(), open(sys.argv[1], "rb").read())
+monitor = onfiseq.Monitor(onfiseq.load(), open(sys.argv[1], "rb").read())
 monitor.command(0, 0x60)
 try:
     monitor.command(0, 0x60)
-except onfiseq.Broken as broken:
-    print("refused", broken)
+except onfiseq.Fault as fault:
+    print("refused", fault)
 """
 NODE = """const { load } = require("onfiseq"), fs = require("fs");
 load().then(lib => {
@@ -32,7 +32,7 @@ load().then(lib => {
 CMAKE = """cmake_minimum_required(VERSION 3.13)
 project(user C)
 find_package(onfiseq REQUIRED CONFIG)
-add_executable(monitor {top}/examples/c/monitor.c {top}/examples/c/heap.c)
+add_executable(monitor {top}/examples/c/monitor.c)
 target_link_libraries(monitor onfiseq::checker onfiseq::text)
 """
 
@@ -87,10 +87,11 @@ def try_wheel(package, room):
 
 
 def try_cargo(package, room):
-    """The cargo project, with no registry."""
+    """The cargo projects, with no registry."""
     top = unpacked(package, room)
     run(["cargo", "build", "--release", "--offline", "--quiet"], top)
     want(run(["target/release/onfiseq-monitor", PAGE], top, TOO_SOON), "F9")
+    want(run(["cargo", "run", "--offline", "--quiet", "--example", "watch"], top + "/onfiseq-sys"), "(F9)")
 
 
 def try_npm(package, room):

@@ -1,4 +1,4 @@
-"""Writes a wheel: the module of examples/python with the shared object beside it, for Linux on x86-64.
+"""Writes a wheel: the package of examples/python with the shared object beside it, for Linux on x86-64.
 
     python3 tools/packages/wheel.py libonfiseq.so FOLDER      at the root
 """
@@ -11,16 +11,7 @@ import zipfile
 import version
 
 TAG = "py3-none-linux_x86_64"
-
-# So that import onfiseq finds the library without a path.
-LOADING = '''
-
-def load_own():
-    """The library that came with this package."""
-    import os
-
-    return load(os.path.join(os.path.dirname(os.path.abspath(__file__)), "libonfiseq.so"))
-'''
+PACKAGE = "examples/python/onfiseq"
 
 
 def read(path):
@@ -33,7 +24,7 @@ def contents(library):
     info = "%s-%s.dist-info" % (version.NAME, version.local())
     metadata = "Metadata-Version: 2.1\nName: %s\nVersion: %s\nSummary: %s\nRequires-Python: >=3.8\nLicense: MIT\n" % (version.NAME, version.local(), version.SAID)
     return info, {
-        "onfiseq/__init__.py": read("examples/python/onfiseq.py") + LOADING.encode(),
+        **{"onfiseq/" + name: read("%s/%s" % (PACKAGE, name)) for name in sorted(os.listdir(PACKAGE)) if name.endswith((".py", ".typed"))},
         "onfiseq/libonfiseq.so": read(library),
         info + "/METADATA": metadata.encode(),
         info + "/WHEEL": ("Wheel-Version: 1.0\nGenerator: onfiseq\nRoot-Is-Purelib: false\nTag: %s\n" % TAG).encode(),

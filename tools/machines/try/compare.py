@@ -25,7 +25,6 @@ from targets import PORTABLE
 CHIP = "examples/small_chip/chip.page"
 WARNINGS = ["-std=c99", "-Wall", "-Wextra", "-Wpedantic", "-Werror"]
 X86_64 = ["crates/%s/out/lib%s.a" % (name, name) for name in PORTABLE]
-HEAP = "examples/c/heap.c"
 
 
 class Try:
@@ -54,7 +53,7 @@ def links(compiler):
 
 def parts_of(out, name):
     """What is linked for a processor whose library came by retarget.py."""
-    return ["%s/%s/%s" % (out, name, it) for it in ("onfiseq_calls.c", "heap.c", "libonfiseq.a")]
+    return ["%s/%s/%s" % (out, name, it) for it in ("onfiseq_calls.c", "libonfiseq.a")]
 
 
 def short_tries(out, portable):
@@ -70,7 +69,7 @@ def short_tries(out, portable):
 
 def long_tries(out, portable):
     """What needs Debian's cross compilers and qemu."""
-    aarch64 = ["%s/aarch64-linux/%s" % (out, it) for it in ["heap.c"] + ["lib%s.a" % name for name in PORTABLE]]
+    aarch64 = ["%s/aarch64-linux/lib%s.a" % (out, name) for name in PORTABLE]
     tries = [Try("aarch64-linux", ["aarch64-linux-gnu-gcc", "-static", "-O2"], aarch64, ["qemu-aarch64"])]
     for name, compiler, qemu in (("armhf-linux", "arm-linux-gnueabihf-gcc", "qemu-arm"), ("rv64-linux", "riscv64-linux-gnu-gcc", "qemu-riscv64")):
         tries.append(Try(name, [compiler, "-static", "-O2"], parts_of(out, name), [qemu]))
@@ -91,7 +90,7 @@ BOARDS = (("cortex-m4", "mps2-an386"), ("cortex-m3", "mps2-an385"))
 def board_try(out, cpu, board):
     """A simulated board, which prints by semihosting. Its memory is small, so both sides refuse large requests."""
     compiler = ["arm-none-eabi-gcc", "-mcpu=" + cpu, "-mthumb", "-O2", "--specs=rdimon.specs", "-Wl,--section-start=.vectors=0", "-Wl,-u,vectors", "-Wl,--gc-sections"]
-    linked = [it for it in parts_of(out, cpu) if not it.endswith("heap.c")] + [HERE + "/cortex_m/vectors.c", HERE + "/heap_limit.c"]
+    linked = parts_of(out, cpu) + [HERE + "/cortex_m/vectors.c", HERE + "/heap_limit.c"]
     return Try(cpu, compiler, linked, [HERE + "/cortex_m/run.sh", board, cpu], limit=1 << 20, needs=["qemu-system-arm"])
 
 
@@ -119,8 +118,8 @@ class Comparison:
 
     def reference(self, limit):
         """What x86-64 answers, with a heap that refuses blocks above a limit, or with malloc's."""
-        heap, more = (HERE + "/heap_limit.c", ["-DWIDE"]) if limit else (HEAP, [])
-        return self.made(Try("reference %d" % limit, ["gcc", "-O2", *more], [heap, *X86_64], limit=limit))
+        heap = [HERE + "/heap_limit.c"] if limit else []
+        return self.made(Try("reference %d" % limit, ["gcc", "-O2"], [*heap, *X86_64], limit=limit))
 
     def is_same(self, it, reference):
         """Tries one way, and tells how it went."""

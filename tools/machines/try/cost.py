@@ -38,10 +38,10 @@ PORTABLE = (
 def linked(out, name):
     """What is linked for a processor."""
     if name == "x86_64-linux":
-        return ["examples/c/heap.c"] + ["crates/%s/out/lib%s.a" % (it, it) for it in LIBRARIES]
+        return ["crates/%s/out/lib%s.a" % (it, it) for it in LIBRARIES]
     if name == "aarch64-linux":
-        return ["examples/c/heap.c"] + ["%s/%s/lib%s.a" % (out, name, it) for it in LIBRARIES]
-    return ["%s/%s/%s" % (out, name, it) for it in ("onfiseq_calls.c", "heap.c", "libonfiseq.a")]
+        return ["%s/%s/lib%s.a" % (out, name, it) for it in LIBRARIES]
+    return ["%s/%s/%s" % (out, name, it) for it in ("onfiseq_calls.c", "libonfiseq.a")]
 
 
 def count_lines(words, room):
