@@ -8,6 +8,8 @@ mod command_tests;
 #[cfg(test)]
 mod data_tests;
 #[cfg(test)]
+mod known_tests;
+#[cfg(test)]
 mod loop_tests;
 #[cfg(test)]
 mod notes;
