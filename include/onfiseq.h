@@ -328,8 +328,9 @@ struct onfiseq_run {
  * searched for, in so many steps at most: words that come, in all the runs that are tried; 100,000
  * take a tenth of a second. It may end at another word, or for another reason; that none is found
  * promises nothing. Its items stand at the front of room items, as many as fit, and those behind
- * stay. The search takes memory, 8 MB and its longest run at most, and gives all of it
- * back; without memory for it there is no run.
+ * stay. A program that V1 to V5 refuse has no run, since it is refused as a whole. The search asks
+ * for memory by onfiseq_alloc, 8 MB and its longest run at most, and gives all of it back; without
+ * memory for it there is no run. examples/c/pool.c has the memory in a block of yours.
  */
 struct onfiseq_verdict onfiseq_verify_run(const uint8_t *page, size_t page_length,
                                           const uint8_t *file, size_t file_length,

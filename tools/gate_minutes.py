@@ -4,13 +4,15 @@ Where a file is named, the last line goes there, and with --table the minutes go
 
     rt ci | python3 tools/gate_minutes.py [--table] [FILE]
 
-A step is a crate's proof or tests proved, its edits begun, or a program or tests run. Processor time is read each second off the provers that
-run on this machine, so nothing else that proves should run beside the gate. docs/develop/GATE.md says what the minutes are for.
+A step is a crate's proof or tests proved, its edits begun, or a program or tests run. Processor time is read each second off the provers of this
+session. Other work beside the gate makes each of them slower by what it takes of the caches. The last line but one says how fast the machine is beside that of
+the table: the median of what each step takes longer. docs/develop/GATE.md says what the minutes are for.
 """
 import collections
 import glob
 import os
 import re
+import statistics
 import sys
 import threading
 import time
@@ -41,11 +43,23 @@ def read_prover(folder):
         with open(f"{folder}/stat", encoding="utf-8", errors="replace") as file:
             ticks = file.read().rsplit(")", 1)[1].split()
         where = os.readlink(f"{folder}/cwd")
+        is_of_another = os.getsid(int(os.path.basename(folder))) != os.getsid(0)
     except (OSError, IndexError):
+        return None
+    if is_of_another:
         return None
     crate = words[words.index(b"--crate-name") + 1].decode()
     # Its own time and that of its children that have ended.
     return crate, kind_of(words, where), sum(map(int, ticks[11:15])) / os.sysconf("SC_CLK_TCK")
+
+
+def read_table():
+    """The minutes of each crate that the repository keeps."""
+    if not os.path.exists(TABLE):
+        return {}
+    with open(TABLE, encoding="utf-8") as table:
+        rows = [line.split() for line in table if line.strip() and not line.startswith("#")]
+    return {name: dict(zip(KINDS, map(float, minutes))) for name, *minutes in rows}
 
 
 class Provers:
@@ -70,6 +84,12 @@ class Provers:
         for (crate, kind, _), seconds in self.seconds.items():
             crates[crate][kind] += seconds / 60
         return sorted(crates.items(), key=lambda row: -sum(row[1].values()))
+
+    def pace(self):
+        """How many times as long the steps take as those of the table that take a minute at least."""
+        before = read_table()
+        ratios = [row[kind] / before[name][kind] for name, row in self.minutes() if name in before for kind in KINDS if before[name][kind] >= 1 and row[kind] > 0]
+        return f"pace: {statistics.median(ratios):.2f} times the minutes of {TABLE}, the median of {len(ratios)} steps\n" if ratios else ""
 
     def write(self):
         """Keeps the minutes of each crate."""
@@ -105,7 +125,7 @@ def main():
     provers.is_over = True
     watch.join()
     steps = [step if step.endswith("\n") else step + "\n" for step in steps]
-    sys.stdout.write("".join([*steps, *provers.table(), *failures]))
+    sys.stdout.write("".join([*steps, *provers.table(), provers.pace(), *failures]))
     words = [word for word in sys.argv[1:] if word != "--table"]
     if "--table" in sys.argv:
         provers.write()

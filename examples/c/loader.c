@@ -55,8 +55,11 @@ static size_t load(const char *path, size_t page_length) {
     }
     struct onfiseq_run told;
     struct onfiseq_verdict verdict = onfiseq_verify_run(page, page_length, file, length, 100000, run, sizeof run / sizeof *run, &told);
-    if (verdict.letter) return say(path, verdict.letter, verdict.number, verdict.at), show_run(page_length, told.count), 0;
-    return length;
+    if (verdict.letter == 0) return length;
+    say(path, verdict.letter, verdict.number, verdict.at);
+    if (told.count) show_run(page_length, told.count);
+    else if (verdict.letter == 'V') printf("    no run: %s\n", verdict.number <= 5 ? "the program as a whole is refused" : "none was found in 100000 steps");
+    return 0;
 }
 
 int main(int count, char **words) {

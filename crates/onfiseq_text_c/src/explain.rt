@@ -1,14 +1,15 @@
 //! Why an item isn't permitted, in words.
-ghost use Rattle.std.specs.Prelude.{◌≡◌, ◌≤◌};
+ghost use Rattle.std.specs.Prelude.{◌≡◌, ◌≤◌, []};
+ghost use Rattle.onfi_cycle.specs.Sequence.{target_of as target_of_item};
 ghost use Rattle.bus_record.specs.Bus.{FitsAt};
 ghost use Rattle.onfiseq_text_c.specs.Explained.{IsWritten, asked};
 
 use crate::words::{Words, shown, spelt, words_alone, words_of_record};
-use bus_record::{OnfiseqBus, OnfiseqItem, OnfiseqLun, OnfiseqTarget, ask, is_bus_at};
+use bus_record::{OnfiseqBus, OnfiseqItem, OnfiseqLun, OnfiseqTarget, ask, is_bus_at, look_at_lun};
 use nand_geometry::Geometry;
-use onfi_cycle::{Command, Cycle, Forbidden, Item, LunState, Register, is_cache_read};
+use onfi_cycle::{Command, Cycle, Forbidden, Item, LunState, Register};
 use placed_bytes::place_text;
-use target_record::{closer_of, is_set, latch_of, output_column, queue_len, register_of, tail_of};
+use target_record::{closer_of, is_set, latch_of, register_of, tail_of};
 use trace_causes::{
     BrokenInWords, CauseInLine, CommandAt, FaultyCycle, MOST_LUNS, TargetLook, TargetPast,
     Undriven, opener_of,
@@ -20,19 +21,19 @@ fn somewhere(byte: u8) -> CommandAt {
 }
 
 // The LUN of this number, if the target has it.
-fn lun_of(kept: &OnfiseqTarget, number: usize) -> Option<LunState> {
-    if kept.count <= number || MOST_LUNS <= number {
-        return None;
-    }
-    let lun = &kept.luns[number];
-    Some(LunState {
-        busy: is_set(lun.busy),
-        latch: latch_of(lun.latch),
-        register: register_of(lun.register, lun.register_block, lun.register_page),
-        column: output_column(lun).and_then(|column| u32::try_from(column).ok()),
-        queued: queue_len(lun),
-        caching: is_cache_read(closer_of(is_set(lun.has_closer), lun.closer)),
-        array_busy: is_set(lun.array_busy),
+fn lun_of(bus: &OnfiseqBus, ce: u8, number: u8) -> Option<LunState>
+    requires { FitsAt bus.now ce }
+{
+    let look = look_at_lun(bus, ce, number);
+    let column = u32::try_from(look.column).ok();
+    look.is_there.then_some(LunState {
+        busy: look.busy,
+        latch: latch_of(look.latch),
+        register: register_of(look.register, look.block, look.page),
+        column: if look.has_column { column } else { None },
+        queued: look.queued,
+        caching: look.caching,
+        array_busy: look.array_busy,
     })
 }
 
@@ -75,9 +76,12 @@ fn past_of(kept: &OnfiseqTarget) -> TargetPast {
 }
 
 // Why a cycle breaks a rule, where that has one cause that can be named.
-fn cause_of(bus: &OnfiseqBus, cycle: Cycle, rule: Forbidden) -> Option<CauseInLine> {
+fn cause_of(bus: &OnfiseqBus, cycle: Cycle, rule: Forbidden) -> Option<CauseInLine>
+    requires { FitsAt bus.now cycle.ce }
+{
     let geometry = Geometry::of(bus.geometry.parts()).ok()?;
-    let place = usize::from(cycle.ce);
+    let ce = cycle.ce;
+    let place = usize::from(ce);
     if bus.count <= place || 4 <= place {
         return None;
     }
@@ -87,10 +91,10 @@ fn cause_of(bus: &OnfiseqBus, cycle: Cycle, rule: Forbidden) -> Option<CauseInLi
         target: TargetLook {
             tail: tail_of(kept),
             luns: [
-                lun_of(kept, 0),
-                lun_of(kept, 1),
-                lun_of(kept, 2),
-                lun_of(kept, 3),
+                lun_of(bus, ce, 0),
+                lun_of(bus, ce, 1),
+                lun_of(bus, ce, 2),
+                lun_of(bus, ce, 3),
             ],
         },
         past: past_of(kept),
@@ -101,7 +105,9 @@ fn cause_of(bus: &OnfiseqBus, cycle: Cycle, rule: Forbidden) -> Option<CauseInLi
 }
 
 // The rule that an item breaks, in words.
-fn words_of_rule(bus: &OnfiseqBus, item: Item, rule: Forbidden) -> Words {
+fn words_of_rule(bus: &OnfiseqBus, item: Item, rule: Forbidden) -> Words
+    requires { FitsAt bus.now (target_of_item item) }
+{
     let cause = match item {
         Item::Cyc(cycle) => cause_of(bus, cycle, rule),
         Item::Rdy { .. } | Item::Ard { .. } => None,
@@ -111,7 +117,7 @@ fn words_of_rule(bus: &OnfiseqBus, item: Item, rule: Forbidden) -> Words {
 
 // What is said of numbers as an item; nothing where it is permitted.
 fn explain(bus: &OnfiseqBus, numbers: &OnfiseqItem) -> Words
-    ensures { asked bus.now numbers.now ≡ 0 → result.count ≡ 0 }
+    ensures { asked bus.now numbers.now ≡ 0 → result.bytes ≡ [] }
 {
     if !is_bus_at(bus, numbers.ce) {
         return spelt(words_of_record(0));
