@@ -285,9 +285,9 @@ struct onfiseq_pauses onfiseq_pauses_before(const struct onfiseq_last *last, uin
 
 /**
  * A cycle has come on the target, 'C' with its byte, 'A', 'I', 'O' or 'S', or 'R' where R/B# has
- * shown a ready. Any other kind changes nothing.
+ * shown a ready. 0; or ONFISEQ_NO_ITEM of any other kind, and nothing changes.
  */
-void onfiseq_note(struct onfiseq_last *last, uint8_t kind, uint8_t byte);
+uint32_t onfiseq_note(struct onfiseq_last *last, uint8_t kind, uint8_t byte);
 
 /* ---- microprograms */
 

@@ -1,5 +1,5 @@
 -- The pauses before a cycle, by what came last on its target, as numbers.
-use Rattle.std.specs.Prelude.{ℕ, ◌==◌, if◌then◌else◌, Option, Some, None}
+use Rattle.std.specs.Prelude.{ℕ, ◌==◌, ◌||◌, if◌then◌else◌, Option, Some, None}
 use Rattle.onfi_cycle.specs.declared.item.Kind.{Kind}
 use Rattle.onfi_cycle.specs.Command.{command}
 use Rattle.onfi_pauses.specs.declared.pause.LastCycle.{LastCycle}
@@ -54,3 +54,7 @@ noted l kind byte =
     else (if kind == 65 then record { kind = 65; command = l.command; ready = 0 }
     else (if kind == 73 then record { kind = 73; command = l.command; ready = 0 }
     else (if kind == 79 then record { kind = 79; command = l.command; ready = 0 } else l))))
+
+-- 0 for a cycle or a ready, else that it is no item
+abbrev pub note_code : (kind : ℕ) → ℕ
+note_code kind = if kind == 67 || (kind == 82 || (kind == 65 || (kind == 73 || kind == 79))) then 0 else 0x4900

@@ -1,8 +1,8 @@
 //! The pauses that a datasheet asks for before a cycle.
 ghost use Rattle.std.specs.Prelude.{◌≡◌};
-ghost use Rattle.onfiseq_c.specs.Pauses.{before, last_of, letter_of, noted, number_of};
+ghost use Rattle.onfiseq_c.specs.Pauses.{before, last_of, letter_of, note_code, noted, number_of};
 
-use bus_record::kind_of;
+use bus_record::{NO_ITEM, kind_of};
 use onfi_cycle::Command;
 use onfi_pauses::{LastCycle, Pause, pauses_before};
 use target_record::is_set;
@@ -84,10 +84,11 @@ pub extern "C" fn onfiseq_pauses_before(last: &OnfiseqLast, kind: u8) -> Onfiseq
     }
 }
 
-/// A cycle has come on a target, C, A, I, O, or S, or a ready, R: `byte` is that of a command. Other kinds change nothing.
+/// A cycle has come on a target, C, A, I, O, or S, or a ready, R: `byte` is that of a command. 0; or 4900h of another kind, and nothing changes.
 #[unsafe(no_mangle)]
-pub extern "C" fn onfiseq_note(last: &mut OnfiseqLast, kind: u8, byte: u8)
-    ensures { last.new ≡ noted last.old (letter_of kind) byte }
+pub extern "C" fn onfiseq_note(last: &mut OnfiseqLast, kind: u8, byte: u8) -> u32
+    ensures code { result ≡ note_code (letter_of kind) }
+    ensures noted { last.new ≡ noted last.old (letter_of kind) byte }
 {
     match letter_of(kind) {
         b'C' => {
@@ -96,12 +97,17 @@ pub extern "C" fn onfiseq_note(last: &mut OnfiseqLast, kind: u8, byte: u8)
                 command: byte,
                 ready: 0,
             };
+            0
         }
-        b'R' => last.ready = 1,
+        b'R' => {
+            last.ready = 1;
+            0
+        }
         letter if kind_of(letter).is_some() => {
             last.kind = letter;
             last.ready = 0;
+            0
         }
-        _ => {}
+        _ => NO_ITEM,
     }
 }
