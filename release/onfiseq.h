@@ -9,14 +9,15 @@
  *     onfiseq_verify(page, n, file, m)            a microprogram, before it runs
  *     onfiseq_job_next, onfiseq_job_finish        a microprogram on your pins, word after word
  *     onfiseq_words(code, text, room)             what a code means, in English
+ *     onfiseq_explain(bus, item, text, room)      why an item isn't permitted
  *
  * docs/use/C.md begins with a program of ten lines, and says what is proved and how it is linked:
  *
  *     libonfiseq_c.a         page, channel         no memory, needs memcpy and memset alone
  *     libonfiseq_live_c.a    sequencer on pins     no memory, needs memcpy and memset alone
- *     libonfiseq_verify_c.a  verifier              memory by malloc, all of it given back
- *     libonfiseq_text_c.a    texts and words       memory by malloc, all of it given back
- *     libonfiseq_show_c.a    pictures and notes    memory by malloc, all of it given back
+ *     libonfiseq_verify_c.a  verifier              memory by onfiseq_alloc, all of it given back
+ *     libonfiseq_text_c.a    texts and words       memory by onfiseq_alloc, all of it given back
+ *     libonfiseq_show_c.a    pictures and notes    memory by onfiseq_alloc, all of it given back
  *
  * The header is the same for every processor and byte order. release/onfiseq.c has the calls of
  * the first four libraries for whatever has a C compiler, one thread at a time.
@@ -253,6 +254,41 @@ struct onfiseq_look {
 
 struct onfiseq_look onfiseq_look_at(const struct onfiseq_bus *bus, uint8_t ce, uint8_t lun);
 
+/* ---- pauses */
+
+/** The pauses that a datasheet asks for before a cycle; how long each is stands there. */
+enum onfiseq_pause {
+    ONFISEQ_TADL = 1, /**< from an address to an input */
+    ONFISEQ_TWHR = 2, /**< from a command, an address or an input to an output */
+    ONFISEQ_TCCS = 3, /**< from a change of the column, by E0h or 85h, to the data */
+    ONFISEQ_TRHW = 4, /**< from an output to a command, an address or an input */
+    ONFISEQ_TWB = 5,  /**< from the cycle that begins work until R/B# and the status tell of it */
+    ONFISEQ_TRR = 6   /**< from a ready to an output */
+};
+
+/**
+ * What came last on a target, for the pauses: one for each, all 0 at the start. onfiseq_note keeps
+ * it. command is the byte of the last command, kind that of the last cycle.
+ */
+struct onfiseq_last {
+    uint8_t kind, command, ready;
+};
+
+/** Each is 0 or one of enum onfiseq_pause, and to be kept: from the last cycle by what that was,
+ *  from it where it began work, and from the ready. */
+struct onfiseq_pauses {
+    uint8_t cycle, busy, ready;
+};
+
+/** The pauses before a cycle of this kind, or before a burst of onfiseq_job_next by its kind. */
+struct onfiseq_pauses onfiseq_pauses_before(const struct onfiseq_last *last, uint8_t kind);
+
+/**
+ * A cycle has come on the target, 'C' with its byte, 'A', 'I', 'O' or 'S', or 'R' where R/B# has
+ * shown a ready. 0; or ONFISEQ_NO_ITEM of any other kind, and nothing changes.
+ */
+uint32_t onfiseq_note(struct onfiseq_last *last, uint8_t kind, uint8_t byte);
+
 /* ---- microprograms */
 
 /**
@@ -292,8 +328,9 @@ struct onfiseq_run {
  * searched for, in so many steps at most: words that come, in all the runs that are tried; 100,000
  * take a tenth of a second. It may end at another word, or for another reason; that none is found
  * promises nothing. Its items stand at the front of room items, as many as fit, and those behind
- * stay. The search takes memory by malloc, 8 MB and its longest run at most, and gives all of it
- * back; without memory for it there is no run.
+ * stay. A program that V1 to V5 refuse has no run, since it is refused as a whole. The search asks
+ * for memory by onfiseq_alloc, 8 MB and its longest run at most, and gives all of it back; without
+ * memory for it there is no run. examples/c/pool.c has the memory in a block of yours.
  */
 struct onfiseq_verdict onfiseq_verify_run(const uint8_t *page, size_t page_length,
                                           const uint8_t *file, size_t file_length,
@@ -334,6 +371,14 @@ struct onfiseq_placed onfiseq_trace(const uint8_t *text, size_t text_length, uin
  * snprintf's is; 0 where no answer has this code. 160 bytes are enough for any.
  */
 size_t onfiseq_words(uint32_t code, char *text, size_t room);
+
+/**
+ * Why onfiseq_push would refuse an item, in English: the one cause, with the LUN, or with the
+ * sequence that is open and what it wants next, and the code in parentheses, as `onfiseq check`
+ * says it. As snprintf; 0 where the item is permitted.
+ */
+size_t onfiseq_explain(const struct onfiseq_bus *bus, const struct onfiseq_item *item, char *text,
+                       size_t room);
 
 /* ---- pictures and notes, for people
  *
@@ -495,6 +540,23 @@ uint32_t onfiseq_live_array_ready(struct onfiseq_live *live, uint8_t ce, uint8_t
  * other targets go on. The answers are those of onfiseq_begin_target.
  */
 uint32_t onfiseq_live_begin_target(struct onfiseq_live *live, uint8_t ce);
+
+/* ---- memory
+ *
+ * The libraries that ask for memory ask by these three functions, and bring them over malloc,
+ * realloc and free. A program that defines all three has its own in their place; examples/c/pool.c
+ * does, without a heap. A block is aligned as malloc's are, and a call that returns has given all
+ * of it back. release/onfiseq.c doesn't ask by them: it has its memory by realloc, or in a static
+ * array of ONFISEQ_MEMORY bytes. */
+
+/** A block of so many bytes, 1 at least; NULL where there is none, and the call answers 'O'. */
+void *onfiseq_alloc(size_t size);
+
+/** The block with another size, here or elsewhere: kept bytes of the old one are in use. */
+void *onfiseq_realloc(void *old, size_t kept, size_t size);
+
+/** Gives a block back. */
+void onfiseq_free(void *memory);
 
 /* ---- what the libraries say of themselves: examples/c/layout.c compares it with this header */
 
