@@ -34,7 +34,7 @@ SHARED = "out/libonfiseq.so"
 CHIP = "examples/small_chip/chip.page"
 ERASE = "examples/small_chip/erase_block"
 
-LOADER = ["{out}/loader", CHIP, ERASE + ".asm", "examples/small_chip/read_spare.asm", "examples/c/no_wait.asm", "examples/c/typing_error.asm"]
+LOADER = ["{out}/loader", CHIP, ERASE + ".asm", "examples/small_chip/read_spare.asm", "examples/c/no_wait.asm", "examples/c/typing_error.asm", "examples/retry.asm"]
 
 # Each user: its name, the words that run it, its input, and the status that it must end with. {out} is where its programs stand.
 USERS = (
