@@ -32,6 +32,8 @@ TRIED = (
     ("draw chip.page 1 - ./t.trace", 3, OVER),
     ("asm erase_block.asm ./erase_block.asm", 3, OVER),
     ("check chip.page 1 t.trace --write ./t.trace --readies-from-status", 3, OVER),
+    ("wave chip.page 1 t.trace ./v --vendor v", 3, OVER),
+    ("capture chip.page 1 erase_block.vcd sub/../v --vendor v", 3, OVER),
     ("verify chip.page erase_block.asm --counter new --draw ./new", 3, TWICE),
     ("run x.run --trace a --wave ./a", 3, TWICE),
     ("run x.run --trace a --draw {here}/sub/../a", 3, TWICE),
@@ -56,6 +58,7 @@ def make_files(here):
         (here / name).write_bytes((CHIP / name).read_bytes())
     (here / "t.trace").write_bytes((CHIP / "erase_block.trace").read_bytes())
     (here / "x.run").write_text(RUN)
+    (here / "v").write_text("da\n")
     (here / "lost.run").write_text("page chip.page\ntargets 1\njob 0 0 0 erase_block.asm - none/out\n")
     page = (here / "chip.page").read_bytes()
     sizes = (page[80:84], page[84:86] + bytes(2), page[92:96], page[96:100], bytes(4))

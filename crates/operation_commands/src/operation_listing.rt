@@ -262,7 +262,7 @@ pub fn list_operations<A: Allocator + Clone, F: Files, W: Write, E: Write, P>(
 ) -> Ending
     ensures done { result ≡ Ending.Exit Exit.Done → (printed : List ℕ) × CanBeListed (F.store files.old) request.entry
         × Appends (W.contents console.old.output) (W.contents console.new.output) printed }
-    ensures assumed { result ≡ Ending.Assumed → ⊥ }
+    ensures assumed { result ≡ Ending.Flagged → ⊥ }
     ensures refused { (refusal : Refusal) → result ≡ Ending.Exit (Exit.Refused refusal)
         → Tells (PageIsRefused (F.store files.old) request.entry.page.now) refusal
         × Appends (W.contents console.old.output) (W.contents console.new.output) (line_of refusal) }

@@ -7,8 +7,13 @@ use Rattle.seq_inputs.specs.Inputs.{HasPage, PageIsRefused, FileIsRefused}
 use Rattle.seq_inputs.specs.Stops.{Tells}
 use Rattle.seq_inputs.specs.Refusals.{line_of}
 use Rattle.seq_commands.specs.Commands.{IsAssembled, SourceIsRefused, IsAssembledFor, AssembleForRefuses, IsDisassembled, IsUpgraded, IsAccepted, VerifyRefuses, VerifyLeaves}
+use Rattle.explain_commands.specs.Explains.{IsExplained, ExplainRefuses}
 use Rattle.nand_geometry.specs.declared.parts.Parts.{Parts}
 use Rattle.page_commands.specs.Pages.{IsPageMade, PartsAreRefused}
+use Rattle.seq_commands.specs.declared.lint_ending.LintEnding.{LintEnding}
+use Rattle.seq_commands.specs.declared.lint_ending.LintEnding.TheVariants as lint
+use Rattle.trace_commands.specs.declared.ending.Ending.{Ending}
+use Rattle.trace_commands.specs.declared.ending.Ending.TheVariants as ending
 use Rattle.trace_commands.specs.declared.recording_fault.RecordingFault.{RecordingFault}
 use Rattle.trace_commands.specs.Recordings.{fault_line}
 use Rattle.trace_commands.specs.Checks.{TraceIsRefused, IsPassed, CheckRefuses, CheckLeaves}
@@ -17,39 +22,51 @@ use Rattle.operation_commands.specs.Ops.{CanBeListed, IsNoTrace}
 use Rattle.trace_commands.specs.Draws.{IsDrawn}
 use Rattle.trace_commands.specs.TakenPages.{IsPageTaken}
 use Rattle.trace_commands.specs.Captures.{IsCaptured, IsShownFor, CaptureIsRefused}
+use Rattle.trace_commands.specs.VendorCaptures.{IsKeptShownFor, IsVendorCaptured, VendorCaptureIsRefused}
+use Rattle.trace_commands.specs.VendorDraws.{IsVendorDrawn, VendorDrawIsRefused}
 use Rattle.trace_commands.specs.VendorChecks.{IsVendorPassed, VendorCheckRefuses, VendorCheckLeaves}
 use Rattle.seq_run.specs.Runs.{IsRunDone, RunIsRefused, RunMayLeave}
 use Rattle.run_once.specs.Once.{IsProgramRun, ProgramMayBeRefused}
 use Rattle.seq_cli.specs.declared.command.Command.{Command}
-use Rattle.seq_cli.specs.declared.command.Command.TheVariants.{Assemble, AssembleFor, Verify, Lint, Once, Run, Capture, PrintCapture, Check, CheckTimes, CheckVendor, ListOperations, Draw, Disassemble, MakePage, TakePage, ShowPage, Upgrade}
+use Rattle.seq_cli.specs.declared.command.Command.TheVariants.{Assemble, AssembleFor, Verify, Lint, Explain, Once, Run, Capture, PrintCapture, CaptureVendor, PrintCaptureVendor, Check, CheckTimes, CheckVendor, ListOperations, Draw, DrawVendor, Disassemble, MakePage, TakePage, ShowPage, Upgrade}
+
+-- a command ends as a lint does
+abbrev pub ending_of : LintEnding → Ending
+ending_of (lint.Exit exit) = ending.Exit exit
+ending_of lint.Denied = ending.Flagged
 
 -- the command is done: this was its input, where that is known, this is left and this was printed
 abbrev pub IsDone : Command → (input : Option (List ℕ)) → (files later : Option Store) → (printed : List ℕ) → Type 0
 IsDone (Assemble text target) input files later printed = IsAssembled files later text.now target.now × (printed ≡ codes "ok\n")
 IsDone (AssembleFor page text target) input files later printed = IsAssembledFor files later page.now text.now target.now × (printed ≡ codes "ok\n")
 IsDone (Verify page text counter search quiet style) input files later printed = IsAccepted files page.now text.now × (later ≡ files) × (printed ≡ codes "accepted\n")
-IsDone (Lint page text output) input files later printed = IsAccepted files page.now text.now × (later ≡ files)
+IsDone (Lint request) input files later printed = IsAccepted files request.page.now request.input.now × (later ≡ files)
+IsDone (Explain page text style) input files later printed = IsExplained files page.now text.now × (later ≡ files)
 IsDone (Once base) input files later printed = IfSome input (λ bytes. IsProgramRun base bytes printed) × (later ≡ files)
 IsDone (Run request) input files later printed = IsRunDone files later request printed
 IsDone (Capture request) input files later printed = IsCaptured files later request × (printed ≡ codes "ok\n")
 IsDone (PrintCapture request) input files later printed = IsShownFor files request printed × (later ≡ files)
+IsDone (CaptureVendor request) input files later printed = IsVendorCaptured files later request × (printed ≡ codes "ok\n")
+IsDone (PrintCaptureVendor request) input files later printed = IsKeptShownFor files request printed × (later ≡ files)
 IsDone (Check request) input files later printed = IsPassed files later request true printed
 IsDone (CheckVendor request) input files later printed = IsVendorPassed files later request true printed
 IsDone (CheckTimes request) input files later printed = IsKept files request true printed × (later ≡ files)
 IsDone (ListOperations request) input files later printed = CanBeListed files request × (later ≡ files)
 IsDone (Draw request) input files later printed = IsDrawn files later request × (printed ≡ codes "ok\n")
+IsDone (DrawVendor request) input files later printed = IsVendorDrawn files later request × (printed ≡ codes "ok\n")
 IsDone (Disassemble file) input files later printed = IsDisassembled files file.now printed × (later ≡ files)
 IsDone (MakePage parts target) input files later printed = IsPageMade files later parts target.now × (printed ≡ codes "ok\n")
 IsDone (TakePage request) input files later printed = IsPageTaken files later request.target.now × (printed ≡ codes "ok\n")
 IsDone (ShowPage page) input files later printed = ((g : Parts) × HasPage files page.now g) × (later ≡ files)
 IsDone (Upgrade file target) input files later printed = IsUpgraded files later file.now target.now × (printed ≡ codes "ok\n")
 
--- a trace is legal with readies that are taken for granted, and may not be
-abbrev pub MayAssume : Command → (files later : Option Store) → (printed : List ℕ) → Type 0
-MayAssume (Check request) files later printed = IsPassed files later request false printed
-MayAssume (CheckVendor request) files later printed = IsVendorPassed files later request false printed
-MayAssume (CheckTimes request) files later printed = IsKept files request false printed × (later ≡ files)
-MayAssume _ files later printed = ⊥
+-- a command is done, with what isn't to pass: a trace is legal with readies that are taken for granted, or a program is accepted with a note that is denied
+abbrev pub MayFlag : Command → (files later : Option Store) → (printed : List ℕ) → Type 0
+MayFlag (Lint request) files later printed = IsAccepted files request.page.now request.input.now × (later ≡ files)
+MayFlag (Check request) files later printed = IsPassed files later request false printed
+MayFlag (CheckVendor request) files later printed = IsVendorPassed files later request false printed
+MayFlag (CheckTimes request) files later printed = IsKept files request false printed × (later ≡ files)
+MayFlag _ files later printed = ⊥
 
 -- what a command may refuse, and what it leaves and prints then: one line
 abbrev pub MayRefuse : Command → (input : Option (List ℕ)) → (files later : Option Store) → Refusal → (printed : List ℕ) → Type 0
@@ -58,12 +75,18 @@ MayRefuse (AssembleFor page text target) input files later refusal printed =
     Tells (AssembleForRefuses files page.now text.now) refusal × (later ≡ files) × (printed ≡ line_of refusal)
 MayRefuse (Verify page text counter search quiet style) input files later refusal printed =
     Tells (VerifyRefuses files later page.now text.now counter) refusal × (printed ≡ line_of refusal)
-MayRefuse (Lint page text output) input files later refusal printed =
-    Tells (VerifyRefuses files files page.now text.now no_outputs) refusal × (later ≡ files) × (printed ≡ line_of refusal)
+MayRefuse (Lint request) input files later refusal printed =
+    Tells (VerifyRefuses files files request.page.now request.input.now no_outputs) refusal × (later ≡ files) × (printed ≡ line_of refusal)
+MayRefuse (Explain page text style) input files later refusal printed =
+    Tells (ExplainRefuses files page.now text.now) refusal × (later ≡ files) × (printed ≡ line_of refusal)
 MayRefuse (Once base) input files later refusal printed = IfSome input (λ bytes. Tells (ProgramMayBeRefused base bytes) refusal) × (later ≡ files) × (printed ≡ line_of refusal)
 MayRefuse (Run request) input files later refusal printed = RunIsRefused files request refusal × (later ≡ files) × (printed ≡ line_of refusal)
 MayRefuse (Capture request) input files later refusal printed = Tells (PageIsRefused files request.page.now) refusal × (later ≡ files) × (printed ≡ line_of refusal)
 MayRefuse (PrintCapture request) input files later refusal printed = Tells (PageIsRefused files request.page.now) refusal × (later ≡ files) × (printed ≡ line_of refusal)
+MayRefuse (CaptureVendor request) input files later refusal printed =
+    Tells (PageIsRefused files request.capture.page.now) refusal × (later ≡ files) × (printed ≡ line_of refusal)
+MayRefuse (PrintCaptureVendor request) input files later refusal printed =
+    Tells (PageIsRefused files request.capture.page.now) refusal × (later ≡ files) × (printed ≡ line_of refusal)
 MayRefuse (Check request) input files later refusal printed = Tells (PageIsRefused files request.page.now) refusal × (later ≡ files) × (printed ≡ line_of refusal)
 MayRefuse (CheckVendor request) input files later refusal printed = Tells (PageIsRefused files request.check.page.now) refusal × (later ≡ files) × (printed ≡ line_of refusal)
 MayRefuse (CheckTimes request) input files later refusal printed =
@@ -71,6 +94,8 @@ MayRefuse (CheckTimes request) input files later refusal printed =
 MayRefuse (ListOperations request) input files later refusal printed =
     Tells (PageIsRefused files request.page.now) refusal × (later ≡ files) × (printed ≡ line_of refusal)
 MayRefuse (Draw request) input files later refusal printed = Tells (PageIsRefused files request.page.now) refusal × (later ≡ files) × (printed ≡ line_of refusal)
+MayRefuse (DrawVendor request) input files later refusal printed =
+    Tells (PageIsRefused files request.draw.page.now) refusal × (later ≡ files) × (printed ≡ line_of refusal)
 MayRefuse (Disassemble file) input files later refusal printed = Tells (FileIsRefused files file.now) refusal × (later ≡ files) × (printed ≡ line_of refusal)
 MayRefuse (MakePage parts target) input files later refusal printed = Tells (PartsAreRefused parts) refusal × (later ≡ files) × (printed ≡ line_of refusal)
 MayRefuse (TakePage request) input files later refusal printed = (later ≡ files) × (printed ≡ line_of refusal)
@@ -81,12 +106,15 @@ MayRefuse (Upgrade file target) input files later refusal printed = Tells (FileI
 abbrev pub MayTell : Command → (files later : Option Store) → RecordingFault → (printed : List ℕ) → Type 0
 MayTell (Capture request) files later fault printed = CaptureIsRefused files request fault × (later ≡ files) × (printed ≡ fault_line fault)
 MayTell (PrintCapture request) files later fault printed = CaptureIsRefused files request fault × (later ≡ files) × (printed ≡ fault_line fault)
+MayTell (CaptureVendor request) files later fault printed = VendorCaptureIsRefused files request fault × (later ≡ files) × (printed ≡ fault_line fault)
+MayTell (PrintCaptureVendor request) files later fault printed = VendorCaptureIsRefused files request fault × (later ≡ files) × (printed ≡ fault_line fault)
 MayTell (Check request) files later fault printed = CheckRefuses files later request fault printed
 MayTell (CheckVendor request) files later fault printed = VendorCheckRefuses files later request fault printed
 MayTell (CheckTimes request) files later fault printed = TimesRefuse files request fault printed × (later ≡ files)
 MayTell (ListOperations request) files later fault printed = IsNoTrace files request.input.now fault × (later ≡ files) × (printed ≡ fault_line fault)
 MayTell (Draw request) files later fault printed =
     TraceIsRefused files request.lines request.page.now request.input.now fault × (later ≡ files) × (printed ≡ fault_line fault)
+MayTell (DrawVendor request) files later fault printed = VendorDrawIsRefused files request fault × (later ≡ files) × (printed ≡ fault_line fault)
 MayTell (TakePage request) files later fault printed = (later ≡ files) × (printed ≡ fault_line fault)
 MayTell _ files later fault printed = ⊥
 
@@ -95,16 +123,20 @@ abbrev pub MayLeave : Command → (files later : Option Store) → Type 0
 MayLeave (Assemble text target) files later = (later ≡ files) ⊎ IsAssembled files later text.now target.now
 MayLeave (AssembleFor page text target) files later = (later ≡ files) ⊎ IsAssembledFor files later page.now text.now target.now
 MayLeave (Verify page text counter search quiet style) files later = VerifyLeaves files later page.now text.now counter
-MayLeave (Lint page text output) files later = later ≡ files
+MayLeave (Lint request) files later = later ≡ files
+MayLeave (Explain page text style) files later = later ≡ files
 MayLeave (Once base) files later = later ≡ files
 MayLeave (Run request) files later = RunMayLeave files later request
 MayLeave (Capture request) files later = (later ≡ files) ⊎ IsCaptured files later request
 MayLeave (PrintCapture request) files later = later ≡ files
+MayLeave (CaptureVendor request) files later = (later ≡ files) ⊎ IsVendorCaptured files later request
+MayLeave (PrintCaptureVendor request) files later = later ≡ files
 MayLeave (Check request) files later = CheckLeaves files later request
 MayLeave (CheckVendor request) files later = VendorCheckLeaves files later request
 MayLeave (CheckTimes request) files later = later ≡ files
 MayLeave (ListOperations request) files later = later ≡ files
 MayLeave (Draw request) files later = (later ≡ files) ⊎ IsDrawn files later request
+MayLeave (DrawVendor request) files later = (later ≡ files) ⊎ IsVendorDrawn files later request
 MayLeave (Disassemble file) files later = later ≡ files
 MayLeave (MakePage parts target) files later = (later ≡ files) ⊎ IsPageMade files later parts target.now
 MayLeave (TakePage request) files later = (later ≡ files) ⊎ IsPageTaken files later request.target.now

@@ -1,13 +1,14 @@
 //! What the program does with its words, and its status.
 
-use crate::command::{Command, command_on};
+use crate::command::{Command, command_on, ending_of};
 use crate::command_line;
 use crate::lent_progress::LentProgress;
 use crate::mistake::{Mistake, PathMistake};
-use crate::named_check::NamedCheck;
+use crate::named_command::NamedCommand;
 use crate::named_lines::NamedLines;
 use clap::Error;
 use clap::error::ErrorKind;
+use seq_commands::lint_file;
 use seq_files::{FileError, Files};
 use seq_inputs::{Console, Exit, Stop, end_without_memory, fail};
 use seq_run::{NoClock, RunProgress};
@@ -56,6 +57,8 @@ fn say_mistake<W: Write, E: Write, P>(
         | Mistake::Steps { .. }
         | Mistake::Glitch(_)
         | Mistake::Mapping(_)
+        | Mistake::NoteCode { .. }
+        | Mistake::NoteTwice(_)
         | Mistake::NoPage
         | Mistake::PageNumber { .. }
         | Mistake::Timing(_)
@@ -87,21 +90,22 @@ fn end_of_both(first: Ending, second: Ending) -> Ending {
             Exit::Refused(_) | Exit::FileFault | Exit::ReaderGone | Exit::Usage | Exit::OutOfMemory,
         )
         | Ending::Faulty(_)
-        | Ending::Assumed => first,
+        | Ending::Flagged => first,
     }
 }
 
-// Checks a trace; where a file of it can't be read, that is printed too.
-fn check_one<F: Files, W: Write, E: Write, P: CheckProgress>(
+// Works on a file; where a file of it can't be read, that is printed too.
+fn do_to_file<F: Files, W: Write, E: Write, P: CheckProgress>(
     alloc: Global,
     files: &mut F,
     console: &mut Console<W, E, P>,
-    check: NamedCheck<'_>,
+    command: NamedCommand<'_>,
 ) -> Ending {
-    let ending = match check {
-        NamedCheck::Plain(request) => check_trace(alloc, files, console, request),
-        NamedCheck::Vendor(request) => check_vendor_trace(alloc, files, console, request),
-        NamedCheck::Times(request) => check_times(alloc, files, console, request),
+    let ending = match command {
+        NamedCommand::Check(request) => check_trace(alloc, files, console, request),
+        NamedCommand::CheckVendor(request) => check_vendor_trace(alloc, files, console, request),
+        NamedCommand::CheckTimes(request) => check_times(alloc, files, console, request),
+        NamedCommand::Lint(request) => ending_of(lint_file(alloc, files, console, request)),
     };
     if matches!(ending, Ending::Exit(Exit::FileFault)) {
         let _ = writeln!(&mut console.output, "unreadable");
@@ -109,12 +113,12 @@ fn check_one<F: Files, W: Write, E: Write, P: CheckProgress>(
     ending
 }
 
-// Checks one of several traces: each line that is printed names it.
-fn check_named<F: Files, W: Write, E: Write, P: CheckProgress>(
+// Works on one of several files: each line that is printed names it.
+fn do_to_named<F: Files, W: Write, E: Write, P: CheckProgress>(
     alloc: Global,
     files: &mut F,
     console: &mut Console<W, E, P>,
-    check: NamedCheck<'_>,
+    command: NamedCommand<'_>,
 ) -> Ending {
     let Console {
         output,
@@ -122,11 +126,11 @@ fn check_named<F: Files, W: Write, E: Write, P: CheckProgress>(
         progress,
     } = console;
     let mut named = Console {
-        output: NamedLines::new(output, check.path()),
+        output: NamedLines::new(output, command.path()),
         errors,
         progress: LentProgress(progress),
     };
-    check_one(alloc, files, &mut named, check)
+    do_to_file(alloc, files, &mut named, command)
 }
 
 // Does a command, unless it would lose a file that it names.
@@ -174,8 +178,8 @@ fn do_all<
 ) -> Ending {
     let mut ending = Ending::Exit(Exit::Done);
     for command in commands {
-        let next = match NamedCheck::among(commands, *command) {
-            Some(check) => check_named(alloc, files, console, check),
+        let next = match NamedCommand::among(commands, *command) {
+            Some(named) => do_to_named(alloc, files, console, named),
             None => do_one(rt, clock, alloc, files, input, console, *command),
         };
         ending = end_of_both(ending, next);

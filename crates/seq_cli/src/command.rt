@@ -3,15 +3,16 @@ ghost use Rattle.std.specs.Prelude.{◌≡◌, List, ℕ};
 ghost use Rattle.std.specs.Io.KnownBytes.{Appends};
 ghost use Rattle.seq_inputs.specs.declared.refusal.Refusal.{Refusal};
 ghost use Rattle.trace_commands.specs.declared.recording_fault.RecordingFault.{RecordingFault};
-ghost use Rattle.seq_cli.specs.Commands.{IsDone, MayAssume, MayRefuse, MayTell, MayLeave};
+ghost use Rattle.seq_cli.specs.Commands.{ending_of, IsDone, MayFlag, MayRefuse, MayTell, MayLeave};
 
+use explain_commands::explain_file;
 use nand_geometry::Parts;
 use operation_commands::{OpsRequest, list_operations};
 use page_commands::{make_page, show_page};
 use run_once::run_program;
 use seq_commands::{
-    LintOutput, assemble_file, assemble_file_for, disassemble_file, lint_file, upgrade_file,
-    verify_file,
+    LintEnding, LintRequest, assemble_file, assemble_file_for, disassemble_file, lint_file,
+    upgrade_file, verify_file,
 };
 use seq_files::Files;
 use seq_inputs::{Console, Exit, Style};
@@ -23,8 +24,10 @@ use std::thread::Threads;
 use std::time::Clock;
 use timing_commands::{TimesRequest, TimingSource, check_times};
 use trace_commands::{
-    CaptureRequest, CheckRequest, DrawRequest, Ending, PageRequest, VendorCheckRequest,
-    capture_trace, check_trace, check_vendor_trace, draw_trace, print_capture, take_page,
+    CaptureRequest, CheckRequest, DrawRequest, Ending, PageRequest, VendorCaptureRequest,
+    VendorCheckRequest, VendorDrawRequest, capture_trace, capture_vendor_trace, check_trace,
+    check_vendor_trace, draw_trace, draw_vendor_trace, print_capture, print_vendor_capture,
+    take_page,
 };
 use trace_files::TraceOutputs;
 use trace_text::CheckProgress;
@@ -54,10 +57,12 @@ pub enum Command<'a> {
         style: Style,
     },
     /// To print the notes to a microprogram that is accepted, or the header that is enough for it.
-    Lint {
+    Lint(LintRequest<'a>),
+    /// To tell what is known before each word of a microprogram.
+    Explain {
         page: &'a str,
         input: &'a str,
-        output: LintOutput,
+        style: Style,
     },
     /// To run the microprogram on standard input once, its rows counted from this index.
     Once {
@@ -69,6 +74,9 @@ pub enum Command<'a> {
     Capture(CaptureRequest<'a>),
     /// To print the trace that a capture of a bus shows.
     PrintCapture(CaptureRequest<'a>),
+    /// The same two, but for the items that belong to a vendor's sequences.
+    CaptureVendor(VendorCaptureRequest<'a>),
+    PrintCaptureVendor(VendorCaptureRequest<'a>),
     /// To check whether the trace of a text is legal on a channel.
     Check(CheckRequest<'a>),
     /// The same, but for the items that belong to a vendor's sequences.
@@ -79,6 +87,8 @@ pub enum Command<'a> {
     ListOperations(OpsRequest<'a>),
     /// To draw a trace, as a waveform, as a picture or as a page.
     Draw(DrawRequest<'a>),
+    /// The same, but for the items that belong to a vendor's sequences.
+    DrawVendor(VendorDrawRequest<'a>),
     /// To print the assembly text of a word file.
     Disassemble {
         input: &'a str,
@@ -120,6 +130,11 @@ fn file_of(vendor: &str) -> Option<&str> {
     } else {
         Some(vendor)
     }
+}
+
+// A page, a vendor file and a third file that are read.
+fn with_vendor<'a>(page: &'a str, vendor: &'a str, input: &'a str) -> [Option<&'a str>; 3] {
+    [Some(page), file_of(vendor), Some(input)]
 }
 
 // One file that is written, if there is one.
@@ -165,15 +180,23 @@ impl<'a> Command<'a> {
                 is_quiet: _,
                 style: _,
             } => (both(page, input), paths_of(counter)),
-            Command::Lint {
+            Command::Lint(request) => (both(request.page, request.input), one(None)),
+            Command::Explain {
                 page,
                 input,
-                output: _,
+                style: _,
             } => (both(page, input), one(None)),
             Command::Once { .. } => ([None, None, None], one(None)),
             Command::Run(request) => ([Some(request.path), None, None], paths_of(request.trace)),
             Command::Capture(request) => {
                 (both(request.page, request.input), one(Some(request.target)))
+            }
+            Command::CaptureVendor(VendorCaptureRequest { capture, vendor }) => (
+                with_vendor(capture.page, vendor, capture.input),
+                one(Some(capture.target)),
+            ),
+            Command::PrintCaptureVendor(VendorCaptureRequest { capture, vendor }) => {
+                (with_vendor(capture.page, vendor, capture.input), one(None))
             }
             Command::CheckTimes(TimesRequest { check, source, .. }) => (
                 [Some(check.page), timing_file_of(source), Some(check.input)],
@@ -183,12 +206,16 @@ impl<'a> Command<'a> {
             Command::ListOperations(request) => (both(request.page, request.input), one(None)),
             Command::Check(request) => (both(request.page, request.input), one(request.copy)),
             Command::CheckVendor(VendorCheckRequest { check, vendor }) => (
-                [Some(check.page), file_of(vendor), Some(check.input)],
+                with_vendor(check.page, vendor, check.input),
                 one(check.copy),
             ),
             Command::Draw(request) => {
                 (both(request.page, request.input), one(Some(request.target)))
             }
+            Command::DrawVendor(VendorDrawRequest { draw, vendor }) => (
+                with_vendor(draw.page, vendor, draw.input),
+                one(Some(draw.target)),
+            ),
             Command::Disassemble { input } | Command::ShowPage { page: input } => {
                 ([Some(input), None, None], one(None))
             }
@@ -202,7 +229,17 @@ impl<'a> Command<'a> {
     }
 }
 
-/// Does a command, as its own function says: [`run_program`] of the input, [`run_watched`], or one of `page_commands`, `seq_commands`, `trace_commands`, `timing_commands` or `operation_commands`. What is wrong with a file is said in
+/// How a command ends that is a lint.
+pub(crate) fn ending_of(lint: LintEnding) -> Ending
+    ensures { result ≡ ending_of lint }
+{
+    match lint {
+        LintEnding::Exit(exit) => Ending::Exit(exit),
+        LintEnding::Denied => Ending::Flagged,
+    }
+}
+
+/// Does a command, as its own function says: [`run_program`] of the input, [`run_watched`], or one of `page_commands`, `seq_commands`, `explain_commands`, `trace_commands`, `timing_commands` or `operation_commands`. What is wrong with a file is said in
 /// words on the console's errors, and so is a fault of a file or a stream, or that there is no memory; its progress is told how far a check or a run has
 /// come. A run starts threads by the handle and takes the time by the clock.
 pub fn command_on<
@@ -225,8 +262,8 @@ pub fn command_on<
     ensures done { result ≡ Ending.Exit Exit.Done → (printed : List ℕ)
         × IsDone command.entry (R.remaining input.old) (F.store files.old) (F.store files.new) printed
         × Appends (W.contents console.old.output) (W.contents console.new.output) printed }
-    ensures assumed { result ≡ Ending.Assumed → (printed : List ℕ)
-        × MayAssume command.entry (F.store files.old) (F.store files.new) printed
+    ensures flagged { result ≡ Ending.Flagged → (printed : List ℕ)
+        × MayFlag command.entry (F.store files.old) (F.store files.new) printed
         × Appends (W.contents console.old.output) (W.contents console.new.output) printed }
     ensures refused { (refusal : Refusal) → result ≡ Ending.Exit (Exit.Refused refusal) → (printed : List ℕ)
         × MayRefuse command.entry (R.remaining input.old) (F.store files.old) (F.store files.new) refusal printed
@@ -255,22 +292,26 @@ pub fn command_on<
         } => Ending::Exit(verify_file(
             alloc, files, console, page, input, counter, search, is_quiet, style,
         )),
-        Command::Lint {
-            page,
-            input,
-            output,
-        } => Ending::Exit(lint_file(alloc, files, console, page, input, output)),
+        Command::Lint(request) => ending_of(lint_file(alloc, files, console, request)),
+        Command::Explain { page, input, style } => {
+            Ending::Exit(explain_file(alloc, files, console, page, input, style))
+        }
         Command::Once { base } => Ending::Exit(run_program(&alloc, input, console, base)),
         Command::Run(request) => {
             Ending::Exit(run_watched(rt, clock, alloc, files, console, request))
         }
         Command::Capture(request) => capture_trace(alloc, files, console, request),
         Command::PrintCapture(request) => print_capture(alloc, files, console, request),
+        Command::CaptureVendor(request) => capture_vendor_trace(alloc, files, console, request),
+        Command::PrintCaptureVendor(request) => {
+            print_vendor_capture(alloc, files, console, request)
+        }
         Command::Check(request) => check_trace(alloc, files, console, request),
         Command::CheckVendor(request) => check_vendor_trace(alloc, files, console, request),
         Command::CheckTimes(request) => check_times(alloc, files, console, request),
         Command::ListOperations(request) => list_operations(alloc, files, console, request),
         Command::Draw(request) => draw_trace(alloc, files, console, request),
+        Command::DrawVendor(request) => draw_vendor_trace(alloc, files, console, request),
         Command::Disassemble { input } => {
             Ending::Exit(disassemble_file(alloc, files, console, input))
         }

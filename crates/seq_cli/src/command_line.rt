@@ -2,19 +2,20 @@
 
 use crate::command::Command;
 use crate::mistake::{Mistake, PathMistake};
+use crate::named_command::NamedCommand;
 use crate::ops_reading::read_ops;
 use crate::times_reading::read_times;
 use bus_capture::CaptureForm;
 use bus_signals::{Family, named, plain_of};
 use clap::{Arg, ArgAction, ArgMatches, Error};
 use nand_geometry::Parts;
-use seq_commands::LintOutput;
+use seq_commands::{LintOutput, LintRequest, NoteRules};
 use seq_inputs::Style;
 use seq_run::{MOST_STEPS, RunRequest};
 use std::alloc::Global;
-use timing_commands::TimesRequest;
 use trace_commands::{
-    CaptureRequest, CheckRequest, DrawRequest, PageRequest, PageSource, Targets, VendorCheckRequest,
+    CaptureRequest, CheckRequest, DrawRequest, PageRequest, PageSource, Targets,
+    VendorCaptureRequest, VendorCheckRequest, VendorDrawRequest,
 };
 use trace_faults::{Beginning, Readies};
 use trace_files::{DrawForm, Drawing, TraceOutputs};
@@ -27,6 +28,7 @@ enum Verb {
     Assemble,
     Verify,
     Lint,
+    Explain,
     Once,
     Run,
     Capture,
@@ -40,10 +42,11 @@ enum Verb {
 }
 
 // All of them.
-const VERBS: [Verb; 13] = [
+const VERBS: [Verb; 14] = [
     Verb::Assemble,
     Verb::Verify,
     Verb::Lint,
+    Verb::Explain,
     Verb::Once,
     Verb::Run,
     Verb::Capture,
@@ -63,6 +66,7 @@ impl Verb {
             Verb::Assemble => "asm",
             Verb::Verify => "verify",
             Verb::Lint => "lint",
+            Verb::Explain => "explain",
             Verb::Once => "once",
             Verb::Run => "run",
             Verb::Capture => "capture",
@@ -91,6 +95,7 @@ impl Verb {
             Verb::Assemble => assemble(alloc),
             Verb::Verify => verify(alloc),
             Verb::Lint => lint(alloc),
+            Verb::Explain => explain(alloc),
             Verb::Once => once(alloc),
             Verb::Run => run(alloc),
             Verb::Capture => capture(alloc),
@@ -119,16 +124,22 @@ impl Verb {
                 is_quiet: matches.get_flag("quiet"),
                 style: read_style(matches),
             },
-            Verb::Lint => Command::Lint {
+            Verb::Lint => Command::Lint(LintRequest {
                 page,
                 input,
                 output: read_lint_output(matches),
+                rules: read_note_rules(matches)?,
+            }),
+            Verb::Explain => Command::Explain {
+                page,
+                input,
+                style: read_style(matches),
             },
             Verb::Once => Command::Once {
                 base: read_base(find_word(matches, "base"))?,
             },
             Verb::Run => Command::Run(read_run(matches)?),
-            Verb::Capture => capture_to(read_capture(matches)?),
+            Verb::Capture => capture_with(read_capture(matches)?, matches.get_str("vendor")),
             Verb::Check => read_check_command(matches)?,
             Verb::Ops => read_ops(
                 matches,
@@ -137,8 +148,14 @@ impl Verb {
                 find_word(matches, "TRACE"),
                 read_beginning(matches),
             )?,
-            Verb::Wave => Command::Draw(read_draw(matches, DrawForm::Waveform)),
-            Verb::Draw => Command::Draw(read_draw(matches, form_of(target))),
+            Verb::Wave => draw_with(
+                read_draw(matches, DrawForm::Waveform),
+                matches.get_str("vendor"),
+            ),
+            Verb::Draw => draw_with(
+                read_draw(matches, form_of(target)),
+                matches.get_str("vendor"),
+            ),
             Verb::Disassemble => Command::Disassemble { input },
             Verb::Page => read_page(matches)?,
             Verb::Upgrade => Command::Upgrade { input, target },
@@ -239,17 +256,32 @@ fn lint<'a>(alloc: Global) -> Result<clap::Command<'a>, Error> {
     let fix = Arg::new(alloc, "fix")
         .long("fix")
         .action(ArgAction::SetTrue)
+        .conflicts_with("deny")?
+        .conflicts_with("allow")?
         .help("Prints the header lines with the least numbers that are enough, and nothing else");
     let command = clap::Command::new(alloc, Verb::Lint.word())
-        .about("Verifies a microprogram for a die, and prints what its author surely didn't mean")
-        .after_help("Example: onfiseq lint die.page read.asm")
+        .about("Verifies microprograms for a die, and prints what their author surely didn't mean")
+        .after_help("Example: onfiseq lint die.page read.asm erase.asm --deny N1,N3")
         .arg(require(alloc, "PAGE", "The parameter page of the die"))?
         .arg(require(
             alloc,
             "IN",
             "The assembly text, or a word file of either format",
-        ))?
+        )
+        .num_args(1..))?
         .arg(fix)?
+        .arg(with_value(
+            alloc,
+            "deny",
+            "CODE,..",
+            "Ends with status 5 where a note of these codes is printed, as in N1,N3",
+        ))?
+        .arg(with_value(
+            alloc,
+            "allow",
+            "CODE,..",
+            "Prints no note of these codes, as in N5",
+        ))?
         .arg(json(alloc, JSON_NOTES))?;
     Ok(command)
 }
@@ -431,21 +463,19 @@ fn capture<'a>(alloc: Global) -> Result<clap::Command<'a>, Error> {
         .arg(map_of(alloc))?
         .arg(csv_of(alloc))?
         .arg(times)?
-        .arg(glitch(alloc))?;
+        .arg(glitch(alloc))?
+        .arg(vendor(alloc))?;
     Ok(command)
 }
 
 // A vendor's sequences.
-fn vendor<'a>(alloc: Global) -> Result<Arg<'a>, Error> {
-    let vendor = Arg::new(alloc, "vendor")
+fn vendor<'a>(alloc: Global) -> Arg<'a> {
+    Arg::new(alloc, "vendor")
         .long("vendor")
         .value_name("FILE")
-        .conflicts_with("from-middle")?
-        .conflicts_with("timing")?
         .help(
             "Passes over the sequences of this file, as docs/use/VENDOR.md has it; `linux` is what a Linux host sends besides the profile",
-        );
-    Ok(vendor)
+        )
 }
 
 // With the times of a chip.
@@ -483,6 +513,11 @@ fn check<'a>(alloc: Global) -> Result<clap::Command<'a>, Error> {
         .long("bytes")
         .action(ArgAction::SetTrue)
         .help("Says on standard error which status bytes contradict the trace");
+    let notes = flag(
+        alloc,
+        "notes",
+        "Says on standard error what the host surely didn't mean, as `lint` notes it of programs",
+    );
     let readies = Arg::new(alloc, "readies-from-status")
         .long("readies-from-status")
         .action(ArgAction::SetTrue)
@@ -513,9 +548,13 @@ fn check<'a>(alloc: Global) -> Result<clap::Command<'a>, Error> {
         .arg(assume)?
         .arg(middle)?
         .arg(bytes)?
+        .arg(notes)?
         .arg(copy)?
         .arg(json(alloc, JSON_ERRORS))?;
-    with_times(alloc, command.arg(vendor(alloc)?)?)
+    let vendor = vendor(alloc)
+        .conflicts_with("from-middle")?
+        .conflicts_with("timing")?;
+    with_times(alloc, command.arg(vendor)?)
 }
 
 // An option with a value.
@@ -596,7 +635,8 @@ fn wave<'a>(alloc: Global) -> Result<clap::Command<'a>, Error> {
         .arg(targets(alloc))?
         .arg(trace(alloc))?
         .arg(require(alloc, "OUT", "The value change dump to write"))?
-        .arg(recorded(alloc))?;
+        .arg(recorded(alloc))?
+        .arg(vendor(alloc))?;
     Ok(command)
 }
 
@@ -612,7 +652,25 @@ fn draw<'a>(alloc: Global) -> Result<clap::Command<'a>, Error> {
             "OUT",
             "The SVG to write; with a name that ends in .html a page, with the trace beside the picture",
         ))?
-        .arg(recorded(alloc))?;
+        .arg(recorded(alloc))?
+        .arg(vendor(alloc))?;
+    Ok(command)
+}
+
+fn explain<'a>(alloc: Global) -> Result<clap::Command<'a>, Error> {
+    let command = clap::Command::new(alloc, Verb::Explain.word())
+        .about("Prints a microprogram with what is known before each word, as comments")
+        .after_help("Example: onfiseq explain die.page retry.asm")
+        .arg(require(alloc, "PAGE", "The parameter page of the die"))?
+        .arg(require(
+            alloc,
+            "IN",
+            "The assembly text, or a word file of either format",
+        ))?
+        .arg(json(
+            alloc,
+            "Prints a JSON object for each word, and what is wrong as one",
+        ))?;
     Ok(command)
 }
 
@@ -721,6 +779,45 @@ fn read_lint_output(matches: &ArgMatches<'_>) -> LintOutput {
     }
 }
 
+// The codes of notes.
+const NOTE_CODES: [&str; 8] = ["N1", "N2", "N3", "N4", "N5", "N6", "N7", "N8"];
+
+// The codes that an option lists.
+fn read_codes<'a>(
+    matches: &ArgMatches<'a>,
+    option: &'static str,
+) -> Result<Option<&'a str>, Mistake<'a>> {
+    let codes = matches.get_str(option);
+    let other = codes.and_then(|codes| {
+        codes
+            .split(',')
+            .find(|code| !NOTE_CODES.as_slice().contains(code))
+    });
+    match other {
+        Some(word) => Err(Mistake::NoteCode { option, word }),
+        None => Ok(codes),
+    }
+}
+
+// A code that two lists have.
+fn find_shared<'a>(codes: &'a str, others: &str) -> Option<&'a str> {
+    codes
+        .split(',')
+        .find(|code| others.split(',').any(|other| other == *code))
+}
+
+// Which notes count.
+fn read_note_rules<'a>(matches: &ArgMatches<'a>) -> Result<NoteRules<'a>, Mistake<'a>> {
+    let allowed = read_codes(matches, "allow")?;
+    let denied = read_codes(matches, "deny")?;
+    if let (Some(codes), Some(others)) = (denied, allowed)
+        && let Some(code) = find_shared(codes, others)
+    {
+        return Err(Mistake::NoteTwice(code));
+    }
+    Ok(NoteRules { allowed, denied })
+}
+
 // How what is wrong is said.
 fn read_style(matches: &ArgMatches<'_>) -> Style {
     if matches.get_flag("json") {
@@ -813,6 +910,31 @@ fn capture_to(request: CaptureRequest<'_>) -> Command<'_> {
         Command::PrintCapture(request)
     } else {
         Command::Capture(request)
+    }
+}
+
+// The same without a vendor's sequences.
+fn capture_vendor_to(request: VendorCaptureRequest<'_>) -> Command<'_> {
+    if request.capture.target == "-" {
+        Command::PrintCaptureVendor(request)
+    } else {
+        Command::CaptureVendor(request)
+    }
+}
+
+// A capture, with a vendor's sequences or without.
+fn capture_with<'a>(capture: CaptureRequest<'a>, vendor: Option<&'a str>) -> Command<'a> {
+    match vendor {
+        None => capture_to(capture),
+        Some(vendor) => capture_vendor_to(VendorCaptureRequest { capture, vendor }),
+    }
+}
+
+// A drawing, with a vendor's sequences or without.
+fn draw_with<'a>(draw: DrawRequest<'a>, vendor: Option<&'a str>) -> Command<'a> {
+    match vendor {
+        None => Command::Draw(draw),
+        Some(vendor) => Command::DrawVendor(VendorDrawRequest { draw, vendor }),
     }
 }
 
@@ -938,6 +1060,7 @@ fn read_check<'a>(matches: &ArgMatches<'a>) -> CheckRequest<'a> {
         assumes_ready: matches.get_flag("assume-ready"),
         beginning: read_beginning(matches),
         judges_bytes: matches.get_flag("bytes"),
+        has_notes: matches.get_flag("notes"),
         form: read_form(matches),
         style: read_style(matches),
         copy: matches.get_str("write"),
@@ -1036,22 +1159,42 @@ fn read_command<'a>(verb: Verb, given: &ArgMatches<'a>) -> Result<Command<'a>, M
     }
 }
 
-// The traces behind the first that are to be checked.
-fn more_traces<'a>(
+// The word of the files of which a command may take several.
+fn word_of_files(verb: Verb) -> Option<&'static str> {
+    match verb {
+        Verb::Check => Some("TRACE"),
+        Verb::Lint => Some("IN"),
+        Verb::Assemble
+        | Verb::Verify
+        | Verb::Explain
+        | Verb::Once
+        | Verb::Run
+        | Verb::Capture
+        | Verb::Ops
+        | Verb::Wave
+        | Verb::Draw
+        | Verb::Disassemble
+        | Verb::Page
+        | Verb::Upgrade => None,
+    }
+}
+
+// The files behind the first that a command is to work on.
+fn more_files<'a>(
     alloc: Global,
     verb: Verb,
     given: &ArgMatches<'a>,
 ) -> Result<Vec<&'a str>, Mistake<'a>> {
     let mut more = Vec::new(alloc);
-    if verb == Verb::Check
-        && let Some([_, rest @ ..]) = given.get_strs("TRACE")
+    if let Some(word) = word_of_files(verb)
+        && let Some([_, rest @ ..]) = given.get_strs(word)
     {
         more.extend_from_slice(rest).map_err(Error::from)?;
     }
     Ok(more)
 }
 
-// The command that these words ask for, and the traces behind the first that are to be checked.
+// The command that these words ask for, and the files behind the first that it is to work on.
 fn read_words<'a>(
     alloc: Global,
     words: &'a [String],
@@ -1065,51 +1208,16 @@ fn read_words<'a>(
     let Some(verb) = Verb::find(word) else {
         return Err(Mistake::NoCommand);
     };
-    Ok((read_command(verb, given)?, more_traces(alloc, verb, given)?))
+    Ok((read_command(verb, given)?, more_files(alloc, verb, given)?))
 }
 
-/// The command that these words ask for; the first is the name of the program. Of a check of several traces it is that of the first.
+/// The command that these words ask for; the first is the name of the program. Of a command on several files it is that of the first.
 pub fn parse<'a>(alloc: Global, words: &'a [String]) -> Result<Command<'a>, Mistake<'a>> {
     let (command, _) = read_words(alloc, words)?;
     Ok(command)
 }
 
-// The same command for another trace, where it is a check.
-fn with_trace<'a>(command: Command<'a>, input: &'a str) -> Command<'a> {
-    match command {
-        Command::Check(request) => Command::Check(CheckRequest { input, ..request }),
-        Command::CheckVendor(VendorCheckRequest { check, vendor }) => {
-            Command::CheckVendor(VendorCheckRequest {
-                check: CheckRequest { input, ..check },
-                vendor,
-            })
-        }
-        Command::CheckTimes(request) => Command::CheckTimes(TimesRequest {
-            check: CheckRequest {
-                input,
-                ..request.check
-            },
-            ..request
-        }),
-        Command::Assemble { .. }
-        | Command::AssembleFor { .. }
-        | Command::Verify { .. }
-        | Command::Lint { .. }
-        | Command::Once { .. }
-        | Command::Run(_)
-        | Command::Capture(_)
-        | Command::PrintCapture(_)
-        | Command::Draw(_)
-        | Command::ListOperations(_)
-        | Command::Disassemble { .. }
-        | Command::MakePage { .. }
-        | Command::TakePage(_)
-        | Command::ShowPage { .. }
-        | Command::Upgrade { .. } => command,
-    }
-}
-
-/// The commands that these words ask for, in order: one, or a check of each of several traces; the first word is the name of the program.
+/// The commands that these words ask for, in order: one, or one for each of several files; the first word is the name of the program.
 pub fn parse_all<'a>(alloc: Global, words: &'a [String]) -> Result<Vec<Command<'a>>, Mistake<'a>> {
     let (first, more) = read_words(alloc, words)?;
     if let Some(mistake) = PathMistake::among(first, more.as_slice()) {
@@ -1117,10 +1225,10 @@ pub fn parse_all<'a>(alloc: Global, words: &'a [String]) -> Result<Vec<Command<'
     }
     let mut commands = Vec::new(alloc);
     commands.push(first).map_err(Error::from)?;
-    for input in more.as_slice() {
-        commands
-            .push(with_trace(first, *input))
-            .map_err(Error::from)?;
+    if let Some(named) = NamedCommand::of(first) {
+        for input in more.as_slice() {
+            commands.push(named.with_path(*input)).map_err(Error::from)?;
+        }
     }
     Ok(commands)
 }

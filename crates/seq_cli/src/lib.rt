@@ -10,7 +10,7 @@ mod command;
 mod command_line;
 mod lent_progress;
 mod mistake;
-mod named_check;
+mod named_command;
 mod named_lines;
 mod ops_reading;
 mod progress;

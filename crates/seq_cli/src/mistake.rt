@@ -1,7 +1,7 @@
 //! A command line that asks for nothing that can be done.
 
 use crate::command::{Command, Paths};
-use crate::named_check::NamedCheck;
+use crate::named_command::NamedCommand;
 use crate::ops_reading::OpsMistake;
 use crate::times_reading::TimingMistake;
 use clap::Error;
@@ -115,7 +115,7 @@ impl<'a> PathMistake<'a> {
         Ok(clash.map(PathMistake::from))
     }
 
-    /// What is wrong with further traces that a check is to read, if something is. What stands beside the traces is read for each of them, so it can't be a stream.
+    /// What is wrong with further files that a command is to read, if something is. What stands beside these files is read for each of them, so it can't be a stream.
     pub(crate) fn among(first: Command<'a>, more: &[&'a str]) -> Option<PathMistake<'a>> {
         let Paths { inputs, outputs } = first.paths();
         if more.is_empty() {
@@ -126,8 +126,8 @@ impl<'a> PathMistake<'a> {
         }
         let named = inputs.iter().filter(|path| **path == Some("-")).count();
         let further = more.iter().filter(|path| **path == "-").count();
-        let is_trace = NamedCheck::of(first).is_some_and(|check| check.path() == "-");
-        if usize::from(is_trace) < named || 1 < named.saturating_add(further) {
+        let is_file = NamedCommand::of(first).is_some_and(|named| named.path() == "-");
+        if usize::from(is_file) < named || 1 < named.saturating_add(further) {
             return Some(PathMistake::InputTwice);
         }
         None
@@ -181,6 +181,10 @@ pub enum Mistake<'a> {
     Glitch(&'a str),
     /// A part of `--map` isn't a role and the name of a signal.
     Mapping(&'a str),
+    /// A word of `--deny` or `--allow` isn't the code of a note.
+    NoteCode { option: &'static str, word: &'a str },
+    /// A code stands in both.
+    NoteTwice(&'a str),
     /// `page` is asked neither to show a page nor to make one.
     NoPage,
     /// The number of an option of `page` isn't one.
@@ -239,6 +243,17 @@ impl fmt::Display for Mistake<'_> {
                 "error: --map takes ROLE=NAME with commas between several, the role one of CE0 to CE3, CLE, ALE, WE, RE, DQ, DQ0 to DQ7 and RB0 to RB3, and not `{}`",
                 Shown::line(part)
             ),
+            Mistake::NoteCode { option, word } => writeln!(
+                f,
+                "error: --{option} takes codes of notes, N1 to N8, with commas between several, and not `{}`",
+                Shown::line(word)
+            ),
+            Mistake::NoteTwice(code) => {
+                writeln!(
+                    f,
+                    "error: --deny and --allow both have {code}: leave it out of one"
+                )
+            }
             Mistake::NoPage => writeln!(
                 f,
                 "error: page takes --show PAGE, or a file to write with --from IN or with --data, --spare, --pages and --blocks"

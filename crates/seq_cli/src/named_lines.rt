@@ -4,7 +4,7 @@ use memchr::memchr;
 use shown_text::Shown;
 use std::io::{self, Write};
 
-/// An output each of whose lines begins with a path and `: `.
+/// An output each of whose lines begins with a path and `: `, but for those that name it themselves.
 #[derive(Drop)]
 pub(crate) struct NamedLines<'a, W: Write> {
     output: &'a mut W,
@@ -32,11 +32,19 @@ fn first_line(bytes: &[u8]) -> &[u8] {
     }
 }
 
+// A line names its file itself: the path and a colon stand in front, or it is an object for a tool.
+fn names_itself(line: &[u8], path: &str) -> bool {
+    let behind = line.strip_prefix(path.as_bytes());
+    line.starts_with(b"{") || behind.is_some_and(|rest| rest.starts_with(b":"))
+}
+
 impl<W: Write> Write for NamedLines<'_, W> {
     fn write(&mut self, buf: &[u8]) -> io::Result<usize> {
         let line = first_line(buf);
         if self.begins && !line.is_empty() {
-            write!(self.output, "{}: ", Shown::path(self.path))?;
+            if !names_itself(line, self.path) {
+                write!(self.output, "{}: ", Shown::path(self.path))?;
+            }
             self.begins = false;
         }
         self.output.write_all(line)?;

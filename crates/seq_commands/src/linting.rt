@@ -7,7 +7,10 @@ ghost use Rattle.seq_inputs.specs.Refusals.{line_of};
 ghost use Rattle.trace_files.specs.Files.{no_outputs};
 ghost use Rattle.seq_commands.specs.Commands.{IsAccepted, VerifyRefuses};
 
-use crate::noting::{lines_of_header, lines_of_notes, notes_of};
+use crate::lint_ending::LintEnding;
+use crate::lint_request::LintRequest;
+use crate::note_rules::NoteRules;
+use crate::noting::{ToldNotes, lines_of_header, lines_of_notes, tell_notes};
 use crate::verifying::verify_at;
 use micro_program::Verified;
 use seq_files::Files;
@@ -43,52 +46,82 @@ impl LintOutput {
         path: &str,
         bytes: &[u8],
         verified: &Verified<A>,
-    ) -> Result<String<A>, AllocError> {
+        rules: NoteRules<'_>,
+    ) -> Result<ToldNotes<A>, AllocError> {
         match self {
-            LintOutput::Notes => lines_of_notes(alloc, path, bytes, verified),
-            LintOutput::Json => notes_of(alloc, Style::Json, path, bytes, verified),
+            LintOutput::Notes => lines_of_notes(alloc, path, bytes, verified, rules),
+            LintOutput::Json => tell_notes(alloc, Style::Json, path, bytes, verified, rules),
             LintOutput::Header => lines_of_header(alloc, verified),
         }
     }
 }
 
+// Prints what is told of the notes to a microprogram.
+fn print_notes<A: Allocator, W: Write, E: Write, P>(
+    console: &mut Console<W, E, P>,
+    told: &ToldNotes<A>,
+) -> LintEnding
+    ensures done { result ≡ LintEnding.Exit Exit.Done → (printed : List ℕ) × Appends (W.contents console.old.output) (W.contents console.new.output) printed }
+    ensures denied { result ≡ LintEnding.Denied → (printed : List ℕ) × Appends (W.contents console.old.output) (W.contents console.new.output) printed }
+    ensures refused { (refusal : Refusal) → result ≡ LintEnding.Exit (Exit.Refused refusal) → ⊥ }
+{
+    match finish(console, told.lines.as_str()) {
+        Exit::Done => {
+            if told.is_denied {
+                LintEnding::Denied
+            } else {
+                LintEnding::Exit(Exit::Done)
+            }
+        }
+        exit => LintEnding::Exit(exit),
+    }
+}
+
 /// Tells what the author of a microprogram surely didn't mean, though it is accepted for the geometry of a parameter page; or which header would be enough.
 ///
-/// `Done`: [`verify_file`](crate::verify_file) would accept it, and the notes to it are printed, or the header lines. `Refused`: it would refuse it so.
-/// `FileFault`: a file couldn't be read, or the output couldn't be written. No file is written.
-pub fn lint_file<'p, A: Allocator + Clone, F: Files, W: Write, E: Write, P>(
+/// `Done`: [`verify_file`](crate::verify_file) would accept it, and the notes to it are printed, or the header lines. `Denied`: so are they, and one of them
+/// isn't to pass. `Refused`: `verify_file` would refuse it so. `FileFault`: a file couldn't be read, or the output couldn't be written. No file is written.
+pub fn lint_file<A: Allocator + Clone, F: Files, W: Write, E: Write, P>(
     alloc: A,
     files: &mut F,
     console: &mut Console<W, E, P>,
-    page: &'p str,
-    input: &'p str,
-    output: LintOutput,
-) -> Exit
-    ensures done { result ≡ Exit.Done → (printed : List ℕ) × IsAccepted (F.store files.old) page.now input.now
+    request: LintRequest<'_>,
+) -> LintEnding
+    ensures done { result ≡ LintEnding.Exit Exit.Done → (printed : List ℕ) × IsAccepted (F.store files.old) request.entry.page.now request.entry.input.now
         × Appends (W.contents console.old.output) (W.contents console.new.output) printed }
-    ensures refused { (refusal : Refusal) → result ≡ Exit.Refused refusal
-        → Tells (VerifyRefuses (F.store files.old) (F.store files.old) page.now input.now no_outputs) refusal
+    ensures denied { result ≡ LintEnding.Denied → (printed : List ℕ) × IsAccepted (F.store files.old) request.entry.page.now request.entry.input.now
+        × Appends (W.contents console.old.output) (W.contents console.new.output) printed }
+    ensures refused { (refusal : Refusal) → result ≡ LintEnding.Exit (Exit.Refused refusal)
+        → Tells (VerifyRefuses (F.store files.old) (F.store files.old) request.entry.page.now request.entry.input.now no_outputs) refusal
         × Appends (W.contents console.old.output) (W.contents console.new.output) (line_of refusal) }
     ensures stays { F.store files.new ≡ F.store files.old }
 {
+    let LintRequest {
+        page,
+        input,
+        output,
+        rules,
+    } = request;
     let copy = match alloc.clone() {
         Ok(copy) => copy,
-        Err(_) => return end_without_memory(console),
+        Err(_) => return LintEnding::Exit(end_without_memory(console)),
     };
     match verify_at(copy, files, page, input, TraceOutputs::NONE, 0) {
-        Ok((bytes, verified)) => match output.lines(alloc, input, bytes.as_slice(), &verified) {
-            Ok(lines) => {
-                say_counted(
-                    &mut console.errors,
-                    output.style(),
-                    input,
-                    bytes.as_slice(),
-                    verified.text(),
-                );
-                finish(console, lines.as_str())
+        Ok((bytes, verified)) => {
+            match output.lines(alloc, input, bytes.as_slice(), &verified, rules) {
+                Ok(told) => {
+                    say_counted(
+                        &mut console.errors,
+                        output.style(),
+                        input,
+                        bytes.as_slice(),
+                        verified.text(),
+                    );
+                    print_notes(console, &told)
+                }
+                Err(_) => LintEnding::Exit(end_without_memory(console)),
             }
-            Err(_) => end_without_memory(console),
-        },
-        Err(stop) => fail_as(alloc, console, output.style(), stop),
+        }
+        Err(stop) => LintEnding::Exit(fail_as(alloc, console, output.style(), stop)),
     }
 }

@@ -1,5 +1,6 @@
 //! The lines of the notes to a microprogram.
 
+use crate::note_rules::NoteRules;
 use micro_asm::disassemble;
 use micro_lint::{Header, Note, least_header, lint};
 use micro_program::Verified;
@@ -64,29 +65,48 @@ fn push_note<A: Allocator + Clone>(
     }
 }
 
-/// The notes to a microprogram that was read from these bytes, a line each.
-fn push_notes<A: Allocator + Clone>(
-    lines: &mut String<A>,
+/// What is told of the notes to a microprogram.
+#[derive(Drop)]
+pub(crate) struct ToldNotes<A: Allocator> {
+    /// Their lines.
+    pub(crate) lines: String<A>,
+    /// One of them isn't to pass.
+    pub(crate) is_denied: bool,
+    count: usize,
+}
+
+/// The notes that are told to a microprogram that was read from these bytes, a line each in this style, and nothing else.
+pub(crate) fn tell_notes<A: Allocator + Clone>(
     alloc: A,
     style: Style,
     path: &str,
     bytes: &[u8],
     verified: &Verified<A>,
-) -> Result<usize, AllocError> {
+    rules: NoteRules<'_>,
+) -> Result<ToldNotes<A>, AllocError> {
     let notes = lint(alloc.clone()?, verified.text(), verified.geometry())?;
     let assembly = disassemble(alloc.clone()?, verified.text())?;
+    let mut told = ToldNotes {
+        lines: String::new(alloc.clone()?),
+        is_denied: false,
+        count: 0,
+    };
     for note in notes.as_slice() {
-        push_note(
-            lines,
-            alloc.clone()?,
-            style,
-            path,
-            bytes,
-            assembly.as_str(),
-            *note,
-        )?;
+        if rules.tells(note.code()) {
+            push_note(
+                &mut told.lines,
+                alloc.clone()?,
+                style,
+                path,
+                bytes,
+                assembly.as_str(),
+                *note,
+            )?;
+            told.is_denied = told.is_denied || rules.denies(note.code());
+            told.count = told.count.saturating_add(1);
+        }
     }
-    Ok(notes.len())
+    Ok(told)
 }
 
 /// The lines of the notes to a microprogram that was read from these bytes, and how many they are.
@@ -95,18 +115,18 @@ pub(crate) fn lines_of_notes<A: Allocator + Clone>(
     path: &str,
     bytes: &[u8],
     verified: &Verified<A>,
-) -> Result<String<A>, AllocError> {
-    let mut lines = String::new(alloc.clone()?);
-    let count = push_notes(&mut lines, alloc, Style::Plain, path, bytes, verified)?;
-    push_count(&mut lines, count)?;
-    Ok(lines)
+    rules: NoteRules<'_>,
+) -> Result<ToldNotes<A>, AllocError> {
+    let mut told = tell_notes(alloc, Style::Plain, path, bytes, verified, rules)?;
+    push_count(&mut told.lines, told.count)?;
+    Ok(told)
 }
 
 /// The header lines with the least numbers that are enough; without a bound those of the text as it is.
 pub(crate) fn lines_of_header<A: Allocator + Clone>(
     alloc: A,
     verified: &Verified<A>,
-) -> Result<String<A>, AllocError> {
+) -> Result<ToldNotes<A>, AllocError> {
     let text = verified.text();
     let least = least_header(alloc.clone()?, text, verified.geometry())?;
     let Header {
@@ -118,20 +138,11 @@ pub(crate) fn lines_of_header<A: Allocator + Clone>(
     writeln!(&mut lines, "rows {rows}")?;
     writeln!(&mut lines, "buffer {buffer}")?;
     writeln!(&mut lines, "budget {budget}")?;
-    Ok(lines)
-}
-
-/// The notes to a microprogram that was read from these bytes, a line each in this style, and nothing else.
-pub(crate) fn notes_of<A: Allocator + Clone>(
-    alloc: A,
-    style: Style,
-    path: &str,
-    bytes: &[u8],
-    verified: &Verified<A>,
-) -> Result<String<A>, AllocError> {
-    let mut lines = String::new(alloc.clone()?);
-    push_notes(&mut lines, alloc, style, path, bytes, verified)?;
-    Ok(lines)
+    Ok(ToldNotes {
+        lines,
+        is_denied: false,
+        count: 0,
+    })
 }
 
 /// Says the notes to a microprogram in this style.
@@ -143,8 +154,8 @@ pub(crate) fn say_notes<A: Allocator + Clone, E: Write>(
     bytes: &[u8],
     verified: &Verified<A>,
 ) {
-    match notes_of(alloc, style, path, bytes, verified) {
-        Ok(lines) => say_words(errors, lines.as_str()),
+    match tell_notes(alloc, style, path, bytes, verified, NoteRules::NONE) {
+        Ok(told) => say_words(errors, told.lines.as_str()),
         Err(_) => say_words(errors, "no notes are told: out of memory\n"),
     }
 }

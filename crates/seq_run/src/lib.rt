@@ -13,6 +13,7 @@ mod run_command;
 mod run_name;
 mod running;
 mod summary;
+mod unmet_fails;
 mod used_files;
 mod workers;
 mod writing;

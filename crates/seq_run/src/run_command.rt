@@ -15,6 +15,7 @@ use crate::phases::{NoClock, Phase, RunProgress, Times};
 use crate::request::RunRequest;
 use crate::running::run_as_planned;
 use crate::summary::{Stats, Summary};
+use crate::unmet_fails::say_unmet_fails;
 use crate::used_files::admit_files;
 use crate::writing::write_run;
 use run_file::{RunMessage, RunRefusal, parse_run};
@@ -202,6 +203,7 @@ fn run_text<R: Threads + Wait + Sync, C: Clock, F: Files, W: Write, E: Write, P:
     }
     match carry_out(rt, alloc, files, console, times, request, plan) {
         Ok(summary) => {
+            say_unmet_fails(alloc, &mut console.errors, request.path, text, summary);
             if request.has_stats {
                 tell_stats(&mut console.errors, summary, times);
             }

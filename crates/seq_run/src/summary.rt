@@ -12,9 +12,30 @@ pub(crate) struct Summary {
     polls: u64,
     inputs: u64,
     outputs: u64,
+    // How often each of four LUNs of each of four targets became ready.
+    readies: [[u64; 4]; 4],
 }
 
 impl Summary {
+    // One ready more.
+    fn add_ready(self, target: u8, lun: u8) -> Summary {
+        let mut sum = self;
+        if target < 4 && lun < 4 {
+            let count = sum.readies[usize::from(target)][usize::from(lun)];
+            sum.readies[usize::from(target)][usize::from(lun)] = count.saturating_add(1);
+        }
+        sum
+    }
+
+    /// How often a LUN became ready.
+    pub(crate) fn readies_of(self, target: u32, lun: u32) -> u64 {
+        if target < 4 && lun < 4 {
+            self.readies[target as usize][lun as usize]
+        } else {
+            0
+        }
+    }
+
     // One cycle more.
     fn add_cycle(self, cycle: Cycle) -> Summary {
         let mut sum = self;
@@ -38,11 +59,14 @@ impl Summary {
             polls: 0,
             inputs: 0,
             outputs: 0,
+            readies: [[0; 4]; 4],
         };
         for item in trace {
-            if let Item::Cyc(cycle) = *item {
-                sum = sum.add_cycle(cycle);
-            }
+            sum = match *item {
+                Item::Cyc(cycle) => sum.add_cycle(cycle),
+                Item::Rdy { ce, lun, .. } => sum.add_ready(ce, lun),
+                Item::Ard { .. } => sum,
+            };
         }
         sum
     }
@@ -58,6 +82,7 @@ impl fmt::Display for Summary {
             polls,
             inputs,
             outputs: _,
+            readies: _,
         } = *self;
         write!(
             f,

@@ -349,3 +349,36 @@ fn a_data_strobe(rt: HostRuntime) -> Result<(), Fail> {
         "items: 0\n0 items: no cycle is in the capture\nDQS changes 4 times: data that it strobes (NV-DDR) isn't sampled\n",
     )
 }
+
+// A file that gzip has made, taken for a dump and for a table.
+const COMPRESSED: [(CaptureForm, &str, &str); 2] = [
+    (
+        CaptureForm::Dump,
+        "refused G1 at 1\n",
+        "bus.vcd:1: the capture is compressed by gzip: unpack it first (G1)\n",
+    ),
+    (
+        CaptureForm::Table,
+        "refused G3 at 0\n",
+        "bus.vcd: the capture is compressed by gzip: unpack it first (G3)\n",
+    ),
+];
+
+#[test]
+fn captures_that_are_compressed(rt: HostRuntime) -> Result<(), Fail> {
+    for (form, printed, said) in COMPRESSED {
+        let mut files = MapFiles::new(rt.alloc());
+        files.put("die.page", &Geometry::of(SMALL_CHIP)?.page())?;
+        files.put("bus.vcd", b"\x1f\x8b\x08\x08\x00\x03,\x8b;\n,")?;
+        let mut console = Console {
+            output: Vec::new(rt.alloc()),
+            errors: Vec::new(rt.alloc()),
+            progress: NoProgress,
+        };
+        let request = CaptureRequest { form, ..REQUEST };
+        let _ = capture_trace(rt.alloc(), &mut files, &mut console, request);
+        assert_eq!(rt; str::from_utf8(console.output.as_slice())?, printed);
+        assert_eq!(rt; str::from_utf8(console.errors.as_slice())?, said);
+    }
+    Ok(())
+}

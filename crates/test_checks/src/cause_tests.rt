@@ -181,6 +181,7 @@ fn say(alloc: Global, told: Told<'_>) -> Result<Vec<u8>, Fail> {
         assumes_ready: false,
         beginning: Beginning::Start,
         judges_bytes: false,
+        has_notes: false,
         form: TraceForm::Strict,
         style: Style::Plain,
         copy: None,

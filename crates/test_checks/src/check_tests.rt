@@ -24,6 +24,7 @@ const REQUEST: CheckRequest<'static> = CheckRequest {
     assumes_ready: false,
     beginning: Beginning::Start,
     judges_bytes: false,
+    has_notes: false,
     form: TraceForm::Strict,
     style: Style::Plain,
     copy: None,
@@ -311,6 +312,7 @@ fn a_trace_from_the_middle(rt: HostRuntime) -> Result<(), Fail> {
 fn a_status_that_contradicts_its_trace(rt: HostRuntime) -> Result<(), Fail> {
     let request = CheckRequest {
         judges_bytes: true,
+        has_notes: false,
         ..REQUEST
     };
     let seen = see(
@@ -346,6 +348,7 @@ const SHOWN: CheckRequest<'static> = CheckRequest {
 fn a_ready_that_nothing_showed(rt: HostRuntime) -> Result<(), Fail> {
     let request = CheckRequest {
         judges_bytes: true,
+        has_notes: false,
         ..SHOWN
     };
     expect(

@@ -18,8 +18,12 @@ mod lint_tests;
 #[cfg(test)]
 mod middle_tests;
 #[cfg(test)]
+mod notes_tests;
+#[cfg(test)]
 mod page_tests;
 #[cfg(test)]
 mod unshown_tests;
+#[cfg(test)]
+mod vendor_capture_tests;
 #[cfg(test)]
 mod vendor_tests;

@@ -1,5 +1,5 @@
 use nand_geometry::{Geometry, SMALL_CHIP};
-use seq_commands::{LintOutput, lint_file, verify_file};
+use seq_commands::{LintEnding, LintOutput, LintRequest, NoteRules, lint_file, verify_file};
 use seq_files::MapFiles;
 use seq_inputs::{Console, Exit, Style};
 use std::alloc::Global;
@@ -22,7 +22,7 @@ const READ: &str =
 // What is printed and said of a text, and how the command ends.
 #[derive(Drop)]
 struct Seen {
-    exit: Exit,
+    ending: LintEnding,
     output: Vec<u8>,
     errors: Vec<u8>,
 }
@@ -43,19 +43,27 @@ fn files_of(alloc: Global, text: &str) -> Result<MapFiles, Fail> {
 }
 
 fn see_lint(alloc: Global, text: &str, output: LintOutput) -> Result<Seen, Fail> {
+    see_lint_by(alloc, text, output, NoteRules::NONE)
+}
+
+fn see_lint_by(
+    alloc: Global,
+    text: &str,
+    output: LintOutput,
+    rules: NoteRules<'_>,
+) -> Result<Seen, Fail> {
     let mut files = files_of(alloc, text)?;
     let mut console = console_of(alloc);
-    let exit = lint_file(
-        alloc,
-        &mut files,
-        &mut console,
-        "die.page",
-        "read.asm",
+    let request = LintRequest {
+        page: "die.page",
+        input: "read.asm",
         output,
-    );
+        rules,
+    };
+    let ending = lint_file(alloc, &mut files, &mut console, request);
     let Console { output, errors, .. } = console;
     Ok(Seen {
-        exit,
+        ending,
         output,
         errors,
     })
@@ -64,7 +72,7 @@ fn see_lint(alloc: Global, text: &str, output: LintOutput) -> Result<Seen, Fail>
 fn see_verify(alloc: Global, text: &str, is_quiet: bool) -> Result<Seen, Fail> {
     let mut files = files_of(alloc, text)?;
     let mut console = console_of(alloc);
-    let exit = verify_file(
+    let ending = LintEnding::Exit(verify_file(
         alloc,
         &mut files,
         &mut console,
@@ -74,10 +82,10 @@ fn see_verify(alloc: Global, text: &str, is_quiet: bool) -> Result<Seen, Fail> {
         0,
         is_quiet,
         Style::Plain,
-    );
+    ));
     let Console { output, errors, .. } = console;
     Ok(Seen {
-        exit,
+        ending,
         output,
         errors,
     })
@@ -90,7 +98,7 @@ fn expect_seen(
     printed: &str,
     said: &str,
 ) -> Result<(), Fail> {
-    assert_eq!(rt; seen.exit, Exit::Done);
+    assert_eq!(rt; seen.ending, LintEnding::Exit(Exit::Done));
     assert_eq!(rt; str::from_utf8(seen.output.as_slice())?, printed);
     assert_eq!(rt; str::from_utf8(seen.errors.as_slice())?, said);
     Ok(())
@@ -128,7 +136,7 @@ fn notes_are_said_after_accepted(rt: HostRuntime) -> Result<(), Fail> {
 fn a_text_that_is_refused(rt: HostRuntime) -> Result<(), Fail> {
     let text = "rows 1\nbuffer 0\nbudget 9\ncmd 60\naddr 2 3\ncmd d0\nend 0\n";
     let seen = see_lint(rt.alloc(), text, LintOutput::Notes)?;
-    assert_eq!(rt; seen.exit.status(), 1);
+    assert!(rt; matches!(seen.ending, LintEnding::Exit(Exit::Refused(_))));
     assert_eq!(rt;
         str::from_utf8(seen.output.as_slice())?,
         "refused V14 at 3\n"
@@ -143,7 +151,7 @@ fn a_text_that_is_refused(rt: HostRuntime) -> Result<(), Fail> {
 #[test]
 fn notes_as_json(rt: HostRuntime) -> Result<(), Fail> {
     let seen = see_lint(rt.alloc(), NO_DATA, LintOutput::Json)?;
-    assert_eq!(rt; seen.exit, Exit::Done);
+    assert_eq!(rt; seen.ending, LintEnding::Exit(Exit::Done));
     let printed = str::from_utf8(seen.output.as_slice())?;
     assert_eq!(rt; printed.lines().count(), 3);
     for line in printed.lines() {
@@ -158,7 +166,7 @@ fn notes_as_json(rt: HostRuntime) -> Result<(), Fail> {
 fn a_refusal_as_json(rt: HostRuntime) -> Result<(), Fail> {
     let text = "rows 1\nbuffer 0\nbudget 9\ncmd 60\naddr 2 3\ncmd d0\nend 0\n";
     let seen = see_lint(rt.alloc(), text, LintOutput::Json)?;
-    assert_eq!(rt; seen.exit.status(), 1);
+    assert!(rt; matches!(seen.ending, LintEnding::Exit(Exit::Refused(_))));
     assert_eq!(rt;
         str::from_utf8(seen.output.as_slice())?,
         "refused V14 at 3\n"
@@ -194,5 +202,43 @@ fn a_text_without_its_header(rt: HostRuntime) -> Result<(), Fail> {
         errors.starts_with("read.asm:5: word 3, `end 0`: "),
         "{errors}"
     );
+    Ok(())
+}
+
+// The codes of the notes that aren't told, of those that aren't to pass, how it ends, and how many notes are told. The text has N5 twice and N1.
+const RULES: [(Option<&str>, Option<&str>, LintEnding, &str); 5] = [
+    (None, Some("N1"), LintEnding::Denied, "3 notes\n"),
+    (
+        None,
+        Some("N2,N3,N4,N6,N7,N8"),
+        LintEnding::Exit(Exit::Done),
+        "3 notes\n",
+    ),
+    (
+        Some("N1"),
+        Some("N2"),
+        LintEnding::Exit(Exit::Done),
+        "2 notes\n",
+    ),
+    (Some("N5"), Some("N4,N1"), LintEnding::Denied, "1 note\n"),
+    (
+        Some("N5,N1"),
+        Some("N2"),
+        LintEnding::Exit(Exit::Done),
+        "no notes\n",
+    ),
+];
+
+#[test]
+fn notes_that_are_not_to_pass(rt: HostRuntime) -> Result<(), Fail> {
+    for (allowed, denied, ending, count) in RULES {
+        let rules = NoteRules { allowed, denied };
+        let seen = see_lint_by(rt.alloc(), NO_DATA, LintOutput::Notes, rules)?;
+        assert_eq!(rt; seen.ending, ending, "{count}");
+        assert!(rt;
+            str::from_utf8(seen.output.as_slice())?.ends_with(count),
+            "{count}"
+        );
+    }
     Ok(())
 }

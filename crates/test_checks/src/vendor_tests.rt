@@ -18,6 +18,7 @@ const REQUEST: VendorCheckRequest<'static> = VendorCheckRequest {
         assumes_ready: false,
         beginning: Beginning::Start,
         judges_bytes: false,
+        has_notes: false,
         form: TraceForm::Strict,
         style: Style::Plain,
         copy: None,

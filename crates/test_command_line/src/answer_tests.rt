@@ -88,26 +88,72 @@ fn a_run(rt: HostRuntime) -> Result<(), Fail> {
     Ok(())
 }
 
-// Each line names the trace that it is about; one of them isn't legal, and one isn't there.
-#[test]
-fn checks_of_several_traces(rt: HostRuntime) -> Result<(), Fail> {
+// A command line, what it prints, and its status. `a` is a legal trace and `b` isn't, `e` is a program with a note and `f` is refused; `c` isn't there.
+const ON_FILES: [(&str, &str, u8); 8] = [
+    // Each line names its file.
+    (
+        "check p 1 a b c --all",
+        "a: legal\nb: refused F3 at 1\nb: refused F2 at 2\nc: unreadable\n",
+        1,
+    ),
+    (
+        "lint p e f c",
+        "e:6: word 2, `cmd d0`: nothing looks at whether this erase fails: a `brs 01` after its `wait` does (N4)\ne: 1 note\nf: refused V14 at 3\nc: unreadable\n",
+        1,
+    ),
+    (
+        "lint p e c --json --deny N4",
+        "{\"code\":\"N4\",\"file\":\"e\",\"line\":6,\"word\":2,\"message\":\"word 2, `cmd d0`: nothing looks at whether this erase fails: a `brs 01` after its `wait` does (N4)\"}\nc: unreadable\n",
+        5,
+    ),
+    ("lint p c e --allow N4", "c: unreadable\ne: no notes\n", 2),
+    (
+        "lint p e --deny N1,N4",
+        "e:6: word 2, `cmd d0`: nothing looks at whether this erase fails: a `brs 01` after its `wait` does (N4)\n1 note\n",
+        5,
+    ),
+    (
+        "lint p e --deny N5",
+        "e:6: word 2, `cmd d0`: nothing looks at whether this erase fails: a `brs 01` after its `wait` does (N4)\n1 note\n",
+        0,
+    ),
+    ("lint p e --allow N1,N4 --deny N2", "no notes\n", 0),
+    ("lint p f --deny N4", "refused V14 at 3\n", 1),
+];
+
+// The same erase without its wait.
+const NO_WAIT: &[u8] = b"rows 1\nbuffer 0\nbudget 5\ncmd 60\naddr 2 3\ncmd d0\nend 0\n";
+
+fn expect_on_files<R: Abort + Threads + Wait + Sync + AllocGlobal>(
+    rt: &R,
+    line: &str,
+    printed: &str,
+    status: u8,
+) -> Result<(), Fail> {
     let alloc = rt.alloc();
     let mut files = MapFiles::new(alloc);
     files.put("p", &Geometry::of(SMALL_CHIP)?.page())?;
     files.put("a", b"0 C 70\n0 O e0\n")?;
     files.put("b", b"0 C 60\n0 C 60\n0 C 42\n")?;
-    let words = owned(
-        alloc,
-        &["onfiseq", "check", "p", "1", "a", "b", "c", "--all"],
-    )?;
+    files.put("e", ERASE_TEXT.as_bytes())?;
+    files.put("f", NO_WAIT)?;
+    let mut words = owned(alloc, &["onfiseq"])?;
+    for word in line.split(' ') {
+        words.push(String::from_str(alloc, word)?)?;
+    }
     let mut input: &[u8] = &[];
     let mut console = new_console(alloc);
-    let exit = answer(&rt, alloc, Ok(words), &mut files, &mut input, &mut console);
-    assert_eq!(rt;
-        str::from_utf8(console.output.as_slice())?,
-        "a: legal\nb: refused F3 at 1\nb: refused F2 at 2\nc: unreadable\n"
-    );
-    assert_eq!(rt; exit.status(), 1);
+    let ending = answer(rt, alloc, Ok(words), &mut files, &mut input, &mut console);
+    assert_eq!(rt; str::from_utf8(console.output.as_slice())?, printed);
+    assert_eq!(rt; ending.status(), status, "{line}");
+    Ok(())
+}
+
+#[test]
+fn commands_on_files(rt: HostRuntime) -> Result<(), Fail> {
+    for (line, printed, status) in ON_FILES {
+        expect_on_files(&rt, line, printed, status)?;
+    }
     Ok(())
 }
 
@@ -616,6 +662,7 @@ const COMMANDS: [(Command<'static>, u8, &str); 7] = [
             assumes_ready: false,
             beginning: Beginning::Start,
             judges_bytes: false,
+            has_notes: false,
             form: TraceForm::Strict,
             style: Style::Plain,
             copy: None,

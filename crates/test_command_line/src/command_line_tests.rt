@@ -306,9 +306,11 @@ fn name_of(asked: Command<'_>) -> &'static str {
         Command::Upgrade { .. } => "upgrade",
         Command::AssembleFor { .. } => "asm --auto",
         Command::Verify { .. } => "verify",
-        Command::Lint { .. } => "lint",
+        Command::Lint(_) => "lint",
+        Command::Explain { .. } => "explain",
         Command::Capture(_) => "capture",
         Command::PrintCapture(_) => "capture -",
+        Command::CaptureVendor(_) | Command::PrintCaptureVendor(_) => "capture --vendor",
         Command::Check(_) => "check",
         Command::CheckVendor(_) => "check --vendor",
         Command::CheckTimes(_) => "check --timing",
@@ -317,6 +319,7 @@ fn name_of(asked: Command<'_>) -> &'static str {
             DrawForm::Waveform => "wave",
             DrawForm::Picture | DrawForm::Page => "draw",
         },
+        Command::DrawVendor(_) => "draw --vendor",
     }
 }
 
@@ -475,6 +478,17 @@ fn paths_that_are_refused(rt: HostRuntime) -> Result<(), Fail> {
             "check p 1 t --vendor v --write v",
             Some(PathMistake::WrittenOver("v")),
         ),
+        ("capture p 1 x - --vendor v", None),
+        ("capture p 1 - t --vendor -", Some(PathMistake::InputTwice)),
+        (
+            "capture p 1 x v --vendor v",
+            Some(PathMistake::WrittenOver("v")),
+        ),
+        (
+            "wave p 1 t v --vendor v",
+            Some(PathMistake::WrittenOver("v")),
+        ),
+        ("draw p 1 t o --vendor linux", None),
         ("run x --trace x", Some(PathMistake::WrittenOver("x"))),
         ("run x --trace -", Some(PathMistake::OutputToStream)),
         ("run x --wave x", Some(PathMistake::WrittenOver("x"))),

@@ -226,8 +226,9 @@ fn kind_of(mistake: &Mistake<'_>) -> UsageKind {
         | Mistake::Mapping(_)
         | Mistake::Timing(_)
         | Mistake::Ops(_)
+        | Mistake::NoteCode { .. }
         | Mistake::PageNumber { .. } => UsageKind::ValueValidation,
-        Mistake::Paths(_) => UsageKind::ArgumentConflict,
+        Mistake::NoteTwice(_) | Mistake::Paths(_) => UsageKind::ArgumentConflict,
     }
 }
 
@@ -372,6 +373,7 @@ fn command_lines_of_files(rt: HostRuntime) -> Result<(), Fail> {
             assumes_ready: false,
             beginning: Beginning::Start,
             judges_bytes: false,
+            has_notes: false,
             form: TraceForm::Strict,
             style: Style::Plain,
             copy: None,

@@ -69,6 +69,7 @@ const CHECK: Command<'static> = Command::Check(CheckRequest {
     assumes_ready: false,
     beginning: Beginning::Start,
     judges_bytes: false,
+    has_notes: false,
     form: TraceForm::Strict,
     style: Style::Plain,
     copy: None,

@@ -2,7 +2,7 @@
 use crate::mistake::{Mistake, make_all};
 use std::test::Fail;
 
-const MISTAKES: [Mistake; 19] = [
+const MISTAKES: [Mistake; 22] = [
     Mistake {
         line: "verify nothing asm",
         file: b"",
@@ -38,6 +38,24 @@ const MISTAKES: [Mistake; 19] = [
         file: b"",
         begins: "asm: ",
         names: &["parameter page", "256 bytes", "(P1)"],
+    },
+    Mistake {
+        line: "lint page asm --deny N9",
+        file: b"",
+        begins: "error: --deny",
+        names: &["N1 to N8", "`N9`"],
+    },
+    Mistake {
+        line: "lint page asm --allow N1,n4",
+        file: b"",
+        begins: "error: --allow",
+        names: &["`n4`"],
+    },
+    Mistake {
+        line: "lint page asm --allow N2,N4 --deny N4",
+        file: b"",
+        begins: "error: ",
+        names: &["--deny and --allow both have N4"],
     },
     Mistake {
         line: "asm asm asm",

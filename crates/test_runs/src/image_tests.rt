@@ -78,7 +78,8 @@ fn everything_in_one_file(rt: HostRuntime) -> Result<(), Fail> {
     files.put("second", make_image(rt.alloc(), 0, &[0x77])?.as_slice())?;
     files.put("in", &[0xa5, 0x3c])?;
     let played = play(&rt, &mut files, ask(1));
-    assert_eq!(rt; played.seen()?, (Exit::Done, EVERY_LINE, ""));
+    let said = "run:13: nothing failed by this line: LUN 1 of target 0 became ready 1 of 3 times\n";
+    assert_eq!(rt; played.seen()?, (Exit::Done, EVERY_LINE, said));
     expect_file(&rt, &files, "out", &[0xa5, 0x3c, 0xa5, 0x3c], 4)?;
     expect_file(&rt, &files, "out2", &[], 0)?;
     expect_file(&rt, &files, "first", &FIRST, 556)?;

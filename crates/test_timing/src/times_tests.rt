@@ -272,6 +272,7 @@ fn see(alloc: Global, row: Row) -> Result<Seen, Fail> {
             assumes_ready: false,
             beginning: Beginning::Start,
             judges_bytes: false,
+            has_notes: false,
             form: TraceForm::Recorded,
             style: row.style,
             copy: None,

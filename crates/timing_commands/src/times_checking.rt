@@ -175,7 +175,7 @@ fn tell_faults<A: Allocator + Clone, W: Write, E: Write, P>(
     first: RecordingFault,
 ) -> Ending
     ensures done { result ≡ Ending.Exit Exit.Done → ⊥ }
-    ensures assumed { result ≡ Ending.Assumed → ⊥ }
+    ensures assumed { result ≡ Ending.Flagged → ⊥ }
     ensures refused { (refusal : Refusal) → result ≡ Ending.Exit (Exit.Refused refusal) → ⊥ }
     ensures faulty { (fault : RecordingFault) → result ≡ Ending.Faulty fault → (fault ≡ first)
         × Appends (W.contents console.old.output) (W.contents console.new.output) (faulty_text trace.now.checked.told.items trace.now.late.items trace.now.checked.assumed.items) }
@@ -236,7 +236,7 @@ fn tell_kept<A: Allocator + Clone, W: Write, E: Write, P>(
 ) -> Ending
     ensures done { result ≡ Ending.Exit Exit.Done → (may_pass request.entry.check trace.now.checked.assumed.items ≡ true)
         × Appends (W.contents console.old.output) (W.contents console.new.output) (legal_text trace.now.checked.assumed.items) }
-    ensures assumed { result ≡ Ending.Assumed → (may_pass request.entry.check trace.now.checked.assumed.items ≡ false)
+    ensures assumed { result ≡ Ending.Flagged → (may_pass request.entry.check trace.now.checked.assumed.items ≡ false)
         × Appends (W.contents console.old.output) (W.contents console.new.output) (legal_text trace.now.checked.assumed.items) }
     ensures refused { (refusal : Refusal) → result ≡ Ending.Exit (Exit.Refused refusal) → ⊥ }
     ensures faulty { (fault : RecordingFault) → result ≡ Ending.Faulty fault → ⊥ }
@@ -267,7 +267,7 @@ fn tell_found<A: Allocator + Clone, W: Write, E: Write, P>(
     ensures done { result ≡ Ending.Exit Exit.Done → (trace.now.checked.told.items ≡ []) × (trace.now.late.items ≡ [])
         × (may_pass request.entry.check trace.now.checked.assumed.items ≡ true)
         × Appends (W.contents console.old.output) (W.contents console.new.output) (legal_text trace.now.checked.assumed.items) }
-    ensures assumed { result ≡ Ending.Assumed → (trace.now.checked.told.items ≡ []) × (trace.now.late.items ≡ [])
+    ensures assumed { result ≡ Ending.Flagged → (trace.now.checked.told.items ≡ []) × (trace.now.late.items ≡ [])
         × (may_pass request.entry.check trace.now.checked.assumed.items ≡ false)
         × Appends (W.contents console.old.output) (W.contents console.new.output) (legal_text trace.now.checked.assumed.items) }
     ensures refused { (refusal : Refusal) → result ≡ Ending.Exit (Exit.Refused refusal) → ⊥ }
@@ -293,7 +293,7 @@ fn tell_found<A: Allocator + Clone, W: Write, E: Write, P>(
 /// Checks whether the trace of a text is legal on a channel, as [`check_trace`](trace_commands::check_trace) does, and whether its times keep those of a timing
 /// mode or of a timing file. No file changes: a path for the trace that is judged is passed by.
 ///
-/// `Done` and `Assumed`: as of `check_trace`, and nothing comes too soon. `Faulty`: the lines of its faults are printed, and then a line `refused NAME at N` for
+/// `Done` and `Flagged`: as of `check_trace`, and nothing comes too soon. `Faulty`: the lines of its faults are printed, and then a line `refused NAME at N` for
 /// each item that comes too soon, NAME being the code of its [`TimingFault`](trace_timing::TimingFault); where only the first fault is asked for, the first of both.
 /// Or a fault of the timing file, with its line. The page is read first, then the timing file, then the trace. On the console's errors stands each in words, and
 /// where all faults are asked for how near the trace comes to each time.
@@ -305,7 +305,7 @@ pub fn check_times<A: Allocator + Clone, F: Files, W: Write, E: Write, P: CheckP
 ) -> Ending
     ensures done { result ≡ Ending.Exit Exit.Done → (printed : List ℕ) × IsKept (F.store files.old) request.entry true printed
         × Appends (W.contents console.old.output) (W.contents console.new.output) printed }
-    ensures assumed { result ≡ Ending.Assumed → (printed : List ℕ) × IsKept (F.store files.old) request.entry false printed
+    ensures assumed { result ≡ Ending.Flagged → (printed : List ℕ) × IsKept (F.store files.old) request.entry false printed
         × Appends (W.contents console.old.output) (W.contents console.new.output) printed }
     ensures refused { (refusal : Refusal) → result ≡ Ending.Exit (Exit.Refused refusal)
         → Tells (PageIsRefused (F.store files.old) request.entry.check.page.now) refusal

@@ -93,12 +93,16 @@ pub record IsCaptured (files later : Option Store) (request : CaptureRequest) : 
   pub is_setup : IsSetup request g setup
   pub converted : IsConverted files later request setup
 
--- the capture at the path shows items of which this is the text
-pub record IsShown (files : Option Store) (request : CaptureRequest) (setup : Setup) (printed : List ℕ) : Type 0 where
+-- the capture at the path shows these items
+pub record IsSeen (files : Option Store) (request : CaptureRequest) (setup : Setup) (stamped : List Stamped) : Type 0 where
   pub capture : List ℕ
   pub is_there : Holds files request.input.now capture
-  pub stamped : List Stamped
   pub is_captured : captured setup capture ≡ Ok stamped
+
+-- it shows items of which this is the text
+pub record IsShown (files : Option Store) (request : CaptureRequest) (setup : Setup) (printed : List ℕ) : Type 0 where
+  pub stamped : List Stamped
+  pub seen : IsSeen files request setup stamped
   pub is_text : printed ≡ seen_text request.has_times stamped
 
 -- so is it, of targets of the geometry of the page

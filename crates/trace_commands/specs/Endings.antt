@@ -14,7 +14,7 @@ use Rattle.trace_commands.specs.declared.recording_stop.RecordingStop.TheVariant
 abbrev pub status : Ending → ℕ
 status (ending.Exit exit) = exit_status exit
 status (ending.Faulty fault) = 1
-status ending.Assumed = 5
+status ending.Flagged = 5
 
 -- what is refused of another file, if it is that
 abbrev pub refusal_in : {A : Type 0} → RecordingStop A → Option Refusal

@@ -6,3 +6,5 @@ pub mod Recordings
 pub mod Targets
 pub mod VendorChecks
 pub mod TakenPages
+pub mod VendorCaptures
+pub mod VendorDraws

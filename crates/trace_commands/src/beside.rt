@@ -6,9 +6,11 @@ use crate::check_verdict::{CheckVerdict, Verdict};
 use crate::ending::Ending;
 use crate::explaining::words_at_item;
 use crate::line_cursor::LineCursor;
+use crate::passed_amount::PassedAmount;
 use crate::past_watcher::PastWatcher;
 use crate::tally::Tally;
 use crate::telling::push_message;
+use host_notes::{HostNote, HostNoteAt};
 use onfi_cycle::Forbidden;
 use seq_inputs::{Exit, Place, Style, Told, Words, say_words};
 use std::alloc::{AllocError, Allocator};
@@ -44,8 +46,7 @@ impl<A: Allocator> Unknown<A> {
 pub(crate) struct PassedOver<A: Allocator> {
     /// The cycles that aren't next in one.
     pub(crate) broken: Vec<BrokenRule, A>,
-    pub(crate) sequences: usize,
-    pub(crate) items: usize,
+    pub(crate) amount: PassedAmount,
 }
 
 /// What a check has found beside the faults, and what it has judged.
@@ -57,6 +58,7 @@ pub struct Beside<A: Allocator> {
     pub(crate) tally: Tally,
     pub(crate) unknown: Unknown<A>,
     pub(crate) doubts: Vec<DoubtedByte, A>,
+    pub(crate) notes: Vec<HostNoteAt, A>,
     /// What is passed over, where a vendor file is given.
     pub(crate) passed: Option<PassedOver<A>>,
 }
@@ -110,6 +112,7 @@ fn push_said<A: Allocator>(
     lines: &mut String<A>,
     style: Style,
     item: usize,
+    code: Option<&'static str>,
     words: Option<Words<'_, A>>,
 ) -> Result<(), AllocError> {
     let Some(words) = words else {
@@ -119,7 +122,7 @@ fn push_said<A: Allocator>(
         Style::Plain => writeln!(lines, "{words}"),
         Style::Json => {
             let told = Told {
-                code: None,
+                code,
                 path: words.path,
                 line: words.line,
                 place: Some(Place::Item(item)),
@@ -128,6 +131,16 @@ fn push_said<A: Allocator>(
             };
             writeln!(lines, "{told}")
         }
+    }
+}
+
+// What isn't meant, with its code.
+#[derive(Clone, Copy)]
+struct Noted(HostNote);
+
+impl fmt::Display for Noted {
+    fn fmt<W: fmt::Write>(&self, f: &mut fmt::Formatter<W>) -> fmt::Result {
+        write!(f, "{} ({})", self.0, self.0.code())
     }
 }
 
@@ -158,9 +171,27 @@ fn push_doubts<A: Allocator + Clone>(
     for doubted in doubts.iter().take(MOST_SAID) {
         let DoubtedByte { item, doubt } = *doubted;
         let words = words_at_item(alloc.clone()?, input, cursor.find(item), item, doubt);
-        push_said(lines, style, item, words)?;
+        push_said(lines, style, item, None, words)?;
     }
     push_more(lines, alloc, style, doubts.len())
+}
+
+// Adds what the host surely didn't mean.
+fn push_notes<A: Allocator + Clone>(
+    lines: &mut String<A>,
+    alloc: A,
+    request: CheckRequest<'_>,
+    text: &str,
+    notes: &[HostNoteAt],
+) -> Result<(), AllocError> {
+    let CheckRequest { input, style, .. } = request;
+    let mut cursor = LineCursor::new(text, request.form);
+    for noted in notes.iter().take(MOST_SAID) {
+        let HostNoteAt { item, note } = *noted;
+        let words = words_at_item(alloc.clone()?, input, cursor.find(item), item, Noted(note));
+        push_said(lines, style, item, Some(note.code()), words)?;
+    }
+    push_more(lines, alloc, style, notes.len())
 }
 
 // Adds what was taken for granted.
@@ -182,7 +213,7 @@ fn push_granted<A: Allocator + Clone>(
             item,
             Granted(rule),
         );
-        push_said(lines, style, item, words)?;
+        push_said(lines, style, item, None, words)?;
     }
     push_more(lines, alloc, style, granted.len())
 }
@@ -200,7 +231,7 @@ fn push_taken<A: Allocator + Clone>(
     for told in not_shown.iter().take(MOST_SAID) {
         let NotShown { item, ready } = *told;
         let words = words_at_item(alloc.clone()?, input, cursor.find(item), item, Taken(ready));
-        push_said(lines, style, item, words)?;
+        push_said(lines, style, item, None, words)?;
     }
     push_more(lines, alloc, style, not_shown.len())
 }
@@ -265,10 +296,7 @@ fn push_passed<A: Allocator>(
     let Some(passed) = passed else {
         return Ok(());
     };
-    let words = format!(in alloc;
-        "passed over: {} vendor sequences, {} items",
-        passed.sequences, passed.items
-    )?;
+    let words = format!(in alloc; "{}", passed.amount)?;
     push_message(lines, style, words.as_str())
 }
 
@@ -291,7 +319,10 @@ fn verdict_of<'a, A: Allocator>(
     assumed: &[NotShown],
     faults: usize,
 ) -> CheckVerdict<'a> {
-    let passed = beside.passed.as_ref().map_or(0, |passed| passed.items);
+    let passed = beside
+        .passed
+        .as_ref()
+        .map_or(0, |passed| passed.amount.items);
     CheckVerdict {
         path: request.input,
         verdict: match faults {
@@ -317,6 +348,8 @@ fn words_beside<A: Allocator + Clone>(
     let mut lines = String::new(alloc.clone()?);
     let doubts = beside.doubts.as_slice();
     push_doubts(&mut lines, alloc.clone()?, request, text, doubts)?;
+    let notes = beside.notes.as_slice();
+    push_notes(&mut lines, alloc.clone()?, request, text, notes)?;
     push_not_shown(&mut lines, alloc.clone()?, request, text, assumed)?;
     push_unknown(&mut lines, alloc.clone()?, request, text, &beside.unknown)?;
     push_summary(&mut lines, request, beside.tally, faults)?;
@@ -368,7 +401,7 @@ pub fn say_unjudged<E: Write>(errors: &mut E, request: CheckRequest<'_>, ending:
         Ending::Faulty(_) | Ending::Exit(Exit::Refused(_)) => Verdict::Refused,
         Ending::Exit(Exit::FileFault) => Verdict::Unreadable,
         Ending::Exit(Exit::Done | Exit::ReaderGone | Exit::Usage | Exit::OutOfMemory)
-        | Ending::Assumed => return,
+        | Ending::Flagged => return,
     };
     let verdict = CheckVerdict::of_nothing(request.input, verdict);
     say_as_json(errors, request.style, verdict);

@@ -12,8 +12,11 @@ use seq_files::Convert;
 use std::alloc::{AllocError, Allocator};
 use trace_text::{TimedItem, print_bytes, print_recorded};
 
-// The items of what is seen, without their times.
-fn items_of<A: Allocator>(alloc: A, stamped: &[Stamped]) -> Result<Vec<Item, A>, AllocError>
+/// The items of what is seen, without their times.
+pub(crate) fn items_of<A: Allocator>(
+    alloc: A,
+    stamped: &[Stamped],
+) -> Result<Vec<Item, A>, AllocError>
     ensures { IfOk result (λ items. items.items ≡ items_in stamped.now) }
 {
     let mut items = Vec::new(alloc);
@@ -187,10 +190,15 @@ impl<'m, A: Allocator + Clone> CaptureConverter<'m, A> {
         self.reader.strobe_changes()
     }
 
-    /// The line of a fault, as far as it is there: of a long header or of a long word it may be gone.
+    /// The line of this number, as far as it is there: of a long header or of a long word it may be gone.
+    pub(crate) fn line(&self, number: usize) -> Option<&[u8]> {
+        self.latest.line(number)
+    }
+
+    /// The line of a fault, as far as it is there.
     pub(crate) fn line_of(&self, fault: CaptureFault) -> Option<&[u8]> {
         match fault {
-            CaptureFault::File(at) => self.latest.line(at.line),
+            CaptureFault::File(at) => self.line(at.line),
             CaptureFault::Role(_) | CaptureFault::Bus { .. } => None,
         }
     }

@@ -10,19 +10,16 @@ ghost use Rattle.trace_commands.specs.Captures.{seen_text, IsShown, IsShownFor, 
 ghost use Rattle.trace_commands.specs.Endings.{SaysOf};
 ghost use Rattle.trace_commands.specs.Recordings.{fault_line};
 
-use crate::capture_converter::{CaptureConverter, CaptureTally, push_text};
+use crate::capture_converter::{CaptureTally, push_text};
+use crate::capture_reading::see_capture;
 use crate::capture_request::CaptureRequest;
-use crate::capture_words::words_of_fault;
 use crate::capturing::say_tally;
 use crate::ending::Ending;
 use crate::mappings::mappings_of;
-use crate::recording_fault::RecordingFault;
 use crate::recording_stop::{RecordingStop, end_stopped};
-use bus_capture::{CaptureFault, CaptureRefusal, Setup, read_capture};
-use seq_files::{Convert, Files};
-use seq_inputs::{
-    Console, Exit, Stop, Style, Words, end_without_memory, finish, geometry_at, read_file,
-};
+use bus_capture::Setup;
+use seq_files::Files;
+use seq_inputs::{Console, Exit, Style, end_without_memory, finish, geometry_at, read_file};
 use std::alloc::Allocator;
 use std::io::Write;
 
@@ -31,22 +28,6 @@ use std::io::Write;
 struct ShownTrace<A: Allocator> {
     text: Vec<u8, A>,
     tally: CaptureTally,
-}
-
-/// What is wrong with a capture, with what the whole of it tells.
-pub(crate) fn words_of<'p, A: Allocator + Clone>(
-    alloc: A,
-    path: &'p str,
-    setup: &Setup<'_>,
-    capture: &[u8],
-    fault: CaptureFault,
-) -> Option<Words<'p, A>>
-    requires few { setup.now.targets ≤ 4 }
-{
-    let mut converter = CaptureConverter::new(alloc.clone().ok()?, setup, false).ok()?;
-    let mut text = Vec::new(alloc.clone().ok()?);
-    let _ = converter.take(capture, &mut text);
-    words_of_fault(alloc, path, &converter, fault)
 }
 
 // Reads a capture: the trace that it shows.
@@ -62,26 +43,20 @@ fn show_capture<'p, A: Allocator + Clone, F: Files>(
     ensures stays { F.store files.new ≡ F.store files.old }
 {
     let capture = read_file(alloc.clone()?, files, request.input)?;
-    match read_capture(alloc.clone()?, setup, capture.as_slice()) {
-        Ok(seen) => {
-            let mut text = Vec::new(alloc.clone()?);
-            push_text(alloc, request.has_times, seen.stamped.as_slice(), &mut text)?;
-            Ok(ShownTrace {
-                text,
-                tally: CaptureTally {
-                    items: seen.stamped.len(),
-                    unselected: seen.unselected,
-                    strobe_changes: 0,
-                },
-            })
-        }
-        Err(CaptureRefusal::Fault(fault)) => {
-            let words = words_of(alloc, request.input, setup, capture.as_slice(), fault);
-            let fault = RecordingFault::Capture { fault };
-            Err(RecordingStop::Faulty { fault, words })
-        }
-        Err(CaptureRefusal::OutOfMemory) => Err(RecordingStop::Stop(Stop::OutOfMemory)),
-    }
+    let seen = match see_capture(alloc.clone()?, request.input, setup, capture.as_slice()) {
+        Ok(seen) => seen,
+        Err(stop) => return Err(stop),
+    };
+    let mut text = Vec::new(alloc.clone()?);
+    push_text(alloc, request.has_times, seen.stamped.as_slice(), &mut text)?;
+    Ok(ShownTrace {
+        text,
+        tally: CaptureTally {
+            items: seen.stamped.len(),
+            unselected: seen.unselected,
+            strobe_changes: 0,
+        },
+    })
 }
 
 // Reads a page and a capture: the trace that it shows.
@@ -120,7 +95,7 @@ pub fn print_capture<A: Allocator + Clone, F: Files, W: Write, E: Write, P>(
     ensures done { result ≡ Ending.Exit Exit.Done → (printed : List ℕ)
         × IsShownFor (F.store files.old) request.entry printed
         × Appends (W.contents console.old.output) (W.contents console.new.output) printed }
-    ensures assumed { result ≡ Ending.Assumed → ⊥ }
+    ensures assumed { result ≡ Ending.Flagged → ⊥ }
     ensures refused { (refusal : Refusal) → result ≡ Ending.Exit (Exit.Refused refusal)
         → Tells (PageIsRefused (F.store files.old) request.entry.page.now) refusal
         × Appends (W.contents console.old.output) (W.contents console.new.output) (line_of refusal) }

@@ -61,6 +61,25 @@ fn words_of_swapped<'p, A: Allocator>(
     Words::at(path, None, text)
 }
 
+// The capture begins as gzip begins its files.
+fn is_compressed<A: Allocator + Clone>(converter: &CaptureConverter<'_, A>) -> bool {
+    matches!(converter.line(1), Some([0x1f, 0x8b, ..]))
+}
+
+fn words_of_compressed<'p, A: Allocator>(
+    alloc: A,
+    path: &'p str,
+    fault: CaptureFault,
+) -> Option<Words<'p, A>> {
+    let line = match fault {
+        CaptureFault::File(at) => Some(at.line),
+        CaptureFault::Role(_) | CaptureFault::Bus { .. } => None,
+    };
+    let code = fault.code();
+    let text = format!(in alloc; "the capture is compressed by gzip: unpack it first ({code})");
+    Words::at(path, line, text)
+}
+
 /// What is wrong with a capture of which this much is read.
 pub(crate) fn words_of_fault<'p, A: Allocator + Clone>(
     alloc: A,
@@ -68,6 +87,9 @@ pub(crate) fn words_of_fault<'p, A: Allocator + Clone>(
     converter: &CaptureConverter<'_, A>,
     fault: CaptureFault,
 ) -> Option<Words<'p, A>> {
+    if is_compressed(converter) {
+        return words_of_compressed(alloc, path, fault);
+    }
     if matches!(fault, CaptureFault::Role(_)) {
         return words_of_role(alloc, path, converter.signal_names(), fault);
     }

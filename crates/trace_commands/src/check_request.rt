@@ -22,6 +22,8 @@ pub struct CheckRequest<'a> {
     pub beginning: Beginning,
     /// Whether status bytes that contradict the trace are said on standard error.
     pub judges_bytes: bool,
+    /// Whether what the host surely didn't mean is said on standard error.
+    pub has_notes: bool,
     /// The form of the text.
     pub form: TraceForm,
     /// How what is wrong is said on standard error.

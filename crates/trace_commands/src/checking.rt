@@ -25,6 +25,7 @@ use crate::tally::Tally;
 use crate::targets::Targets;
 use crate::telling::{tell_faults, tell_legal};
 use crate::traces::{items_of, put_items};
+use host_notes::{HostNoteAt, find_host_notes};
 use nand_geometry::Geometry;
 use onfi_cycle::Item;
 use seq_files::Files;
@@ -35,6 +36,7 @@ use trace_faults::{
     Beginning, BrokenRule, DoubtedByte, JudgedTrace, MiddleFaults, NotShown, OutsideSequence,
     Readies, complete, find_faults_from_middle, find_not_shown, find_status_doubts, judge_trace,
 };
+use trace_ops::{Operations, find_operations};
 use trace_text::{CheckProgress, CheckRefusal, check_watched};
 
 // What is found in a trace from its start.
@@ -249,6 +251,27 @@ pub(crate) fn find_doubts<A: Allocator>(
     }
 }
 
+/// What the host surely didn't mean, where that is asked for.
+pub(crate) fn find_notes<A: Allocator + Clone>(
+    alloc: A,
+    request: CheckRequest<'_>,
+    geometry: &Geometry,
+    items: &[Item],
+) -> Result<Vec<HostNoteAt, A>, AllocError> {
+    if !request.has_notes {
+        return Ok(Vec::new(alloc));
+    }
+    let Operations { operations, .. } = find_operations(
+        alloc.clone()?,
+        geometry,
+        request.targets.count(),
+        items,
+        request.readies,
+        request.beginning,
+    )?;
+    find_host_notes(alloc, geometry, operations.as_slice())
+}
+
 /// Writes the trace that is judged, where a path is given for it.
 pub(crate) fn copy_trace<'p, A: Allocator + Clone, F: Files>(
     alloc: A,
@@ -306,6 +329,7 @@ fn judge_text<'p, A: Allocator + Clone, F: Files, P: CheckProgress>(
         unknown,
     } = find_told(alloc.clone()?, progress, request, geometry, items)?;
     let doubts = find_doubts(alloc.clone()?, request, geometry, items)?;
+    let notes = find_notes(alloc.clone()?, request, geometry, items)?;
     copy_trace(alloc, files, request, geometry, items)?;
     let tally = Tally::of(items);
     Ok(Judged {
@@ -317,6 +341,7 @@ fn judge_text<'p, A: Allocator + Clone, F: Files, P: CheckProgress>(
             tally,
             unknown,
             doubts,
+            notes,
             passed: None,
         },
     })
@@ -386,7 +411,7 @@ pub(crate) fn tell_found<A: Allocator + Clone, W: Write, E: Write, P>(
 ) -> Ending
     ensures done { result ≡ Ending.Exit Exit.Done → (found.now.told.items ≡ []) × (may_pass request.entry found.now.assumed.items ≡ true)
         × Appends (W.contents console.old.output) (W.contents console.new.output) (legal_text found.now.assumed.items) }
-    ensures assumed { result ≡ Ending.Assumed → (found.now.told.items ≡ []) × (may_pass request.entry found.now.assumed.items ≡ false)
+    ensures assumed { result ≡ Ending.Flagged → (found.now.told.items ≡ []) × (may_pass request.entry found.now.assumed.items ≡ false)
         × Appends (W.contents console.old.output) (W.contents console.new.output) (legal_text found.now.assumed.items) }
     ensures refused { (refusal : Refusal) → result ≡ Ending.Exit (Exit.Refused refusal) → ⊥ }
     ensures faulty { (fault : RecordingFault) → result ≡ Ending.Faulty fault → ArePrinted found.now.told.items fault
@@ -412,7 +437,7 @@ pub(crate) fn tell_found<A: Allocator + Clone, W: Write, E: Write, P>(
 /// Checks whether the trace of a text is legal on a channel of so many targets of the geometry of a parameter page.
 ///
 /// `Done`: it is, and `legal` is printed, and a line `assumed ready at N` for each item before which a LUN is taken for ready that nothing showed, where that is
-/// asked for. `Assumed`: so are they, where it isn't. `Refused`: the line `refused NAME at N` is printed, a P fault of the page. `Faulty`: so is it: an X fault of the
+/// asked for. `Flagged`: so are they, where it isn't. `Refused`: the line `refused NAME at N` is printed, a P fault of the page. `Faulty`: so is it: an X fault of the
 /// text with its line; or the first forbidden item, with the first rule that it breaks, and where all faults are
 /// asked for the line of each other one after it, and behind these the lines of what is taken for ready. The text is read after the page, if that has no fault. `FileFault`: a file couldn't be read or
 /// written, the text isn't UTF-8, or the output couldn't be written. Where a path is given for it, the trace that is judged is written there before
@@ -428,7 +453,7 @@ pub fn check_trace<A: Allocator + Clone, F: Files, W: Write, E: Write, P: CheckP
     ensures done { result ≡ Ending.Exit Exit.Done → (printed : List ℕ)
         × IsPassed (F.store files.old) (F.store files.new) request.entry true printed
         × Appends (W.contents console.old.output) (W.contents console.new.output) printed }
-    ensures assumed { result ≡ Ending.Assumed → (printed : List ℕ)
+    ensures assumed { result ≡ Ending.Flagged → (printed : List ℕ)
         × IsPassed (F.store files.old) (F.store files.new) request.entry false printed
         × Appends (W.contents console.old.output) (W.contents console.new.output) printed }
     ensures refused { (refusal : Refusal) → result ≡ Ending.Exit (Exit.Refused refusal)

@@ -66,7 +66,7 @@ pub fn draw_trace<A: Allocator + Clone, F: Files, W: Write, E: Write, P>(
 ) -> Ending
     ensures done { result ≡ Ending.Exit Exit.Done → IsDrawn (F.store files.old) (F.store files.new) request.entry
         × Appends (W.contents console.old.output) (W.contents console.new.output) (codes "ok\n") }
-    ensures assumed { result ≡ Ending.Assumed → ⊥ }
+    ensures assumed { result ≡ Ending.Flagged → ⊥ }
     ensures refused { (refusal : Refusal) → result ≡ Ending.Exit (Exit.Refused refusal)
         → Tells (PageIsRefused (F.store files.old) request.entry.page.now) refusal
         × (F.store files.new ≡ F.store files.old) × Appends (W.contents console.old.output) (W.contents console.new.output) (line_of refusal) }

@@ -12,8 +12,9 @@ pub enum Ending {
     Exit(Exit),
     /// The trace or the capture has this fault, which standard output says by its code, and standard error in words.
     Faulty(RecordingFault),
-    /// The trace is legal if the LUNs had become ready that nothing showed so; standard output names each item before which one is taken for ready.
-    Assumed,
+    /// Done, with what isn't to pass: the trace is legal if the LUNs had become ready that nothing showed so, or a microprogram is accepted with a note that is
+    /// denied. Standard output names each.
+    Flagged,
 }
 
 impl Ending {
@@ -24,7 +25,7 @@ impl Ending {
         match self {
             Ending::Exit(exit) => exit.status(),
             Ending::Faulty(_) => 1,
-            Ending::Assumed => 5,
+            Ending::Flagged => 5,
         }
     }
 }

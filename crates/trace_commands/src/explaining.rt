@@ -23,14 +23,6 @@ pub fn words_of_trace<'p, A: Allocator>(
     Words::at(path, Some(line), format!(in alloc; "{message}"))
 }
 
-// A line that begins as gzip begins its files, at the beginning of one.
-fn is_compressed(number: usize, line: Option<&[u8]>) -> bool {
-    match line {
-        Some([0x1f, 0x8b, ..]) => number == 1,
-        Some(_) | None => false,
-    }
-}
-
 /// What is wrong with a capture: of a line with the text of that line, where that is given and is UTF-8.
 pub(crate) fn words_of_capture<'p, A: Allocator>(
     alloc: A,
@@ -42,12 +34,6 @@ pub(crate) fn words_of_capture<'p, A: Allocator>(
     let CaptureFault::File(at) = fault else {
         return Words::at(path, None, format!(in alloc; "{fault} ({code})"));
     };
-    if is_compressed(at.line, line) {
-        let words = format!(in alloc;
-            "the capture is compressed by gzip: unpack it first ({code})"
-        );
-        return Words::at(path, Some(at.line), words);
-    }
     let text = match line.map(str::from_utf8) {
         Some(Ok(text)) => {
             let shown = Shown::line(text);

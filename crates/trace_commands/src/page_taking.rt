@@ -9,7 +9,8 @@ ghost use Rattle.trace_commands.specs.declared.recording_fault.RecordingFault.{R
 ghost use Rattle.trace_commands.specs.Recordings.{fault_line};
 ghost use Rattle.trace_commands.specs.TakenPages.{IsPageTaken};
 
-use crate::capture_printing::words_of;
+use crate::capture_converter::items_of as items_seen;
+use crate::capture_reading::see_capture;
 use crate::ending::Ending;
 use crate::mappings::mappings_of;
 use crate::page_outputs::{COPY_LEN, PageOutputs};
@@ -17,7 +18,7 @@ use crate::page_request::{PageRequest, PageSource};
 use crate::recording_fault::RecordingFault;
 use crate::recording_stop::{RecordingStop, end_stopped};
 use crate::traces::items_of;
-use bus_capture::{CaptureForm, CaptureRefusal, Setup, Stamped, read_capture};
+use bus_capture::{CaptureForm, Setup};
 use nand_geometry::{Geometry, PageFault, SMALL_CHIP};
 use onfi_cycle::Item;
 use seq_files::Files;
@@ -52,11 +53,6 @@ fn find_copy(bytes: &[u8]) -> Option<&[u8]>
     None
 }
 
-// The items of a capture, without their times.
-fn items_seen<A: Allocator>(alloc: A, stamped: &[Stamped]) -> Result<Vec<Item, A>, AllocError> {
-    stamped.iter().map(|seen| seen.item).collect(alloc)
-}
-
 // The items of a capture of one target.
 fn items_of_capture<'p, A: Allocator + Clone>(
     alloc: A,
@@ -73,15 +69,11 @@ fn items_of_capture<'p, A: Allocator + Clone>(
         mappings: mappings.as_slice(),
         glitch: 0,
     };
-    match read_capture(alloc.clone()?, &setup, bytes) {
-        Ok(seen) => Ok(items_seen(alloc, seen.stamped.as_slice())?),
-        Err(CaptureRefusal::Fault(fault)) => {
-            let words = words_of(alloc, path, &setup, bytes, fault);
-            let fault = RecordingFault::Capture { fault };
-            Err(RecordingStop::Faulty { fault, words })
-        }
-        Err(CaptureRefusal::OutOfMemory) => Err(RecordingStop::Stop(Stop::OutOfMemory)),
-    }
+    let seen = match see_capture(alloc.clone()?, path, &setup, bytes) {
+        Ok(seen) => seen,
+        Err(stop) => return Err(stop),
+    };
+    Ok(items_seen(alloc, seen.stamped.as_slice())?)
 }
 
 // The items of what a page is taken of.
@@ -181,7 +173,7 @@ pub fn take_page<A: Allocator + Clone, F: Files, W: Write, E: Write, P>(
 ) -> Ending
     ensures done { result ≡ Ending.Exit Exit.Done → IsPageTaken (F.store files.old) (F.store files.new) request.entry.target.now
         × Appends (W.contents console.old.output) (W.contents console.new.output) (codes "ok\n") }
-    ensures assumed { result ≡ Ending.Assumed → ⊥ }
+    ensures assumed { result ≡ Ending.Flagged → ⊥ }
     ensures refused { (refusal : Refusal) → result ≡ Ending.Exit (Exit.Refused refusal)
         → (F.store files.new ≡ F.store files.old) × Appends (W.contents console.old.output) (W.contents console.new.output) (line_of refusal) }
     ensures faulty { (fault : RecordingFault) → result ≡ Ending.Faulty fault

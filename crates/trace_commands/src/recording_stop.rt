@@ -82,7 +82,7 @@ fn end_faulty<A: Allocator, W: Write, E: Write, P>(
     words: Option<Words<'_, A>>,
 ) -> Ending
     ensures done { result ≡ Ending.Exit Exit.Done → ⊥ }
-    ensures assumed { result ≡ Ending.Assumed → ⊥ }
+    ensures assumed { result ≡ Ending.Flagged → ⊥ }
     ensures refused { (refusal : Refusal) → result ≡ Ending.Exit (Exit.Refused refusal) → ⊥ }
     ensures faulty { (told : RecordingFault) → result ≡ Ending.Faulty told → (told ≡ fault)
         × Appends (W.contents console.old.output) (W.contents console.new.output) (fault_line fault) }
@@ -109,7 +109,7 @@ pub fn end_stopped<A: Allocator, W: Write, E: Write, P>(
     stop: RecordingStop<'_, A>,
 ) -> Ending
     ensures done { result ≡ Ending.Exit Exit.Done → ⊥ }
-    ensures assumed { result ≡ Ending.Assumed → ⊥ }
+    ensures assumed { result ≡ Ending.Flagged → ⊥ }
     ensures refused { (refusal : Refusal) → result ≡ Ending.Exit (Exit.Refused refusal) → (refusal_in stop.entry ≡ Some refusal)
         × Appends (W.contents console.old.output) (W.contents console.new.output) (line_of refusal) }
     ensures faulty { (fault : RecordingFault) → result ≡ Ending.Faulty fault → (fault_in stop.entry ≡ Some fault)

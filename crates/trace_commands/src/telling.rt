@@ -234,7 +234,7 @@ pub fn tell_legal<A: Allocator + Clone, W: Write, E: Write, P>(
 ) -> Ending
     ensures done { result ≡ Ending.Exit Exit.Done → (may_pass request.entry assumed.now ≡ true)
         × Appends (W.contents console.old.output) (W.contents console.new.output) (legal_text assumed.now) }
-    ensures assumed { result ≡ Ending.Assumed → (may_pass request.entry assumed.now ≡ false)
+    ensures assumed { result ≡ Ending.Flagged → (may_pass request.entry assumed.now ≡ false)
         × Appends (W.contents console.old.output) (W.contents console.new.output) (legal_text assumed.now) }
     ensures refused { (refusal : Refusal) → result ≡ Ending.Exit (Exit.Refused refusal) → ⊥ }
     ensures faulty { (fault : RecordingFault) → result ≡ Ending.Faulty fault → ⊥ }
@@ -261,7 +261,7 @@ pub fn tell_legal<A: Allocator + Clone, W: Write, E: Write, P>(
             if may_pass(request, assumed) {
                 Ending::Exit(Exit::Done)
             } else {
-                Ending::Assumed
+                Ending::Flagged
             }
         }
         exit => Ending::Exit(exit),
@@ -281,7 +281,7 @@ pub(crate) fn tell_faults<A: Allocator + Clone, W: Write, E: Write, P>(
     assumed: &[NotShown],
 ) -> Ending
     ensures done { result ≡ Ending.Exit Exit.Done → ⊥ }
-    ensures assumed { result ≡ Ending.Assumed → ⊥ }
+    ensures assumed { result ≡ Ending.Flagged → ⊥ }
     ensures refused { (refusal : Refusal) → result ≡ Ending.Exit (Exit.Refused refusal) → ⊥ }
     ensures faulty { (fault : RecordingFault) → result ≡ Ending.Faulty fault → (fault ≡ ItemAt first.rule first.item)
         × Appends (W.contents console.old.output) (W.contents console.new.output) (faulty_text told.now assumed.now) }

@@ -17,15 +17,18 @@ use crate::beside::{Beside, PassedOver, Unknown, say_unjudged};
 use crate::carried_watcher::{CarriedWatcher, place_at};
 use crate::check_request::CheckRequest;
 use crate::checking::{
-    CheckedTrace, Judged, copy_trace, find_doubts, find_not_shown_from_start, tell_found,
+    CheckedTrace, Judged, copy_trace, find_doubts, find_not_shown_from_start, find_notes,
+    tell_found,
 };
 use crate::ending::Ending;
+use crate::passed_amount::PassedAmount;
 use crate::past_watcher::PastWatcher;
 use crate::recording_stop::{RecordingStop, end_stopped};
 use crate::tally::Tally;
 use crate::traces::items_of;
 use crate::vendor_check_request::VendorCheckRequest;
 use crate::vendor_sequences::sequences_at;
+use host_notes::HostNoteAt;
 use nand_geometry::Geometry;
 use onfi_cycle::Item;
 use seq_files::Files;
@@ -72,6 +75,31 @@ fn carry_doubts<A: Allocator>(
             item: place_at(places, doubted.item),
             doubt: doubted.doubt,
         })?;
+    }
+    Ok(carried)
+}
+
+// What isn't meant with an item that is kept, with the places of its items.
+fn carry_note(places: &[usize], noted: HostNoteAt) -> HostNoteAt {
+    let HostNoteAt { item, note } = noted;
+    HostNoteAt {
+        item: place_at(places, item),
+        note: match note.before() {
+            Some(before) => note.with_before(place_at(places, before)),
+            None => note,
+        },
+    }
+}
+
+// What isn't meant with items that are kept, at their places.
+fn carry_notes<A: Allocator>(
+    alloc: A,
+    places: &[usize],
+    notes: &[HostNoteAt],
+) -> Result<Vec<HostNoteAt, A>, AllocError> {
+    let mut carried = Vec::new(alloc);
+    for noted in notes {
+        carried.push(carry_note(places, *noted))?;
     }
     Ok(carried)
 }
@@ -163,6 +191,8 @@ fn judge_vendor_text<'p, A: Allocator + Clone, F: Files>(
     let assumed = carry_readies(alloc.clone()?, places.as_slice(), not_shown.as_slice())?;
     let doubted = find_doubts(alloc.clone()?, request, geometry, kept)?;
     let doubts = carry_doubts(alloc.clone()?, places.as_slice(), doubted.as_slice())?;
+    let noted = find_notes(alloc.clone()?, request, geometry, kept)?;
+    let notes = carry_notes(alloc.clone()?, places.as_slice(), noted.as_slice())?;
     let unknown = Unknown::nothing(alloc.clone()?);
     copy_trace(alloc, files, request, geometry, kept)?;
     Ok(Judged {
@@ -174,10 +204,13 @@ fn judge_vendor_text<'p, A: Allocator + Clone, F: Files>(
             tally: Tally::of(kept),
             unknown,
             doubts,
+            notes,
             passed: Some(PassedOver {
                 broken,
-                sequences,
-                items: passed_over,
+                amount: PassedAmount {
+                    sequences,
+                    items: passed_over,
+                },
             }),
         },
     })
@@ -232,7 +265,7 @@ pub fn check_vendor_trace<A: Allocator + Clone, F: Files, W: Write, E: Write, P:
     ensures done { result ≡ Ending.Exit Exit.Done → (printed : List ℕ)
         × IsVendorPassed (F.store files.old) (F.store files.new) request.entry true printed
         × Appends (W.contents console.old.output) (W.contents console.new.output) printed }
-    ensures assumed { result ≡ Ending.Assumed → (printed : List ℕ)
+    ensures assumed { result ≡ Ending.Flagged → (printed : List ℕ)
         × IsVendorPassed (F.store files.old) (F.store files.new) request.entry false printed
         × Appends (W.contents console.old.output) (W.contents console.new.output) printed }
     ensures refused { (refusal : Refusal) → result ≡ Ending.Exit (Exit.Refused refusal)

@@ -1,10 +1,10 @@
-use Rattle.std.proofs.Common.{refl, subst, sym}
+use Rattle.std.proofs.Common.{refl, subst, sym, ◌∙◌}
 use Rattle.seq_inputs.specs.Refusals.{line_of}
 use Rattle.seq_cli.specs.declared.command.Command.{Command}
 use Rattle.seq_inputs.specs.declared.exit.Exit.TheVariants as exit
 use Rattle.trace_commands.specs.Recordings.{fault_line}
-use Rattle.seq_cli.specs.Commands.{IsDone, MayAssume, MayRefuse, MayTell}
-use Rattle.seq_cli.proofs.Endings.{exit_is}
+use Rattle.seq_cli.specs.Commands.{IsDone, MayFlag, MayRefuse, MayTell}
+use Rattle.seq_cli.proofs.Endings.{exit_is, lint_is, denied_is, never_faulty}
 use Rattle.seq_cli.proofs.command.command_on.Goals as goal
 
 pub returns-in-Assemble-clause-refused : goal.returns-in-Assemble-clause-refused
@@ -31,13 +31,35 @@ returns-in-Verify-clause-refused g c = λ refusal is.
       k.1,
     )
 
+pub returns-in-Lint-clause-done : goal.returns-in-Lint-clause-done
+returns-in-Lint-clause-done g c = λ is.
+    let k = c.lint_file.ensures.done (lint_is c.lint_file.result exit.Done (sym c.ending_of.ensures ∙ is)) in
+    (k.0, subst (λ (m : Command). IsDone m (g.R.Read.remaining c.args.input.now) (g.F.Files.store c.args.files.now) (g.F.Files.store c.lint_file.new.files) k.0) (sym c.in-Lint.is) (k.1, c.lint_file.ensures.stays), k.2)
+
+pub returns-in-Lint-clause-flagged : goal.returns-in-Lint-clause-flagged
+returns-in-Lint-clause-flagged g c = λ is.
+    let k = c.lint_file.ensures.denied (denied_is c.lint_file.result (sym c.ending_of.ensures ∙ is)) in
+    (k.0, subst (λ (m : Command). MayFlag m (g.F.Files.store c.args.files.now) (g.F.Files.store c.lint_file.new.files) k.0) (sym c.in-Lint.is) (k.1, c.lint_file.ensures.stays), k.2)
+
 pub returns-in-Lint-clause-refused : goal.returns-in-Lint-clause-refused
 returns-in-Lint-clause-refused g c = λ refusal is.
-    let k = c.lint_file.ensures.refused refusal (exit_is c.lint_file.result (exit.Refused refusal) is) in (
+    let k = c.lint_file.ensures.refused refusal (lint_is c.lint_file.result (exit.Refused refusal) (sym c.ending_of.ensures ∙ is)) in (
       line_of refusal,
       subst (λ (m : Command). MayRefuse m (g.R.Read.remaining c.args.input.now) (g.F.Files.store c.args.files.now) (g.F.Files.store c.lint_file.new.files) refusal (line_of refusal)) (sym c.in-Lint.is) (k.0, c.lint_file.ensures.stays, refl),
       k.1,
     )
+
+pub returns-in-Explain-clause-refused : goal.returns-in-Explain-clause-refused
+returns-in-Explain-clause-refused g c = λ refusal is.
+    let k = c.explain_file.ensures.refused refusal (exit_is c.explain_file.result (exit.Refused refusal) is) in (
+      line_of refusal,
+      subst (λ (m : Command). MayRefuse m (g.R.Read.remaining c.args.input.now) (g.F.Files.store c.args.files.now) (g.F.Files.store c.explain_file.new.files) refusal (line_of refusal)) (sym c.in-Explain.is) (k.0, c.explain_file.ensures.stays, refl),
+      k.1,
+    )
+
+pub returns-in-Lint-clause-faulty : goal.returns-in-Lint-clause-faulty
+returns-in-Lint-clause-faulty g c = λ fault is.
+    absurd (never_faulty c.lint_file.result fault (sym c.ending_of.ensures ∙ is))
 
 pub returns-in-Once-clause-done : goal.returns-in-Once-clause-done
 returns-in-Once-clause-done g c = λ is.
@@ -157,10 +179,10 @@ returns-in-ListOperations-clause-refused g c = λ refusal is.
     let k = c.list_operations.ensures.refused refusal is in
     (line_of refusal, subst (λ (m : Command). MayRefuse m (g.R.Read.remaining c.args.input.now) (g.F.Files.store c.args.files.now) (g.F.Files.store c.list_operations.new.files) refusal (line_of refusal)) (sym c.in-ListOperations.is) (k.0, c.list_operations.ensures.stays, refl), k.1)
 
-pub returns-in-CheckTimes-clause-assumed : goal.returns-in-CheckTimes-clause-assumed
-returns-in-CheckTimes-clause-assumed g c = λ is.
+pub returns-in-CheckTimes-clause-flagged : goal.returns-in-CheckTimes-clause-flagged
+returns-in-CheckTimes-clause-flagged g c = λ is.
     let k = c.check_times.ensures.assumed is in
-    (k.0, subst (λ (m : Command). MayAssume m (g.F.Files.store c.args.files.now) (g.F.Files.store c.check_times.new.files) k.0) (sym c.in-CheckTimes.is) (k.1, c.check_times.ensures.stays), k.2)
+    (k.0, subst (λ (m : Command). MayFlag m (g.F.Files.store c.args.files.now) (g.F.Files.store c.check_times.new.files) k.0) (sym c.in-CheckTimes.is) (k.1, c.check_times.ensures.stays), k.2)
 
 pub returns-in-CheckTimes-clause-faulty : goal.returns-in-CheckTimes-clause-faulty
 returns-in-CheckTimes-clause-faulty g c = λ fault is.
@@ -215,4 +237,57 @@ returns-in-TakePage-clause-faulty g c = λ fault is.
       fault_line fault,
       subst (λ (m : Command). MayTell m (g.F.Files.store c.args.files.now) (g.F.Files.store c.take_page.new.files) fault (fault_line fault)) (sym c.in-TakePage.is) (k.0, refl),
       k.1,
+    )
+
+pub returns-in-CaptureVendor-clause-refused : goal.returns-in-CaptureVendor-clause-refused
+returns-in-CaptureVendor-clause-refused g c = λ refusal is.
+    let k = c.capture_vendor_trace.ensures.refused refusal is in (
+      line_of refusal,
+      subst (λ (m : Command). MayRefuse m (g.R.Read.remaining c.args.input.now) (g.F.Files.store c.args.files.now) (g.F.Files.store c.capture_vendor_trace.new.files) refusal (line_of refusal)) (sym c.in-CaptureVendor.is) (k.0, k.1, refl),
+      k.2,
+    )
+
+pub returns-in-CaptureVendor-clause-faulty : goal.returns-in-CaptureVendor-clause-faulty
+returns-in-CaptureVendor-clause-faulty g c = λ fault is.
+    let k = c.capture_vendor_trace.ensures.faulty fault is in (
+      fault_line fault,
+      subst (λ (m : Command). MayTell m (g.F.Files.store c.args.files.now) (g.F.Files.store c.capture_vendor_trace.new.files) fault (fault_line fault)) (sym c.in-CaptureVendor.is) (k.0, k.1, refl),
+      k.2,
+    )
+
+pub returns-in-PrintCaptureVendor-clause-done : goal.returns-in-PrintCaptureVendor-clause-done
+returns-in-PrintCaptureVendor-clause-done g c = λ is.
+    let k = c.print_vendor_capture.ensures.done is in
+    (k.0, subst (λ (m : Command). IsDone m (g.R.Read.remaining c.args.input.now) (g.F.Files.store c.args.files.now) (g.F.Files.store c.print_vendor_capture.new.files) k.0) (sym c.in-PrintCaptureVendor.is) (k.1, c.print_vendor_capture.ensures.files), k.2)
+
+pub returns-in-PrintCaptureVendor-clause-refused : goal.returns-in-PrintCaptureVendor-clause-refused
+returns-in-PrintCaptureVendor-clause-refused g c = λ refusal is.
+    let k = c.print_vendor_capture.ensures.refused refusal is in (
+      line_of refusal,
+      subst (λ (m : Command). MayRefuse m (g.R.Read.remaining c.args.input.now) (g.F.Files.store c.args.files.now) (g.F.Files.store c.print_vendor_capture.new.files) refusal (line_of refusal)) (sym c.in-PrintCaptureVendor.is) (k.0, c.print_vendor_capture.ensures.files, refl),
+      k.1,
+    )
+
+pub returns-in-PrintCaptureVendor-clause-faulty : goal.returns-in-PrintCaptureVendor-clause-faulty
+returns-in-PrintCaptureVendor-clause-faulty g c = λ fault is.
+    let k = c.print_vendor_capture.ensures.faulty fault is in (
+      fault_line fault,
+      subst (λ (m : Command). MayTell m (g.F.Files.store c.args.files.now) (g.F.Files.store c.print_vendor_capture.new.files) fault (fault_line fault)) (sym c.in-PrintCaptureVendor.is) (k.0, c.print_vendor_capture.ensures.files, refl),
+      k.1,
+    )
+
+pub returns-in-DrawVendor-clause-refused : goal.returns-in-DrawVendor-clause-refused
+returns-in-DrawVendor-clause-refused g c = λ refusal is.
+    let k = c.draw_vendor_trace.ensures.refused refusal is in (
+      line_of refusal,
+      subst (λ (m : Command). MayRefuse m (g.R.Read.remaining c.args.input.now) (g.F.Files.store c.args.files.now) (g.F.Files.store c.draw_vendor_trace.new.files) refusal (line_of refusal)) (sym c.in-DrawVendor.is) (k.0, k.1, refl),
+      k.2,
+    )
+
+pub returns-in-DrawVendor-clause-faulty : goal.returns-in-DrawVendor-clause-faulty
+returns-in-DrawVendor-clause-faulty g c = λ fault is.
+    let k = c.draw_vendor_trace.ensures.faulty fault is in (
+      fault_line fault,
+      subst (λ (m : Command). MayTell m (g.F.Files.store c.args.files.now) (g.F.Files.store c.draw_vendor_trace.new.files) fault (fault_line fault)) (sym c.in-DrawVendor.is) (k.0, k.1, refl),
+      k.2,
     )

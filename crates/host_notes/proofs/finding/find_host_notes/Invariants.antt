@@ -1,0 +1,5 @@
+use Rattle.std.proofs.Common.{ℕ, length}
+use Rattle.host_notes.proofs.finding.find_host_notes.Given as goal
+
+abbrev pub decreases-rest : goal.decreases-rest
+decreases-rest g l = length l.rest
