@@ -1,5 +1,5 @@
 -- What is found of a text: that it is safe, or what is against it.
-use Rattle.std.specs.Prelude.{◌≡◌, ℕ, ◌≤◌, ◌⊎◌, Bool, true, false, List, Option, Some, None, slice_get}
+use Rattle.std.specs.Prelude.{◌≡◌, ℕ, ◌≤◌, ◌<◌, ◌⊎◌, ◌||◌, Bool, true, false, if◌then◌else◌, List, Option, Some, None, is_some, length, slice_get}
 use Rattle.nand_geometry.specs.declared.parts.Parts.{Parts}
 use Rattle.micro_word.specs.declared.word.Word.{Word}
 use Rattle.micro_word.specs.Text.{Microprogram}
@@ -10,11 +10,14 @@ use Rattle.micro_claims.specs.declared.state.State.{State}
 use Rattle.micro_claims.specs.declared.bounds.Bounds.{Bounds}
 use Rattle.micro_claims.specs.State.{bounds_of}
 use Rattle.micro_claims.specs.Reasons.{reason_against}
+use Rattle.micro_program.specs.Lines.{all_lead_on}
 use Rattle.micro_program.specs.Safe.{IsSafe}
 use Rattle.micro_program.specs.Places.{IsShaped}
 use Rattle.micro_program.specs.Verified.{IsFewWalked}
 use Rattle.micro_walk.specs.Shape.{shape_fault}
 use Rattle.micro_walk.specs.Faults.{has_loop, fault_of, before_loops, early_fault}
+use Rattle.micro_walk.specs.declared.lent.Unexamined.{Unexamined}
+use Rattle.micro_walk.specs.declared.lent.Unexamined.TheVariants.{Fault as IsAgainst, TableTooSmall}
 
 -- a reason of the text as a whole
 abbrev pub is_of_shape : Reason → Bool
@@ -55,3 +58,12 @@ pub record IsVerified (text : Microprogram) (g : Parts) (walked : ℕ) : Type 0 
   pub few : IsFewWalked text.words walked
   pub faultless : fault_of g text ≡ None
   pub early : early_fault g text ≡ None
+
+-- how many places a lent table must have for these words: one for each, if one is a branch or a loop and the shape is right
+abbrev pub places_wanted : List Word → ℕ
+places_wanted words = if is_some (shape_fault words) || all_lead_on words then 0 else length words
+
+-- of a table of so many places: something is against the text, and there are enough; or there are too few
+abbrev pub IsUnexamined : Parts → Microprogram → (places : ℕ) → Unexamined → Type 0
+IsUnexamined g text places (IsAgainst fault) = MayBe g text fault × (places_wanted text.words ≤ places)
+IsUnexamined g text places (TableTooSmall wanted) = (wanted ≡ places_wanted text.words) × (places < wanted)

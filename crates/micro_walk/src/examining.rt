@@ -64,8 +64,11 @@ fn first_fault(geometry: &Geometry, bounds: Bounds, words: &[Word]) -> Option<Fa
     None
 }
 
-// A text without branches and loops: how many words were walked, or why it is refused.
-fn examine_straight<A: Allocator>(text: &Text<A>, geometry: &Geometry) -> Result<u64, Fault>
+/// A text without branches and loops: how many words were walked, or why it is refused.
+pub(crate) fn examine_straight<A: Allocator>(
+    text: &Text<A>,
+    geometry: &Geometry,
+) -> Result<u64, Fault>
     requires shape { shape_fault text.now.words ≡ None }
     requires straight { all_lead_on text.now.words ≡ true }
     ensures verified { IfOk result (λ walked. IsVerified text.now geometry.now walked) }
@@ -154,8 +157,8 @@ fn examine_loops<A: Allocator>(
     }
 }
 
-// A text with branches or loops, with room for what is known before each word.
-fn examine_ways<A: Allocator>(
+/// A text with branches or loops, with room for what is known before each word.
+pub(crate) fn examine_ways<A: Allocator>(
     text: &Text<A>,
     geometry: &Geometry,
     known: &mut [Option<State>],

@@ -13,6 +13,7 @@ use Rattle.micro_word.proofs.Files.{reading_of}
 use Rattle.refused_run.specs.declared.search.Run.{Run}
 use Rattle.refused_run.specs.Course.{IsBroken, task_of}
 use Rattle.micro_verify.specs.Lazy.{Counter}
+use Rattle.onfiseq_verify_c.specs.Verify.{Finds, FindsText}
 use Rattle.onfiseq_verify_c.specs.Run.{own_run, run_at, told, run_of, FindsOrLacks, FindsShown, IsSought}
 
 -- a page and a file are read, and this is found of the text
@@ -26,6 +27,15 @@ read_and_found page file g x (F.Text reason word) shown e f finds s =
     record { run = run_of g x (F.Text reason word); is_shown = s; finds = record { read = record { g = g; declares = e; x = x; is_file = f; finds = finds }; is_run = refl } }
 read_and_found page file g x F.OutOfMemory shown e f finds s =
     record { run = None; is_shown = s; finds = ((subst (λ (r : Result Parts PageFault). IsOk r) (sym e) refl, subst (λ (r : Result Microprogram WordRefusal). IsOk r) (sym (reading_of file x f)) refl), refl) }
+
+-- this is found of the text of a file
+pub found_of_text : (page file : List ℕ) (g : Parts) (x : Microprogram) (found : Found) → read_of page ≡ Ok g → IsFileOf file x → FindsText g x found → Finds page file found
+found_of_text page file g x F.Accepted e f finds = record { g = g; declares = e; x = x; is_file = f; finds = finds }
+found_of_text page file g x (F.Page fault) e f finds = absurd finds
+found_of_text page file g x (F.File fault word) e f finds = absurd finds
+found_of_text page file g x (F.Text reason word) e f finds = record { g = g; declares = e; x = x; is_file = f; finds = finds }
+found_of_text page file g x F.OutOfMemory e f finds =
+    (subst (λ (r : Result Parts PageFault). IsOk r) (sym e) refl, subst (λ (r : Result Microprogram WordRefusal). IsOk r) (sym (reading_of file x f)) refl)
 
 -- a run that was found of the text is one of the file
 pub sought_of : {A : Type 0} (page file : List ℕ) (g : Parts) (x : Microprogram) (o : Option (Run A)) → read_of page ≡ Ok g → IsFileOf file x

@@ -1,11 +1,11 @@
 -- What is said of a word file for a parameter page.
-use Rattle.std.specs.Prelude.{◌≡◌, ℕ, List, Ok, Err, IsOk}
+use Rattle.std.specs.Prelude.{◌≡◌, ℕ, ◌≤◌, List, Ok, Err, IsOk}
 use Rattle.nand_geometry.specs.declared.parts.Parts.{Parts}
 use Rattle.nand_geometry.specs.Reading.{read_of}
 use Rattle.micro_word.specs.declared.refusal.WordRefusal.TheVariants.{Fault}
 use Rattle.micro_word.specs.Text.{Microprogram, IsFileOf}
 use Rattle.micro_word.specs.Reading.{reading}
-use Rattle.micro_walk.specs.Verdicts.{MayBe, IsVerified}
+use Rattle.micro_walk.specs.Verdicts.{MayBe, IsVerified, places_wanted}
 use Rattle.onfiseq_verify_c.specs.declared.verdict.Found.{Found}
 use Rattle.onfiseq_verify_c.specs.declared.verdict.Found.TheVariants as F
 use Rattle.onfiseq_verify_c.specs.declared.verdict.OnfiseqVerdict.{OnfiseqVerdict}
@@ -23,11 +23,12 @@ answer_of (F.File fault word) = verdict 77 (word_fault_number fault) word
 answer_of (F.Text reason word) = verdict 86 (reason_number reason) word
 answer_of F.OutOfMemory = verdict 79 0 0
 
--- of a text: it is verified, so its jobs may run; or there is this reason against it. Its verification takes no memory
+-- of a text: it is verified, so its jobs may run; or there is this reason against it. Memory is taken for a table with a place for each word, and only where
+-- branches or loops want one
 abbrev pub FindsText : Parts → Microprogram → Found → Type 0
 FindsText g x F.Accepted = (walked : ℕ) × IsVerified x g walked
 FindsText g x (F.Text reason word) = MayBe g x (record { word = word; reason = reason })
-FindsText g x F.OutOfMemory = ⊥
+FindsText g x F.OutOfMemory = 1 ≤ places_wanted x.words
 FindsText g x (F.Page fault) = ⊥
 FindsText g x (F.File fault word) = ⊥
 

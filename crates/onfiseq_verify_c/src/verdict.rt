@@ -1,5 +1,5 @@
 //! What is found of a word file.
-ghost use Rattle.std.specs.Prelude.{◌≡◌, None, Ok, IfOk, IfErr, IfSome, reverse};
+ghost use Rattle.std.specs.Prelude.{◌≡◌, None, Ok, IfOk, IfErr, IfSome, length, reverse};
 ghost use Rattle.refused_run.specs.Course.{IsBroken, task_of};
 ghost use Rattle.nand_geometry.specs.Reading.{read_of};
 ghost use Rattle.micro_word.specs.Text.{IsFileOf};
@@ -8,9 +8,9 @@ ghost use Rattle.micro_verify.specs.Playing.{Shown};
 ghost use Rattle.onfiseq_verify_c.specs.Verify.{Finds, FindsText, LacksProgram, answer_of};
 ghost use Rattle.onfiseq_verify_c.specs.Run.{FindsOrLacks, FindsShown, IsSought, run_of};
 
-use micro_claims::{Fault, Reason};
+use micro_claims::{Fault, Reason, State};
 use micro_verify::{Counter, counter_of};
-use micro_walk::examine;
+use micro_walk::{Unexamined, examine_in, places_wanted};
 use micro_word::{Text, WordFault, WordRefusal, read};
 use nand_geometry::{Geometry, PageFault};
 use refused_run::{Run, find_run};
@@ -115,13 +115,28 @@ fn read_program(alloc: Global, page: &[u8], file: &[u8]) -> Result<Program, Foun
     }
 }
 
-// What is found of a text. It takes no memory.
-fn examined(program: &Program) -> Found
+// A table with so many places.
+fn make_table(alloc: Global, places: usize) -> Result<Vec<Option<State>>, AllocError>
+    ensures { IfOk result (λ table. length table.items ≡ places) }
+{
+    let mut table = Vec::with_capacity(alloc, places)?;
+    table.resize(places, None)?;
+    Ok(table)
+}
+
+// What is found of a text, with a table that takes memory where it has branches or loops.
+fn examined(alloc: Global, program: &Program) -> Found
     ensures { FindsText program.now.geometry program.now.text result }
 {
-    match examine(&program.text, &program.geometry) {
+    let places = places_wanted(program.text.words());
+    let Ok(mut table) = make_table(alloc, places) else {
+        return Found::OutOfMemory;
+    };
+    match examine_in(&program.text, &program.geometry, table.as_mut_slice()) {
         Ok(_walked) => Found::Accepted,
-        Err(Fault { reason, word }) => Found::Text { reason, word },
+        Err(Unexamined::Fault(Fault { reason, word })) => Found::Text { reason, word },
+        // The table has as many places as are wanted.
+        Err(Unexamined::TableTooSmall { .. }) => Found::OutOfMemory,
     }
 }
 
@@ -130,7 +145,7 @@ pub(crate) fn found_of(alloc: Global, page: &[u8], file: &[u8]) -> Found
     ensures { Finds page.now file.now result }
 {
     match read_program(alloc, page, file) {
-        Ok(program) => examined(&program),
+        Ok(program) => examined(alloc, &program),
         Err(found) => found,
     }
 }
@@ -174,15 +189,18 @@ fn finding_of_fault(program: &Program, fault: Fault, steps: u64) -> Finding
 }
 
 // What is found of a text, with its run.
-fn finding_of_text(program: &Program, steps: u64) -> Finding
+fn finding_of_text(alloc: Global, program: &Program, steps: u64) -> Finding
     ensures finds { FindsOrLacks program.now.geometry program.now.text result.found }
     ensures run { Shown result.run (run_of program.now.geometry program.now.text result.found) }
     ensures alone { IfSome result.sought (λ run. result.run ≡ None) }
     ensures sought { IfSome result.sought (λ run. IsBroken (task_of program.now.geometry program.now.text) (reverse run.items.items) run.end) }
 {
-    match examine(&program.text, &program.geometry) {
-        Ok(_walked) => Finding::without_run(Found::Accepted),
-        Err(fault) => finding_of_fault(program, fault, steps),
+    let found = examined(alloc, program);
+    match found {
+        Found::Text { reason, word } => finding_of_fault(program, Fault { word, reason }, steps),
+        Found::Accepted | Found::Page(_) | Found::File { .. } | Found::OutOfMemory => {
+            Finding::without_run(found)
+        }
     }
 }
 
@@ -193,7 +211,7 @@ pub(crate) fn finding_of(alloc: Global, page: &[u8], file: &[u8], steps: u64) ->
     ensures sought { IfSome result.sought (λ run. IsSought page.now file.now run.items.items run.end) }
 {
     match read_program(alloc, page, file) {
-        Ok(program) => finding_of_text(&program, steps),
+        Ok(program) => finding_of_text(alloc, &program, steps),
         Err(found) => Finding::without_run(found),
     }
 }
