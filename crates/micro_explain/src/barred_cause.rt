@@ -1,5 +1,6 @@
 //! A command that programs may not use.
 
+use crate::outside::name_outside;
 use crate::refused::Refused;
 use onfi_cycle::Command;
 use std::fmt;
@@ -9,7 +10,7 @@ use std::fmt;
 pub enum BarredCause {
     /// `stat` and `wait` ask for the status.
     Poll,
-    /// No command has this byte.
+    /// No command of the profile has this byte.
     NoCommand { byte: u8 },
     /// The parameter page declares no operations of several planes.
     SeveralPlanes,
@@ -57,7 +58,10 @@ impl fmt::Display for BarredCause {
     fn fmt<W: fmt::Write>(&self, f: &mut fmt::Formatter<W>) -> fmt::Result {
         match self {
             BarredCause::Poll => f.write_str("programs ask for the status by `stat` or `wait`"),
-            BarredCause::NoCommand { byte } => write!(f, "no command has the byte {byte:02x}"),
+            BarredCause::NoCommand { byte } => match name_outside(*byte) {
+                Some(name) => write!(f, "{byte:02x}h ({name}) isn't in the profile"),
+                None => write!(f, "no command has the byte {byte:02x}"),
+            },
             BarredCause::SeveralPlanes => f.write_str(
                 "the parameter page declares no program and erase of several planes",
             ),

@@ -25,6 +25,7 @@ mod need;
 mod no_driver;
 mod open;
 mod output_cause;
+mod outside;
 mod poll_at;
 mod poll_word;
 mod queue_cause;

@@ -164,7 +164,7 @@ fn ends_too_soon(rt: HostRuntime) -> Result<(), Fail> {
 }
 
 // Commands that programs may not use.
-const BARRED: [Try<'static>; 9] = [
+const BARRED: [Try<'static>; 11] = [
     Try {
         words: "cmd 70\nend 0",
         told: "word 0: programs ask for the status by `stat` or `wait` (V16)",
@@ -178,6 +178,16 @@ const BARRED: [Try<'static>; 9] = [
     Try {
         words: "cmd 42\nend 0",
         told: "word 0: no command has the byte 42 (V16)",
+        ..PLAIN
+    },
+    Try {
+        words: "cmd 35\nend 0",
+        told: "word 0: 35h (copyback read) isn't in the profile (V16)",
+        ..PLAIN
+    },
+    Try {
+        words: "cmd fa\nend 0",
+        told: "word 0: fah (reset LUN) isn't in the profile (V16)",
         ..PLAIN
     },
     Try {
