@@ -13,6 +13,7 @@ use crate::steps::count_steps;
 use channel_work::Name;
 use nand_geometry::Geometry;
 use seq_core::Job;
+use seq_inputs::CountedHeader;
 use std::alloc::{AllocError, Global};
 
 /// The image of a die, which is written after the run.
@@ -38,6 +39,8 @@ pub struct PlannedJob<'a> {
     pub line: usize,
     /// How many words it and the jobs before it step at most, all together.
     pub steps: u64,
+    /// The header that was counted for its program, if one was.
+    pub counted: Option<CountedHeader<'a>>,
 }
 
 /// The jobs of a run.
@@ -142,6 +145,7 @@ impl<'a> PlannedJobs<'a> {
         line: usize,
         job: Job,
         output: Option<&'a str>,
+        counted: Option<CountedHeader<'a>>,
     ) -> Result<(), AllocError>
         ensures outputs { OnOk result (planned_outputs self.new.all.items ≡ planned_outputs self.old.all.items
             ++ (option_copied output.entry ∷ [])) }
@@ -165,6 +169,7 @@ impl<'a> PlannedJobs<'a> {
             output,
             line,
             steps: self.steps,
+            counted,
         })?;
         Ok(())
     }

@@ -21,7 +21,8 @@ use run_file::{Numbered, RunFault, RunRefusal, RunText, Statement};
 use seq_core::Job;
 use seq_files::Files;
 use seq_inputs::{
-    Fault, MOST_BUFFER_BYTES, Refusal, Stop, Words, geometry_at, verified_at, words_of_job,
+    CountedHeader, Fault, MOST_BUFFER_BYTES, Refusal, Stop, VerifiedProgram, Words, geometry_at,
+    verified_at, words_of_job,
 };
 use std::alloc::Global;
 
@@ -73,6 +74,13 @@ fn find_lun<'a>(
     })
 }
 
+// A job, and the header that was counted for its program, if one was.
+#[derive(Drop)]
+struct ReadJob<'a> {
+    job: Job,
+    counted: Option<CountedHeader<'a>>,
+}
+
 // The job of a word file, with its buffer.
 #[tactic(auto, using(crate::proofs::JobLines::job_refused, crate::proofs::JobLines::job_passes, crate::proofs::JobLines::is_job))]
 fn read_job<'a, F: Files>(
@@ -84,18 +92,18 @@ fn read_job<'a, F: Files>(
     base: u32,
     text: &'a str,
     input: Option<&'a str>,
-) -> Result<Job, Stop<'a>>
+) -> Result<ReadJob<'a>, Stop<'a>>
     ensures ok { OnOk result (JobPasses (F.store files.old) geometry targets lun base text.now (option_copied input.entry)) }
-    ensures job { IfOk result (IsJobOf (F.store files.old) geometry lun base text.now (option_copied input.entry)) }
+    ensures job { IfOk result (λ read. IsJobOf (F.store files.old) geometry lun base text.now (option_copied input.entry) read.job) }
     ensures err { IfErr result (Says (JobLineIsRefused (F.store files.old) geometry targets lun base text.now
         (option_copied input.entry))) }
     ensures stays { F.store files.new ≡ F.store files.old }
 {
-    let verified = verified_at(alloc, files, text, geometry)?;
+    let VerifiedProgram { verified, counted } = verified_at(alloc, files, text, geometry)?;
     let length = verified.text().buffer() as usize;
     let buffer = read_buffer(alloc, files, input, length)?;
     match Job::new(geometry, targets, lun, base, verified, buffer) {
-        Ok(job) => Ok(job),
+        Ok(job) => Ok(ReadJob { job, counted }),
         Err(refused) => {
             let fault = refused.fault;
             let rows = refused.verified.text().rows();
@@ -206,12 +214,14 @@ impl<'a> RunPlan<'a> {
         ensures stays { F.store files.new ≡ F.store files.old }
     {
         let (geometry, targets) = (self.dies.geometry, self.dies.targets);
-        let job = read_job(alloc, files, geometry, targets, lun, base, text, input)?;
+        let ReadJob { job, counted } = read_job(
+            alloc, files, geometry, targets, lun, base, text, input,
+        )?;
         let bytes = self.jobs.count_buffer_bytes(&job);
         if bytes > MOST_BUFFER_BYTES {
             return Err(Stop::BuffersTooLarge { bytes, line: None });
         }
-        self.jobs.push(alloc, line, job, output)?;
+        self.jobs.push(alloc, line, job, output, counted)?;
         Ok(())
     }
 

@@ -10,13 +10,14 @@ use std::alloc::Allocator;
 use std::fmt;
 use std::io::{self, Write};
 
-// A header that was counted.
-#[derive(Clone, Copy)]
-struct Counted {
-    header: Header,
+/// The microprogram at a path is an assembly text without a header, and this one was counted for it.
+#[derive(Clone, Copy, Debug)]
+pub struct CountedHeader<'p> {
+    pub path: &'p str,
+    pub header: Header,
 }
 
-impl fmt::Display for Counted {
+impl fmt::Display for CountedHeader<'_> {
     fn fmt<W: fmt::Write>(&self, f: &mut fmt::Formatter<W>) -> fmt::Result {
         let Header {
             rows,
@@ -30,19 +31,39 @@ impl fmt::Display for Counted {
     }
 }
 
-// Says it of the file of this path.
-fn say<E: Write>(errors: &mut E, style: Style, path: &str, counted: Counted) -> io::Result<()> {
-    match style {
-        Style::Plain => writeln!(errors, "{}: {counted}", Shown::path(path))?,
-        Style::Json => {
-            let told = Told {
-                path: Some(path),
-                ..Told::message(&counted)
-            };
-            writeln!(errors, "{told}")?;
+impl<'p> CountedHeader<'p> {
+    /// The header that was counted for the text of a microprogram that was read from these bytes; none where they have one.
+    pub fn of<A: Allocator>(
+        path: &'p str,
+        bytes: &[u8],
+        text: &Text<A>,
+    ) -> Option<CountedHeader<'p>> {
+        if is_headless(bytes) {
+            let header = Header::of(text);
+            Some(CountedHeader { path, header })
+        } else {
+            None
         }
     }
-    errors.flush()
+
+    fn write<E: Write>(self, errors: &mut E, style: Style) -> io::Result<()> {
+        match style {
+            Style::Plain => writeln!(errors, "{}: {self}", Shown::path(self.path))?,
+            Style::Json => {
+                let told = Told {
+                    path: Some(self.path),
+                    ..Told::message(&self)
+                };
+                writeln!(errors, "{told}")?;
+            }
+        }
+        errors.flush()
+    }
+
+    /// Says it. Where standard error takes nothing, nothing is said.
+    pub fn say<E: Write>(self, errors: &mut E, style: Style) {
+        let _ = self.write(errors, style);
+    }
 }
 
 /// Says which header was counted for a microprogram that was read from these bytes, where they are a text without one. Where standard error takes
@@ -54,8 +75,7 @@ pub fn say_counted<A: Allocator, E: Write>(
     bytes: &[u8],
     text: &Text<A>,
 ) {
-    if is_headless(bytes) {
-        let header = Header::of(text);
-        let _ = say(errors, style, path, Counted { header });
+    if let Some(counted) = CountedHeader::of(path, bytes, text) {
+        counted.say(errors, style);
     }
 }

@@ -21,7 +21,7 @@ mod told;
 mod words;
 
 pub use console::Console;
-pub use counted::say_counted;
+pub use counted::{CountedHeader, say_counted};
 pub use ending::{end_without_memory, fail, fail_as, finish, say_words};
 pub use exit::Exit;
 pub use explaining::{words_of, words_of_job, words_of_note, words_of_reason};
@@ -29,8 +29,8 @@ pub use fault::Fault;
 pub use headed::{Headed, is_headless, read_headed, with_least_header};
 pub use lines::{push_end_line, push_refusal_line};
 pub use reading::{
-    geometry_at, geometry_in, is_source, read_file, read_program, read_source, read_words, text_of,
-    try_file, verified_at, verify_program, words_at, write_file, write_files,
+    VerifiedProgram, geometry_at, geometry_in, is_source, read_file, read_program, read_source,
+    read_words, text_of, try_file, verified_at, verify_program, words_at, write_file, write_files,
 };
 pub use refusal::Refusal;
 pub use stop::{MOST_BUFFER_BYTES, Stop};

@@ -9,6 +9,7 @@ ghost use Rattle.seq_files.specs.Store.{Holds, with_file, with_all, written_of};
 ghost use Rattle.seq_inputs.specs.Inputs.{HasPage, PageIsRefused, RefusesPage, HasFile, FileIsRefused, RefusesFile, is_blank, is_source, RefusesSource, IsProgram, RefusesProgram, HasText, RefusesReason, FileOrTextIsRefused};
 ghost use Rattle.seq_inputs.specs.Stops.{Says, RefusesNothing};
 
+use crate::counted::CountedHeader;
 use crate::explaining::{words_of, words_of_file, words_of_reason, words_of_source};
 use crate::fault::Fault;
 use crate::headed::{is_headless, read_headless};
@@ -20,7 +21,7 @@ use micro_walk::examine;
 use micro_word::{Text, WordRefusal, read};
 use nand_geometry::Geometry;
 use seq_files::{FileFault, Files, NewFile, NotWritten};
-use std::alloc::Allocator;
+use std::alloc::{Allocator, Global};
 
 /// The bytes of a file.
 pub fn read_file<'p, A: Allocator, F: Files>(
@@ -263,6 +264,13 @@ pub fn verify_program<'p, A: Allocator + Clone>(
     }
 }
 
+/// A microprogram that was read and verified, and the header that was counted for it, if one was.
+#[derive(Drop)]
+pub struct VerifiedProgram<'p, A: Allocator = Global> {
+    pub verified: Verified<A>,
+    pub counted: Option<CountedHeader<'p>>,
+}
+
 /// The microprogram at a path, an assembly text or a word file, verified for a geometry.
 #[tactic(auto, using(crate::proofs::Verifieds::has_text, crate::proofs::Verifieds::file_said, crate::proofs::Verifieds::reason_said))]
 pub fn verified_at<'p, A: Allocator + Clone, F: Files>(
@@ -270,8 +278,8 @@ pub fn verified_at<'p, A: Allocator + Clone, F: Files>(
     files: &mut F,
     path: &'p str,
     geometry: Geometry,
-) -> Result<Verified<A>, Stop<'p, A>>
-    ensures ok { IfOk result (λ v. HasText (F.store files.old) geometry path.now v.text × (v.geometry ≡ geometry)) }
+) -> Result<VerifiedProgram<'p, A>, Stop<'p, A>>
+    ensures ok { IfOk result (λ p. HasText (F.store files.old) geometry path.now p.verified.text × (p.verified.geometry ≡ geometry)) }
     ensures err { IfErr result (Says (FileOrTextIsRefused (F.store files.old) geometry path.now)) }
     ensures stays { F.store files.new ≡ F.store files.old }
 {
@@ -280,8 +288,9 @@ pub fn verified_at<'p, A: Allocator + Clone, F: Files>(
         Ok(text) => text,
         Err(stop) => return Err(stop),
     };
+    let counted = CountedHeader::of(path, bytes.as_slice(), &text);
     match verify_program(alloc, path, bytes.as_slice(), text, geometry) {
-        Ok(verified) => Ok(verified),
+        Ok(verified) => Ok(VerifiedProgram { verified, counted }),
         Err(stop) => Err(stop),
     }
 }

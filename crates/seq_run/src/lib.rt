@@ -4,6 +4,7 @@
 //! ([`plan_run`](run_plan::plan_run)), then what was planned is run in threads, and what came of it is written last.
 #![tactic(auto)]
 
+mod counted_headers;
 mod gate;
 mod hosts;
 mod job_ends;

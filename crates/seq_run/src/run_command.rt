@@ -11,6 +11,7 @@ ghost use Rattle.run_plan.specs.Planned.{outputs_of, images_in, planned_outputs,
 ghost use Rattle.seq_run.specs.Runs.{Outcome, IsOutcomeOf, writes_of, lines_of, IsRunDone, RunIsRefused, RunMayLeave};
 ghost use Rattle.run_plan.specs.Plans.{IsSetUpFrom};
 
+use crate::counted_headers::say_counted_headers;
 use crate::phases::{NoClock, Phase, RunProgress, Times};
 use crate::request::RunRequest;
 use crate::running::run_as_planned;
@@ -196,6 +197,7 @@ fn run_text<R: Threads + Wait + Sync, C: Clock, F: Files, W: Write, E: Write, P:
         return Exit::OutOfMemory;
     }
     say_no_job(&mut console.errors, request, &plan.jobs);
+    say_counted_headers(alloc, &mut console.errors, &plan.jobs);
     match admit_files(alloc, files, &mut console.errors, request, text) {
         Ok(true) => {}
         Ok(false) => return Exit::Usage,

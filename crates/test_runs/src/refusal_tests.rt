@@ -252,17 +252,17 @@ fn a_job_of_an_assembly_text(rt: HostRuntime) -> Result<(), Fail> {
     files.put("bare", b"cmd 60\naddr 2 3\ncmd d0\nwait\nend 4\n")?;
     files.put(
         "run",
-        b"page one\ntargets 1\njob 0 0 0 source - -\njob 0 0 4 bare - -\n",
+        b"page one\ntargets 1\njob 0 0 0 source - -\njob 0 0 4 bare - -\njob 0 0 8 bare - -\n",
     )?;
     let request = RunRequest {
         is_quiet: true,
         ..ask(1)
     };
     let played = play(&rt, &mut files, request);
-    assert_eq!(rt;
-        played.seen()?,
-        (Exit::Done, "job 1 end 3\njob 2 end 4\n", "")
-    );
+    let ends = "job 1 end 3\njob 2 end 4\njob 3 end 4\n";
+    let said =
+        "bare: it has no header, for which `rows 1`, `buffer 0` and `budget 5` are counted\n";
+    assert_eq!(rt; played.seen()?, (Exit::Done, ends, said));
     files.put("run", b"page one\ntargets 1\n")?;
     let played = play(&rt, &mut files, request);
     let said = "run: no line `job` stands there: nothing is run\n";
