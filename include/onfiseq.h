@@ -304,8 +304,8 @@ struct onfiseq_verdict {
 };
 
 /**
- * Verifies a word file for the chip of a parameter page. It asks for memory once, 8 bytes for each
- * word of the file: 8 KB at most.
+ * Verifies a word file for the chip of a parameter page. It asks for 8 bytes for each word of the
+ * file, and where the program has a branch or a loop for 256 more: 264 KB at most.
  */
 struct onfiseq_verdict onfiseq_verify(const uint8_t *page, size_t page_length, const uint8_t *file,
                                       size_t file_length);

@@ -1,5 +1,5 @@
 //! What is found of a word file.
-ghost use Rattle.std.specs.Prelude.{◌≡◌, None, Ok, IfOk, IfErr, IfSome, length, reverse};
+ghost use Rattle.std.specs.Prelude.{◌≡◌, ◌≤◌, None, Ok, IfOk, IfErr, IfSome, length, reverse};
 ghost use Rattle.refused_run.specs.Course.{IsBroken, task_of};
 ghost use Rattle.nand_geometry.specs.Reading.{read_of};
 ghost use Rattle.micro_word.specs.Text.{IsFileOf};
@@ -115,12 +115,15 @@ fn read_program(alloc: Global, page: &[u8], file: &[u8]) -> Result<Program, Foun
     }
 }
 
-// A table with so many places.
+// A table with so many places, which takes no memory for none.
 fn make_table(alloc: Global, places: usize) -> Result<Vec<Option<State>>, AllocError>
-    ensures { IfOk result (λ table. length table.items ≡ places) }
+    ensures ok { IfOk result (λ table. length table.items ≡ places) }
+    ensures err { IfErr result (λ _. 1 ≤ places) }
 {
-    let mut table = Vec::with_capacity(alloc, places)?;
-    table.resize(places, None)?;
+    let mut table = Vec::new(alloc);
+    if places > 0 {
+        table.resize(places, None)?;
+    }
     Ok(table)
 }
 
