@@ -7,7 +7,7 @@ use crate::examining::{examine_straight, examine_ways};
 use crate::shape::shape_fault;
 use micro_claims::{Fault, State};
 use micro_program::all_lead_on;
-use micro_word::{Text, Word};
+use micro_word::Text;
 use nand_geometry::Geometry;
 use std::alloc::Allocator;
 
@@ -20,26 +20,16 @@ pub enum Unexamined {
     TableTooSmall { wanted: usize },
 }
 
-/// How many places [`examine_in`] wants for these words: one for each word of a text with branches or loops, else none. A text whose shape is wrong
+/// How many places [`examine_in`] wants for a text: one for each word of a text with branches or loops, else none. A text whose shape is wrong
 /// wants none.
-pub fn places_wanted(words: &[Word]) -> usize
-    ensures { result ≡ places_wanted words.now }
+pub fn places_wanted<A: Allocator>(text: &Text<A>) -> usize
+    ensures { result ≡ places_wanted text.now.words }
 {
+    let words = text.words();
     if shape_fault(words).is_some() || all_lead_on(words) {
         0
     } else {
         words.len()
-    }
-}
-
-// What was found, with a table that is large enough.
-fn told(found: Result<u64, Fault>) -> Result<u64, Unexamined>
-    ensures ok { (walked : ℕ) → result ≡ Ok walked → found ≡ Ok walked }
-    ensures err { IfErr result (λ e. (fault : AFault) × (e ≡ IsAgainst fault) × (found ≡ Err fault)) }
-{
-    match found {
-        Ok(walked) => Ok(walked),
-        Err(fault) => Err(Unexamined::Fault(fault)),
     }
 }
 
@@ -58,7 +48,10 @@ pub fn examine_in<A: Allocator>(
         return Err(Unexamined::Fault(fault));
     }
     if all_lead_on(words) {
-        return told(examine_straight(text, geometry));
+        return match examine_straight(text, geometry) {
+            Ok(walked) => Ok(walked),
+            Err(fault) => Err(Unexamined::Fault(fault)),
+        };
     }
     let wanted = words.len();
     if table.len() < wanted {
@@ -66,5 +59,8 @@ pub fn examine_in<A: Allocator>(
     }
     let (places, _) = table.split_at_mut(wanted);
     places.fill(None);
-    told(examine_ways(text, geometry, places))
+    match examine_ways(text, geometry, places) {
+        Ok(walked) => Ok(walked),
+        Err(fault) => Err(Unexamined::Fault(fault)),
+    }
 }

@@ -131,7 +131,7 @@ fn make_table(alloc: Global, places: usize) -> Result<Vec<Option<State>>, AllocE
 fn examined(alloc: Global, program: &Program) -> Found
     ensures { FindsText program.now.geometry program.now.text result }
 {
-    let places = places_wanted(program.text.words());
+    let places = places_wanted(&program.text);
     let Ok(mut table) = make_table(alloc, places) else {
         return Found::OutOfMemory;
     };
