@@ -6,8 +6,12 @@
 #![tactic(auto)]
 
 mod answering;
+mod choices;
 mod command;
 mod command_line;
+mod declarations;
+mod declared;
+mod form;
 mod lent_progress;
 mod mistake;
 mod named_command;

@@ -1,0 +1,26 @@
+//! Which values an argument takes.
+
+use clap::Arg;
+
+/// Which values an argument takes.
+#[derive(Clone, Copy)]
+pub(crate) enum Choices {
+    Any,
+    OneToFour,
+    OneToEight,
+    OneTwoFour,
+}
+
+impl Choices {
+    /// An argument that takes these alone.
+    pub(crate) fn give<'a>(self, arg: Arg<'a>) -> Arg<'a> {
+        match self {
+            Choices::Any => arg,
+            Choices::OneToFour => arg.value_parser(["1", "2", "3", "4"].as_slice()),
+            Choices::OneToEight => {
+                arg.value_parser(["1", "2", "3", "4", "5", "6", "7", "8"].as_slice())
+            }
+            Choices::OneTwoFour => arg.value_parser(["1", "2", "4"].as_slice()),
+        }
+    }
+}
