@@ -58,118 +58,10 @@ fn see(alloc: Global, text: &str, request: CheckRequest<'_>) -> Result<Seen, Fai
     })
 }
 
-// A check ends with this status, and prints and says this.
-fn expect(
-    rt: &(impl Abort + AllocGlobal),
-    seen: &Seen,
-    status: u8,
-    printed: &str,
-    said: &str,
-) -> Result<(), Fail> {
-    assert_eq!(rt; seen.exit.status(), status);
-    assert_eq!(rt; str::from_utf8(seen.output.as_slice())?, printed);
-    assert_eq!(rt; str::from_utf8(seen.errors.as_slice())?, said);
-    Ok(())
-}
-
-#[test]
-fn the_first_fault(rt: HostRuntime) -> Result<(), Fail> {
-    let request = CheckRequest {
-        readies: Readies::Shown,
-        ..REQUEST
-    };
-    let seen = see(rt.alloc(), RECORDED, request)?;
-    expect(
-        &rt,
-        &seen,
-        1,
-        "refused F2 at 8\n",
-        "bus.trace:9: item 8, `0 C ef`: outside of the profile, 0 cycles passed over (F2)\n",
-    )
-}
-
-#[test]
-fn all_faults(rt: HostRuntime) -> Result<(), Fail> {
-    let request = CheckRequest {
-        tells_all: true,
-        readies: Readies::Shown,
-        ..REQUEST
-    };
-    let seen = see(rt.alloc(), RECORDED, request)?;
-    expect(
-        &rt,
-        &seen,
-        1,
-        "refused F2 at 8\nrefused F3 at 11\n",
-        "bus.trace:9: item 8, `0 C ef`: outside of the profile, 0 cycles passed over (F2)\nbus.trace:12: item 11, `0 C 60`: a sequence is open: `80` (line 10) wants address 2 of 5 next (F3)\njudged: 8 commands, 7 addresses, 0 inputs, 3 outputs, 0 readies; 2 faults\n",
-    )
-}
-
-// The file that is written has this text.
-fn expect_written(rt: &(impl Abort + AllocGlobal), seen: &Seen, text: &str) -> Result<(), Fail> {
-    assert_eq!(rt; seen.files.get("whole.trace"), Some(text.as_bytes()));
-    Ok(())
-}
-
 const WRITE: CheckRequest<'static> = CheckRequest {
     copy: Some("whole.trace"),
     ..REQUEST
 };
-
-// The trace that is judged is written, whether it is legal or not.
-#[test]
-fn a_trace_with_faults_is_written(rt: HostRuntime) -> Result<(), Fail> {
-    let request = CheckRequest {
-        readies: Readies::Shown,
-        ..WRITE
-    };
-    expect_written(&rt, &see(rt.alloc(), RECORDED, request)?, WHOLE)
-}
-
-#[test]
-fn a_legal_trace_is_written(rt: HostRuntime) -> Result<(), Fail> {
-    let legal = "0 C 70\n0 O e0\n";
-    let seen = see(rt.alloc(), legal, WRITE)?;
-    expect(&rt, &seen, 0, "legal\n", "")?;
-    expect_written(&rt, &seen, legal)
-}
-
-#[test]
-fn a_recorded_trace_that_is_legal(rt: HostRuntime) -> Result<(), Fail> {
-    let recorded = "0 C 60\n0 A 04\n0 A 00\n0 A 00\n0 C d0\n0 C 70\n0 O 80\n0 O e0\n0 C 00\n";
-    let request = CheckRequest {
-        tells_all: true,
-        readies: Readies::Shown,
-        ..REQUEST
-    };
-    expect(
-        &rt,
-        &see(rt.alloc(), recorded, request)?,
-        0,
-        "legal\n",
-        "judged: 4 commands, 3 addresses, 0 inputs, 2 outputs, 0 readies; 0 faults\n",
-    )
-}
-
-// Nothing is written of a text that is no trace.
-#[test]
-fn a_text_that_is_no_trace(rt: HostRuntime) -> Result<(), Fail> {
-    let request = CheckRequest {
-        tells_all: true,
-        copy: Some("whole.trace"),
-        ..REQUEST
-    };
-    let seen = see(rt.alloc(), "0 C 70\n0 X\n", request)?;
-    assert_eq!(rt; seen.exit.status(), 1);
-    assert_eq!(rt;
-        str::from_utf8(seen.output.as_slice())?,
-        "refused X1 at 2\n"
-    );
-    assert_eq!(rt; seen.files.get("whole.trace"), None);
-    Ok(())
-}
-
-// ---- recorded texts
 
 // The same faults, in a log with times, comments and blanks.
 const LOG: &str = "# an erase, and then a feature\r\n\
@@ -186,151 +78,6 @@ const LOGGED: CheckRequest<'static> = CheckRequest {
     ..REQUEST
 };
 
-// What is said of an item names its line in the log and its time.
-#[test]
-fn a_fault_of_a_log(rt: HostRuntime) -> Result<(), Fail> {
-    expect(
-        &rt,
-        &see(rt.alloc(), LOG, LOGGED)?,
-        1,
-        "refused F2 at 5\n",
-        "bus.trace:8: item 5 at 900, `@900   0 C ef`: outside of the profile, 0 cycles passed over (F2)\n",
-    )
-}
-
-// Without the option it is no trace.
-#[test]
-fn a_log_as_a_strict_text(rt: HostRuntime) -> Result<(), Fail> {
-    let seen = see(rt.alloc(), LOG, REQUEST)?;
-    assert_eq!(rt; seen.exit.status(), 1);
-    assert_eq!(rt;
-        str::from_utf8(seen.output.as_slice())?,
-        "refused X1 at 1\n"
-    );
-    Ok(())
-}
-
-// A line of a log that is no item is refused with its number.
-#[test]
-fn a_line_of_a_log(rt: HostRuntime) -> Result<(), Fail> {
-    let seen = see(rt.alloc(), "# a log\n@1 0 C 70\n@2 0 O E0\n", LOGGED)?;
-    assert_eq!(rt; seen.exit.status(), 1);
-    assert_eq!(rt;
-        str::from_utf8(seen.output.as_slice())?,
-        "refused X2 at 3\n"
-    );
-    Ok(())
-}
-
-// What is judged is written in the strict form.
-#[test]
-fn a_log_is_written_as_a_strict_text(rt: HostRuntime) -> Result<(), Fail> {
-    let request = CheckRequest {
-        copy: Some("whole.trace"),
-        ..LOGGED
-    };
-    let seen = see(rt.alloc(), "@5 0 C 70 # status\n\n@9\t0 O e0\n", request)?;
-    expect(&rt, &seen, 0, "legal\n", "")?;
-    expect_written(&rt, &seen, "0 C 70\n0 O e0\n")
-}
-
-// ---- what is told to a tool
-
-#[test]
-fn faults_as_json(rt: HostRuntime) -> Result<(), Fail> {
-    let request = CheckRequest {
-        tells_all: true,
-        readies: Readies::Shown,
-        style: Style::Json,
-        ..REQUEST
-    };
-    expect(
-        &rt,
-        &see(rt.alloc(), RECORDED, request)?,
-        1,
-        "refused F2 at 8\nrefused F3 at 11\n",
-        "{\"code\":\"F2\",\"file\":\"bus.trace\",\"line\":9,\"item\":8,\"message\":\"item 8, `0 C ef`: outside of the profile, 0 cycles passed over (F2)\"}\n{\"code\":\"F3\",\"file\":\"bus.trace\",\"line\":12,\"item\":11,\"message\":\"item 11, `0 C 60`: a sequence is open: `80` (line 10) wants address 2 of 5 next (F3)\"}\n{\"file\":\"bus.trace\",\"verdict\":\"refused\",\"items\":18,\"faults\":2,\"assumed\":0,\"passed_over\":0}\n",
-    )
-}
-
-#[test]
-fn files_that_are_refused_as_json(rt: HostRuntime) -> Result<(), Fail> {
-    let request = CheckRequest {
-        style: Style::Json,
-        ..REQUEST
-    };
-    let seen = see(rt.alloc(), "0 C 70\n0 \"\n", request)?;
-    assert_eq!(rt; seen.exit.status(), 1);
-    let said = str::from_utf8(seen.errors.as_slice())?;
-    assert!(rt;
-        said.starts_with(
-            "{\"code\":\"X1\",\"file\":\"bus.trace\",\"line\":2,\"message\":\"`0 \\\"`: "
-        ),
-        "{said}"
-    );
-    let missing = CheckRequest {
-        input: "other.trace",
-        ..request
-    };
-    let seen = see(rt.alloc(), "", missing)?;
-    assert_eq!(rt; seen.exit.status(), 2);
-    assert_eq!(rt;
-        str::from_utf8(seen.errors.as_slice())?,
-        "{\"file\":\"other.trace\",\"message\":\"there is no such file\"}\n{\"file\":\"other.trace\",\"verdict\":\"unreadable\",\"items\":0,\"faults\":0,\"assumed\":0,\"passed_over\":0}\n"
-    );
-    let log = CheckRequest {
-        style: Style::Json,
-        ..LOGGED
-    };
-    let seen = see(rt.alloc(), "@70 0 O e0\n", log)?;
-    assert_eq!(rt;
-        str::from_utf8(seen.errors.as_slice())?,
-        "{\"code\":\"F12\",\"file\":\"bus.trace\",\"line\":1,\"item\":0,\"time\":70,\"message\":\"item 0 at 70, `@70 0 O e0`: no LUN drives the bus: nothing was read yet (F12)\"}\n{\"file\":\"bus.trace\",\"verdict\":\"refused\",\"items\":1,\"faults\":1,\"assumed\":0,\"passed_over\":0}\n"
-    );
-    Ok(())
-}
-
-// A trace that was recorded while the bus was in use: the end of a read, and a read of a register that nobody saw filled.
-#[test]
-fn a_trace_from_the_middle(rt: HostRuntime) -> Result<(), Fail> {
-    let request = CheckRequest {
-        beginning: Beginning::Middle,
-        ..REQUEST
-    };
-    let seen = see(rt.alloc(), "0 O 12\n0 C 00\n0 O 55\n0 C 60\n", request)?;
-    expect(
-        &rt,
-        &seen,
-        0,
-        "legal\n",
-        "bus.trace:3: item 2, `0 O 55`: taken for granted, since what was before isn't known: an output comes in an open sequence, or with other than one driver (F12)\nfrom the middle: cycles passed over 1, taken for granted 1\n",
-    )
-}
-
-// A status byte that shows RDY while the LUN works.
-#[test]
-fn a_status_that_contradicts_its_trace(rt: HostRuntime) -> Result<(), Fail> {
-    let request = CheckRequest {
-        judges_bytes: true,
-        has_notes: false,
-        ..REQUEST
-    };
-    let seen = see(
-        rt.alloc(),
-        "0 C 60\n0 A 00\n0 A 00\n0 A 00\n0 C d0\n0 C 70\n0 O e0\n",
-        request,
-    )?;
-    expect(
-        &rt,
-        &seen,
-        0,
-        "legal\n",
-        "bus.trace:7: item 6, `0 O e0`: the status shows RDY, and no ready of the LUN came before\n",
-    )
-}
-
-// ---- readies that nothing showed
-
 // Two erases of a host that waits by the clock.
 const BY_CLOCK: &str =
     "0 C 60\n0 A 04\n0 A 00\n0 A 00\n0 C d0\n0 C 60\n0 A 08\n0 A 00\n0 A 00\n0 C d0\n";
@@ -343,106 +90,359 @@ const SHOWN: CheckRequest<'static> = CheckRequest {
     ..REQUEST
 };
 
-// It is legal, and what was taken for ready is said; the bytes contradict nothing.
-#[test]
-fn a_ready_that_nothing_showed(rt: HostRuntime) -> Result<(), Fail> {
-    let request = CheckRequest {
-        judges_bytes: true,
-        has_notes: false,
-        ..SHOWN
-    };
-    expect(
-        &rt,
-        &see(rt.alloc(), BY_CLOCK, request)?,
-        5,
-        "legal\nassumed ready at 5\n",
-        "bus.trace:6: item 5, `0 C 60`: not shown ready: LUN 0 of target 0 is taken for ready here (else F9: the LUN is busy)\nnot shown ready: 1 in all\n",
+// What stands on standard error.
+#[derive(Clone, Copy)]
+enum Said {
+    All(&'static str),
+    Beginning(&'static str),
+    Anything,
+}
+
+impl Said {
+    fn is_met(self, said: &str) -> bool {
+        match self {
+            Said::All(all) => said == all,
+            Said::Beginning(beginning) => said.starts_with(beginning),
+            Said::Anything => true,
+        }
+    }
+}
+
+// A check, the status with which it ends, what it prints and says, and the trace that it writes, if it writes one.
+struct Row {
+    what: &'static str,
+    text: &'static str,
+    request: CheckRequest<'static>,
+    status: u8,
+    printed: &'static str,
+    said: Said,
+    written: Option<&'static str>,
+}
+
+const ROWS: [Row; 23] = [
+    Row {
+        what: "the first fault",
+        text: RECORDED,
+        request: SHOWN,
+        status: 1,
+        printed: "refused F2 at 8\n",
+        said: Said::All(
+            "bus.trace:9: item 8, `0 C ef`: outside of the profile, 0 cycles passed over (F2)\n",
+        ),
+        written: None,
+    },
+    Row {
+        what: "all faults",
+        text: RECORDED,
+        request: CheckRequest {
+            tells_all: true,
+            ..SHOWN
+        },
+        status: 1,
+        printed: "refused F2 at 8\nrefused F3 at 11\n",
+        said: Said::All(
+            "bus.trace:9: item 8, `0 C ef`: outside of the profile, 0 cycles passed over (F2)\nbus.trace:12: item 11, `0 C 60`: a sequence is open: `80` (line 10) wants address 2 of 5 next (F3)\njudged: 8 commands, 7 addresses, 0 inputs, 3 outputs, 0 readies; 2 faults\n",
+        ),
+        written: None,
+    },
+    Row {
+        what: "a trace with faults is written",
+        text: RECORDED,
+        request: CheckRequest {
+            copy: Some("whole.trace"),
+            ..SHOWN
+        },
+        status: 1,
+        printed: "refused F2 at 8\n",
+        said: Said::Anything,
+        written: Some(WHOLE),
+    },
+    Row {
+        what: "a legal trace is written",
+        text: "0 C 70\n0 O e0\n",
+        request: WRITE,
+        status: 0,
+        printed: "legal\n",
+        said: Said::All(""),
+        written: Some("0 C 70\n0 O e0\n"),
+    },
+    Row {
+        what: "a recorded trace that is legal",
+        text: "0 C 60\n0 A 04\n0 A 00\n0 A 00\n0 C d0\n0 C 70\n0 O 80\n0 O e0\n0 C 00\n",
+        request: CheckRequest {
+            tells_all: true,
+            ..SHOWN
+        },
+        status: 0,
+        printed: "legal\n",
+        said: Said::All(
+            "judged: 4 commands, 3 addresses, 0 inputs, 2 outputs, 0 readies; 0 faults\n",
+        ),
+        written: None,
+    },
+    Row {
+        what: "nothing is written of a text that is no trace",
+        text: "0 C 70\n0 X\n",
+        request: CheckRequest {
+            tells_all: true,
+            ..WRITE
+        },
+        status: 1,
+        printed: "refused X1 at 2\n",
+        said: Said::Anything,
+        written: None,
+    },
+    Row {
+        what: "a fault of a log names its line and its time",
+        text: LOG,
+        request: LOGGED,
+        status: 1,
+        printed: "refused F2 at 5\n",
+        said: Said::All(
+            "bus.trace:8: item 5 at 900, `@900   0 C ef`: outside of the profile, 0 cycles passed over (F2)\n",
+        ),
+        written: None,
+    },
+    Row {
+        what: "a log without the option is no trace",
+        text: LOG,
+        request: REQUEST,
+        status: 1,
+        printed: "refused X1 at 1\n",
+        said: Said::Anything,
+        written: None,
+    },
+    Row {
+        what: "a line of a log that is no item",
+        text: "# a log\n@1 0 C 70\n@2 0 O E0\n",
+        request: LOGGED,
+        status: 1,
+        printed: "refused X2 at 3\n",
+        said: Said::Anything,
+        written: None,
+    },
+    Row {
+        what: "a log is written in the strict form",
+        text: "@5 0 C 70 # status\n\n@9\t0 O e0\n",
+        request: CheckRequest {
+            copy: Some("whole.trace"),
+            ..LOGGED
+        },
+        status: 0,
+        printed: "legal\n",
+        said: Said::All(""),
+        written: Some("0 C 70\n0 O e0\n"),
+    },
+    Row {
+        what: "faults as JSON",
+        text: RECORDED,
+        request: CheckRequest {
+            tells_all: true,
+            style: Style::Json,
+            ..SHOWN
+        },
+        status: 1,
+        printed: "refused F2 at 8\nrefused F3 at 11\n",
+        said: Said::All(
+            "{\"code\":\"F2\",\"file\":\"bus.trace\",\"line\":9,\"item\":8,\"message\":\"item 8, `0 C ef`: outside of the profile, 0 cycles passed over (F2)\"}\n{\"code\":\"F3\",\"file\":\"bus.trace\",\"line\":12,\"item\":11,\"message\":\"item 11, `0 C 60`: a sequence is open: `80` (line 10) wants address 2 of 5 next (F3)\"}\n{\"file\":\"bus.trace\",\"verdict\":\"refused\",\"items\":18,\"faults\":2,\"assumed\":0,\"passed_over\":0}\n",
+        ),
+        written: None,
+    },
+    Row {
+        what: "a text that is no trace, as JSON",
+        text: "0 C 70\n0 \"\n",
+        request: CheckRequest {
+            style: Style::Json,
+            ..REQUEST
+        },
+        status: 1,
+        printed: "refused X1 at 2\n",
+        said: Said::Beginning(
+            "{\"code\":\"X1\",\"file\":\"bus.trace\",\"line\":2,\"message\":\"`0 \\\"`: ",
+        ),
+        written: None,
+    },
+    Row {
+        what: "a file that isn't there, as JSON",
+        text: "",
+        request: CheckRequest {
+            style: Style::Json,
+            input: "other.trace",
+            ..REQUEST
+        },
+        status: 2,
+        printed: "",
+        said: Said::All(
+            "{\"file\":\"other.trace\",\"message\":\"there is no such file\"}\n{\"file\":\"other.trace\",\"verdict\":\"unreadable\",\"items\":0,\"faults\":0,\"assumed\":0,\"passed_over\":0}\n",
+        ),
+        written: None,
+    },
+    Row {
+        what: "a fault of a log, as JSON",
+        text: "@70 0 O e0\n",
+        request: CheckRequest {
+            style: Style::Json,
+            ..LOGGED
+        },
+        status: 1,
+        printed: "refused F12 at 0\n",
+        said: Said::All(
+            "{\"code\":\"F12\",\"file\":\"bus.trace\",\"line\":1,\"item\":0,\"time\":70,\"message\":\"item 0 at 70, `@70 0 O e0`: no LUN drives the bus: nothing was read yet (F12)\"}\n{\"file\":\"bus.trace\",\"verdict\":\"refused\",\"items\":1,\"faults\":1,\"assumed\":0,\"passed_over\":0}\n",
+        ),
+        written: None,
+    },
+    Row {
+        what: "the end of a read, and a register that nobody saw filled",
+        text: "0 O 12\n0 C 00\n0 O 55\n0 C 60\n",
+        request: CheckRequest {
+            beginning: Beginning::Middle,
+            ..REQUEST
+        },
+        status: 0,
+        printed: "legal\n",
+        said: Said::All(
+            "bus.trace:3: item 2, `0 O 55`: taken for granted, since what was before isn't known: an output comes in an open sequence, or with other than one driver (F12)\nfrom the middle: cycles passed over 1, taken for granted 1\n",
+        ),
+        written: None,
+    },
+    Row {
+        what: "a status byte that shows RDY while the LUN works",
+        text: "0 C 60\n0 A 00\n0 A 00\n0 A 00\n0 C d0\n0 C 70\n0 O e0\n",
+        request: CheckRequest {
+            judges_bytes: true,
+            ..REQUEST
+        },
+        status: 0,
+        printed: "legal\n",
+        said: Said::All(
+            "bus.trace:7: item 6, `0 O e0`: the status shows RDY, and no ready of the LUN came before\n",
+        ),
+        written: None,
+    },
+    Row {
+        what: "a ready that nothing showed; the bytes contradict nothing",
+        text: BY_CLOCK,
+        request: CheckRequest {
+            judges_bytes: true,
+            ..SHOWN
+        },
+        status: 5,
+        printed: "legal\nassumed ready at 5\n",
+        said: Said::All(
+            "bus.trace:6: item 5, `0 C 60`: not shown ready: LUN 0 of target 0 is taken for ready here (else F9: the LUN is busy)\nnot shown ready: 1 in all\n",
+        ),
+        written: None,
+    },
+    Row {
+        what: "a ready that nothing showed is written",
+        text: BY_CLOCK,
+        request: CheckRequest {
+            copy: Some("whole.trace"),
+            ..SHOWN
+        },
+        status: 5,
+        printed: "legal\nassumed ready at 5\n",
+        said: Said::Anything,
+        written: Some(
+            "0 C 60\n0 A 04\n0 A 00\n0 A 00\n0 C d0\n0 R 0 0\n0 C 60\n0 A 08\n0 A 00\n0 A 00\n0 C d0\n",
+        ),
+    },
+    Row {
+        what: "a ready that nothing showed may be taken for granted",
+        text: BY_CLOCK,
+        request: CheckRequest {
+            assumes_ready: true,
+            ..SHOWN
+        },
+        status: 0,
+        printed: "legal\nassumed ready at 5\n",
+        said: Said::Anything,
+        written: None,
+    },
+    Row {
+        what: "nothing is taken for granted that the recording denies",
+        text: DENIED,
+        request: SHOWN,
+        status: 1,
+        printed: "refused F9 at 7\n",
+        said: Said::All("bus.trace:8: item 7, `0 C 60`: LUN 0 works since `d0` (line 5) (F9)\n"),
+        written: None,
+    },
+    Row {
+        what: "a ready that isn't written",
+        text: BY_CLOCK,
+        request: REQUEST,
+        status: 1,
+        printed: "refused F9 at 5\n",
+        said: Said::All("bus.trace:6: item 5, `0 C 60`: LUN 0 works since `d0` (line 5) (F9)\n"),
+        written: None,
+    },
+    Row {
+        what: "a ready that nothing showed, as JSON",
+        text: BY_CLOCK,
+        request: CheckRequest {
+            style: Style::Json,
+            ..SHOWN
+        },
+        status: 5,
+        printed: "legal\nassumed ready at 5\n",
+        said: Said::All(
+            "{\"file\":\"bus.trace\",\"line\":6,\"item\":5,\"message\":\"item 5, `0 C 60`: not shown ready: LUN 0 of target 0 is taken for ready here (else F9: the LUN is busy)\"}\n{\"message\":\"not shown ready: 1 in all\"}\n{\"file\":\"bus.trace\",\"verdict\":\"legal\",\"items\":10,\"faults\":0,\"assumed\":1,\"passed_over\":0}\n",
+        ),
+        written: None,
+    },
+    Row {
+        what: "a ready that nothing showed from the middle, beside a fault",
+        text: "0 O 12\n0 C ff\n0 C 60\n0 C ef\n",
+        request: CheckRequest {
+            beginning: Beginning::Middle,
+            ..SHOWN
+        },
+        status: 1,
+        printed: "refused F2 at 3\nassumed ready at 2\n",
+        said: Said::All(
+            "bus.trace:4: item 3, `0 C ef`: the command is unknown, or the parameter page doesn't declare it (F2)\nbus.trace:3: item 2, `0 C 60`: not shown ready: LUN 0 of target 0 is taken for ready here (else F9: the LUN is busy)\nnot shown ready: 1 in all\nfrom the middle: cycles passed over 1, taken for granted 0\n",
+        ),
+        written: None,
+    },
+];
+
+// What was seen of a row's check is what the row has.
+fn is_met(row: &Row, seen: &Seen) -> Result<bool, Fail> {
+    let written = row.written.map(|text| text.as_bytes());
+    Ok(
+        seen.exit.status() == row.status
+            && seen.output.as_slice() == row.printed.as_bytes()
+            && row.said.is_met(str::from_utf8(seen.errors.as_slice())?)
+            && seen.files.get("whole.trace") == written,
     )
 }
 
-// It is written.
-#[test]
-fn a_ready_that_nothing_showed_is_written(rt: HostRuntime) -> Result<(), Fail> {
-    let request = CheckRequest {
-        copy: Some("whole.trace"),
-        ..SHOWN
-    };
-    expect_written(
-        &rt,
-        &see(rt.alloc(), BY_CLOCK, request)?,
-        "0 C 60\n0 A 04\n0 A 00\n0 A 00\n0 C d0\n0 R 0 0\n0 C 60\n0 A 08\n0 A 00\n0 A 00\n0 C d0\n",
-    )
+// What was seen in place of what a row has; nothing where it is met.
+fn difference(alloc: Global, row: &Row) -> Result<String, Fail> {
+    let seen = see(alloc, row.text, row.request)?;
+    if is_met(row, &seen)? {
+        return Ok(String::new(alloc));
+    }
+    let output = str::from_utf8(seen.output.as_slice())?;
+    let errors = str::from_utf8(seen.errors.as_slice())?;
+    let status = seen.exit.status();
+    Ok(format!(in alloc; "{}: {status} {output}{errors}", row.what)?)
 }
 
-// It may be taken for granted.
+// What was seen in place of what rows have.
+fn differences(alloc: Global) -> Result<String, Fail> {
+    let mut all = String::new(alloc);
+    for row in &ROWS {
+        all.push_str(difference(alloc, row)?.as_str())?;
+    }
+    Ok(all)
+}
+
 #[test]
-fn a_ready_that_is_assumed(rt: HostRuntime) -> Result<(), Fail> {
-    let request = CheckRequest {
-        assumes_ready: true,
-        ..SHOWN
-    };
-    let seen = see(rt.alloc(), BY_CLOCK, request)?;
-    assert_eq!(rt;
-        (seen.exit.status(), seen.output.as_slice()),
-        (0, "legal\nassumed ready at 5\n".as_bytes())
-    );
+fn checks(rt: HostRuntime) -> Result<(), Fail> {
+    assert_eq!(rt; differences(rt.alloc())?.as_str(), "");
     Ok(())
-}
-
-// Nothing is taken for granted that the recording denies.
-#[test]
-fn a_ready_that_is_denied(rt: HostRuntime) -> Result<(), Fail> {
-    expect(
-        &rt,
-        &see(rt.alloc(), DENIED, SHOWN)?,
-        1,
-        "refused F9 at 7\n",
-        "bus.trace:8: item 7, `0 C 60`: LUN 0 works since `d0` (line 5) (F9)\n",
-    )
-}
-
-// Where readies are written the same trace is refused.
-#[test]
-fn a_ready_that_is_not_written(rt: HostRuntime) -> Result<(), Fail> {
-    expect(
-        &rt,
-        &see(rt.alloc(), BY_CLOCK, REQUEST)?,
-        1,
-        "refused F9 at 5\n",
-        "bus.trace:6: item 5, `0 C 60`: LUN 0 works since `d0` (line 5) (F9)\n",
-    )
-}
-
-#[test]
-fn a_ready_that_nothing_showed_as_json(rt: HostRuntime) -> Result<(), Fail> {
-    let request = CheckRequest {
-        style: Style::Json,
-        ..SHOWN
-    };
-    expect(
-        &rt,
-        &see(rt.alloc(), BY_CLOCK, request)?,
-        5,
-        "legal\nassumed ready at 5\n",
-        "{\"file\":\"bus.trace\",\"line\":6,\"item\":5,\"message\":\"item 5, `0 C 60`: not shown ready: LUN 0 of target 0 is taken for ready here (else F9: the LUN is busy)\"}\n{\"message\":\"not shown ready: 1 in all\"}\n{\"file\":\"bus.trace\",\"verdict\":\"legal\",\"items\":10,\"faults\":0,\"assumed\":1,\"passed_over\":0}\n",
-    )
-}
-
-// From the middle, beside what is passed over; and beside a fault.
-#[test]
-fn a_ready_that_nothing_showed_in_the_middle(rt: HostRuntime) -> Result<(), Fail> {
-    let request = CheckRequest {
-        beginning: Beginning::Middle,
-        ..SHOWN
-    };
-    let seen = see(rt.alloc(), "0 O 12\n0 C ff\n0 C 60\n0 C ef\n", request)?;
-    expect(
-        &rt,
-        &seen,
-        1,
-        "refused F2 at 3\nassumed ready at 2\n",
-        "bus.trace:4: item 3, `0 C ef`: the command is unknown, or the parameter page doesn't declare it (F2)\nbus.trace:3: item 2, `0 C 60`: not shown ready: LUN 0 of target 0 is taken for ready here (else F9: the LUN is busy)\nnot shown ready: 1 in all\nfrom the middle: cycles passed over 1, taken for granted 0\n",
-    )
 }
 
 // A reset, as often as this, and after each of them an address of the device.
