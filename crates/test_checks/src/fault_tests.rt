@@ -212,9 +212,20 @@ const RECORDED_AS_SHOWN: Judged<'static> = Judged {
     faults: &[],
 };
 
+const ROWS: [Judged<'static>; 8] = [
+    FOREIGN,
+    HOST,
+    DROPPED,
+    NOT_ENDED,
+    BUSY,
+    READIES,
+    RECORDED_AS_WRITTEN,
+    RECORDED_AS_SHOWN,
+];
+
 #[test]
-fn foreign_sequences(rt: HostRuntime) -> Result<(), Fail> {
-    for judged in [FOREIGN, HOST, DROPPED] {
+fn all_faults(rt: HostRuntime) -> Result<(), Fail> {
+    for judged in ROWS {
         expect_faults(&rt, judged)?;
     }
     Ok(())
@@ -234,74 +245,51 @@ fn cycles_that_are_passed_over(rt: HostRuntime) -> Result<(), Fail> {
     )
 }
 
-#[test]
-fn sequences_that_are_not_ended(rt: HostRuntime) -> Result<(), Fail> {
-    expect_faults(&rt, NOT_ENDED)
+// A recorded trace, and the same with the readies that its status outputs show.
+#[derive(Clone, Copy)]
+struct Recording<'a> {
+    parts: Parts,
+    text: &'a str,
+    whole: &'a str,
 }
 
-#[test]
-fn work_on_a_busy_lun(rt: HostRuntime) -> Result<(), Fail> {
-    expect_faults(&rt, BUSY)
-}
-
-#[test]
-fn readies_that_are_none(rt: HostRuntime) -> Result<(), Fail> {
-    expect_faults(&rt, READIES)
-}
+const RECORDINGS: [Recording<'static>; 5] = [
+    // RDY with FAIL, and without.
+    Recording {
+        parts: SMALL_CHIP,
+        text: RECORDED,
+        whole: "0 C 60\n0 A 00\n0 A 00\n0 A 00\n0 C d0\n0 C 70\n0 O 80\n0 R 0 1\n0 O e1\n0 C 60\n0 A 04\n0 A 00\n0 A 00\n0 C d0\n0 C 70\n0 R 0 0\n0 O e0\n",
+    },
+    // RDY alone, and then ARDY, after the next page is asked for.
+    Recording {
+        parts: WITH_CACHE,
+        text: "0 C 00\n0 A 00\n0 A 00\n0 A 00\n0 A 00\n0 A 00\n0 C 30\n0 C 70\n0 O e0\n0 C 31\n0 C 70\n0 O 80\n0 O c0\n0 O e0\n0 O e0\n",
+        whole: "0 C 00\n0 A 00\n0 A 00\n0 A 00\n0 A 00\n0 A 00\n0 C 30\n0 C 70\n0 R 0 0\n0 O e0\n0 C 31\n0 C 70\n0 O 80\n0 R 0 0\n0 O c0\n0 Y 0\n0 O e0\n0 O e0\n",
+    },
+    // Both at once.
+    Recording {
+        parts: WITH_CACHE,
+        text: "0 C 00\n0 A 00\n0 A 00\n0 A 00\n0 A 00\n0 A 00\n0 C 30\n0 C 70\n0 O e0\n0 C 31\n0 C 70\n0 O e0\n",
+        whole: "0 C 00\n0 A 00\n0 A 00\n0 A 00\n0 A 00\n0 A 00\n0 C 30\n0 C 70\n0 R 0 0\n0 O e0\n0 C 31\n0 C 70\n0 R 0 0\n0 Y 0\n0 O e0\n",
+    },
+    // The status of one LUN says nothing of the other, and data that looks like a status says nothing.
+    Recording {
+        parts: TWO_LUNS,
+        text: "0 C 60\n0 A 00\n0 A 00\n0 A 00\n0 C d0\n0 C 78\n0 A 20\n0 A 00\n0 A 00\n0 O e0\n0 C 78\n0 A 00\n0 A 00\n0 A 00\n0 O e0\n",
+        whole: "0 C 60\n0 A 00\n0 A 00\n0 A 00\n0 C d0\n0 C 78\n0 A 20\n0 A 00\n0 A 00\n0 O e0\n0 C 78\n0 A 00\n0 A 00\n0 A 00\n0 R 0 0\n0 O e0\n",
+    },
+    // What a trace has already, it keeps, and it is one whose text can be written.
+    Recording {
+        parts: SMALL_CHIP,
+        text: "0 C 60\n0 A 00\n0 A 00\n0 A 00\n0 C d0\n0 C 70\n0 O 80\n0 R 0 0\n0 O e0\n",
+        whole: "0 C 60\n0 A 00\n0 A 00\n0 A 00\n0 C d0\n0 C 70\n0 O 80\n0 R 0 0\n0 O e0\n",
+    },
+];
 
 #[test]
 fn readies_that_status_shows(rt: HostRuntime) -> Result<(), Fail> {
-    expect_faults(&rt, RECORDED_AS_WRITTEN)?;
-    expect_faults(&rt, RECORDED_AS_SHOWN)
-}
-
-// RDY with FAIL, and without.
-#[test]
-fn recorded_erases(rt: HostRuntime) -> Result<(), Fail> {
-    expect_whole(
-        &rt,
-        SMALL_CHIP,
-        RECORDED,
-        "0 C 60\n0 A 00\n0 A 00\n0 A 00\n0 C d0\n0 C 70\n0 O 80\n0 R 0 1\n0 O e1\n0 C 60\n0 A 04\n0 A 00\n0 A 00\n0 C d0\n0 C 70\n0 R 0 0\n0 O e0\n",
-    )
-}
-
-// RDY alone, and then ARDY, after the next page is asked for.
-#[test]
-fn recorded_cache_reads(rt: HostRuntime) -> Result<(), Fail> {
-    expect_whole(
-        &rt,
-        WITH_CACHE,
-        "0 C 00\n0 A 00\n0 A 00\n0 A 00\n0 A 00\n0 A 00\n0 C 30\n0 C 70\n0 O e0\n0 C 31\n0 C 70\n0 O 80\n0 O c0\n0 O e0\n0 O e0\n",
-        "0 C 00\n0 A 00\n0 A 00\n0 A 00\n0 A 00\n0 A 00\n0 C 30\n0 C 70\n0 R 0 0\n0 O e0\n0 C 31\n0 C 70\n0 O 80\n0 R 0 0\n0 O c0\n0 Y 0\n0 O e0\n0 O e0\n",
-    )
-}
-
-// Both at once.
-#[test]
-fn recorded_cache_reads_that_end_at_once(rt: HostRuntime) -> Result<(), Fail> {
-    expect_whole(
-        &rt,
-        WITH_CACHE,
-        "0 C 00\n0 A 00\n0 A 00\n0 A 00\n0 A 00\n0 A 00\n0 C 30\n0 C 70\n0 O e0\n0 C 31\n0 C 70\n0 O e0\n",
-        "0 C 00\n0 A 00\n0 A 00\n0 A 00\n0 A 00\n0 A 00\n0 C 30\n0 C 70\n0 R 0 0\n0 O e0\n0 C 31\n0 C 70\n0 R 0 0\n0 Y 0\n0 O e0\n",
-    )
-}
-
-// The status of one LUN says nothing of the other, and data that looks like a status says nothing.
-#[test]
-fn the_lun_that_shows_its_status(rt: HostRuntime) -> Result<(), Fail> {
-    expect_whole(
-        &rt,
-        TWO_LUNS,
-        "0 C 60\n0 A 00\n0 A 00\n0 A 00\n0 C d0\n0 C 78\n0 A 20\n0 A 00\n0 A 00\n0 O e0\n0 C 78\n0 A 00\n0 A 00\n0 A 00\n0 O e0\n",
-        "0 C 60\n0 A 00\n0 A 00\n0 A 00\n0 C d0\n0 C 78\n0 A 20\n0 A 00\n0 A 00\n0 O e0\n0 C 78\n0 A 00\n0 A 00\n0 A 00\n0 R 0 0\n0 O e0\n",
-    )
-}
-
-// What a trace has already, it keeps, and it is one whose text can be written.
-#[test]
-fn traces_that_are_whole(rt: HostRuntime) -> Result<(), Fail> {
-    let whole = "0 C 60\n0 A 00\n0 A 00\n0 A 00\n0 C d0\n0 C 70\n0 O 80\n0 R 0 0\n0 O e0\n";
-    expect_whole(&rt, SMALL_CHIP, whole, whole)
+    for Recording { parts, text, whole } in RECORDINGS {
+        expect_whole(&rt, parts, text, whole)?;
+    }
+    Ok(())
 }

@@ -130,11 +130,6 @@ const ERASES: Judged<'static> = Judged {
     whole: "0 C 60\n0 A 00\n0 A 00\n0 A 00\n0 C d0\n0 R 0 0\n0 C 60\n0 A 04\n0 A 00\n0 A 00\n0 C d0\n",
 };
 
-#[test]
-fn erases(rt: HostRuntime) -> Result<(), Fail> {
-    expect(&rt, ERASES)
-}
-
 // A read, and its data.
 const DATA: Judged<'static> = Judged {
     parts: SMALL_CHIP,
@@ -147,11 +142,6 @@ const DATA: Judged<'static> = Judged {
     whole: "0 C 00\n0 A 00\n0 A 00\n0 A 00\n0 A 00\n0 A 00\n0 C 30\n0 R 0 0\n0 O 12\n0 O 13\n",
 };
 
-#[test]
-fn data(rt: HostRuntime) -> Result<(), Fail> {
-    expect(&rt, DATA)
-}
-
 // A read, and a change of its column.
 const COLUMN: Judged<'static> = Judged {
     parts: SMALL_CHIP,
@@ -163,11 +153,6 @@ const COLUMN: Judged<'static> = Judged {
     }],
     whole: "0 C 00\n0 A 00\n0 A 00\n0 A 00\n0 A 00\n0 A 00\n0 C 30\n0 R 0 0\n0 C 05\n0 A 01\n0 A 00\n0 C e0\n0 O 13\n",
 };
-
-#[test]
-fn columns(rt: HostRuntime) -> Result<(), Fail> {
-    expect(&rt, COLUMN)
-}
 
 // A cache read of three pages: what waits for the ready is a 31, a data output or the 3F.
 const CACHE: Judged<'static> = Judged {
@@ -195,11 +180,6 @@ const CACHE: Judged<'static> = Judged {
     whole: "0 C 00\n0 A 00\n0 A 00\n0 A 00\n0 A 00\n0 A 00\n0 C 30\n0 R 0 0\n0 C 31\n0 R 0 0\n0 O 12\n0 C 31\n0 R 0 0\n0 C 3f\n0 R 0 0\n0 O 13\n",
 };
 
-#[test]
-fn cache_reads(rt: HostRuntime) -> Result<(), Fail> {
-    expect(&rt, CACHE)
-}
-
 // After a 3F comes no 31, whether the LUN is ready or not: it is refused, and told as nothing else.
 const STILL_FORBIDDEN: Judged<'static> = Judged {
     parts: WITH_CACHE,
@@ -220,11 +200,6 @@ const STILL_FORBIDDEN: Judged<'static> = Judged {
     ],
     whole: "0 C 00\n0 A 00\n0 A 00\n0 A 00\n0 A 00\n0 A 00\n0 C 30\n0 R 0 0\n0 C 31\n0 R 0 0\n0 C 3f\n0 R 0 0\n0 C 31\n",
 };
-
-#[test]
-fn what_stays_forbidden(rt: HostRuntime) -> Result<(), Fail> {
-    expect(&rt, STILL_FORBIDDEN)
-}
 
 // Both LUNs work, and the second is given an erase more: its row tells that at the opener.
 const SECOND_OF_TWO: Judged<'static> = Judged {
@@ -274,14 +249,6 @@ const LUN_NOT_THERE: Judged<'static> = Judged {
     whole: "0 C 60\n0 A 00\n0 A 00\n0 A 00\n0 C d0\n0 C 60\n0 A 40\n0 A 00\n0 A 00\n",
 };
 
-#[test]
-fn one_of_two_luns(rt: HostRuntime) -> Result<(), Fail> {
-    expect(&rt, SECOND_OF_TWO)?;
-    expect(&rt, BESIDE_AN_IDLE_LUN)?;
-    expect(&rt, NO_ROW)?;
-    expect(&rt, LUN_NOT_THERE)
-}
-
 // After a status that shows the LUN busy none is taken for granted; a status that shows RDY needs none.
 const ASKED: Judged<'static> = Judged {
     parts: SMALL_CHIP,
@@ -327,9 +294,24 @@ const WRITTEN: Judged<'static> = Judged {
     whole: "0 C 60\n0 A 00\n0 A 00\n0 A 00\n0 C d0\n0 C 60\n0 A 04\n0 A 00\n0 R 0 0\n0 A 00\n0 C d0\n0 R 0 0\n0 R 0 0\n",
 };
 
+const ROWS: [Judged<'static>; 12] = [
+    ERASES,
+    DATA,
+    COLUMN,
+    CACHE,
+    STILL_FORBIDDEN,
+    SECOND_OF_TWO,
+    BESIDE_AN_IDLE_LUN,
+    NO_ROW,
+    LUN_NOT_THERE,
+    ASKED,
+    TOLD,
+    WRITTEN,
+];
+
 #[test]
-fn beside_readies_that_are_shown_or_written(rt: HostRuntime) -> Result<(), Fail> {
-    for judged in [ASKED, TOLD, WRITTEN] {
+fn from_the_beginning(rt: HostRuntime) -> Result<(), Fail> {
+    for judged in ROWS {
         expect(&rt, judged)?;
     }
     Ok(())
