@@ -32,8 +32,8 @@
  *  - what a call writes by a pointer that isn't const overlaps nothing else that it is given, and
  *    no other thread reads or writes it meanwhile;
  *  - there is stack enough: 32 KB for libonfiseq_c.a, 36 KB for libonfiseq_show_c.a, 14 KB for
- *    libonfiseq_live_c.a, 8 KB for libonfiseq_text_c.a; for onfiseq_verify 96 KB where a program
- *    has no branch and no loop, 200 KB where it has 64 words at most, and else 1 MB.
+ *    libonfiseq_live_c.a, 8 KB for libonfiseq_text_c.a; 108 KB for onfiseq_verify, and 160 KB for
+ *    onfiseq_verify_run.
  */
 #ifndef ONFISEQ_H
 #define ONFISEQ_H
