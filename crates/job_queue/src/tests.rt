@@ -2,9 +2,9 @@ ghost use Rattle.std.specs.Prelude.{◌≡◌, ◌<◌, ◌≤◌, IfOk};
 ghost use Rattle.std.specs.List.{All};
 ghost use Rattle.job_queue.specs.Passes.{owns, owns_taker};
 
-use crate::{CloseRefused, HostPass, JobQueue, QueuedJob, Submitted, Taker, Tally};
+use crate::{CloseRefused, HostPass, JobQueue, QueuedJob, Submitted, Taker};
 use linked_list_allocator::LocalHeap;
-use std::alloc::{AllocError, Global};
+use std::alloc::Global;
 use std::process::Abort;
 use std::sync::Wait;
 use std::test::*;
@@ -56,7 +56,7 @@ fn store_too_much<R: Wait + Abort>(
     match queue.submit(rt, pass, job) {
         Submitted::Stored(_) => panic!(rt; "there was no room for {job}"),
         Submitted::Full(pass, back) => {
-            assert_eq!(rt; back, job);
+            assert!(rt; back == job);
             pass
         }
     }
@@ -70,37 +70,33 @@ fn next<R: Wait>(rt: &R, taker: &mut Taker<Job>) -> Option<(u32, u64, Job)>
     Some((host, number, job))
 }
 
-// Closes a queue with these passes, which must be all.
-fn close<R: Abort>(
-    rt: &R,
+// A queue is closed with these passes, and tells so many jobs of each host that were put and that were taken.
+fn is_closed(
     queue: JobQueue<Job>,
     passes: Vec<HostPass<Job>>,
     taker: Taker<Job>,
-) -> Tally
+    put: [u64; 2],
+    taken: [u64; 2],
+) -> bool
     requires passes { All (λ p. owns queue p) passes.items }
     requires taker { owns_taker queue taker }
 {
     match queue.close(passes, taker) {
-        Ok(tally) => tally,
-        Err(_) => panic!(rt; "each host's pass is there"),
+        Ok(tally) => {
+            tally.put.as_slice() == put.as_slice() && tally.taken.as_slice() == taken.as_slice()
+        }
+        Err(_) => false,
     }
 }
 
-// Tries to close a queue of which a pass is missing.
-fn close_too_soon<R: Abort>(
-    rt: &R,
-    queue: JobQueue<Job>,
-    passes: Vec<HostPass<Job>>,
-    taker: Taker<Job>,
-) -> CloseRefused<Job>
-    requires passes { All (λ p. owns queue p) passes.items }
-    requires taker { owns_taker queue taker }
-    ensures { (result.queue ≡ queue) × (result.passes.items ≡ passes.items) × (result.taker ≡ taker) }
+// The next three jobs that are queued.
+fn next_three<R: Wait>(rt: &R, taker: &mut Taker<Job>) -> [Option<(u32, u64, Job)>; 3]
+    ensures { (taker.new.table ≡ taker.old.table) × (taker.new.hosts ≡ taker.old.hosts) }
 {
-    match queue.close(passes, taker) {
-        Ok(_) => panic!(rt; "a pass is missing"),
-        Err(all) => all,
-    }
+    let first = next(rt, taker);
+    let second = next(rt, taker);
+    let third = next(rt, taker);
+    [first, second, third]
 }
 
 #[test]
@@ -109,14 +105,13 @@ fn two_hosts_share_two_places(rt: HostRuntime) -> Result<(), Fail> {
     let first = store(&rt, &queue, first, 10);
     let first = store(&rt, &queue, first, 11);
     let second = store_too_much(&rt, &queue, second, 20);
-    assert_eq!(rt; next(&rt, &mut taker), Some((0, 0, 10)));
+    let oldest = next(&rt, &mut taker);
     let second = store(&rt, &queue, second, 20);
-    assert_eq!(rt; next(&rt, &mut taker), Some((0, 1, 11)));
-    assert_eq!(rt; next(&rt, &mut taker), Some((1, 0, 20)));
-    assert_eq!(rt; next(&rt, &mut taker), None);
-    let tally = close(&rt, queue, vec![in rt.alloc(); second, first]?, taker);
-    assert_eq!(rt; tally.put.as_slice(), [2, 1].as_slice());
-    assert_eq!(rt; tally.taken.as_slice(), [2, 1].as_slice());
+    let others = next_three(&rt, &mut taker);
+    let passes = vec![in rt.alloc(); second, first]?;
+    assert!(rt; is_closed(queue, passes, taker, [2, 1], [2, 1]));
+    assert!(rt; oldest == Some((0, 0, 10)));
+    assert!(rt; others == [Some((0, 1, 11)), Some((1, 0, 20)), None]);
     Ok(())
 }
 
@@ -125,12 +120,13 @@ fn a_full_queue_gives_the_job_back(rt: HostRuntime) -> Result<(), Fail> {
     let (queue, first, second, mut taker) = two_hosts(rt.alloc(), 1)?;
     let first = store(&rt, &queue, first, 10);
     let first = store_too_much(&rt, &queue, first, 11);
-    assert!(rt; taker.is_fresh());
-    assert_eq!(rt; next(&rt, &mut taker), Some((0, 0, 10)));
-    assert!(rt; !taker.is_fresh());
-    assert_eq!(rt; next(&rt, &mut taker), None);
-    let tally = close(&rt, queue, vec![in rt.alloc(); first, second]?, taker);
-    assert_eq!(rt; tally.put.as_slice(), [1, 0].as_slice());
+    let before = taker.is_fresh();
+    let oldest = next(&rt, &mut taker);
+    let is_fresh = [before, taker.is_fresh()];
+    let other = next(&rt, &mut taker);
+    let passes = vec![in rt.alloc(); first, second]?;
+    assert!(rt; is_closed(queue, passes, taker, [1, 0], [1, 0]));
+    assert!(rt; is_fresh == [true, false] && (oldest, other) == (Some((0, 0, 10)), None));
     Ok(())
 }
 
@@ -138,18 +134,20 @@ fn a_full_queue_gives_the_job_back(rt: HostRuntime) -> Result<(), Fail> {
 fn a_queue_stays_open_while_a_pass_is_missing(rt: HostRuntime) -> Result<(), Fail> {
     let (queue, first, second, taker) = two_hosts(rt.alloc(), 4)?;
     let first = store(&rt, &queue, first, 10);
+    let Err(refused) = queue.close(vec![in rt.alloc(); first]?, taker) else {
+        return Err("a pass is missing".into());
+    };
     let CloseRefused {
         queue,
         mut passes,
         mut taker,
-    } = close_too_soon(&rt, queue, vec![in rt.alloc(); first]?, taker);
-    assert_eq!(rt; passes.len(), 1);
+    } = refused;
+    let count = passes.len();
     let second = store(&rt, &queue, second, 20);
     passes.push(second)?;
-    assert_eq!(rt; next(&rt, &mut taker), Some((0, 0, 10)));
-    let tally = close(&rt, queue, passes, taker);
-    assert_eq!(rt; tally.put.as_slice(), [1, 1].as_slice());
-    assert_eq!(rt; tally.taken.as_slice(), [1, 0].as_slice());
+    let oldest = next(&rt, &mut taker);
+    assert!(rt; is_closed(queue, passes, taker, [1, 1], [1, 0]));
+    assert!(rt; count == 1 && oldest == Some((0, 0, 10)));
     Ok(())
 }
 
@@ -180,7 +178,7 @@ fn take_many<R: Wait + Abort>(rt: &R, taker: &mut Taker<Job>) -> [u64; 2]
         };
         assert!(rt; host < 2);
         let expected = taken[host as usize];
-        assert_eq!(rt; (number, job), (expected, expected));
+        assert!(rt; number == expected && job == expected);
         taken[host as usize] = expected.saturating_add(1);
     }
     taken
@@ -194,7 +192,7 @@ fn expect_capacity<R: Wait + Abort + AllocGlobal>(rt: &R, capacity: usize) -> Re
     let (queue, first, second, mut taker) = two_hosts(rt.alloc(), capacity)?;
     let first = store_many(rt, &queue, first, most);
     let second = store_too_much(rt, &queue, second, 0);
-    assert_eq!(rt; next(rt, &mut taker), Some((0, 0, 0)));
+    assert!(rt; next(rt, &mut taker) == Some((0, 0, 0)));
     let _second = store(rt, &queue, second, 0);
     let _first = store_too_much(rt, &queue, first, most);
     Ok(())
@@ -222,7 +220,7 @@ fn store_and_take<R: Wait + Abort>(
 {
     for job in 0..count {
         pass = store(rt, queue, pass, job);
-        assert_eq!(rt; next(rt, taker), Some((0, job, job)));
+        assert!(rt; next(rt, taker) == Some((0, job, job)));
     }
 }
 
@@ -248,11 +246,28 @@ fn two_threads_store_in_order(rt: HostRuntime) -> Result<(), Fail> {
         { store_many(&rt, &queue, second, 500) },
     );
     let taken = take_many(&rt, &mut taker);
-    assert_eq!(rt; taken, [500, 500]);
-    let tally = close(&rt, queue, vec![in rt.alloc(); second, first]?, taker);
-    assert_eq!(rt; tally.put.as_slice(), taken.as_slice());
-    assert_eq!(rt; tally.taken.as_slice(), taken.as_slice());
+    let passes = vec![in rt.alloc(); second, first]?;
+    assert!(rt; is_closed(queue, passes, taker, [500, 500], [500, 500]));
+    assert!(rt; taken == [500, 500]);
     Ok(())
+}
+
+// Whether a queue of two hosts is made in so many bytes; it must work then.
+fn is_made<R: Wait + AllocGlobal>(rt: &R, size: usize) -> Result<bool, Fail> {
+    let heap = LocalHeap::new(rt.alloc(), size)?;
+    let Ok((queue, mut passes, mut taker)) = JobQueue::<Job, &LocalHeap>::new(&heap, 2, 2) else {
+        return Ok(false);
+    };
+    let second = passes.pop().ok_or("host 1's pass")?;
+    if !matches!(queue.submit(rt, second, 20), Submitted::Stored(_)) {
+        return Err("there is room".into());
+    }
+    let QueuedJob { host, number, job } = taker.take(rt).ok_or("a job")?;
+    if (host, number, job) == (1, 0, 20) {
+        Ok(true)
+    } else {
+        Err("another job".into())
+    }
 }
 
 #[test]
@@ -260,16 +275,10 @@ fn refused_memory(rt: HostRuntime) -> Result<(), Fail> {
     let mut refused: usize = 0;
     let mut made: usize = 0;
     for size in 0..64usize {
-        let heap = LocalHeap::new(rt.alloc(), 16 * size)?;
-        match JobQueue::<Job, &LocalHeap>::new(&heap, 2, 2) {
-            Ok((queue, mut passes, mut taker)) => {
-                let second = passes.pop().ok_or("host 1's pass")?;
-                assert!(rt; matches!(queue.submit(&rt, second, 20), Submitted::Stored(_)));
-                let job = taker.take(&rt).ok_or("a job")?;
-                assert_eq!(rt; (job.host, job.number, job.job), (1, 0, 20));
-                made = size + 1;
-            }
-            Err(AllocError) => refused = size + 1,
+        if is_made(&rt, 16 * size)? {
+            made = size + 1;
+        } else {
+            refused = size + 1;
         }
     }
     // Small heaps refuse, and the larger ones don't.
