@@ -347,7 +347,7 @@ fn each_command_of_the_help_is_asked_for(rt: HostRuntime) -> Result<(), Fail> {
             count = count.saturating_add(1);
         }
     }
-    assert_eq!(rt; count, 13);
+    assert_eq!(rt; count, 14);
     Ok(())
 }
 
