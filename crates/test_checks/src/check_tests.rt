@@ -119,7 +119,7 @@ struct Row {
     written: Option<&'static str>,
 }
 
-const ROWS: [Row; 23] = [
+const ROWS: &[Row] = &[
     Row {
         what: "the first fault",
         text: RECORDED,
@@ -433,7 +433,7 @@ fn difference(alloc: Global, row: &Row) -> Result<String, Fail> {
 // What was seen in place of what rows have.
 fn differences(alloc: Global) -> Result<String, Fail> {
     let mut all = String::new(alloc);
-    for row in &ROWS {
+    for row in ROWS {
         all.push_str(difference(alloc, row)?.as_str())?;
     }
     Ok(all)

@@ -212,7 +212,7 @@ const RECORDED_AS_SHOWN: Judged<'static> = Judged {
     faults: &[],
 };
 
-const ROWS: [Judged<'static>; 8] = [
+const ROWS: &[Judged<'static>] = &[
     FOREIGN,
     HOST,
     DROPPED,
@@ -226,7 +226,7 @@ const ROWS: [Judged<'static>; 8] = [
 #[test]
 fn all_faults(rt: HostRuntime) -> Result<(), Fail> {
     for judged in ROWS {
-        expect_faults(&rt, judged)?;
+        expect_faults(&rt, *judged)?;
     }
     Ok(())
 }
@@ -253,7 +253,7 @@ struct Recording<'a> {
     whole: &'a str,
 }
 
-const RECORDINGS: [Recording<'static>; 5] = [
+const RECORDINGS: &[Recording<'static>] = &[
     // RDY with FAIL, and without.
     Recording {
         parts: SMALL_CHIP,
@@ -288,7 +288,8 @@ const RECORDINGS: [Recording<'static>; 5] = [
 
 #[test]
 fn readies_that_status_shows(rt: HostRuntime) -> Result<(), Fail> {
-    for Recording { parts, text, whole } in RECORDINGS {
+    for recording in RECORDINGS {
+        let Recording { parts, text, whole } = *recording;
         expect_whole(&rt, parts, text, whole)?;
     }
     Ok(())

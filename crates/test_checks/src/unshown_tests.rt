@@ -294,7 +294,7 @@ const WRITTEN: Judged<'static> = Judged {
     whole: "0 C 60\n0 A 00\n0 A 00\n0 A 00\n0 C d0\n0 C 60\n0 A 04\n0 A 00\n0 R 0 0\n0 A 00\n0 C d0\n0 R 0 0\n0 R 0 0\n",
 };
 
-const ROWS: [Judged<'static>; 12] = [
+const ROWS: &[Judged<'static>] = &[
     ERASES,
     DATA,
     COLUMN,
@@ -312,7 +312,7 @@ const ROWS: [Judged<'static>; 12] = [
 #[test]
 fn from_the_beginning(rt: HostRuntime) -> Result<(), Fail> {
     for judged in ROWS {
-        expect(&rt, judged)?;
+        expect(&rt, *judged)?;
     }
     Ok(())
 }
