@@ -32,8 +32,8 @@
  *  - what a call writes by a pointer that isn't const overlaps nothing else that it is given, and
  *    no other thread reads or writes it meanwhile;
  *  - there is stack enough: 32 KB for libonfiseq_c.a, 36 KB for libonfiseq_show_c.a, 14 KB for
- *    libonfiseq_live_c.a, 8 KB for libonfiseq_text_c.a; for onfiseq_verify 96 KB where a program
- *    has no branch and no loop, 200 KB where it has 64 words at most, and else 1 MB.
+ *    libonfiseq_live_c.a, 8 KB for libonfiseq_text_c.a; 108 KB for onfiseq_verify, and 160 KB for
+ *    onfiseq_verify_run.
  */
 #ifndef ONFISEQ_H
 #define ONFISEQ_H
@@ -304,8 +304,8 @@ struct onfiseq_verdict {
 };
 
 /**
- * Verifies a word file for the chip of a parameter page. It asks for memory once, 8 bytes for each
- * word of the file: 8 KB at most.
+ * Verifies a word file for the chip of a parameter page. It asks for 8 bytes for each word of the
+ * file, and where the program has a branch or a loop for 256 more: 264 KB at most.
  */
 struct onfiseq_verdict onfiseq_verify(const uint8_t *page, size_t page_length, const uint8_t *file,
                                       size_t file_length);
