@@ -29,7 +29,7 @@ fn levels_of(kind: &str) -> [u8; 4] {
 fn push_sample(table: &mut String, levels: [u8; 4], ready: u8, byte: u8) -> Result<(), Fail> {
     let [cle, ale, we, re] = levels;
     write!(table, "0,{cle},{ale},{we},{re},{ready}")?;
-    for bit in 0..8 {
+    for bit in 0..8u32 {
         write!(table, ",{}", (byte >> bit) & 1)?;
     }
     table.push_str("\n")?;
