@@ -1,7 +1,7 @@
 -- The table of what is around each place of a text, filled in from the right.
 use Rattle.std.proofs.Common.{◌≡◌, ℕ, suc, ◌+◌, ◌<◌, ◌≤◌, ◌≢◌, List, [], ◌∷◌, Some, None, refl, sym, ap, ◌∙◌, subst, arith, length, length-drop, get_or, drop, ◌⊎◌, inl, inr}
-use Rattle.std.specs.Prelude.{slice_set}
-use Rattle.std.proofs.lemmas.List.{get_or-set_other}
+use Rattle.std.specs.Prelude.{slice_set, replicate}
+use Rattle.std.proofs.lemmas.List.{get_or-set_other, get_or-replicate}
 use Rattle.std.proofs.lemmas.Grind.{get_or-set_at}
 use Rattle.std.proofs.lemmas.Option.{slice_get-get_or, slice_get_within}
 use Rattle.micro_word.specs.declared.word.Word.{Word}
@@ -71,6 +71,10 @@ around_loop words at turns next table d inside few told is e =
     ∙ ap by_loops (there.2 ∙ sym (loops_here words at (Loop turns) (slice_get-get_or words at d inside ∙ ap (λ (w : Word). Some w) is)))
 
 -- ---- the table
+
+-- a table without loops tells already what is behind the words
+pub nothing_told : (words : List Word) → TellsFrom words (length words) (replicate 1025 no_loop)
+nothing_told words at past low = get_or-replicate 1025 at no_loop no_loop (omega (arith, low)) ∙ sym (nothing_behind words at past)
 
 two_ways : (a b : ℕ) → a ≤ b → (b ≡ a) ⊎ (a < b)
 two_ways a b h = grind arith

@@ -30,7 +30,7 @@ pub(crate) fn closer(words: &[Word], at: usize) -> Option<usize>
 }
 
 // Both are the same place, or both are none.
-fn is_same(first: Option<usize>, second: Option<usize>) -> bool
+fn is_same(first: Option<u16>, second: Option<u16>) -> bool
     ensures { result ≡ is_same first second }
 {
     match (first, second) {
@@ -46,11 +46,18 @@ pub(crate) const MAX_DEPTH: usize = 4;
 // The places of the longest text, with the one after its last word.
 const PLACES: usize = MAX_WORDS + 1;
 
-// The place of the `next` of the innermost loop around a place, and how many loops are around it.
+// The place of the `next` of the innermost loop around a place, and how many loops are around it: six bytes, since a table of them stands on the stack.
 #[derive(Clone, Copy)]
 struct Around {
-    next: Option<usize>,
-    depth: usize,
+    next: Option<u16>,
+    depth: u16,
+}
+
+impl Around {
+    const NO_LOOP: Around = Around {
+        next: None,
+        depth: 0,
+    };
 }
 
 // What is around a word, by what is around the places after it: around a `loop`, what is around the place after its `next`.
@@ -63,29 +70,26 @@ fn around_word(words: &[Word], at: usize, table: &[Around; PLACES]) -> Around
     let after = table[at + 1];
     match (words[at], after.next) {
         (Word::Next, _) => Around {
-            next: Some(at),
+            next: Some(at as u16),
             depth: after.depth + 1,
         },
-        (Word::Loop { .. }, Some(next)) => table[next + 1],
+        (Word::Loop { .. }, Some(next)) => table[usize::from(next) + 1],
         _ => after,
     }
 }
 
-// What is around each place of a text, and after it. It goes from the right, since a `next` stands after the words of its loop.
-fn around_each(words: &[Word]) -> [Around; PLACES]
-    requires { length words.now ≤ 1024 }
-    ensures { TellsFrom words.now 0 result }
+// Writes into the table what is around each word of a text; it tells already that nothing is around the places after it. It goes from the right,
+// since a `next` stands after the words of its loop.
+fn tell_around(words: &[Word], table: &mut [Around; PLACES])
+    requires few { length words.now ≤ 1024 }
+    requires after { TellsFrom words.now (length words.now) table.old }
+    ensures { TellsFrom words.now 0 table.new }
 {
-    let mut table = [Around {
-        next: None,
-        depth: 0,
-    }; PLACES];
     let mut at = words.len();
     while at > 0 {
         at -= 1;
-        table[at] = around_word(words, at, &table);
+        table[at] = around_word(words, at, table);
     }
-    table
 }
 
 // A branch leads forward, to a word in the same turn of the same loop.
@@ -114,11 +118,11 @@ fn is_misshapen(
     match reason {
         Reason::LoopUnpaired => match word {
             Word::Loop { .. } => table[at + 1].depth == 0,
-            Word::Next => is_same(table[0].next, Some(at)),
+            Word::Next => is_same(table[0].next, Some(at as u16)),
             _ => false,
         },
         Reason::LoopsTooDeep => match word {
-            Word::Loop { .. } => table[at + 1].depth > MAX_DEPTH,
+            Word::Loop { .. } => usize::from(table[at + 1].depth) > MAX_DEPTH,
             _ => false,
         },
         Reason::BranchMisplaced => match word {
@@ -175,7 +179,8 @@ fn misshapen(words: &[Word]) -> Option<Fault>
     requires few { length words.now ≤ 1024 }
     ensures { result ≡ misshapen words.now }
 {
-    let table = around_each(words);
+    let mut table = [Around::NO_LOOP; PLACES];
+    tell_around(words, &mut table);
     first_misshapen(Reason::LoopUnpaired, words, &table)
         .or_else(|| first_misshapen(Reason::LoopsTooDeep, words, &table))
         .or_else(|| first_misshapen(Reason::BranchMisplaced, words, &table))
@@ -201,7 +206,8 @@ pub(crate) fn nests_two_deep(words: &[Word]) -> bool
     requires { length words.now ≤ 1024 }
     ensures { NestsTwoDeep words.now → result ≡ true }
 {
-    let table = around_each(words);
+    let mut table = [Around::NO_LOOP; PLACES];
+    tell_around(words, &mut table);
     for at in 0..words.len() {
         if table[at].depth > 2 {
             return false;

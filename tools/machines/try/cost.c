@@ -1,6 +1,7 @@
 /* What a call costs: cost CALL COUNT makes the call for so many items, or so many words of a job; cost stack says how much stack each call takes.
  *
- * Instructions are counted from outside, as the difference of two counts of items (cost.py). The items are erases with status polls of one LUN. */
+ * Instructions are counted from outside, as the difference of two counts of items (cost.py). The items are erases with status polls of one LUN. A
+ * verification is of the job's file as a whole. */
 #include "onfiseq.h"
 #include <stdio.h>
 #include <stdlib.h>
@@ -14,6 +15,10 @@ static const struct onfiseq_item erase[10] = {
 /* loop 4096, cmd 60, addr 2 3, cmd d0, wait, next, end 0 */
 static const uint8_t file[] = {
     0x4e, 0x4d, 0x50, 0x32, 0x07, 0x00, 0x01, 0x00, 0x00, 0x00, 0x00, 0x00, 0xff, 0xff, 0x00, 0x00, 0x0e, 0x00, 0x00, 0x10, 0x01, 0x60, 0x00, 0x00, 0x02, 0x02, 0x03, 0x00, 0x01, 0xd0, 0x00, 0x00, 0x0a, 0x00, 0x00, 0x00, 0x0f, 0x00, 0x00, 0x00, 0x00, 0x00, 0x00, 0x00,
+};
+/* the parameter page of that chip: its signature, sizes, 23h, and checksum */
+static const uint8_t chip_page[256] = {
+    'O', 'N', 'F', 'I', [81] = 2, [84] = 16, [92] = 4, [96] = 8, [100] = 1, 0x23, [254] = 0x11, 0x56,
 };
 static struct onfiseq_geometry chip;
 static struct onfiseq_item items[MOST];
@@ -57,6 +62,12 @@ static unsigned do_step(void) {
     }
     return 0;
 }
+/* of that file, a text with a loop */
+static unsigned do_verify(void) {
+    unsigned wrong = 0;
+    for (size_t k = 0; k < count; k++) wrong += onfiseq_verify(chip_page, sizeof chip_page, file, sizeof file).letter != 0;
+    return wrong;
+}
 static unsigned begin_job(void) {
     onfiseq_live_begin(&live, &chip, 1);
     return onfiseq_job_begin(&live, 0, 0, 0, file, sizeof file, 0, &job).letter;
@@ -66,7 +77,7 @@ static const struct {
     const char *name;
     unsigned (*call)(void);
 } calls[] = {
-    {"page", do_page}, {"begin", do_begin}, {"push", do_push}, {"push_status", do_push_status}, {"ask", do_ask}, {"look", do_look}, {"push_all", do_push_all}, {"check", do_check}, {"step", do_step},
+    {"page", do_page}, {"begin", do_begin}, {"push", do_push}, {"push_status", do_push_status}, {"ask", do_ask}, {"look", do_look}, {"push_all", do_push_all}, {"check", do_check}, {"step", do_step}, {"verify", do_verify},
 };
 enum { CALLS = sizeof calls / sizeof *calls };
 

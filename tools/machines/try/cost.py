@@ -13,7 +13,7 @@ import tempfile
 
 HERE = os.path.dirname(os.path.abspath(__file__))
 LIBRARIES = ("onfiseq_c", "onfiseq_verify_c", "onfiseq_text_c", "onfiseq_live_c")
-CALLS = ("push", "push_all", "push_status", "ask", "check", "step")
+CALLS = ("push", "push_all", "push_status", "ask", "check", "step", "verify")
 # The code of a Cortex-M runs on larger ARM processors too, so its library is linked into a program for Linux.
 CORTEX_M = (["arm-linux-gnueabihf-gcc", "-mthumb", "-static", "-Wl,--no-warn-mismatch"], ["qemu-arm"])
 
@@ -84,12 +84,12 @@ def measure(name, compiler, runs, sources, room):
     program = room + "/program"
     subprocess.run([*compiler, "-O2", "-Wl,--gc-sections", "-Iinclude", HERE + "/cost.c", *sources, "-o", program], check=True)
     stack, counts = stacks(program, runs), [instructions(program, runs, call, room) for call in CALLS]
-    print("| %s | %s | %s | %s |" % (name, code(sources, compiler, room), " | ".join("{:,}".format(it) for it in counts), " | ".join("{:,}".format(stack[it]) for it in ("push", "check", "step"))), flush=True)
+    print("| %s | %s | %s | %s |" % (name, code(sources, compiler, room), " | ".join("{:,}".format(it) for it in counts), " | ".join("{:,}".format(stack[it]) for it in ("push", "check", "step", "verify"))), flush=True)
 
 
 def main():
     out = sys.argv[1] if len(sys.argv) > 1 else "out/machines"
-    print("| processor | code of the checker | of all four | %s | stack of push | of check | of a step |" % " | ".join(CALLS), flush=True)
+    print("| processor | code of the checker | of all four | %s | stack of push | of check | of a step | of verify |" % " | ".join(CALLS), flush=True)
     with tempfile.TemporaryDirectory() as room:
         for name, compiler, runs in PROCESSORS:
             measure(name, compiler, runs, linked(out, name), room)

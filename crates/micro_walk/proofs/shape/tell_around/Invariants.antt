@@ -1,6 +1,6 @@
 use Rattle.std.proofs.Common.{◌≡◌, ◌≤◌, length}
 use Rattle.micro_walk.specs.Shape.{TellsFrom}
-use Rattle.micro_walk.proofs.shape.around_each.Given as goal
+use Rattle.micro_walk.proofs.shape.tell_around.Given as goal
 
 abbrev pub invariant-loop-at : goal.invariant-loop-at
 invariant-loop-at l =
