@@ -38,19 +38,19 @@ const END: [u8; 20] = [
 ];
 
 // The erase as assembly text, and the same without its wait.
-const SOURCE: &str = "rows 1\nbuffer 0\nbudget 5\ncmd 60\naddr 2 3\ncmd d0\nwait\nend 0\n";
+const SOURCE: &[u8] = b"rows 1\nbuffer 0\nbudget 5\ncmd 60\naddr 2 3\ncmd d0\nwait\nend 0\n";
 
-const NO_WAIT: &str = "rows 1\nbuffer 0\nbudget 5\ncmd 60\naddr 2 3\ncmd d0\nend 0\n";
+const NO_WAIT: &[u8] = b"rows 1\nbuffer 0\nbudget 5\ncmd 60\naddr 2 3\ncmd d0\nend 0\n";
 
 // An erase, and another one while the LUN is busy.
-const TWICE: &str =
-    "rows 1\nbuffer 0\nbudget 10\ncmd 60\naddr 2 3\ncmd d0\ncmd 60\naddr 2 3\ncmd d0\nwait\nend 0\n";
+const TWICE: &[u8] =
+    b"rows 1\nbuffer 0\nbudget 10\ncmd 60\naddr 2 3\ncmd d0\ncmd 60\naddr 2 3\ncmd d0\nwait\nend 0\n";
 
 // The trace of the erase at row 4, and one whose second opener meets a busy LUN.
-const TRACE: &str =
-    "0 C 60\n0 A 04\n0 A 00\n0 A 00\n0 C d0\n0 C 70\n0 O 80\n0 R 0 0\n0 C 70\n0 O e0\n";
+const TRACE: &[u8] =
+    b"0 C 60\n0 A 04\n0 A 00\n0 A 00\n0 C d0\n0 C 70\n0 O 80\n0 R 0 0\n0 C 70\n0 O e0\n";
 
-const TOO_SOON: &str = "0 C 60\n0 A 00\n0 A 00\n0 A 00\n0 C d0\n0 C 60\n";
+const TOO_SOON: &[u8] = b"0 C 60\n0 A 00\n0 A 00\n0 A 00\n0 C d0\n0 C 60\n";
 
 // The bytes of the parameter page of one LUN of 8 blocks of 4 pages of 512 + 16 bytes that aren't 0, with their places.
 const PAGE: [(usize, u8); 12] = [
@@ -88,8 +88,8 @@ const TWO_LUNS: [(usize, u8); 15] = [
 ];
 
 // The example of a run: one LUN erases a block while the other programs a page.
-const RUN: &str =
-    "; Two LUNs of one target share a bus: while LUN 0 erases a block, LUN 1 programs a page.
+const RUN: &[u8] =
+    b"; Two LUNs of one target share a bus: while LUN 0 erases a block, LUN 1 programs a page.
 ; Run it at the top of the repository: bin/onfiseq run examples/two_luns.run
 
 page examples/two_luns/chip.page
@@ -135,30 +135,80 @@ fn words_of(alloc: Global, line: &str) -> Result<Vec<String>, AllocError> {
     Ok(words)
 }
 
-// The files that the commands are run on.
-fn files(alloc: Global) -> Result<MapFiles, AllocError> {
+// A file that lies there: its name and its bytes.
+type File = (&'static str, &'static [u8]);
+
+// The files that the commands are run on, beside the page `die.page`.
+const FILES: &[File] = &[
+    ("erase.asm", SOURCE),
+    ("no_wait.asm", NO_WAIT),
+    ("twice.asm", TWICE),
+    ("bad.asm", b"rows 1\nbuffer 0\nbudget 5\naddr 3 3\n"),
+    ("old.nmp", &ERASE),
+    ("erase.trace", TRACE),
+    ("too_soon.trace", TOO_SOON),
+    ("bad.trace", b"0 C 60\n0 C D0\n"),
+];
+
+// The files of the example of a run, beside its page.
+const RUN_FILES: &[File] = &[
+    ("examples/two_luns.run", RUN),
+    ("examples/two_luns/erase_block.nmp", &ERASE_BLOCK),
+    ("examples/two_luns/program_page.nmp", &PROGRAM_PAGE),
+    ("examples/two_luns/data", b"onfi"),
+];
+
+// Files with a page, whose bytes that aren't 0 are these, and with these others.
+fn files(
+    alloc: Global,
+    name: &str,
+    bytes: &[(usize, u8)],
+    others: &[File],
+) -> Result<MapFiles, AllocError> {
     let mut files = MapFiles::new(alloc);
-    files.put("die.page", &page(&PAGE))?;
-    files.put("erase.asm", SOURCE.as_bytes())?;
-    files.put("no_wait.asm", NO_WAIT.as_bytes())?;
-    files.put("twice.asm", TWICE.as_bytes())?;
-    files.put("bad.asm", b"rows 1\nbuffer 0\nbudget 5\naddr 3 3\n")?;
-    files.put("old.nmp", &ERASE)?;
-    files.put("erase.trace", TRACE.as_bytes())?;
-    files.put("too_soon.trace", TOO_SOON.as_bytes())?;
-    files.put("bad.trace", b"0 C 60\n0 C D0\n")?;
+    files.put(name, &page(bytes))?;
+    for (name, bytes) in others {
+        files.put(name, bytes)?;
+    }
     Ok(files)
 }
 
-// The files of the example of a run.
-fn run_files(alloc: Global) -> Result<MapFiles, AllocError> {
-    let mut files = MapFiles::new(alloc);
-    files.put("examples/two_luns.run", RUN.as_bytes())?;
-    files.put("examples/two_luns/chip.page", &page(&TWO_LUNS))?;
-    files.put("examples/two_luns/erase_block.nmp", &ERASE_BLOCK)?;
-    files.put("examples/two_luns/program_page.nmp", &PROGRAM_PAGE)?;
-    files.put("examples/two_luns/data", b"onfi")?;
-    Ok(files)
+// What a run came to: its status, what it printed and what it said.
+#[derive(Drop)]
+struct Seen {
+    status: u8,
+    output: Vec<u8>,
+    errors: Vec<u8>,
+}
+
+// What these words come to, with this file on standard input.
+fn see<R: AllocGlobal + Threads + Wait + Sync>(
+    rt: &R,
+    files: &mut MapFiles,
+    words: io::Result<Vec<String>>,
+    file: &[u8],
+) -> Seen {
+    let mut input = file;
+    let mut console = Console {
+        output: Vec::new(rt.alloc()),
+        errors: Vec::new(rt.alloc()),
+        progress: NoProgress,
+    };
+    let status = answer(rt, rt.alloc(), words, files, &mut input, &mut console).status();
+    let Console { output, errors, .. } = console;
+    Seen {
+        status,
+        output,
+        errors,
+    }
+}
+
+// Prints what a run came to.
+fn print_seen<R: Print + AllocGlobal>(rt: &R, seen: &Seen) -> io::Result<()> {
+    println!(rt; "status {}, standard output:", seen.status)?;
+    io::writer(rt).write_all(seen.output.as_slice())?;
+    println!(rt; "and standard error:")?;
+    io::writer(rt).write_all(seen.errors.as_slice())
 }
 
 // Prints what these words come to, with this file on standard input.
@@ -168,17 +218,19 @@ fn show<R: Print + AllocGlobal + Threads + Wait + Sync>(
     words: io::Result<Vec<String>>,
     file: &[u8],
 ) -> io::Result<()> {
-    let mut input = file;
-    let mut console = Console {
-        output: Vec::new(rt.alloc()),
-        errors: Vec::new(rt.alloc()),
-        progress: NoProgress,
-    };
-    let exit = answer(rt, rt.alloc(), words, files, &mut input, &mut console);
-    println!(rt; "status {}, standard output:", exit.status())?;
-    io::writer(rt).write_all(console.output.as_slice())?;
-    println!(rt; "and standard error:")?;
-    io::writer(rt).write_all(console.errors.as_slice())
+    print_seen(rt, &see(rt, files, words, file))
+}
+
+// The words of a command line that begins with the program's name.
+fn words_after_name(alloc: Global, line: &str) -> Result<Vec<String>, AllocError> {
+    let whole = format!(in alloc; "onfiseq {line}")?;
+    words_of(alloc, whole.as_str())
+}
+
+// The words of `once` at a base.
+fn words_of_once(alloc: Global, base: &str) -> Result<Vec<String>, AllocError> {
+    let line = format!(in alloc; "onfiseq once --base {base}")?;
+    words_of(alloc, line.as_str())
 }
 
 // What `once` comes to at a base.
@@ -187,8 +239,7 @@ fn once<R: Print + AllocGlobal + Threads + Wait + Sync>(
     base: &str,
     file: &[u8],
 ) -> io::Result<()> {
-    let line = format!(in rt.alloc(); "onfiseq once --base {base}")?;
-    let words = words_of(rt.alloc(), line.as_str())?;
+    let words = words_of_once(rt.alloc(), base)?;
     show(rt, &mut MapFiles::new(rt.alloc()), Ok(words), file)
 }
 
@@ -233,24 +284,32 @@ const RUNS: [&str; 9] = [
     "run examples/two_luns.run --quiet --workers 9",
 ];
 
-// What each of these lines comes to, on the files that the lines before it left.
+// What a line comes to, on the files that the lines before it left.
+fn show_line<R: Print + AllocGlobal + Threads + Wait + Sync>(
+    rt: &R,
+    files: &mut MapFiles,
+    line: &str,
+) -> io::Result<()> {
+    println!(rt; "onfiseq {line}")?;
+    let words = words_after_name(rt.alloc(), line)?;
+    show(rt, files, Ok(words), &[])
+}
+
+// What each of these lines comes to.
 fn show_each<R: Print + AllocGlobal + Threads + Wait + Sync>(
     rt: &R,
     files: &mut MapFiles,
     lines: &[&str],
 ) -> io::Result<()> {
     for line in lines {
-        println!(rt; "onfiseq {line}")?;
-        let line = format!(in rt.alloc(); "onfiseq {line}")?;
-        let words = words_of(rt.alloc(), line.as_str())?;
-        show(rt, files, Ok(words), &[])?;
+        show_line(rt, files, line)?;
     }
     Ok(())
 }
 
 // What the commands come to.
 fn commands<R: Print + AllocGlobal + Threads + Wait + Sync>(rt: &R) -> io::Result<()> {
-    let mut files = files(rt.alloc())?;
+    let mut files = files(rt.alloc(), "die.page", &PAGE, FILES)?;
     show_each(rt, &mut files, &LINES)?;
     let same = files.get("erase.nmp") == files.get("new.nmp");
     println!(rt; "the assembled file and the upgraded one are the same: {same}")
@@ -258,24 +317,53 @@ fn commands<R: Print + AllocGlobal + Threads + Wait + Sync>(rt: &R) -> io::Resul
 
 // What the runs come to.
 fn runs<R: Print + AllocGlobal + Threads + Wait + Sync>(rt: &R) -> io::Result<()> {
-    let mut files = run_files(rt.alloc())?;
+    let mut files = files(
+        rt.alloc(),
+        "examples/two_luns/chip.page",
+        &TWO_LUNS,
+        RUN_FILES,
+    )?;
     show_each(rt, &mut files, &RUNS)?;
     let same = files.get("run.vcd") == files.get("again.vcd");
     println!(rt; "the waveform of the run and that of its trace are the same: {same}")
 }
 
-fn main(rt: HostRuntime) -> io::Result<()> {
-    once(&rt, "4", &ERASE)?;
-    once(&rt, "31", &END)?;
-    once(&rt, "32", &ERASE)?;
-    once(&rt, "4", &READ)?;
-    once(&rt, "0", &JUMP)?;
-    once(&rt, "0", &ERASE[..15])?;
+// The first bytes of the erase, in which its words are missing.
+const CUT: [u8; 15] = [
+    0x4e, 0x4d, 0x50, 0x31, 0x05, 0x00, 0x01, 0x00, 0x00, 0x00, 0x00, 0x00, 0x05, 0x00, 0x00,
+];
+
+// The bases of `once`, each with the file on standard input.
+const ONCES: &[(&str, &[u8])] = &[
+    ("4", &ERASE),
+    ("31", &END),
+    ("32", &ERASE),
+    ("4", &READ),
+    ("0", &JUMP),
+    ("0", &CUT),
+];
+
+// What each of them comes to.
+fn onces<R: Print + AllocGlobal + Threads + Wait + Sync>(rt: &R) -> io::Result<()> {
+    for (base, file) in ONCES {
+        once(rt, base, file)?;
+    }
+    Ok(())
+}
+
+// What it comes to that the words of the command line can't be read.
+fn unread_words<R: Print + AllocGlobal + Threads + Wait + Sync>(
+    rt: &R,
+    kind: io::ErrorKind,
+) -> io::Result<()> {
     let mut files = MapFiles::new(rt.alloc());
-    let utf8 = Err(io::Error::from(io::ErrorKind::InvalidData));
-    show(&rt, &mut files, utf8, &[])?;
-    let memory = Err(io::Error::from(io::ErrorKind::OutOfMemory));
-    show(&rt, &mut files, memory, &[])?;
+    show(rt, &mut files, Err(io::Error::from(kind)), &[])
+}
+
+fn main(rt: HostRuntime) -> io::Result<()> {
+    onces(&rt)?;
+    unread_words(&rt, io::ErrorKind::InvalidData)?;
+    unread_words(&rt, io::ErrorKind::OutOfMemory)?;
     commands(&rt)?;
     runs(&rt)
 }

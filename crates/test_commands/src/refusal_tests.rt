@@ -1,7 +1,7 @@
 use crate::command::Command;
 use crate::tests::{
-    ASSEMBLE, CHECK, DISASSEMBLE, ERASE_FILE, ONE_LUN, TWO_LUNS, UPGRADE, VERIFY, do_command,
-    expect, files_of, refused,
+    ASSEMBLE, CHECK, DISASSEMBLE, ERASE_FILE, ONE_LUN, Seen, TWO_LUNS, UPGRADE, VERIFY, do_command,
+    files_of, is_expected, is_right, is_seen, none_is_wrong, refused,
 };
 use micro_claims::Reason;
 use nand_geometry::{Geometry, Parts};
@@ -9,13 +9,14 @@ use seq_core::JobFault;
 use seq_files::MapFiles;
 use seq_inputs::{Exit, Fault, Refusal, Style, words_of};
 use std::alloc::{AllocError, Global};
-use std::process::Abort;
 use std::test::Fail;
 use trace_commands::Ending;
 use trace_files::TraceOutputs;
 
 // The smallest texts that are refused, with the code and the line.
-const SOURCES: [(&str, &str, usize); 11] = [
+type Source = (&'static str, &'static str, usize);
+
+const SOURCES: &[Source] = &[
     ("x", "A1", 1),
     ("\u{1b}[2Jö\r", "A1", 1),
     ("rows", "A2", 1),
@@ -30,100 +31,111 @@ const SOURCES: [(&str, &str, usize); 11] = [
 ];
 
 // Words begin with file and line, end with the code, and have nothing for a terminal to do.
-fn expect_words(
-    rt: &(impl Abort + AllocGlobal),
-    words: &str,
-    code: &str,
-    line: usize,
-) -> Result<(), Fail> {
-    let begin = format!(in rt.alloc(); "in:{line}: ")?;
-    let end = format!(in rt.alloc(); " ({code})\n")?;
-    assert!(rt; words.starts_with(begin.as_str()), "{words}");
-    assert!(rt; words.ends_with(end.as_str()), "{words}");
-    assert!(rt; !words.contains('\u{1b}'), "{words}");
-    Ok(())
+fn has_words(alloc: Global, words: &str, code: &str, line: usize) -> Result<bool, AllocError> {
+    let begin = format!(in alloc; "in:{line}: ")?;
+    let end = format!(in alloc; " ({code})\n")?;
+    Ok(
+        words.starts_with(begin.as_str())
+            && words.ends_with(end.as_str())
+            && !words.contains('\u{1b}'),
+    )
 }
 
-// A command refuses this text at this line, and says so in words.
-fn expect_line(
-    rt: &(impl Abort + AllocGlobal),
+// This is printed of a refusal.
+fn has_line(alloc: Global, output: &[u8], code: &str, line: usize) -> Result<bool, AllocError> {
+    let told = format!(in alloc; "refused {code} at {line}\n")?;
+    Ok(output == told.as_str().as_bytes())
+}
+
+// Whether a command refuses this text at this line, says so in words, and writes nothing.
+fn refuses_line(
+    alloc: Global,
     command: Command<'_>,
-    row: (&str, &str, usize),
-) -> Result<MapFiles, Fail> {
-    let (text, code, line) = row;
-    let mut files = files_of(rt.alloc(), ONE_LUN, text.as_bytes())?;
-    let seen = do_command(rt.alloc(), &mut files, command);
-    let told = format!(in rt.alloc(); "refused {code} at {line}\n")?;
-    assert_eq!(rt; seen.exit.status(), 1);
-    assert_eq!(rt; str::from_utf8(seen.output.as_slice())?, told.as_str());
-    expect_words(rt, str::from_utf8(seen.errors.as_slice())?, code, line)?;
-    Ok(files)
+    text: &str,
+    code: &str,
+    line: usize,
+) -> Result<bool, Fail> {
+    let mut files = files_of(alloc, ONE_LUN, text.as_bytes())?;
+    let seen = do_command(alloc, &mut files, command);
+    let is_printed = has_line(alloc, seen.output.as_slice(), code, line)?;
+    let words = str::from_utf8(seen.errors.as_slice()).unwrap_or("");
+    let is_said = has_words(alloc, words, code, line)?;
+    Ok(seen.exit.status() == 1 && is_printed && is_said && files.get("out").is_none())
+}
+
+// The place of the first of the texts that a command doesn't refuse so, of those that begin like this.
+fn first_other_line(
+    alloc: Global,
+    command: Command<'_>,
+    rows: &[Source],
+    begin: &str,
+) -> Result<Option<usize>, Fail> {
+    for (place, (text, code, line)) in rows.iter().enumerate() {
+        if text.starts_with(begin) && !refuses_line(alloc, command, text, code, *line)? {
+            return Ok(Some(place));
+        }
+    }
+    Ok(None)
 }
 
 #[test]
 fn sources(rt: HostRuntime) -> Result<(), Fail> {
-    for row in SOURCES {
-        let files = expect_line(&rt, ASSEMBLE, row)?;
-        assert_eq!(rt; files.get("out"), None);
-    }
-    Ok(())
+    none_is_wrong(first_other_line(rt.alloc(), ASSEMBLE, SOURCES, "")?)
 }
 
 // A text is refused by `verify` as by `asm`, where it begins as one.
 #[test]
 fn sources_that_are_verified(rt: HostRuntime) -> Result<(), Fail> {
-    for row in SOURCES {
-        if row.0.starts_with("rows") {
-            expect_line(&rt, VERIFY, row)?;
-        }
+    none_is_wrong(first_other_line(rt.alloc(), VERIFY, SOURCES, "rows")?)
+}
+
+// A text of so many words.
+fn waits(alloc: Global, count: usize) -> Result<String, AllocError> {
+    let mut text = String::from_str(alloc, "rows 1\nbuffer 0\nbudget 5\n")?;
+    for _ in 0..count {
+        text.push_str("wait\n")?;
     }
-    Ok(())
+    Ok(text)
 }
 
 #[test]
 fn too_many_words(rt: HostRuntime) -> Result<(), Fail> {
-    let mut text = String::from_str(rt.alloc(), "rows 1\nbuffer 0\nbudget 5\n")?;
-    for _ in 0..1025 {
-        text.push_str("wait\n")?;
-    }
-    expect_line(&rt, ASSEMBLE, (text.as_str(), "A7", 1028))?;
-    Ok(())
+    let text = waits(rt.alloc(), 1025)?;
+    is_right(refuses_line(rt.alloc(), ASSEMBLE, text.as_str(), "A7", 1028)?)
 }
 
 // A word of an assembly text that is verified is told with its line; labels, comments and blank lines are no words.
+const WITH_LABELS: &[u8] =
+    b"; erase\nrows 1\nbuffer 0\n\nbudget 5\nfirst:\n  cmd 60 ; opens\n\taddr 2 3\nlast:\ncmd d0\n\nend 0\n";
+
+const ITS_REASON: &[u8] = b"in:12: word 3, `end 0`: the program may end while its LUN is busy";
+
 #[test]
 fn reasons_in_sources(rt: HostRuntime) -> Result<(), Fail> {
-    let text =
-        "; erase\nrows 1\nbuffer 0\n\nbudget 5\nfirst:\n  cmd 60 ; opens\n\taddr 2 3\nlast:\ncmd d0\n\nend 0\n";
-    let mut files = files_of(rt.alloc(), ONE_LUN, text.as_bytes())?;
+    let mut files = files_of(rt.alloc(), ONE_LUN, WITH_LABELS)?;
     let seen = do_command(rt.alloc(), &mut files, VERIFY);
-    assert_eq!(rt;
-        str::from_utf8(seen.output.as_slice())?,
-        "refused V14 at 3\n"
-    );
-    let words = str::from_utf8(seen.errors.as_slice())?;
-    assert!(rt;
-        words.starts_with("in:12: word 3, `end 0`: the program may end while its LUN is busy"),
-        "{words}"
-    );
-    Ok(())
+    let is_printed = seen.output.as_slice() == b"refused V14 at 3\n".as_slice();
+    is_right(is_printed && seen.errors.as_slice().starts_with(ITS_REASON))
+}
+
+// Whether a text is refused where a word file is wanted.
+fn wants_word_file(alloc: Global, command: Command<'_>) -> Result<bool, Fail> {
+    is_expected(
+        alloc,
+        ONE_LUN,
+        b"rows 1\nbuffer 0\nbudget 5\nwait\nend 0\n",
+        command,
+        "refused M2 at 0\n",
+        "in: it is an assembly text, where a word file is wanted: `onfiseq asm` makes one (M2)\n",
+    )
 }
 
 // A text where a word file is wanted.
 #[test]
 fn sources_in_place_of_word_files(rt: HostRuntime) -> Result<(), Fail> {
-    let text = b"rows 1\nbuffer 0\nbudget 5\nwait\nend 0\n";
-    for command in [DISASSEMBLE, UPGRADE] {
-        expect(
-            &rt,
-            ONE_LUN,
-            text,
-            command,
-            "refused M2 at 0\n",
-            "in: it is an assembly text, where a word file is wanted: `onfiseq asm` makes one (M2)\n",
-        )?;
-    }
-    Ok(())
+    let printed = wants_word_file(rt.alloc(), DISASSEMBLE)?;
+    let upgraded = wants_word_file(rt.alloc(), UPGRADE)?;
+    is_right(printed && upgraded)
 }
 
 // How the file of the erase is damaged.
@@ -152,7 +164,9 @@ fn damaged(alloc: Global, damage: Damage) -> Result<Vec<u8>, AllocError> {
 }
 
 // Damaged files, the line that is printed of each, and the words.
-const WORD_FILES: &[(Damage, &str, &str)] = &[
+type Damaged = (Damage, &'static str, &'static str);
+
+const WORD_FILES: &[Damaged] = &[
     (
         Damage::Cut(0),
         "refused M1 at 0\n",
@@ -200,17 +214,42 @@ const WORD_FILES: &[(Damage, &str, &str)] = &[
     ),
 ];
 
+// Whether a command refuses a file so, and nothing is written.
+fn is_refused_by(
+    alloc: Global,
+    command: Command<'_>,
+    file: &[u8],
+    line: &str,
+    words: &str,
+) -> Result<bool, Fail> {
+    let mut files = files_of(alloc, ONE_LUN, file)?;
+    let seen = do_command(alloc, &mut files, command);
+    Ok(is_seen(&seen, line, words) && files.get("out").is_none())
+}
+
+// Whether the three commands that read a word file refuse it so.
+fn is_damaged(alloc: Global, (damage, line, words): Damaged) -> Result<bool, Fail> {
+    let file = damaged(alloc, damage)?;
+    let printed = is_refused_by(alloc, DISASSEMBLE, file.as_slice(), line, words)?;
+    let verified = is_refused_by(alloc, VERIFY, file.as_slice(), line, words)?;
+    let upgraded = is_refused_by(alloc, UPGRADE, file.as_slice(), line, words)?;
+    Ok(printed && verified && upgraded)
+}
+
+// The place of the first file that isn't refused so.
+fn first_other_damage(alloc: Global) -> Result<Option<usize>, Fail> {
+    for (place, row) in WORD_FILES.iter().enumerate() {
+        if !is_damaged(alloc, *row)? {
+            return Ok(Some(place));
+        }
+    }
+    Ok(None)
+}
+
 // Both commands that only read a word file refuse it alike, and nothing is written.
 #[test]
 fn word_files(rt: HostRuntime) -> Result<(), Fail> {
-    for (damage, line, words) in WORD_FILES {
-        let file = damaged(rt.alloc(), *damage)?;
-        for command in [DISASSEMBLE, VERIFY, UPGRADE] {
-            let files = expect(&rt, ONE_LUN, file.as_slice(), command, line, words)?;
-            assert!(rt; files.get("out").is_none(), "{line}");
-        }
-    }
-    Ok(())
+    none_is_wrong(first_other_damage(rt.alloc())?)
 }
 
 // A page of one LUN with one byte turned into another, and with its checksum.
@@ -222,23 +261,32 @@ fn page_with(place: u8, byte: u8, sum: [u8; 2]) -> Result<[u8; 256], Fail> {
     Ok(page)
 }
 
-// Both commands that read a page refuse it alike, and read no more.
-fn expect_page(
-    rt: &(impl Abort + AllocGlobal),
+// Whether a command prints this and says that of a page, and reads no more.
+fn refuses_page(
+    alloc: Global,
+    command: Command<'_>,
     page: &[u8],
-    code: &str,
-    meaning: &str,
-) -> Result<(), Fail> {
-    let line = format!(in rt.alloc(); "refused {code} at 0\n")?;
-    let words = format!(in rt.alloc(); "die.page: {meaning} ({code})\n")?;
-    for command in [VERIFY, CHECK] {
-        let mut files = MapFiles::new(rt.alloc());
-        files.put("die.page", page)?;
-        let seen = do_command(rt.alloc(), &mut files, command);
-        assert_eq!(rt; seen.texts()?, (line.as_str(), words.as_str()));
-        assert!(rt; seen.exit.status() == 1 && files.calls() == 1, "{line}");
-    }
-    Ok(())
+    line: &str,
+    words: &str,
+) -> Result<bool, Fail> {
+    let mut files = MapFiles::new(alloc);
+    files.put("die.page", page)?;
+    let seen = do_command(alloc, &mut files, command);
+    Ok(
+        seen.output.as_slice() == line.as_bytes()
+            && seen.errors.as_slice() == words.as_bytes()
+            && seen.exit.status() == 1
+            && files.calls() == 1,
+    )
+}
+
+// Whether both commands that read a page refuse it alike.
+fn is_refused_page(alloc: Global, page: &[u8], code: &str, meaning: &str) -> Result<bool, Fail> {
+    let line = format!(in alloc; "refused {code} at 0\n")?;
+    let words = format!(in alloc; "die.page: {meaning} ({code})\n")?;
+    let verified = refuses_page(alloc, VERIFY, page, line.as_str(), words.as_str())?;
+    let checked = refuses_page(alloc, CHECK, page, line.as_str(), words.as_str())?;
+    Ok(verified && checked)
 }
 
 // Pages with one byte turned into another and with their checksum, the code, and its meaning.
@@ -288,47 +336,67 @@ const PAGES: &[(u8, u8, [u8; 2], &str, &str)] = &[
     ),
 ];
 
+// The place of the first page that isn't refused so.
+fn first_other_page(alloc: Global) -> Result<Option<usize>, Fail> {
+    for (place, (byte_place, byte, sum, code, meaning)) in PAGES.iter().enumerate() {
+        let page = page_with(*byte_place, *byte, *sum)?;
+        if !is_refused_page(alloc, &page, code, meaning)? {
+            return Ok(Some(place));
+        }
+    }
+    Ok(None)
+}
+
 #[test]
 fn pages(rt: HostRuntime) -> Result<(), Fail> {
-    for (place, byte, sum, code, meaning) in PAGES {
-        let page = page_with(*place, *byte, *sum)?;
-        expect_page(&rt, &page, code, meaning)?;
-    }
-    Ok(())
+    none_is_wrong(first_other_page(rt.alloc())?)
+}
+
+// A page of too few data bytes.
+fn small_page() -> Result<[u8; 256], Fail> {
+    let mut small = page_with(80, 0xff, [0x9a, 0x71])?;
+    small[81] = 1;
+    Ok(small)
 }
 
 #[test]
 fn short_pages_and_small_sizes(rt: HostRuntime) -> Result<(), Fail> {
-    let page = Geometry::of(ONE_LUN)?.page();
     let short = "fewer than the 256 bytes of a parameter page";
-    expect_page(&rt, &[], "P1", short)?;
-    expect_page(&rt, &page[..255], "P1", short)?;
-    let mut small = page_with(80, 0xff, [0x9a, 0x71])?;
-    small[81] = 1;
-    expect_page(
-        &rt,
-        &small,
+    let page = Geometry::of(ONE_LUN)?.page();
+    let empty = is_refused_page(rt.alloc(), &[], "P1", short)?;
+    let cut = is_refused_page(rt.alloc(), &page[..255], "P1", short)?;
+    let small = is_refused_page(
+        rt.alloc(),
+        &small_page()?,
         "P6",
         "a size is out of range: data bytes, spare bytes, pages or blocks",
-    )
+    )?;
+    is_right(empty && cut && small)
 }
 
-// A page that is changed and one after it that isn't: the second is read.
+// A page that is changed and one after it that isn't.
+fn two_copies(alloc: Global) -> Result<Vec<u8>, Fail> {
+    let first = page_with(80, 1, [0x11, 0x56])?;
+    let second = Geometry::of(ONE_LUN)?.page();
+    let mut pages = first.to_vec(alloc)?;
+    pages.extend_from_slice(&second)?;
+    Ok(pages)
+}
+
+// The second is read.
 #[test]
 fn a_second_copy(rt: HostRuntime) -> Result<(), Fail> {
+    let pages = two_copies(rt.alloc())?;
     let mut files = files_of(rt.alloc(), ONE_LUN, &ERASE_FILE)?;
-    let mut pages = page_with(80, 1, [0x11, 0x56])?.to_vec(rt.alloc())?;
-    pages.extend_from_slice(&Geometry::of(ONE_LUN)?.page())?;
     files.put("die.page", pages.as_slice())?;
-    assert_eq!(rt;
-        do_command(rt.alloc(), &mut files, VERIFY).exit,
-        Ending::Exit(Exit::Done)
-    );
-    Ok(())
+    let seen = do_command(rt.alloc(), &mut files, VERIFY);
+    is_right(seen.exit == Ending::Exit(Exit::Done))
 }
 
 // Words after `rows 1`, `buffer 0` and `budget 16` that are refused, with the reason, the word, and the word as assembly.
-const TEXTS: [(&str, &str, usize, &str); 15] = [
+type Shown = (&'static str, &'static str, usize, &'static str);
+
+const TEXTS: &[Shown] = &[
     ("wait\n", "V5", 0, "wait"),
     ("next\nend 0\n", "V2", 0, "next"),
     (
@@ -366,77 +434,76 @@ const TEXTS: [(&str, &str, usize, &str); 15] = [
     ),
 ];
 
+const VERIFY_OUT: Command<'static> = Command::Verify {
+    page: "die.page",
+    input: "out",
+    counter: TraceOutputs::NONE,
+    is_quiet: false,
+    style: Style::Plain,
+};
+
 // Assembles these words, and verifies them.
-fn verified(
-    rt: &(impl Abort + AllocGlobal),
-    parts: Parts,
-    header: &str,
-    words: &str,
-) -> Result<(Ending, Vec<u8>, Vec<u8>), Fail> {
-    let mut text = String::from_str(rt.alloc(), header)?;
+fn verified(alloc: Global, header: &str, words: &str) -> Result<Seen, Fail> {
+    let mut text = String::from_str(alloc, header)?;
     text.push_str(words)?;
-    let mut files = files_of(rt.alloc(), parts, text.as_bytes())?;
-    assert_eq!(rt;
-        do_command(rt.alloc(), &mut files, ASSEMBLE).exit,
-        Ending::Exit(Exit::Done),
-        "{text}"
-    );
-    let command = Command::Verify {
-        page: "die.page",
-        input: "out",
-        counter: TraceOutputs::NONE,
-        is_quiet: false,
-        style: Style::Plain,
-    };
-    let seen = do_command(rt.alloc(), &mut files, command);
-    Ok((seen.exit, seen.output, seen.errors))
+    let mut files = files_of(alloc, ONE_LUN, text.as_str().as_bytes())?;
+    if do_command(alloc, &mut files, ASSEMBLE).exit == Ending::Exit(Exit::Done) {
+        Ok(do_command(alloc, &mut files, VERIFY_OUT))
+    } else {
+        Err(Fail::from("the words aren't assembled"))
+    }
 }
 
-// The verifier refuses these words at this word, which is shown, and its line ends with the code, of V7 with the rule.
-fn expect_text(
-    rt: &(impl Abort + AllocGlobal),
-    row: (&str, &str, usize, &str),
-) -> Result<(), Fail> {
-    let (words, code, word, shown) = row;
-    let (_, output, errors) = verified(rt, ONE_LUN, "rows 1\nbuffer 0\nbudget 16\n", words)?;
-    let line = format!(in rt.alloc(); "refused {code} at {word}\n")?;
-    let begin = format!(in rt.alloc(); "out: word {word}, `{shown}`: ")?;
+// What is said begins with the file, the word and how it is shown, and has the code, of V7 with the rule.
+fn shows_word(
+    alloc: Global,
+    said: &str,
+    code: &str,
+    word: usize,
+    shown: &str,
+) -> Result<bool, AllocError> {
+    let begin = format!(in alloc; "out: word {word}, `{shown}`: ")?;
     let rule = if code == "V7" { ", F" } else { ")\n" };
-    let end = format!(in rt.alloc(); " ({code}{rule}")?;
-    assert_eq!(rt; str::from_utf8(output.as_slice())?, line.as_str());
-    let told = str::from_utf8(errors.as_slice())?;
-    assert!(rt;
-        told.starts_with(begin.as_str()) && told.contains(end.as_str()),
-        "{told}"
-    );
-    Ok(())
+    let end = format!(in alloc; " ({code}{rule}")?;
+    Ok(said.starts_with(begin.as_str()) && said.contains(end.as_str()))
+}
+
+// Whether the verifier refuses these words at this word, which is shown.
+fn is_refused_text(alloc: Global, (words, code, word, shown): Shown) -> Result<bool, Fail> {
+    let seen = verified(alloc, "rows 1\nbuffer 0\nbudget 16\n", words)?;
+    let is_printed = has_line(alloc, seen.output.as_slice(), code, word)?;
+    let said = str::from_utf8(seen.errors.as_slice()).unwrap_or("");
+    Ok(shows_word(alloc, said, code, word, shown)? && is_printed)
+}
+
+// The place of the first of the words that aren't refused so.
+fn first_other_text(alloc: Global) -> Result<Option<usize>, Fail> {
+    for (place, row) in TEXTS.iter().enumerate() {
+        if !is_refused_text(alloc, *row)? {
+            return Ok(Some(place));
+        }
+    }
+    Ok(None)
 }
 
 #[test]
 fn texts(rt: HostRuntime) -> Result<(), Fail> {
-    for row in TEXTS {
-        expect_text(&rt, row)?;
-    }
-    Ok(())
+    none_is_wrong(first_other_text(rt.alloc())?)
 }
 
 #[test]
 fn no_words(rt: HostRuntime) -> Result<(), Fail> {
-    let (exit, _, errors) = verified(&rt, ONE_LUN, "rows 1\nbuffer 0\nbudget 0\n", "")?;
+    let seen = verified(rt.alloc(), "rows 1\nbuffer 0\nbudget 0\n", "")?;
     let fault = Fault::Text {
         reason: Reason::NoWords,
         word: 0,
     };
-    assert_eq!(rt; exit, refused(fault));
-    assert_eq!(rt;
-        str::from_utf8(errors.as_slice())?,
-        "out: the program has no words (V1)\n"
-    );
-    Ok(())
+    let is_said = seen.errors.as_slice() == b"out: the program has no words (V1)\n".as_slice();
+    is_right(is_said && seen.exit == refused(fault))
 }
 
 // Texts that aren't traces, with the code and the line.
-const TRACES: [(&str, &str, usize); 8] = [
+const TRACES: &[Source] = &[
     ("x", "X1", 1),
     ("0 C 60", "X1", 1),
     ("0 X 60\n", "X1", 1),
@@ -449,14 +516,11 @@ const TRACES: [(&str, &str, usize); 8] = [
 
 #[test]
 fn traces(rt: HostRuntime) -> Result<(), Fail> {
-    for row in TRACES {
-        expect_line(&rt, CHECK, row)?;
-    }
-    Ok(())
+    none_is_wrong(first_other_line(rt.alloc(), CHECK, TRACES, "")?)
 }
 
 // So many times the letter `x`.
-fn repeat(alloc: Global, count: usize) -> Result<String, Fail> {
+fn repeat(alloc: Global, count: usize) -> Result<String, AllocError> {
     let mut text = String::new(alloc);
     for _ in 0..count {
         text.push('x')?;
@@ -464,22 +528,30 @@ fn repeat(alloc: Global, count: usize) -> Result<String, Fail> {
     Ok(text)
 }
 
+// What is said of a line begins so: of a long one 120 characters are shown.
+fn begin_of_long_line(alloc: Global) -> Result<String, AllocError> {
+    let shown = repeat(alloc, 120)?;
+    format!(in alloc; "in:1: `{shown}...`: ")
+}
+
+// Whether of a long line so much is shown.
+fn shows_begin(alloc: Global) -> Result<bool, Fail> {
+    let long = repeat(alloc, 100_000)?;
+    let begin = begin_of_long_line(alloc)?;
+    let mut files = files_of(alloc, ONE_LUN, long.as_str().as_bytes())?;
+    let seen = do_command(alloc, &mut files, CHECK);
+    let words = seen.errors.as_slice();
+    Ok(seen.exit.status() == 1 && words.starts_with(begin.as_str().as_bytes()))
+}
+
 // Of a long line 120 characters are shown.
 #[test]
 fn long_lines(rt: HostRuntime) -> Result<(), Fail> {
-    let long = repeat(rt.alloc(), 100_000)?;
-    let shown = repeat(rt.alloc(), 120)?;
-    let begin = format!(in rt.alloc(); "in:1: `{shown}...`: ")?;
-    let mut files = files_of(rt.alloc(), ONE_LUN, long.as_str().as_bytes())?;
-    let seen = do_command(rt.alloc(), &mut files, CHECK);
-    assert_eq!(rt; seen.exit.status(), 1);
-    let words = str::from_utf8(seen.errors.as_slice())?;
-    assert!(rt; words.starts_with(begin.as_str()), "{words}");
-    Ok(())
+    is_right(shows_begin(rt.alloc())?)
 }
 
 // Traces of one LUN and of two, with the first rule that they break, the item, and its line.
-const ILLEGAL: [(&str, &str, usize, &str); 11] = [
+const ILLEGAL: &[Shown] = &[
     ("1 C 60\n", "F1", 0, "1 C 60"),
     ("0 C 42\n", "F2", 0, "0 C 42"),
     ("0 C 60\n0 C 60\n", "F3", 1, "0 C 60"),
@@ -499,7 +571,7 @@ const ILLEGAL: [(&str, &str, usize, &str); 11] = [
 ];
 
 // The same on two LUNs.
-const ILLEGAL_OF_TWO: [(&str, &str, usize, &str); 2] = [
+const ILLEGAL_OF_TWO: &[Shown] = &[
     ("0 C 70\n", "F4", 0, "0 C 70"),
     (
         "0 C 60\n0 A 00\n0 A 00\n0 A 00\n0 C d1\n0 R 0 0\n0 C 60\n0 A 00\n0 A 00\n0 A 00\n",
@@ -509,56 +581,80 @@ const ILLEGAL_OF_TWO: [(&str, &str, usize, &str); 2] = [
     ),
 ];
 
-fn expect_illegal(
-    rt: &(impl Abort + AllocGlobal),
-    parts: Parts,
-    row: (&str, &str, usize, &str),
-) -> Result<(), Fail> {
-    let (text, code, item, shown) = row;
-    let mut files = files_of(rt.alloc(), parts, text.as_bytes())?;
-    let seen = do_command(rt.alloc(), &mut files, CHECK);
-    let line = format!(in rt.alloc(); "refused {code} at {item}\n")?;
+// And with read cache.
+const ILLEGAL_OF_CACHE: &[Shown] = &[("0 C 31\n", "F15", 0, "0 C 31")];
+
+// What is said begins with the line of the item and shows the item, and ends with the code.
+fn shows_item(
+    alloc: Global,
+    said: &str,
+    code: &str,
+    item: usize,
+    shown: &str,
+) -> Result<bool, AllocError> {
     let number = item.saturating_add(1);
-    let begin = format!(in rt.alloc(); "in:{number}: item {item}, `{shown}`: ")?;
-    let end = format!(in rt.alloc(); " ({code})\n")?;
-    assert_eq!(rt; str::from_utf8(seen.output.as_slice())?, line.as_str());
-    let errors = str::from_utf8(seen.errors.as_slice())?;
-    assert!(rt;
-        errors.starts_with(begin.as_str()) && errors.ends_with(end.as_str()),
-        "{errors}"
-    );
-    Ok(())
+    let begin = format!(in alloc; "in:{number}: item {item}, `{shown}`: ")?;
+    let end = format!(in alloc; " ({code})\n")?;
+    Ok(said.starts_with(begin.as_str()) && said.ends_with(end.as_str()))
 }
+
+// Whether a trace breaks this rule at this item, and is told so.
+fn is_illegal(alloc: Global, parts: Parts, (text, code, item, shown): Shown) -> Result<bool, Fail> {
+    let mut files = files_of(alloc, parts, text.as_bytes())?;
+    let seen = do_command(alloc, &mut files, CHECK);
+    let is_printed = has_line(alloc, seen.output.as_slice(), code, item)?;
+    let said = str::from_utf8(seen.errors.as_slice()).unwrap_or("");
+    Ok(shows_item(alloc, said, code, item, shown)? && is_printed)
+}
+
+// The place of the first trace that isn't told so.
+fn first_legal(alloc: Global, parts: Parts, rows: &[Shown]) -> Result<Option<usize>, Fail> {
+    for (place, row) in rows.iter().enumerate() {
+        if !is_illegal(alloc, parts, *row)? {
+            return Ok(Some(place));
+        }
+    }
+    Ok(None)
+}
+
+const WITH_CACHE: Parts = Parts {
+    cache: true,
+    ..ONE_LUN
+};
 
 #[test]
 fn illegal_traces(rt: HostRuntime) -> Result<(), Fail> {
-    for row in ILLEGAL {
-        expect_illegal(&rt, ONE_LUN, row)?;
-    }
-    for row in ILLEGAL_OF_TWO {
-        expect_illegal(&rt, TWO_LUNS, row)?;
-    }
-    let cache = Parts {
-        cache: true,
-        ..ONE_LUN
+    none_is_wrong(first_legal(rt.alloc(), ONE_LUN, ILLEGAL)?)?;
+    none_is_wrong(first_legal(rt.alloc(), TWO_LUNS, ILLEGAL_OF_TWO)?)?;
+    none_is_wrong(first_legal(rt.alloc(), WITH_CACHE, ILLEGAL_OF_CACHE)?)
+}
+
+const NO_SUCH_LUN: Fault = Fault::Job {
+    fault: JobFault::NoSuchLun,
+};
+
+// Whether the words of that fault are these.
+fn has_fault_words(alloc: Global) -> Result<bool, Fail> {
+    let words = words_of(alloc, "in", NO_SUCH_LUN).ok_or("no words")?;
+    let told = format!(in alloc; "{words}")?;
+    Ok(told.as_str() == "in: there is no such LUN (S2)")
+}
+
+// Whether the line of that refusal is this.
+fn has_refusal_line(alloc: Global, line: Option<usize>, text: &str) -> Result<bool, AllocError> {
+    let refusal = Refusal {
+        fault: NO_SUCH_LUN,
+        line,
     };
-    expect_illegal(&rt, cache, ("0 C 31\n", "F15", 0, "0 C 31"))
+    let told = refusal.text(alloc)?;
+    Ok(told.as_str() == text)
 }
 
 // What no file of a command is refused for, and the number that is told.
 #[test]
 fn refusals_of_jobs(rt: HostRuntime) -> Result<(), Fail> {
-    let fault = Fault::Job {
-        fault: JobFault::NoSuchLun,
-    };
-    let words = words_of(rt.alloc(), "in", fault).ok_or("no words")?;
-    assert_eq!(rt;
-        format!(in rt.alloc(); "{words}")?.as_str(),
-        "in: there is no such LUN (S2)"
-    );
-    for (line, text) in [(None, "refused S2 at 0\n"), (Some(7), "refused S2 at 7\n")] {
-        let refusal = Refusal { fault, line };
-        assert_eq!(rt; refusal.text(rt.alloc())?.as_str(), text);
-    }
-    Ok(())
+    let words = has_fault_words(rt.alloc())?;
+    let none = has_refusal_line(rt.alloc(), None, "refused S2 at 0\n")?;
+    let seventh = has_refusal_line(rt.alloc(), Some(7), "refused S2 at 7\n")?;
+    is_right(words && none && seventh)
 }

@@ -4,7 +4,6 @@ use nand_geometry::{Geometry, Parts, SMALL_CHIP};
 use seq_files::MapFiles;
 use seq_inputs::{Console, Exit, Fault, Refusal, Style};
 use std::alloc::{AllocError, Global};
-use std::process::Abort;
 use std::test::Fail;
 use trace_commands::{CheckRequest, Ending, Targets};
 use trace_faults::{Beginning, Readies};
@@ -100,13 +99,13 @@ pub(crate) struct Seen {
     pub(crate) errors: Vec<u8>,
 }
 
-impl Seen {
-    /// What is printed, and what is said to a person.
-    pub(crate) fn texts(&self) -> Result<(&str, &str), Fail> {
-        let output = str::from_utf8(self.output.as_slice())?;
-        let errors = str::from_utf8(self.errors.as_slice())?;
-        Ok((output, errors))
-    }
+// A command printed this and said that, and ended as it should then.
+pub(crate) fn is_seen(seen: &Seen, printed: &str, words: &str) -> bool {
+    let is_done = words.is_empty() || printed == "legal\n";
+    seen.output.as_slice() == printed.as_bytes()
+        && seen.errors.as_slice() == words.as_bytes()
+        && (seen.exit == Ending::Exit(Exit::Done)) == is_done
+        && seen.exit.status() == if is_done { 0 } else { 1 }
 }
 
 pub(crate) fn do_command(alloc: Global, files: &mut MapFiles, command: Command<'_>) -> Seen {
@@ -124,28 +123,35 @@ pub(crate) fn do_command(alloc: Global, files: &mut MapFiles, command: Command<'
     }
 }
 
-// A command on this page and this input ends so, printing this and saying that.
-pub(crate) fn expect(
-    rt: &(impl Abort + AllocGlobal),
+// Whether a command on this page and this input ends so, printing this and saying that.
+pub(crate) fn is_expected(
+    alloc: Global,
     parts: Parts,
     input: &[u8],
     command: Command<'_>,
     printed: &str,
     words: &str,
-) -> Result<MapFiles, Fail> {
-    let mut files = files_of(rt.alloc(), parts, input)?;
-    let seen = do_command(rt.alloc(), &mut files, command);
-    let is_done = words.is_empty() || printed == "legal\n";
-    assert_eq!(rt; seen.texts()?, (printed, words));
-    assert!(rt;
-        (seen.exit == Ending::Exit(Exit::Done)) == is_done,
-        "{printed}"
-    );
-    assert!(rt;
-        seen.exit.status() == if is_done { 0 } else { 1 },
-        "{printed}"
-    );
-    Ok(files)
+) -> Result<bool, Fail> {
+    let mut files = files_of(alloc, parts, input)?;
+    let seen = do_command(alloc, &mut files, command);
+    Ok(is_seen(&seen, printed, words))
+}
+
+// No row is wrong.
+pub(crate) fn none_is_wrong(wrong: Option<usize>) -> Result<(), Fail> {
+    match wrong {
+        None => Ok(()),
+        Some(place) => Err(Fail::new(format_args!("row {place} comes to something else"))),
+    }
+}
+
+// All is as it should be.
+pub(crate) fn is_right(is_right: bool) -> Result<(), Fail> {
+    if is_right {
+        Ok(())
+    } else {
+        Err(Fail::from("it comes to something else"))
+    }
 }
 
 const OR_FAIL: &str =
@@ -181,7 +187,9 @@ impl Input {
 }
 
 // A command on an input, what it prints, and the bytes of its output, if it has one.
-const DONE: &[(Command<'static>, Input, &str, Option<&[u8]>)] = &[
+type Done = (Command<'static>, Input, &'static str, Option<&'static [u8]>);
+
+const DONE: &[Done] = &[
     (ASSEMBLE, Input::Text(OR_FAIL), "ok\n", Some(&OR_FAIL_FILE)),
     (DISASSEMBLE, Input::File(&OR_FAIL_FILE), OR_FAIL, None),
     (DISASSEMBLE, Input::File(&ERASE_FILE), ERASE, None),
@@ -189,42 +197,74 @@ const DONE: &[(Command<'static>, Input, &str, Option<&[u8]>)] = &[
     (UPGRADE, Input::File(&UPGRADED), "ok\n", Some(&UPGRADED)),
 ];
 
+// Whether a command does so, and leaves its input as it is.
+fn is_done(alloc: Global, (command, input, printed, output): Done) -> Result<bool, Fail> {
+    let mut files = files_of(alloc, ONE_LUN, input.bytes())?;
+    let seen = do_command(alloc, &mut files, command);
+    Ok(
+        is_seen(&seen, printed, "")
+            && files.get("in") == Some(input.bytes())
+            && files.get("out") == output,
+    )
+}
+
+// The place of the first command that does something else.
+fn first_undone(alloc: Global) -> Result<Option<usize>, Fail> {
+    for (place, row) in DONE.iter().enumerate() {
+        if !is_done(alloc, *row)? {
+            return Ok(Some(place));
+        }
+    }
+    Ok(None)
+}
+
 #[test]
 fn assembles_and_back(rt: HostRuntime) -> Result<(), Fail> {
-    for (command, input, printed, output) in DONE {
-        let input = input.bytes();
-        let files = expect(&rt, ONE_LUN, input, *command, printed, "")?;
-        let same = files.get("in") == Some(input);
-        assert!(rt; same && files.get("out") == *output, "{printed}");
-    }
-    Ok(())
+    none_is_wrong(first_undone(rt.alloc())?)
+}
+
+const UPGRADE_IN_PLACE: Command<'static> = Command::Upgrade {
+    input: "in",
+    target: "in",
+};
+
+// Whether a file is upgraded in its place.
+fn is_upgraded(alloc: Global) -> Result<bool, Fail> {
+    let mut files = files_of(alloc, ONE_LUN, &ERASE_FILE)?;
+    let seen = do_command(alloc, &mut files, UPGRADE_IN_PLACE);
+    let upgraded = files.get("in").unwrap_or(b"");
+    Ok(is_seen(&seen, "ok\n", "") && upgraded.starts_with(b"NMP2"))
 }
 
 // An output may be the input itself.
 #[test]
 fn upgrades_in_place(rt: HostRuntime) -> Result<(), Fail> {
-    let command = Command::Upgrade {
-        input: "in",
-        target: "in",
-    };
-    let files = expect(&rt, ONE_LUN, &ERASE_FILE, command, "ok\n", "")?;
-    assert!(rt;
-        files
-            .get("in")
-            .is_some_and(|bytes| bytes.starts_with(b"NMP2"))
-    );
-    Ok(())
+    is_right(is_upgraded(rt.alloc())?)
 }
 
-// A word file, and the assembly text itself.
-#[test]
-fn verifies(rt: HostRuntime) -> Result<(), Fail> {
-    for parts in [ONE_LUN, TWO_LUNS, WITH_CACHE] {
-        for input in [ERASE_FILE.as_slice(), ERASE.as_bytes()] {
-            expect(&rt, parts, input, VERIFY, "accepted\n", "")?;
+// A geometry, and what is verified: a word file, and the assembly text itself.
+const VERIFIED: &[(Parts, Input)] = &[
+    (ONE_LUN, Input::File(&ERASE_FILE)),
+    (ONE_LUN, Input::Text(ERASE)),
+    (TWO_LUNS, Input::File(&ERASE_FILE)),
+    (TWO_LUNS, Input::Text(ERASE)),
+    (WITH_CACHE, Input::File(&ERASE_FILE)),
+    (WITH_CACHE, Input::Text(ERASE)),
+];
+
+// The place of the first of those that isn't accepted.
+fn first_not_accepted(alloc: Global) -> Result<Option<usize>, Fail> {
+    for (place, (parts, input)) in VERIFIED.iter().enumerate() {
+        if !is_expected(alloc, *parts, input.bytes(), VERIFY, "accepted\n", "")? {
+            return Ok(Some(place));
         }
     }
-    Ok(())
+    Ok(None)
+}
+
+#[test]
+fn verifies(rt: HostRuntime) -> Result<(), Fail> {
+    none_is_wrong(first_not_accepted(rt.alloc())?)
 }
 
 // To check a trace of so many targets.
@@ -245,14 +285,19 @@ fn check_of(targets: Targets) -> Command<'static> {
     })
 }
 
+// Whether a trace of the second of so many targets is legal.
+fn takes_targets(alloc: Global, targets: Targets) -> Result<bool, Fail> {
+    let mut files = files_of(alloc, ONE_LUN, b"1 C 60\n")?;
+    let seen = do_command(alloc, &mut files, check_of(targets));
+    Ok(seen.exit == Ending::Exit(Exit::Done))
+}
+
 #[test]
 fn checks(rt: HostRuntime) -> Result<(), Fail> {
-    for targets in [Targets::Two, Targets::Three, Targets::Four] {
-        let mut files = files_of(rt.alloc(), ONE_LUN, b"1 C 60\n")?;
-        let seen = do_command(rt.alloc(), &mut files, check_of(targets));
-        assert!(rt; seen.exit == Ending::Exit(Exit::Done));
-    }
-    Ok(())
+    let two = takes_targets(rt.alloc(), Targets::Two)?;
+    let three = takes_targets(rt.alloc(), Targets::Three)?;
+    let four = takes_targets(rt.alloc(), Targets::Four)?;
+    is_right(two && three && four)
 }
 
 // The erase of a block on each of two LUNs of one target, as a sequencer hands the bus from one to the other.
@@ -286,10 +331,17 @@ const TRACES: &[(Parts, Input, &str, &str)] = &[
     ),
 ];
 
+// The place of the first trace of which something else is printed or said.
+fn first_other_trace(alloc: Global) -> Result<Option<usize>, Fail> {
+    for (place, (parts, input, printed, words)) in TRACES.iter().enumerate() {
+        if !is_expected(alloc, *parts, input.bytes(), CHECK, printed, words)? {
+            return Ok(Some(place));
+        }
+    }
+    Ok(None)
+}
+
 #[test]
 fn traces_are_checked(rt: HostRuntime) -> Result<(), Fail> {
-    for (parts, input, printed, words) in TRACES {
-        expect(&rt, *parts, input.bytes(), CHECK, printed, words)?;
-    }
-    Ok(())
+    none_is_wrong(first_other_trace(rt.alloc())?)
 }

@@ -1,4 +1,4 @@
-use crate::table::{PLAIN, TWO_PLANES, Try, differences};
+use crate::table::{PLAIN, TWO_PLANES, Try, none_differ};
 use std::test::Fail;
 
 const ON_PLANES: Try<'static> = Try {
@@ -8,7 +8,7 @@ const ON_PLANES: Try<'static> = Try {
 };
 
 // Addresses that the open sequence doesn't want.
-const UNWANTED: [Try<'static>; 8] = [
+const UNWANTED: &[Try<'static>] = &[
     Try {
         words: "addr 0 1\nend 0",
         told: "word 0: no address is wanted: no sequence is open (V7, F7)",
@@ -53,12 +53,11 @@ const UNWANTED: [Try<'static>; 8] = [
 
 #[test]
 fn unwanted_addresses(rt: HostRuntime) -> Result<(), Fail> {
-    assert_eq!(rt; differences(rt.alloc(), &UNWANTED)?.as_str(), "");
-    Ok(())
+    none_differ(rt.alloc(), UNWANTED)
 }
 
 // Rows beside a queue, or in a cache read.
-const ROWS: [Try<'static>; 5] = [
+const ROWS: &[Try<'static>] = &[
     Try {
         words: "cmd 60\naddr 2 3\ncmd d1\nwait\ncmd 60\naddr 2 3\ncmd d0\nwait\nend 0",
         told: "word 5: the row of `cmd d1` (word 2) is queued, and this one may be on the same plane: another `plane` is missing (V7, F10)",
@@ -88,12 +87,11 @@ const ROWS: [Try<'static>; 5] = [
 
 #[test]
 fn rows_of_a_lun_at_work(rt: HostRuntime) -> Result<(), Fail> {
-    assert_eq!(rt; differences(rt.alloc(), &ROWS)?.as_str(), "");
-    Ok(())
+    none_differ(rt.alloc(), ROWS)
 }
 
 // Addresses that aren't given in one piece.
-const PIECES: [Try<'static>; 5] = [
+const PIECES: &[Try<'static>] = &[
     Try {
         words: "cmd 00\naddr 2 3\nend 0",
         told: "word 1: C1 is the byte wanted next: `cmd 00` (word 0) is open and wants `addr 0 5` next (V8)",
@@ -123,6 +121,5 @@ const PIECES: [Try<'static>; 5] = [
 
 #[test]
 fn addresses_in_pieces(rt: HostRuntime) -> Result<(), Fail> {
-    assert_eq!(rt; differences(rt.alloc(), &PIECES)?.as_str(), "");
-    Ok(())
+    none_differ(rt.alloc(), PIECES)
 }

@@ -1,4 +1,4 @@
-use crate::table::{PLAIN, TWO_LUNS, TWO_PLANES, Try, differences};
+use crate::table::{PLAIN, TWO_LUNS, TWO_PLANES, Try, none_differ};
 use std::test::Fail;
 
 const ON_PLANES: Try<'static> = Try {
@@ -12,7 +12,7 @@ const ON_LUNS: Try<'static> = Try {
 };
 
 // Openers while a sequence is open.
-const OPEN: [Try<'static>; 6] = [
+const OPEN: &[Try<'static>] = &[
     Try {
         words: "cmd 60\ncmd 60\naddr 2 3\ncmd d0\nwait\nend 0",
         told: "word 1: `cmd 60` (word 0) is open and wants `addr 2 3` next (V7, F3)",
@@ -47,12 +47,11 @@ const OPEN: [Try<'static>; 6] = [
 
 #[test]
 fn openers_in_a_sequence(rt: HostRuntime) -> Result<(), Fail> {
-    assert_eq!(rt; differences(rt.alloc(), &OPEN)?.as_str(), "");
-    Ok(())
+    none_differ(rt.alloc(), OPEN)
 }
 
 // Openers of a LUN that may be busy, and those that want it for themselves.
-const BUSY: [Try<'static>; 7] = [
+const BUSY: &[Try<'static>] = &[
     Try {
         words: "cmd 60\naddr 2 3\ncmd d0\ncmd 60\naddr 2 3\ncmd d0\nwait\nend 0",
         told: "word 3: the LUN may be busy, a `wait` is missing after word 2 (V7, F9)",
@@ -93,12 +92,11 @@ const BUSY: [Try<'static>; 7] = [
 
 #[test]
 fn openers_of_a_lun_at_work(rt: HostRuntime) -> Result<(), Fail> {
-    assert_eq!(rt; differences(rt.alloc(), &BUSY)?.as_str(), "");
-    Ok(())
+    none_differ(rt.alloc(), BUSY)
 }
 
 // Changes of the read column with nothing to change.
-const CHANGES: [Try<'static>; 7] = [
+const CHANGES: &[Try<'static>] = &[
     Try {
         words: "cmd 05\nend 0",
         told: "word 0: the LUN shows nothing: a read, a `stat` or a `wait` must come first (V7, F5)",
@@ -138,12 +136,11 @@ const CHANGES: [Try<'static>; 7] = [
 
 #[test]
 fn changes_of_no_column(rt: HostRuntime) -> Result<(), Fail> {
-    assert_eq!(rt; differences(rt.alloc(), &CHANGES)?.as_str(), "");
-    Ok(())
+    none_differ(rt.alloc(), CHANGES)
 }
 
 // Commands that don't go on with what is open.
-const MISPLACED: [Try<'static>; 5] = [
+const MISPLACED: &[Try<'static>] = &[
     Try {
         words: "cmd d0\nend 0",
         told: "word 0: no sequence is open: `cmd 60` must begin one (V7, F6)",
@@ -173,12 +170,11 @@ const MISPLACED: [Try<'static>; 5] = [
 
 #[test]
 fn commands_out_of_place(rt: HostRuntime) -> Result<(), Fail> {
-    assert_eq!(rt; differences(rt.alloc(), &MISPLACED)?.as_str(), "");
-    Ok(())
+    none_differ(rt.alloc(), MISPLACED)
 }
 
 // Cache reads that don't stand so.
-const CACHES: [Try<'static>; 6] = [
+const CACHES: &[Try<'static>] = &[
     Try {
         words: "cmd 31\nend 0",
         told: "word 0: the LUN shows nothing: a read, a `stat` or a `wait` must come first (V7, F15)",
@@ -215,6 +211,5 @@ const CACHES: [Try<'static>; 6] = [
 
 #[test]
 fn cache_reads_out_of_place(rt: HostRuntime) -> Result<(), Fail> {
-    assert_eq!(rt; differences(rt.alloc(), &CACHES)?.as_str(), "");
-    Ok(())
+    none_differ(rt.alloc(), CACHES)
 }

@@ -1,4 +1,4 @@
-use crate::table::{PLAIN, TWO_LUNS, TWO_PLANES, Try, differences};
+use crate::table::{PLAIN, TWO_LUNS, TWO_PLANES, Try, none_differ};
 use std::test::Fail;
 
 const ON_PLANES: Try<'static> = Try {
@@ -12,7 +12,7 @@ const ON_LUNS: Try<'static> = Try {
 };
 
 // A small number in the header.
-const HEADERS: [Try<'static>; 10] = [
+const HEADERS: &[Try<'static>] = &[
     Try {
         buffer: 1,
         words: "stat\nget 2\nend 0",
@@ -71,12 +71,11 @@ const HEADERS: [Try<'static>; 10] = [
 
 #[test]
 fn numbers_of_the_header(rt: HostRuntime) -> Result<(), Fail> {
-    assert_eq!(rt; differences(rt.alloc(), &HEADERS)?.as_str(), "");
-    Ok(())
+    none_differ(rt.alloc(), HEADERS)
 }
 
 // Planes and columns that aren't there.
-const OUTSIDE: [Try<'static>; 8] = [
+const OUTSIDE: &[Try<'static>] = &[
     Try {
         words: "plane 1\ncmd 60\naddr 2 3\ncmd d0\nwait\nend 0",
         told: "word 2: plane 1 may be named, and the die has plane 0 alone (V11)",
@@ -123,12 +122,11 @@ const OUTSIDE: [Try<'static>; 8] = [
 
 #[test]
 fn planes_and_columns(rt: HostRuntime) -> Result<(), Fail> {
-    assert_eq!(rt; differences(rt.alloc(), &OUTSIDE)?.as_str(), "");
-    Ok(())
+    none_differ(rt.alloc(), OUTSIDE)
 }
 
 // Programs that end too soon.
-const ENDS: [Try<'static>; 5] = [
+const ENDS: &[Try<'static>] = &[
     Try {
         words: "cmd 60\naddr 2 3\ncmd d0\nend 0",
         told: "word 3: the LUN may be busy, a `wait` is missing after word 2 (V14)",
@@ -159,12 +157,11 @@ const ENDS: [Try<'static>; 5] = [
 
 #[test]
 fn ends_too_soon(rt: HostRuntime) -> Result<(), Fail> {
-    assert_eq!(rt; differences(rt.alloc(), &ENDS)?.as_str(), "");
-    Ok(())
+    none_differ(rt.alloc(), ENDS)
 }
 
 // Commands that programs may not use.
-const BARRED: [Try<'static>; 11] = [
+const BARRED: &[Try<'static>] = &[
     Try {
         words: "cmd 70\nend 0",
         told: "word 0: programs ask for the status by `stat` or `wait` (V16)",
@@ -224,6 +221,5 @@ const BARRED: [Try<'static>; 11] = [
 
 #[test]
 fn commands_not_for_programs(rt: HostRuntime) -> Result<(), Fail> {
-    assert_eq!(rt; differences(rt.alloc(), &BARRED)?.as_str(), "");
-    Ok(())
+    none_differ(rt.alloc(), BARRED)
 }

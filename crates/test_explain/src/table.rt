@@ -68,8 +68,8 @@ fn told_of(alloc: Global, it: Try<'_>) -> Result<String, Fail> {
     }
 }
 
-/// What is told of these programs, where it is something else than is expected; nothing where all is as expected.
-pub(crate) fn differences(alloc: Global, tries: &[Try<'_>]) -> Result<String, Fail> {
+// What is told of these programs, where it is something else than is expected; nothing where all is as expected.
+fn differences(alloc: Global, tries: &[Try<'_>]) -> Result<String, Fail> {
     let mut all = String::new(alloc);
     for it in tries {
         let told = told_of(alloc, *it)?;
@@ -79,4 +79,14 @@ pub(crate) fn differences(alloc: Global, tries: &[Try<'_>]) -> Result<String, Fa
         }
     }
     Ok(all)
+}
+
+/// Nothing else is told of these programs than is expected.
+pub(crate) fn none_differ(alloc: Global, tries: &[Try<'_>]) -> Result<(), Fail> {
+    let all = differences(alloc, tries)?;
+    if all.is_empty() {
+        Ok(())
+    } else {
+        Err(Fail::new(format_args!("{all}")))
+    }
 }

@@ -15,7 +15,7 @@ use test_channel_scenes::{
 };
 
 // Erases of LUN 0 that are verified for another geometry, so that none can start.
-const WAITING: [Erase; 64] = [Erase {
+const WAITING: &[Erase] = &[Erase {
     parts: ONE_LUN,
     ..ON_ZERO
 }; 64];
@@ -39,7 +39,7 @@ fn work_past_waiting<L: Turns, R: Wait + AllocGlobal>(rt: &R, blank: Blank) -> R
     requires parts { (blank.parts ≡ L.parts) × (L.all ≡ L.parts) × (L.parts ≡ 9) × (L.origin ≡ None) }
 {
     let (queue, host, _other, taker) = make_queue(rt.alloc(), 65)?;
-    let host = submit_erases(rt, &queue, host, &WAITING)?;
+    let host = submit_erases(rt, &queue, host, WAITING)?;
     let _host = submit_erases(rt, &queue, host, &[ON_ONE])?;
     let state = make_state::<L>(rt.alloc(), blank, TWO_LUNS, 1, taker)?;
     let gathered = run_alone(rt, state, &Recorder::new(1))?;

@@ -60,14 +60,23 @@ fn make_core(alloc: Global, geometry: Geometry) -> Result<Core, Fail> {
     }
 }
 
+fn make_text(alloc: Global) -> Result<Text, Fail> {
+    let words = WORDS.to_vec(alloc)?;
+    match Text::of(1, 20_480, BUDGET, words) {
+        Ok(text) => Ok(text),
+        Err(_) => Err(Fail::from("the words are a text")),
+    }
+}
+
 fn make_job(alloc: Global, geometry: Geometry) -> Result<Job, Fail> {
-    let text = Text::of(1, 20_480, BUDGET, WORDS.to_vec(alloc)?)
-        .ok()
-        .ok_or("the words are a text")?;
-    let verified = verify(text, geometry).ok().ok_or("the text is accepted")?;
     let buffer = vec![in alloc; 0x00; 20_480]?;
-    let job = Job::new(geometry, 1, ZERO, 0, verified, buffer).ok();
-    Ok(job.ok_or("the job is made")?)
+    let Ok(verified) = verify(make_text(alloc)?, geometry) else {
+        return Err(Fail::from("the text is accepted"));
+    };
+    match Job::new(geometry, 1, ZERO, 0, verified, buffer) {
+        Ok(job) => Ok(job),
+        Err(_) => Err(Fail::from("the job is made")),
+    }
 }
 
 // Steps the LUN until its program ends, and lets it become ready after each poll that says busy. Whether it ends.
@@ -84,15 +93,30 @@ fn run(core: &mut Core) -> Result<bool, Fail> {
     Ok(false)
 }
 
+// Whether the program of the LUN has ended with 0.
+fn has_ended(core: &mut Core) -> bool {
+    match core.unload(ZERO) {
+        Ok(done) => done.code == 0,
+        Err(_) => false,
+    }
+}
+
+// A sequencer with the job.
+fn make_loaded(alloc: Global) -> Result<Core, Fail> {
+    let geometry = Geometry::of(LARGE_PAGE)?;
+    let job = make_job(alloc, geometry)?;
+    let mut core = make_core(alloc, geometry)?;
+    match core.load(ZERO, job) {
+        Ok(()) => Ok(core),
+        Err(_) => Err(Fail::from("the job is loaded")),
+    }
+}
+
 #[test]
 fn a_trace_past_a_million_items(rt: HostRuntime) -> Result<(), Fail> {
-    let geometry = Geometry::of(LARGE_PAGE)?;
-    let mut core = make_core(rt.alloc(), geometry)?;
-    let job = make_job(rt.alloc(), geometry)?;
-    assert!(rt; core.load(ZERO, job).is_ok());
-    assert!(rt; run(&mut core)?);
-    assert_eq!(rt; core.trace().len(), ITEMS);
-    let done = core.unload(ZERO).ok().ok_or("the program has ended")?;
-    assert_eq!(rt; done.code, 0);
+    let mut core = make_loaded(rt.alloc())?;
+    let ends = run(&mut core)?;
+    let count = core.trace().len();
+    assert!(rt; ends && count == ITEMS && has_ended(&mut core));
     Ok(())
 }

@@ -128,6 +128,14 @@ fn run_to_end(alloc: Global, core: &mut Core<Memory<'_>>) -> Result<bool, Fail> 
     Err("the program ends".into())
 }
 
+// Whether a job that has ended is taken away with this buffer.
+fn gives_back(core: &mut Core<Memory<'_>>, left: &[u8]) -> bool {
+    match core.unload(LUN_0) {
+        Ok(done) => done.code == 0 && done.job.buffer() == left,
+        Err(_) => false,
+    }
+}
+
 // Loads a job, runs it, and takes it away again. Whether a step was out of memory.
 fn run_job<'h>(
     alloc: Global,
@@ -139,33 +147,67 @@ fn run_job<'h>(
         return Err("the load is refused".into());
     }
     let is_short = run_to_end(alloc, core)?;
-    match core.unload(LUN_0) {
-        Ok(done) if done.code == 0 && done.job.buffer() == left => Ok(is_short),
-        _ => Err("the job ends with its code and its buffer".into()),
+    if gives_back(core, left) {
+        Ok(is_short)
+    } else {
+        Err("the job ends with its code and its buffer".into())
     }
 }
 
-// The die of a sequencer holds what the two jobs have left in it.
-fn holds_both(core: Core<Memory<'_>>) -> Result<bool, Fail> {
+// The image of the one die of a sequencer.
+fn image_of(alloc: Global, core: Core<Memory<'_>>) -> Result<Vec<u8>, Fail> {
     let dies = core.into_bus().into_dies();
-    let [die] = dies.as_slice() else {
-        return Ok(false);
-    };
-    let image = die.image()?;
-    let (start, rest) = image
-        .as_slice()
-        .split_at(IMAGE_START.len().min(image.len()));
-    Ok(
-        start == IMAGE_START.as_slice()
-            && rest.len() == 525
-            && rest.iter().all(|byte| *byte == 0xff),
-    )
+    match dies.as_slice() {
+        [die] => Ok(die.image()?.as_slice().to_vec(alloc)?),
+        _ => Err("one die".into()),
+    }
+}
+
+// An image is what the two jobs have left.
+fn is_of_both(image: &[u8]) -> bool {
+    let (start, rest) = image.split_at(IMAGE_START.len().min(image.len()));
+    start == IMAGE_START.as_slice() && rest.len() == 525 && rest.iter().all(|byte| *byte == 0xff)
+}
+
+// The die of a sequencer holds what the two jobs have left in it.
+fn holds_both(alloc: Global, core: Core<Memory<'_>>) -> Result<bool, Fail> {
+    let image = image_of(alloc, core)?;
+    Ok(is_of_both(image.as_slice()))
 }
 
 // The trace of a sequencer is this.
 fn has_trace(alloc: Global, core: &Core<Memory<'_>>, text: &str) -> Result<bool, Fail> {
     let items = parse(alloc, text)?;
     Ok(core.trace() == items.as_slice())
+}
+
+// The trace of a sequencer and its die are those of ample memory.
+fn expect_both(alloc: Global, core: Core<Memory<'_>>) -> Result<(), Fail> {
+    let is_traced = has_trace(alloc, &core, TRACE)?;
+    if holds_both(alloc, core)? && is_traced {
+        Ok(())
+    } else {
+        Err("the trace and the image are those of ample memory".into())
+    }
+}
+
+// Runs the two jobs. Whether a step was out of memory.
+fn run_both<'h>(
+    alloc: Global,
+    core: &mut Core<Memory<'h>>,
+    first: Job<Memory<'h>>,
+    second: Job<Memory<'h>>,
+) -> Result<bool, Fail> {
+    let first_short = run_job(alloc, core, first, &LEFT[0])?;
+    let second_short = run_job(alloc, core, second, &LEFT[1])?;
+    Ok(first_short || second_short)
+}
+
+// The two jobs.
+fn new_jobs<'h>(heap: Memory<'h>) -> Result<(Job<Memory<'h>>, Job<Memory<'h>>), Fail> {
+    let first = new_job(heap, &GIVEN[0])?;
+    let second = new_job(heap, &GIVEN[1])?;
+    Ok((first, second))
 }
 
 // The two jobs, step by step.
@@ -180,19 +222,13 @@ impl Call for TwoJobs {
     }
 
     fn make(&self, heap: Memory<'_>, refusal: Refusal) -> Result<bool, Fail> {
+        let (first, second) = new_jobs(heap)?;
         let mut core = new_core(heap)?;
-        let [first, second] = GIVEN;
-        let first = new_job(heap, &first)?;
-        let second = new_job(heap, &second)?;
         heap.refuse(refusal);
-        let first_short = run_job(self.alloc, &mut core, first, &LEFT[0])?;
-        let second_short = run_job(self.alloc, &mut core, second, &LEFT[1])?;
+        let is_short = run_both(self.alloc, &mut core, first, second)?;
         heap.refuse(Refusal::Never);
-        if has_trace(self.alloc, &core, TRACE)? && holds_both(core)? {
-            Ok(first_short || second_short)
-        } else {
-            Err("the trace and the image are those of ample memory".into())
-        }
+        expect_both(self.alloc, core)?;
+        Ok(is_short)
     }
 }
 
@@ -239,6 +275,14 @@ fn is_told(core: &Core<Memory<'_>>, ran: &Ran<Memory<'_>>, count: usize) -> bool
     is_whole && is_first
 }
 
+// The last of the replies gives the second job back.
+fn is_given_back(replies: &[Reply<Memory<'_>>]) -> bool {
+    match replies.last() {
+        Some(Reply::Unload(Ok(done))) => done.code == 0 && done.job.buffer() == LEFT[1].as_slice(),
+        _ => false,
+    }
+}
+
 // Does what is left of a list of events. Whether there were some.
 fn do_rest<'h>(
     core: &mut Core<Memory<'h>>,
@@ -249,14 +293,37 @@ fn do_rest<'h>(
         return Ok(false);
     }
     let again = run_events(core, heap, rest);
-    let is_given_back = match again.replies.last() {
-        Some(Reply::Unload(Ok(done))) => done.code == 0 && done.job.buffer() == LEFT[1].as_slice(),
-        _ => false,
-    };
-    if again.rest.is_empty() && is_given_back {
+    if again.rest.is_empty() && is_given_back(again.replies.as_slice()) {
         Ok(true)
     } else {
         Err("the rest is done, and gives the second job back".into())
+    }
+}
+
+// The events of the two jobs.
+fn new_events<'h>(heap: Memory<'h>) -> Result<Vec<Event<Memory<'h>>, Memory<'h>>, Fail> {
+    let (first, second) = new_jobs(heap)?;
+    let mut events = Vec::new(heap);
+    push_events(&mut events, first)?;
+    push_events(&mut events, second)?;
+    Ok(events)
+}
+
+// Does these events with requests refused so, and then what is left of them. Whether some were left.
+fn do_all<'h>(
+    core: &mut Core<Memory<'h>>,
+    heap: Memory<'h>,
+    events: Vec<Event<Memory<'h>>, Memory<'h>>,
+    refusal: Refusal,
+) -> Result<bool, Fail> {
+    let count = events.len();
+    heap.refuse(refusal);
+    let ran = run_events(core, heap, events);
+    heap.refuse(Refusal::Never);
+    if is_told(core, &ran, count) {
+        do_rest(core, heap, ran.rest)
+    } else {
+        Err("each event is done or left".into())
     }
 }
 
@@ -272,24 +339,11 @@ impl Call for TwoJobsAtOnce {
     }
 
     fn make(&self, heap: Memory<'_>, refusal: Refusal) -> Result<bool, Fail> {
+        let events = new_events(heap)?;
         let mut core = new_core(heap)?;
-        let mut events = Vec::new(heap);
-        for given in &GIVEN {
-            push_events(&mut events, new_job(heap, given)?)?;
-        }
-        let count = events.len();
-        heap.refuse(refusal);
-        let ran = run_events(&mut core, heap, events);
-        heap.refuse(Refusal::Never);
-        if !is_told(&core, &ran, count) {
-            return Err("each event is done or left".into());
-        }
-        let is_short = do_rest(&mut core, heap, ran.rest)?;
-        if has_trace(self.alloc, &core, TRACE)? && holds_both(core)? {
-            Ok(is_short)
-        } else {
-            Err("the trace and the image are those of ample memory".into())
-        }
+        let is_short = do_all(&mut core, heap, events, refusal)?;
+        expect_both(self.alloc, core)?;
+        Ok(is_short)
     }
 }
 
@@ -300,53 +354,92 @@ fn two_jobs_as_events(rt: HostRuntime) -> Result<(), Fail> {
     Ok(())
 }
 
-// A sequencer whose die holds the page of the first job.
-fn core_with_page<'h>(alloc: Global, heap: Memory<'h>) -> Result<Core<Memory<'h>>, Fail> {
+// A sequencer whose die holds the page of the first job, with the second job loaded.
+fn loaded_core<'h>(alloc: Global, heap: Memory<'h>) -> Result<Core<Memory<'h>>, Fail> {
+    let (first, second) = new_jobs(heap)?;
     let mut core = new_core(heap)?;
-    let job = new_job(heap, &GIVEN[0])?;
-    run_job(alloc, &mut core, job, &LEFT[0])?;
-    Ok(core)
+    run_job(alloc, &mut core, first, &LEFT[0])?;
+    match core.load(LUN_0, second) {
+        Ok(()) => Ok(core),
+        Err(_) => Err("a load is refused".into()),
+    }
 }
 
-// A sequencer that stops at the first step of the second job which is out of memory, and one that does as many steps with ample memory: their dies
-// have one image. Whether a request was refused.
-fn stops_alike(alloc: Global, after: u64) -> Result<bool, Fail> {
-    let short = TestHeap::new(alloc);
-    let ample = TestHeap::new(alloc);
-    let (mut core, mut other) = (
-        core_with_page(alloc, &short)?,
-        core_with_page(alloc, &ample)?,
-    );
-    if core.load(LUN_0, new_job(&short, &GIVEN[1])?).is_err()
-        || other.load(LUN_0, new_job(&ample, &GIVEN[1])?).is_err()
-    {
-        return Err("a load is refused".into());
-    }
-    short.refuse(Refusal::Once { after });
-    for _ in 0..32 {
+// Steps a sequencer until a step is out of memory, 32 times at most. How many were done.
+fn step_until_short(core: &mut Core<Memory<'_>>) -> u32 {
+    for done in 0..32u32 {
         if core.step(LUN_0).is_err() {
-            break;
+            return done;
         }
-        other.step(LUN_0)?;
         core.ready(LUN_0, false);
-        other.ready(LUN_0, false);
     }
-    let was_refused = short.refused() > 0;
-    short.refuse(Refusal::Never);
-    let (dies, others) = (core.into_bus().into_dies(), other.into_bus().into_dies());
-    match (dies.as_slice(), others.as_slice()) {
-        ([die], [other]) if die.image()?.as_slice() == other.image()?.as_slice() => Ok(was_refused),
-        _ => Err("a refused step leaves the die as it was".into()),
+    32
+}
+
+// Steps a sequencer so often.
+fn step_so_often(core: &mut Core<Memory<'_>>, count: u32) -> Result<(), Fail> {
+    for _ in 0..count {
+        core.step(LUN_0)?;
+        core.ready(LUN_0, false);
     }
+    Ok(())
+}
+
+// A sequencer that has stopped: its steps, whether a request was refused, and the image of its die.
+#[derive(Drop)]
+struct Stopped {
+    steps: u32,
+    was_refused: bool,
+    image: Vec<u8>,
+}
+
+// One that stops at the first step of the second job which is out of memory.
+fn stop_short(alloc: Global, after: u64) -> Result<Stopped, Fail> {
+    let heap = TestHeap::new(alloc);
+    let mut core = loaded_core(alloc, &heap)?;
+    heap.refuse(Refusal::Once { after });
+    let steps = step_until_short(&mut core);
+    let was_refused = heap.refused() > 0;
+    heap.refuse(Refusal::Never);
+    let image = image_of(alloc, core)?;
+    Ok(Stopped {
+        steps,
+        was_refused,
+        image,
+    })
+}
+
+// The image of the die of one that does as many steps with ample memory.
+fn step_amply(alloc: Global, steps: u32) -> Result<Vec<u8>, Fail> {
+    let heap = TestHeap::new(alloc);
+    let mut core = loaded_core(alloc, &heap)?;
+    step_so_often(&mut core, steps)?;
+    image_of(alloc, core)
+}
+
+// Both dies have one image. Whether a request was refused.
+fn stops_alike(alloc: Global, after: u64) -> Result<bool, Fail> {
+    let stopped = stop_short(alloc, after)?;
+    let image = step_amply(alloc, stopped.steps)?;
+    if stopped.image.as_slice() == image.as_slice() {
+        Ok(stopped.was_refused)
+    } else {
+        Err("a refused step leaves the die as it was".into())
+    }
+}
+
+// After how many requests none is refused any more.
+fn count_refused(alloc: Global) -> Result<u64, Fail> {
+    for after in 0..1_000u64 {
+        if !stops_alike(alloc, after)? {
+            return Ok(after);
+        }
+    }
+    Err("a step without an end".into())
 }
 
 #[test]
 fn a_refused_step_leaves_the_die(rt: HostRuntime) -> Result<(), Fail> {
-    for after in 0..1_000u64 {
-        if !stops_alike(rt.alloc(), after)? {
-            assert!(rt; after > 0);
-            return Ok(());
-        }
-    }
-    Err("a step without an end".into())
+    assert!(rt; count_refused(rt.alloc())? > 0);
+    Ok(())
 }

@@ -3,6 +3,7 @@
 use crate::turns::{Call, Memory, refuse_in_turn};
 use die_model::{ImageRefusal, LunDie};
 use nand_geometry::{Geometry, SMALL_CHIP};
+use std::alloc::Global;
 use std::process::Abort;
 use std::test::Fail;
 use target_bus::{Bus, BusFault, DiesRefused};
@@ -108,42 +109,73 @@ fn make_pages(heap: Memory<'_>, refusal: Refusal) -> Result<bool, Fail> {
     }
 }
 
-// After a refusal the die has the image that it had, and takes the new one.
-fn make_load_image(heap: Memory<'_>, refusal: Refusal) -> Result<bool, Fail> {
-    let before = image_of(heap, &[(31, 0x56)])?;
-    let image = image_of(heap, &[(0, 0x12), (4, 0x34)])?;
-    let mut die = loaded(heap, before.as_slice())?;
+// A die has the image that it had, and takes the new one.
+fn takes_again(die: &mut LunDie<Memory<'_>>, before: &[u8], image: &[u8]) -> Result<bool, Fail> {
+    let is_as_before = has_image(die, before)?;
+    let again = load(die, image)?;
+    Ok(is_as_before && again.is_ok() && has_image(die, image)?)
+}
+
+// Loads an image, which replaces the one before. After a refusal the die has the image that it had, and takes the new one.
+fn replace_image(
+    heap: Memory<'_>,
+    refusal: Refusal,
+    before: &[u8],
+    image: &[u8],
+) -> Result<bool, Fail> {
+    let mut die = loaded(heap, before)?;
     heap.refuse(refusal);
-    let loaded = load(&mut die, image.as_slice())?;
+    let loaded = load(&mut die, image)?;
     heap.refuse(Refusal::Never);
     match loaded {
-        Ok(()) => expect(has_image(&die, image.as_slice())?),
-        Err(ImageRefusal::OutOfMemory) => {
-            let is_as_before = has_image(&die, before.as_slice())?;
-            let again = load(&mut die, image.as_slice())?;
-            Ok(is_as_before && again.is_ok() && has_image(&die, image.as_slice())?)
-        }
+        Ok(()) => expect(has_image(&die, image)?),
+        Err(ImageRefusal::OutOfMemory) => takes_again(&mut die, before, image),
         Err(_) => Err("the image has no fault".into()),
     }
 }
 
-// After a refusal the dies come back as they were, and the bus is made of them.
-fn make_bus(heap: Memory<'_>, refusal: Refusal) -> Result<bool, Fail> {
-    let geometry = Geometry::of(SMALL_CHIP)?;
-    let image = image_of(heap, &[(0, 0x12)])?;
+fn make_load_image(heap: Memory<'_>, refusal: Refusal) -> Result<bool, Fail> {
+    let before = image_of(heap, &[(31, 0x56)])?;
+    let image = image_of(heap, &[(0, 0x12), (4, 0x34)])?;
+    replace_image(heap, refusal, before.as_slice(), image.as_slice())
+}
+
+// The dies come back as they were.
+fn are_as_before(dies: &[LunDie<Memory<'_>>], image: &[u8]) -> Result<bool, Fail> {
+    match dies {
+        [die] => has_image(die, image),
+        _ => Ok(false),
+    }
+}
+
+// One die of this image.
+fn one_die<'h>(
+    heap: Memory<'h>,
+    image: &[u8],
+) -> Result<Vec<LunDie<Memory<'h>>, Memory<'h>>, Fail> {
+    let die = loaded(heap, image)?;
     let mut dies = Vec::new(heap);
-    dies.push(loaded(heap, image.as_slice())?)?;
+    dies.push(die)?;
+    Ok(dies)
+}
+
+// After a refusal the dies come back as they were, and the bus is made of them.
+fn make_bus_of(heap: Memory<'_>, refusal: Refusal, image: &[u8]) -> Result<bool, Fail> {
+    let geometry = Geometry::of(SMALL_CHIP)?;
+    let dies = one_die(heap, image)?;
     heap.refuse(refusal);
     let DiesRefused { fault, dies } = match Bus::new(heap, geometry, dies) {
         Ok(bus) => return expect(bus.is_fresh()),
         Err(refused) => refused,
     };
-    let is_as_before = match dies.as_slice() {
-        [die] => has_image(die, image.as_slice())?,
-        _ => false,
-    };
+    let is_as_before = are_as_before(dies.as_slice(), image)?;
     let is_made = Bus::new(heap, geometry, dies).is_ok();
     Ok(fault == BusFault::OutOfMemory && is_as_before && is_made)
+}
+
+fn make_bus(heap: Memory<'_>, refusal: Refusal) -> Result<bool, Fail> {
+    let image = image_of(heap, &[(0, 0x12)])?;
+    make_bus_of(heap, refusal, image.as_slice())
 }
 
 impl Call for DieCall {
@@ -162,19 +194,26 @@ impl Call for DieCall {
     }
 }
 
+const DIE_CALLS: &[DieCall] = &[
+    DieCall::New,
+    DieCall::Image,
+    DieCall::Pages,
+    DieCall::LoadImage,
+    DieCall::NewBus,
+];
+
+// The place of the first call that never answers out of memory.
+fn first_never_short(alloc: Global) -> Result<Option<usize>, Fail> {
+    for (place, call) in DIE_CALLS.iter().enumerate() {
+        if refuse_in_turn(alloc, call)? == 0 {
+            return Ok(Some(place));
+        }
+    }
+    Ok(None)
+}
+
 #[test]
 fn dies(rt: HostRuntime) -> Result<(), Fail> {
-    for (place, call) in [
-        DieCall::New,
-        DieCall::Image,
-        DieCall::Pages,
-        DieCall::LoadImage,
-        DieCall::NewBus,
-    ]
-    .iter()
-    .enumerate()
-    {
-        assert!(rt; refuse_in_turn(rt.alloc(), call)? > 0, "call {place}");
-    }
+    assert_eq!(rt; first_never_short(rt.alloc())?, None);
     Ok(())
 }

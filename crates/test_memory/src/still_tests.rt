@@ -111,31 +111,75 @@ fn load<'h>(
     Ok(is_admitted && is_loaded && is_refused)
 }
 
+// A sequencer on one new die, made while all requests are refused.
+fn new_core<'h>(heap: Memory<'h>) -> Result<Core<Memory<'h>>, Fail> {
+    let bus = new_bus(heap, SMALL_CHIP)?;
+    heap.refuse(Refusal::Always);
+    let core = Core::new(bus);
+    heap.refuse(Refusal::Never);
+    Ok(core)
+}
+
+// Whether a job on a LUN that isn't there is refused.
+fn is_missing(heap: Memory<'_>) -> Result<bool, Fail> {
+    match make_job(heap, LUN_1)? {
+        Ok(_) => Ok(false),
+        Err(refused) => Ok(refused.fault == JobFault::NoSuchLun),
+    }
+}
+
+// The numbers of the two LUNs are told.
+fn has_numbers(core: &Core<Memory<'_>>) -> bool {
+    core.number(LUN_0) == Some(0) && core.number(LUN_1).is_none()
+}
+
+// Loads an erase, and a second one, which is refused.
+fn load_two<'h>(heap: Memory<'h>, core: &mut Core<Memory<'h>>) -> Result<bool, Fail> {
+    let job = new_job(heap)?;
+    let second = new_job(heap)?;
+    load(heap, core, job, second)
+}
+
+// The erase begins: its LUN holds the bus up to the first poll.
+fn begins(heap: Memory<'_>, core: &mut Core<Memory<'_>>) -> Result<bool, Fail> {
+    step(heap, core, &[Stepped::Went, Stepped::Went, Stepped::Went])?;
+    let holds = core.holder() == Some(LUN_0);
+    step(heap, core, &[Stepped::NotReady])?;
+    Ok(holds && core.holder().is_none())
+}
+
+// It still runs, and its LUN becomes ready once.
+fn becomes_ready(core: &mut Core<Memory<'_>>) -> bool {
+    let still_runs = matches!(core.unload(LUN_0), Err(UnloadFault::StillRunning));
+    let is_ready = core.ready(LUN_0, false) && !core.ready(LUN_0, false);
+    still_runs && is_ready && !core.array_ready(LUN_0)
+}
+
+// It ends, and gives its job back.
+fn ends(heap: Memory<'_>, core: &mut Core<Memory<'_>>) -> Result<bool, Fail> {
+    step(heap, core, &[Stepped::Went, Stepped::Ended])?;
+    Ok(match core.unload(LUN_0) {
+        Ok(done) => done.code == 0 && done.job.buffer() == BUFFER.as_slice(),
+        Err(_) => false,
+    })
+}
+
+// Whether an erase goes so.
+fn goes_so(heap: Memory<'_>) -> Result<bool, Fail> {
+    let mut core = new_core(heap)?;
+    let is_loaded = has_numbers(&core) && load_two(heap, &mut core)?;
+    let begins = begins(heap, &mut core)?;
+    let is_ready = becomes_ready(&mut core);
+    Ok(ends(heap, &mut core)? && is_loaded && begins && is_ready)
+}
+
 #[test]
 fn an_erase_takes_memory_for_its_steps_alone(rt: HostRuntime) -> Result<(), Fail> {
     let heap = TestHeap::new(rt.alloc());
-    let job = new_job(&heap)?;
-    let second = new_job(&heap)?;
-    let missing = make_job(&heap, LUN_1)?.err().ok_or("no LUN 1")?;
-    assert!(rt; missing.fault == JobFault::NoSuchLun);
-    let bus = new_bus(&heap, SMALL_CHIP)?;
-    heap.refuse(Refusal::Always);
-    let mut core = Core::new(bus);
-    assert_eq!(rt; (core.number(LUN_0), core.number(LUN_1)), (Some(0), None));
-    assert!(rt; load(&heap, &mut core, job, second)?);
-    let began = [Stepped::Went, Stepped::Went, Stepped::Went];
-    step(&heap, &mut core, &began)?;
-    assert_eq!(rt; core.holder(), Some(LUN_0));
-    step(&heap, &mut core, &[Stepped::NotReady])?;
-    assert_eq!(rt; core.holder(), None);
-    assert!(rt; matches!(core.unload(LUN_0), Err(UnloadFault::StillRunning)));
-    assert!(rt; core.ready(LUN_0, false) && !core.ready(LUN_0, false));
-    assert!(rt; !core.array_ready(LUN_0));
-    step(&heap, &mut core, &[Stepped::Went, Stepped::Ended])?;
-    assert!(rt;
-        matches!(core.unload(LUN_0), Ok(done) if done.code == 0 && done.job.buffer() == BUFFER.as_slice())
-    );
-    assert_eq!(rt; heap.refused(), 0);
+    let goes_so = goes_so(&heap)?;
+    heap.refuse(Refusal::Never);
+    let is_missing = is_missing(&heap)?;
+    assert!(rt; goes_so && is_missing && heap.refused() == 0);
     Ok(())
 }
 
@@ -191,38 +235,57 @@ fn program_two_planes(bus: &mut Bus<Memory<'_>>) -> Result<bool, Fail> {
     Ok(is_ready)
 }
 
+const TWO_PLANES: Parts = Parts {
+    plane_bits: 1,
+    multi_plane: true,
+    ..SMALL_CHIP
+};
+
+// Whether a die ends the programs of two planes.
+fn ends_programs(heap: Memory<'_>) -> Result<bool, Fail> {
+    let mut bus = new_bus(heap, TWO_PLANES)?;
+    let is_queued = program_two_planes(&mut bus)?;
+    heap.refuse(Refusal::Always);
+    Ok(is_queued && bus.ready(LUN_0, false) && !bus.ready(LUN_0, false))
+}
+
 // A die ends the programs of two planes without memory.
 #[test]
 fn queued_work_ends_without_memory(rt: HostRuntime) -> Result<(), Fail> {
     let heap = TestHeap::new(rt.alloc());
-    let two_planes = Parts {
-        plane_bits: 1,
-        multi_plane: true,
-        ..SMALL_CHIP
-    };
-    let mut bus = new_bus(&heap, two_planes)?;
-    assert!(rt; program_two_planes(&mut bus)?);
-    heap.refuse(Refusal::Always);
-    assert!(rt; bus.ready(LUN_0, false) && !bus.ready(LUN_0, false));
-    assert_eq!(rt; heap.refused(), 0);
+    let ends = ends_programs(&heap)?;
+    assert!(rt; ends && heap.refused() == 0);
     Ok(())
+}
+
+const CACHED: Parts = Parts {
+    cache: true,
+    ..SMALL_CHIP
+};
+
+// Whether the LUN and the array of a cache read become ready.
+fn cache_is_ready(heap: Memory<'_>) -> Result<bool, Fail> {
+    let mut bus = new_bus(heap, CACHED)?;
+    let is_read = read_into_cache(&mut bus, heap)?;
+    let is_ready = bus.ready(LUN_0, false);
+    Ok(is_read && is_ready && bus.array_ready(LUN_0) && !bus.array_ready(LUN_0))
+}
+
+// Whether a new die has no work to end.
+fn die_is_ready(heap: Memory<'_>) -> Result<bool, Fail> {
+    let mut die = LunDie::new(heap, Geometry::of(SMALL_CHIP)?)?;
+    heap.refuse(Refusal::Always);
+    die.finish(false);
+    die.array_ready();
+    Ok(die.is_new())
 }
 
 #[test]
 fn readies_take_no_memory(rt: HostRuntime) -> Result<(), Fail> {
     let heap = TestHeap::new(rt.alloc());
-    let mut die = LunDie::new(&heap, Geometry::of(SMALL_CHIP)?)?;
-    let cached = Parts {
-        cache: true,
-        ..SMALL_CHIP
-    };
-    let mut bus = new_bus(&heap, cached)?;
-    assert!(rt; read_into_cache(&mut bus, &heap)?);
-    assert!(rt; bus.ready(LUN_0, false));
-    assert!(rt; bus.array_ready(LUN_0) && !bus.array_ready(LUN_0));
-    die.finish(false);
-    die.array_ready();
-    assert!(rt; die.is_new());
-    assert_eq!(rt; heap.refused(), 0);
+    let die = die_is_ready(&heap)?;
+    heap.refuse(Refusal::Never);
+    let cache = cache_is_ready(&heap)?;
+    assert!(rt; die && cache && heap.refused() == 0);
     Ok(())
 }

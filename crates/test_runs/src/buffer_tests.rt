@@ -1,11 +1,10 @@
 // Jobs with the longest buffer, a byte short of 16 MiB.
-use crate::tests::{ask, make_files, play};
+use crate::tests::{ask, is_right, make_files, play};
 use run_file::parse_run;
 use run_plan::plan_run;
 use seq_files::MapFiles;
 use seq_inputs::Exit;
 use std::alloc::Global;
-use std::process::Abort;
 use std::test::Fail;
 
 // How many bytes the longest buffer has.
@@ -19,9 +18,10 @@ const IDENTIFY: [u8; 40] = [
 
 // Files with a job of the longest buffer that begins with so many bytes.
 fn make_long(alloc: Global, length: usize) -> Result<MapFiles, Fail> {
+    let input = vec![in alloc; 7u8; length]?;
     let mut files = make_files(alloc)?;
     files.put("identify", &IDENTIFY)?;
-    files.put("in", vec![in alloc; 7u8; length]?.as_slice())?;
+    files.put("in", input.as_slice())?;
     files.put("run", b"page one\ntargets 1\njob 0 0 0 identify in out\n")?;
     Ok(files)
 }
@@ -30,29 +30,38 @@ fn make_long(alloc: Global, length: usize) -> Result<MapFiles, Fail> {
 #[test]
 fn the_longest_buffer(rt: HostRuntime) -> Result<(), Fail> {
     let mut files = make_long(rt.alloc(), LONGEST)?;
-    assert!(rt; play(&rt, &mut files, ask(1)).end == Exit::Done);
-    let bytes = files.get("out").ok_or("a buffer")?;
-    assert!(rt; bytes.len() == LONGEST && bytes.starts_with(&[7, 7, 7, 7]));
-    assert!(rt; bytes.ends_with(&[7, 7, 0x4f, 0x4e, 0x46, 0x49]));
-    Ok(())
+    let end = play(&rt, &mut files, ask(1)).end;
+    let bytes = files.get("out").unwrap_or(b"");
+    is_right(
+        end == Exit::Done
+            && bytes.len() == LONGEST
+            && bytes.starts_with(&[7, 7, 7, 7])
+            && bytes.ends_with(&[7, 7, 0x4f, 0x4e, 0x46, 0x49]),
+    )
+}
+
+const THREE_JOBS: &str =
+    "page one\ntargets 1\njob 0 0 0 both - -\njob 0 0 4 erase - -\njob 0 0 8 both - -\n";
+
+// How many bytes the buffers of these jobs have.
+fn count_bytes(alloc: Global) -> Result<Option<u64>, Fail> {
+    let mut files = make_files(alloc)?;
+    let text = parse_run(THREE_JOBS, alloc)?;
+    Ok(match plan_run(alloc, &mut files, &text) {
+        Ok(plan) => Some(plan.jobs.buffer_bytes),
+        Err(_) => None,
+    })
 }
 
 // The buffers of all jobs are counted together, those of 4 bytes and those of none.
 #[test]
 fn buffers_are_counted(rt: HostRuntime) -> Result<(), Fail> {
-    let run = "page one\ntargets 1\njob 0 0 0 both - -\njob 0 0 4 erase - -\njob 0 0 8 both - -\n";
-    let mut files = make_files(rt.alloc())?;
-    let text = parse_run(run, rt.alloc())?;
-    let plan = plan_run(rt.alloc(), &mut files, &text);
-    assert_eq!(rt; plan.ok().map(|plan| plan.jobs.buffer_bytes), Some(8));
-    Ok(())
+    is_right(count_bytes(rt.alloc())? == Some(8))
 }
 
 #[test]
 fn one_byte_more(rt: HostRuntime) -> Result<(), Fail> {
     let mut files = make_long(rt.alloc(), LONGEST + 1)?;
-    let played = play(&rt, &mut files, ask(1));
-    let (_, output, _) = played.seen()?;
-    assert!(rt; output == "refused J5 at 3\n" && files.get("out").is_none());
-    Ok(())
+    let output = play(&rt, &mut files, ask(1)).output;
+    is_right(output.as_slice() == b"refused J5 at 3\n".as_slice() && files.get("out").is_none())
 }

@@ -1,7 +1,13 @@
 // Runs that begin with images of dies and bytes of buffers, and write both.
-use crate::tests::{EMPTY, ask, expect_file, make_files, make_image, play};
+use crate::tests::{
+    EMPTY, ask, files_of_run, has_file, has_played, is_right, make_image, none_is_wrong, play,
+};
+use seq_files::MapFiles;
 use seq_inputs::Exit;
+use std::alloc::Global;
+use std::sync::Wait;
 use std::test::Fail;
+use std::thread::Threads;
 
 const BEHIND: &str = "page one\ntargets 1\nimage 0 0 die\njob 0 0 0 both in out\n";
 
@@ -17,21 +23,36 @@ const SECOND: [u8; 31] = [
     0, 0, 0, 0, 0x05, 0x0c, 0xff,
 ];
 
+// Files with this run file, the empty image as `die`, and bytes as `in` and `in2`.
+fn files_with(alloc: Global, run: &str) -> Result<MapFiles, Fail> {
+    let mut files = files_of_run(alloc, run.as_bytes())?;
+    files.put("die", &EMPTY)?;
+    files.put("in", &[0xa5, 0x3c])?;
+    files.put("in2", &[0x0f, 0x0f])?;
+    Ok(files)
+}
+
+// Whether a run by so many workers is done, and leaves this buffer and this image.
+fn leaves<R: Threads + Wait + Sync + AllocGlobal>(
+    rt: &R,
+    files: &mut MapFiles,
+    workers: u8,
+    buffer: &[u8],
+    image: &[u8],
+) -> bool {
+    play(rt, files, ask(workers)).end == Exit::Done
+        && has_file(files, "out", buffer, 4)
+        && has_file(files, "die", image, 556)
+}
+
 // The image of a die after two runs, each of which begins with the image of the one before.
 #[test]
 fn a_program_then_a_read(rt: HostRuntime) -> Result<(), Fail> {
-    let mut files = make_files(rt.alloc())?;
-    files.put("run", BEHIND.as_bytes())?;
-    files.put("die", &EMPTY)?;
-    files.put("in", &[0xa5, 0x3c])?;
-    assert!(rt; play(&rt, &mut files, ask(1)).end == Exit::Done);
-    expect_file(&rt, &files, "out", &[0xa5, 0x3c, 0xa5, 0x3c], 4)?;
-    expect_file(&rt, &files, "die", &FIRST, 556)?;
+    let mut files = files_with(rt.alloc(), BEHIND)?;
+    let first = leaves(&rt, &mut files, 1, &[0xa5, 0x3c, 0xa5, 0x3c], &FIRST);
     files.put("in", &[0x0f, 0x0f])?;
-    assert!(rt; play(&rt, &mut files, ask(2)).end == Exit::Done);
-    expect_file(&rt, &files, "out", &[0x0f, 0x0f, 0x05, 0x0c], 4)?;
-    expect_file(&rt, &files, "die", &SECOND, 556)?;
-    Ok(())
+    let second = leaves(&rt, &mut files, 2, &[0x0f, 0x0f, 0x05, 0x0c], &SECOND);
+    is_right(first && second)
 }
 
 const TWICE: &str =
@@ -40,16 +61,9 @@ const TWICE: &str =
 // The same as two jobs of one run.
 #[test]
 fn two_programs_then_reads(rt: HostRuntime) -> Result<(), Fail> {
-    let mut files = make_files(rt.alloc())?;
-    files.put("run", TWICE.as_bytes())?;
-    files.put("die", &EMPTY)?;
-    files.put("in", &[0xa5, 0x3c])?;
-    files.put("in2", &[0x0f, 0x0f])?;
-    assert!(rt; play(&rt, &mut files, ask(1)).end == Exit::Done);
-    expect_file(&rt, &files, "out", &[0xa5, 0x3c, 0xa5, 0x3c], 4)?;
-    expect_file(&rt, &files, "out2", &[0x0f, 0x0f, 0x05, 0x0c], 4)?;
-    expect_file(&rt, &files, "die", &SECOND, 556)?;
-    Ok(())
+    let mut files = files_with(rt.alloc(), TWICE)?;
+    let is_left = leaves(&rt, &mut files, 1, &[0xa5, 0x3c, 0xa5, 0x3c], &SECOND);
+    is_right(is_left && has_file(&files, "out2", &[0x0f, 0x0f, 0x05, 0x0c], 4))
 }
 
 // Every kind of line, among comments and lines of blanks, and no line feed at the end.
@@ -70,22 +84,29 @@ const EVERY_LINE: &str = "0 C 80\n0 A 00\n0 A 00\n0 A 00\n0 A 00\n0 A 00\n0 I a5
 0 C 78\n0 A 00\n0 A 00\n0 A 00\n0 O e0\n0 C 00\n0 O a5\n0 O 3c\n\
 job 1 end 0\njob 2 end 0\n";
 
+// What standard error says of it.
+const NOT_FAILED: &str =
+    "run:13: nothing failed by this line: LUN 1 of target 0 became ready 1 of 3 times\n";
+
+// Whether the files are those after the run, with this image of the second die.
+fn has_everything(files: &MapFiles, second: &[u8]) -> bool {
+    has_file(files, "out", &[0xa5, 0x3c, 0xa5, 0x3c], 4)
+        && has_file(files, "out2", &[], 0)
+        && has_file(files, "first", &FIRST, 556)
+        && files.get("second") == Some(second)
+}
+
 #[test]
 fn everything_in_one_file(rt: HostRuntime) -> Result<(), Fail> {
-    let mut files = make_files(rt.alloc())?;
-    files.put("run", EVERYTHING.as_bytes())?;
-    files.put("first", &EMPTY)?;
-    files.put("second", make_image(rt.alloc(), 0, &[0x77])?.as_slice())?;
-    files.put("in", &[0xa5, 0x3c])?;
-    let played = play(&rt, &mut files, ask(1));
-    let said = "run:13: nothing failed by this line: LUN 1 of target 0 became ready 1 of 3 times\n";
-    assert_eq!(rt; played.seen()?, (Exit::Done, EVERY_LINE, said));
-    expect_file(&rt, &files, "out", &[0xa5, 0x3c, 0xa5, 0x3c], 4)?;
-    expect_file(&rt, &files, "out2", &[], 0)?;
-    expect_file(&rt, &files, "first", &FIRST, 556)?;
     let second = make_image(rt.alloc(), 0, &[0x77])?;
-    assert_eq!(rt; files.get("second"), Some(second.as_slice()));
-    Ok(())
+    let mut files = files_with(rt.alloc(), EVERYTHING)?;
+    files.put("first", &EMPTY)?;
+    files.put("second", second.as_slice())?;
+    let played = play(&rt, &mut files, ask(1));
+    is_right(
+        has_played(&played, Exit::Done, EVERY_LINE, NOT_FAILED)
+            && has_everything(&files, second.as_slice()),
+    )
 }
 
 // A run file whose paths stand at several places, and what must be in one of them after the run.
@@ -96,7 +117,7 @@ struct Shared {
     length: usize,
 }
 
-const SHARED: [Shared; 7] = [
+const SHARED: &[Shared] = &[
     // The bytes of a buffer, which is written to the same file.
     Shared {
         run: "page one\ntargets 1\njob 0 0 0 both in in\n",
@@ -148,43 +169,69 @@ const SHARED: [Shared; 7] = [
     },
 ];
 
+// Whether that is in it after the run.
+fn is_shared<R: Threads + Wait + Sync + AllocGlobal>(
+    rt: &R,
+    shared: &Shared,
+) -> Result<bool, Fail> {
+    let mut files = files_with(rt.alloc(), shared.run)?;
+    let end = play(rt, &mut files, ask(1)).end;
+    Ok(end == Exit::Done && has_file(&files, shared.path, shared.first, shared.length))
+}
+
+// The place of the first run file of which something else is.
+fn first_other<R: Threads + Wait + Sync + AllocGlobal>(rt: &R) -> Result<Option<usize>, Fail> {
+    for (place, shared) in SHARED.iter().enumerate() {
+        if !is_shared(rt, shared)? {
+            return Ok(Some(place));
+        }
+    }
+    Ok(None)
+}
+
 #[test]
 fn files_that_are_named_twice(rt: HostRuntime) -> Result<(), Fail> {
-    for shared in &SHARED {
-        let mut files = make_files(rt.alloc())?;
-        files.put("run", shared.run.as_bytes())?;
-        files.put("die", &EMPTY)?;
-        files.put("in", &[0xa5, 0x3c])?;
-        files.put("in2", &[0x0f, 0x0f])?;
-        let played = play(&rt, &mut files, ask(1));
-        assert_eq!(rt; played.end, Exit::Done, "of {}", shared.run);
-        expect_file(&rt, &files, shared.path, shared.first, shared.length)?;
-    }
-    Ok(())
+    none_is_wrong(first_other(&rt)?)
 }
 
 const FOUR_DIES: &str = "page two\ntargets 2\nimage 0 0 a\nimage 0 1 b\nimage 1 0 c\nimage 1 1 d\n\
     job 1 0 0 both in out\n";
 
+// The path of each image, the byte that it begins with, and the two bytes after the run.
+const FOUR_IMAGES: &[(&str, u8, [u8; 2])] = &[
+    ("a", 0x11, [0x11, 0xff]),
+    ("b", 0x22, [0x22, 0xff]),
+    ("c", 0x33, [0x21, 0x3c]),
+    ("d", 0x44, [0x44, 0xff]),
+];
+
+// Puts the four images.
+fn put_images(alloc: Global, files: &mut MapFiles) -> Result<(), Fail> {
+    for (path, byte, _) in FOUR_IMAGES {
+        let image = make_image(alloc, 0, &[*byte])?;
+        files.put(path, image.as_slice())?;
+    }
+    Ok(())
+}
+
+// The first of the images that is another one after the run.
+fn first_other_image(alloc: Global, files: &MapFiles) -> Result<Option<usize>, Fail> {
+    for (place, (path, _, bytes)) in FOUR_IMAGES.iter().enumerate() {
+        let image = make_image(alloc, 0, bytes.as_slice())?;
+        if files.get(path) != Some(image.as_slice()) {
+            return Ok(Some(place));
+        }
+    }
+    Ok(None)
+}
+
 // Each of four dies begins with its own image and leaves it in its own file; the one that is programmed is the third.
 #[test]
 fn each_die_has_its_own_image(rt: HostRuntime) -> Result<(), Fail> {
-    let mut files = make_files(rt.alloc())?;
-    files.put("run", FOUR_DIES.as_bytes())?;
-    files.put("in", &[0xa5, 0x3c])?;
-    for (path, byte) in [("a", 0x11), ("b", 0x22), ("c", 0x33), ("d", 0x44)] {
-        files.put(path, make_image(rt.alloc(), 0, &[byte])?.as_slice())?;
-    }
-    assert!(rt; play(&rt, &mut files, ask(1)).end == Exit::Done);
-    expect_file(&rt, &files, "out", &[0xa5, 0x3c, 0x21, 0x3c], 4)?;
-    for (path, bytes) in [
-        ("a", &[0x11, 0xff]),
-        ("b", &[0x22, 0xff]),
-        ("c", &[0x21, 0x3c]),
-        ("d", &[0x44, 0xff]),
-    ] {
-        let image = make_image(rt.alloc(), 0, bytes.as_slice())?;
-        assert_eq!(rt; files.get(path), Some(image.as_slice()), "of {path}");
-    }
-    Ok(())
+    let mut files = files_with(rt.alloc(), FOUR_DIES)?;
+    put_images(rt.alloc(), &mut files)?;
+    let end = play(&rt, &mut files, ask(1)).end;
+    let is_done = end == Exit::Done && has_file(&files, "out", &[0xa5, 0x3c, 0x21, 0x3c], 4);
+    is_right(is_done)?;
+    none_is_wrong(first_other_image(rt.alloc(), &files)?)
 }

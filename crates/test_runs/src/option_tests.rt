@@ -1,12 +1,13 @@
 // What a run is asked for beside its file: no trace on standard output, the trace in a file, and what there was.
-use crate::tests::{ONE_LUN, Played, TO_TRACE, ask, make_files, play};
+use crate::tests::{
+    ONE_LUN, TO_TRACE, ask, files_of_run, has_played, is_right, none_is_wrong, play,
+};
 use nand_geometry::Geometry;
 use seq_files::MapFiles;
-use seq_inputs::Console;
+use seq_inputs::{Console, Exit};
 use seq_run::{Phase, RunProgress, RunRequest, run_watched};
 use std::alloc::Global;
 use std::io::{self, Sink, sink};
-use std::process::Abort;
 use std::sync::Wait;
 use std::sync::atomic::{AtomicU64, Ordering};
 use std::test::Fail;
@@ -23,42 +24,38 @@ const RUN: &str = "page one\ntargets 1\njob 0 0 0 erase - -\n";
 const TRACE: &str =
     "0 C 60\n0 A 00\n0 A 00\n0 A 00\n0 C d0\n0 C 70\n0 O 80\n0 R 0 0\n0 C 70\n0 O e0\n";
 
-// Plays the erase, which prints so much and leaves so much in `trace`.
-fn expect<R: Threads + Wait + Sync + Abort + AllocGlobal>(
-    rt: &R,
-    request: RunRequest<'_>,
-    output: &str,
-    trace: Option<&str>,
-) -> Result<Played, Fail> {
-    let mut files = make_files(rt.alloc())?;
-    files.put("run", RUN.as_bytes())?;
-    let played = play(rt, &mut files, request);
-    assert_eq!(rt; played.output.as_slice(), output.as_bytes());
-    assert_eq!(rt; files.get("trace"), trace.map(|text| text.as_bytes()));
-    Ok(played)
+// The files of the erase.
+fn erase_files(alloc: Global) -> Result<MapFiles, Fail> {
+    files_of_run(alloc, RUN.as_bytes())
 }
+
+// What the run of the erase prints with its trace.
+const ALL: &str =
+    "0 C 60\n0 A 00\n0 A 00\n0 A 00\n0 C d0\n0 C 70\n0 O 80\n0 R 0 0\n0 C 70\n0 O e0\njob 1 end 0\n";
+
+const END: &str = "job 1 end 0\n";
 
 #[test]
 fn the_trace_in_a_file(rt: HostRuntime) -> Result<(), Fail> {
+    let mut files = erase_files(rt.alloc())?;
     let request = RunRequest {
         trace: TO_TRACE,
         ..ask(1)
     };
-    let all = format!(in rt.alloc(); "{TRACE}job 1 end 0\n")?;
-    let played = expect(&rt, request, all.as_str(), Some(TRACE))?;
-    assert!(rt; played.errors.is_empty());
-    Ok(())
+    let played = play(&rt, &mut files, request);
+    let is_played = has_played(&played, Exit::Done, ALL, "");
+    is_right(is_played && files.get("trace") == Some(TRACE.as_bytes()))
 }
 
 #[test]
 fn no_trace_on_standard_output(rt: HostRuntime) -> Result<(), Fail> {
+    let mut files = erase_files(rt.alloc())?;
     let request = RunRequest {
         is_quiet: true,
         ..ask(1)
     };
-    let played = expect(&rt, request, "job 1 end 0\n", None)?;
-    assert!(rt; played.errors.is_empty());
-    Ok(())
+    let played = play(&rt, &mut files, request);
+    is_right(has_played(&played, Exit::Done, END, "") && files.get("trace").is_none())
 }
 
 // ---- the drawings of the trace
@@ -76,24 +73,24 @@ fn to_drawings(form: DrawForm) -> TraceOutputs<'static> {
 }
 
 // The files after the run of the erase, which prints so much.
-fn run_erase<R: Threads + Wait + Sync + Abort + AllocGlobal>(
+fn run_erase<R: Threads + Wait + Sync + AllocGlobal>(
     rt: &R,
     is_quiet: bool,
     trace: TraceOutputs<'_>,
 ) -> Result<MapFiles, Fail> {
-    let mut files = make_files(rt.alloc())?;
-    files.put("run", RUN.as_bytes())?;
+    let mut files = erase_files(rt.alloc())?;
     let request = RunRequest {
         is_quiet,
         trace,
         ..ask(1)
     };
     let played = play(rt, &mut files, request);
-    let printed = if is_quiet { "" } else { TRACE };
-    let lines = format!(in rt.alloc(); "{printed}job 1 end 0\n")?;
-    assert_eq!(rt; str::from_utf8(played.output.as_slice())?, lines.as_str());
-    assert!(rt; played.errors.is_empty());
-    Ok(files)
+    let printed = if is_quiet { END } else { ALL };
+    if has_played(&played, Exit::Done, printed, "") {
+        Ok(files)
+    } else {
+        Err(Fail::from("the run prints something else"))
+    }
 }
 
 // The dump of the trace that is given above.
@@ -103,63 +100,62 @@ fn dump_of_trace(alloc: Global) -> Result<Vec<u8>, Fail> {
     Ok(write_dump(alloc, &geometry, 1, items.as_slice())?)
 }
 
-// The waveform alone, whether the trace is printed or not.
-#[test]
-fn the_waveform_of_the_trace(rt: HostRuntime) -> Result<(), Fail> {
-    let wanted = dump_of_trace(rt.alloc())?;
+// Whether this is left as the waveform alone.
+fn leaves_wave<R: Threads + Wait + Sync + AllocGlobal>(
+    rt: &R,
+    is_quiet: bool,
+    wave: &[u8],
+) -> Result<bool, Fail> {
     let outputs = TraceOutputs {
         wave: Some("wave"),
         ..TraceOutputs::NONE
     };
-    for is_quiet in [false, true] {
-        let files = run_erase(&rt, is_quiet, outputs)?;
-        assert_eq!(rt; files.get("wave"), Some(wanted.as_slice()));
-        assert_eq!(rt; files.get("trace"), None);
-    }
-    Ok(())
+    let files = run_erase(rt, is_quiet, outputs)?;
+    Ok(files.get("wave") == Some(wave) && files.get("trace").is_none())
+}
+
+// The waveform alone, whether the trace is printed or not.
+#[test]
+fn the_waveform_of_the_trace(rt: HostRuntime) -> Result<(), Fail> {
+    let wanted = dump_of_trace(rt.alloc())?;
+    let printed = leaves_wave(&rt, false, wanted.as_slice())?;
+    let quiet = leaves_wave(&rt, true, wanted.as_slice())?;
+    is_right(printed && quiet)
 }
 
 // The file of this path has all of these.
-fn expect_parts(rt: &impl Abort, files: &MapFiles, path: &str, parts: &[&str]) -> Result<(), Fail> {
-    let text = str::from_utf8(files.get(path).unwrap_or(b""))?;
+fn has_parts(files: &MapFiles, path: &str, parts: &[&str]) -> bool {
+    let text = str::from_utf8(files.get(path).unwrap_or(b"")).unwrap_or("");
     for part in parts {
-        assert!(rt; text.contains(*part), "{part}");
+        if !text.contains(*part) {
+            return false;
+        }
     }
-    Ok(())
+    true
 }
+
+const WAVE_PARTS: &[&str] = &["#36\n1$\n", "#46\n1$\n", "#76\n", "#100\n"];
+
+const PICTURE_PARTS: &[&str] = &["<svg xmlns=", "10 items", "</svg>\n"];
 
 // One target: the strobe of the last address rises at 36 and that of d0 at 46, where the LUN becomes busy; the ready of the eighth item comes at 76.
 #[test]
 fn a_waveform_and_a_picture(rt: HostRuntime) -> Result<(), Fail> {
     let files = run_erase(&rt, true, to_drawings(DrawForm::Picture))?;
-    expect_parts(
-        &rt,
-        &files,
-        "wave",
-        &["#36\n1$\n", "#46\n1$\n", "#76\n", "#100\n"],
-    )?;
-    expect_parts(
-        &rt,
-        &files,
-        "drawing",
-        &["<svg xmlns=", "10 items", "</svg>\n"],
-    )
+    is_right(has_parts(&files, "wave", WAVE_PARTS) && has_parts(&files, "drawing", PICTURE_PARTS))
 }
+
+const PAGE_PARTS: &[&str] = &[
+    "<!DOCTYPE html>\n",
+    "<span><b>7</b>0 R 0 0</span>\n",
+    "</html>\n",
+];
 
 // The page has the text of the trace, though no trace is printed.
 #[test]
 fn a_page(rt: HostRuntime) -> Result<(), Fail> {
     let files = run_erase(&rt, true, to_drawings(DrawForm::Page))?;
-    expect_parts(
-        &rt,
-        &files,
-        "drawing",
-        &[
-            "<!DOCTYPE html>\n",
-            "<span><b>7</b>0 R 0 0</span>\n",
-            "</html>\n",
-        ],
-    )
+    is_right(has_parts(&files, "drawing", PAGE_PARTS))
 }
 
 // ---- what there was
@@ -180,10 +176,11 @@ const WHAT_THERE_WAS: &str =
 // No seconds are told without a clock.
 #[test]
 fn what_there_was(rt: HostRuntime) -> Result<(), Fail> {
-    let played = expect(&rt, ask_stats(), "job 1 end 0\n", None)?;
-    let told = str::from_utf8(played.errors.as_slice())?;
-    assert_eq!(rt; told.trim_end(), WHAT_THERE_WAS);
-    Ok(())
+    let mut files = erase_files(rt.alloc())?;
+    let played = play(&rt, &mut files, ask_stats());
+    let told = str::from_utf8(played.errors.as_slice()).unwrap_or("");
+    let is_printed = played.output.as_slice() == END.as_bytes() && files.get("trace").is_none();
+    is_right(is_printed && told.trim_end() == WHAT_THERE_WAS)
 }
 
 // A clock that goes on by so many nanoseconds from one reading to the next.
@@ -212,14 +209,13 @@ impl Clock for MadeClock {
 }
 
 // What standard error says of a run with this clock, of which this is told what it does.
-fn watch<R: Threads + Wait + Sync + Abort + AllocGlobal, C: Clock, P: RunProgress + Drop>(
+fn watch<R: Threads + Wait + Sync + AllocGlobal, C: Clock, P: RunProgress + Drop>(
     rt: &R,
     clock: &C,
     progress: P,
     run: &str,
 ) -> Result<Console<Sink, Vec<u8>, P>, Fail> {
-    let mut files = make_files(rt.alloc())?;
-    files.put("run", run.as_bytes())?;
+    let mut files = files_of_run(rt.alloc(), run.as_bytes())?;
     let mut console = Console {
         output: sink(),
         errors: Vec::new(rt.alloc()),
@@ -230,21 +226,37 @@ fn watch<R: Threads + Wait + Sync + Abort + AllocGlobal, C: Clock, P: RunProgres
 }
 
 // How long the jobs take, and what is told of it.
-const TIMES: [(u64, &str); 4] = [
+const TIMES: &[(u64, &str)] = &[
     (12_000_000, "seconds 0.012, cycles a second 750"),
     (1_999_999_999, "seconds 1.999, cycles a second 4"),
     (1, "seconds 0.000, cycles a second 9000000000"),
     (0, "seconds 0.000, cycles a second -"),
 ];
 
+// Whether this is told of so long a run.
+fn tells_time<R: Threads + Wait + Sync + AllocGlobal>(
+    rt: &R,
+    step: u64,
+    told: &str,
+) -> Result<bool, Fail> {
+    let want = format!(in rt.alloc(); "{WHAT_THERE_WAS}, {told}\n")?;
+    let console = watch(rt, &made_clock(step), NoProgress, RUN)?;
+    Ok(console.errors.as_slice() == want.as_str().as_bytes())
+}
+
+// The place of the first time that is told otherwise.
+fn first_other_time<R: Threads + Wait + Sync + AllocGlobal>(rt: &R) -> Result<Option<usize>, Fail> {
+    for (place, (step, told)) in TIMES.iter().enumerate() {
+        if !tells_time(rt, *step, told)? {
+            return Ok(Some(place));
+        }
+    }
+    Ok(None)
+}
+
 #[test]
 fn how_long_it_took(rt: HostRuntime) -> Result<(), Fail> {
-    for (step, told) in TIMES {
-        let console = watch(&rt, &made_clock(step), NoProgress, RUN)?;
-        let want = format!(in rt.alloc(); "{WHAT_THERE_WAS}, {told}\n")?;
-        assert_eq!(rt; str::from_utf8(console.errors.as_slice())?, want.as_str());
-    }
-    Ok(())
+    none_is_wrong(first_other_time(&rt)?)
 }
 
 // Keeps what it is told.
@@ -259,20 +271,24 @@ impl RunProgress for Kept {
     }
 }
 
+// Whether a run file goes through these phases.
+fn goes_through<R: Threads + Wait + Sync + AllocGlobal>(
+    rt: &R,
+    run: &str,
+    phases: &[Phase],
+) -> Result<bool, Fail> {
+    let kept = Kept {
+        told: Vec::new(rt.alloc()),
+    };
+    let console = watch(rt, &made_clock(1), kept, run)?;
+    Ok(console.progress.told.as_slice() == phases)
+}
+
+const PHASES: &[Phase] = &[Phase::Reading, Phase::Running { jobs: 1 }, Phase::Writing];
+
 #[test]
 fn what_a_run_does(rt: HostRuntime) -> Result<(), Fail> {
-    for (run, phases) in [
-        (
-            RUN,
-            [Phase::Reading, Phase::Running { jobs: 1 }, Phase::Writing].as_slice(),
-        ),
-        ("page one\nbad\n", [Phase::Reading].as_slice()),
-    ] {
-        let kept = Kept {
-            told: Vec::new(rt.alloc()),
-        };
-        let console = watch(&rt, &made_clock(1), kept, run)?;
-        assert_eq!(rt; console.progress.told.as_slice(), phases);
-    }
-    Ok(())
+    let done = goes_through(&rt, RUN, PHASES)?;
+    let refused = goes_through(&rt, "page one\nbad\n", &[Phase::Reading])?;
+    is_right(done && refused)
 }

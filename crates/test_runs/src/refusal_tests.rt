@@ -1,11 +1,17 @@
 // Run files that are refused: what is wrong with a line, and what standard error says of it.
-use crate::tests::{Tried, ask, make_files, play, try_all};
+use crate::tests::{
+    Played, Tried, ask, files_of_run, has_played, is_right, make_files, none_is_wrong, play,
+    try_all,
+};
+use seq_files::MapFiles;
 use seq_inputs::Exit;
 use seq_run::RunRequest;
+use std::sync::Wait;
 use std::test::Fail;
+use std::thread::Threads;
 
 // The smallest run file of each fault of a line.
-const SMALLEST: [Tried; 13] = [
+const SMALLEST: &[Tried] = &[
     Tried {
         run: "x",
         output: "refused J1 at 1\n",
@@ -75,11 +81,11 @@ const SMALLEST: [Tried; 13] = [
 
 #[test]
 fn each_fault_of_a_line(rt: HostRuntime) -> Result<(), Fail> {
-    try_all(&rt, &SMALLEST)
+    try_all(&rt, SMALLEST)
 }
 
 // Lines with several faults, and files with several such lines: which of them is told.
-const FIRST_FAULTS: [Tried; 10] = [
+const FIRST_FAULTS: &[Tried] = &[
     Tried {
         run: "page erase\nbad\n",
         output: "refused P1 at 1\n",
@@ -134,7 +140,7 @@ const FIRST_FAULTS: [Tried; 10] = [
 
 #[test]
 fn the_first_fault_is_told(rt: HostRuntime) -> Result<(), Fail> {
-    try_all(&rt, &FIRST_FAULTS)
+    try_all(&rt, FIRST_FAULTS)
 }
 
 // An erase with a code that no word has, and one that branches on a status before it has read any, with a budget of 100.
@@ -156,7 +162,7 @@ struct Told {
     errors: &'static str,
 }
 
-const TOLD: [Told; 15] = [
+const TOLD: &[Told] = &[
     Told {
         run: "page one\nbad\n",
         errors: "run:2: `bad`: no statement `bad`: a line begins with page, targets, image, job, polls or fail (J1)\n",
@@ -220,87 +226,108 @@ const TOLD: [Told; 15] = [
     },
 ];
 
+const REASON: &[u8] =
+    b"run:4: branch: word 3, `brs 01 L4`: no status may have been read before this branch";
+
 // Of a reason the words begin with run file, line, program and word, and end with the code.
 #[test]
 fn reasons_of_programs(rt: HostRuntime) -> Result<(), Fail> {
-    let mut files = make_files(rt.alloc())?;
-    files.put("branch", &BRANCH)?;
-    files.put(
-        "run",
+    let mut files = files_of_run(
+        rt.alloc(),
         b"page one\ntargets 1\npolls 2\njob 0 0 0 branch - -\n",
     )?;
+    files.put("branch", &BRANCH)?;
     let played = play(&rt, &mut files, ask(1));
-    let errors = str::from_utf8(played.errors.as_slice())?;
-    assert!(rt;
-        errors.starts_with(
-            "run:4: branch: word 3, `brs 01 L4`: no status may have been read before this branch"
-        ),
-        "{errors}"
-    );
-    assert!(rt; errors.ends_with(" (V13)\n"), "{errors}");
-    Ok(())
+    let errors = played.errors.as_slice();
+    is_right(errors.starts_with(REASON) && errors.ends_with(b" (V13)\n"))
 }
+
+// A run of this file that prints no trace.
+fn play_quiet<R: Threads + Wait + Sync + AllocGlobal>(rt: &R, files: &mut MapFiles) -> Played {
+    let request = RunRequest {
+        is_quiet: true,
+        ..ask(1)
+    };
+    play(rt, files, request)
+}
+
+const SOURCES: &[u8] =
+    b"page one\ntargets 1\njob 0 0 0 source - -\njob 0 0 4 bare - -\njob 0 0 8 bare - -\n";
 
 // A job's program may be an assembly text, also one without its header.
 #[test]
 fn a_job_of_an_assembly_text(rt: HostRuntime) -> Result<(), Fail> {
-    let mut files = make_files(rt.alloc())?;
+    let mut files = files_of_run(rt.alloc(), SOURCES)?;
     files.put(
         "source",
         b"; erase\nrows 1\nbuffer 0\nbudget 5\ncmd 60\naddr 2 3\ncmd d0\nwait\nend 3\n",
     )?;
     files.put("bare", b"cmd 60\naddr 2 3\ncmd d0\nwait\nend 4\n")?;
-    files.put(
-        "run",
-        b"page one\ntargets 1\njob 0 0 0 source - -\njob 0 0 4 bare - -\njob 0 0 8 bare - -\n",
-    )?;
-    let request = RunRequest {
-        is_quiet: true,
-        ..ask(1)
-    };
-    let played = play(&rt, &mut files, request);
-    let ends = "job 1 end 3\njob 2 end 4\njob 3 end 4\n";
-    let said =
-        "bare: it has no header, for which `rows 1`, `buffer 0` and `budget 5` are counted\n";
-    assert_eq!(rt; played.seen()?, (Exit::Done, ends, said));
-    files.put("run", b"page one\ntargets 1\n")?;
-    let played = play(&rt, &mut files, request);
-    let said = "run: no line `job` stands there: nothing is run\n";
-    assert_eq!(rt; played.seen()?, (Exit::Done, "", said));
-    Ok(())
+    let played = play_quiet(&rt, &mut files);
+    is_right(has_played(
+        &played,
+        Exit::Done,
+        "job 1 end 3\njob 2 end 4\njob 3 end 4\n",
+        "bare: it has no header, for which `rows 1`, `buffer 0` and `budget 5` are counted\n",
+    ))
+}
+
+#[test]
+fn a_run_of_no_jobs(rt: HostRuntime) -> Result<(), Fail> {
+    let mut files = files_of_run(rt.alloc(), b"page one\ntargets 1\n")?;
+    let played = play_quiet(&rt, &mut files);
+    is_right(has_played(
+        &played,
+        Exit::Done,
+        "",
+        "run: no line `job` stands there: nothing is run\n",
+    ))
+}
+
+// Whether standard error says so of a run file.
+fn is_told<R: Threads + Wait + Sync + AllocGlobal>(rt: &R, told: &Told) -> Result<bool, Fail> {
+    let mut files = files_of_run(rt.alloc(), told.run.as_bytes())?;
+    files.put("unknown", &UNKNOWN)?;
+    files.put("source", b"; erase\nrows 1\nbuffer 0\nbudget 5\ncmd 0x60\n")?;
+    files.put("\u{7}one", b"longer")?;
+    let played = play(rt, &mut files, ask(1));
+    Ok(played.errors.as_slice() == told.errors.as_bytes())
+}
+
+// The place of the first run file of which it says something else.
+fn first_other<R: Threads + Wait + Sync + AllocGlobal>(rt: &R) -> Result<Option<usize>, Fail> {
+    for (place, told) in TOLD.iter().enumerate() {
+        if !is_told(rt, told)? {
+            return Ok(Some(place));
+        }
+    }
+    Ok(None)
 }
 
 #[test]
 fn what_standard_error_says(rt: HostRuntime) -> Result<(), Fail> {
-    for told in &TOLD {
-        let mut files = make_files(rt.alloc())?;
-        files.put("unknown", &UNKNOWN)?;
-        files.put("source", b"; erase\nrows 1\nbuffer 0\nbudget 5\ncmd 0x60\n")?;
-        files.put("\u{7}one", b"longer")?;
-        files.put("run", told.run.as_bytes())?;
-        let played = play(&rt, &mut files, ask(1));
-        assert_eq!(rt; str::from_utf8(played.errors.as_slice())?, told.errors);
-    }
-    Ok(())
+    none_is_wrong(first_other(&rt)?)
+}
+
+// A run can't be read, and this is said.
+fn is_unread(played: &Played, said: &str) -> bool {
+    played.end.status() == 2
+        && played.output.is_empty()
+        && played.errors.as_slice() == said.as_bytes()
 }
 
 // A run file that isn't there or isn't UTF-8.
 #[test]
 fn run_files_that_cannot_be_read(rt: HostRuntime) -> Result<(), Fail> {
-    for (run, said) in [
-        (None, "file fault run\nrun: there is no such file\n"),
-        (
-            Some(&[0x70, 0xff, 0x0a]),
-            "file fault run\nrun: it isn't UTF-8 text: the byte at offset 1 begins no character\n",
-        ),
-    ] {
-        let mut files = make_files(rt.alloc())?;
-        if let Some(bytes) = run {
-            files.put("run", bytes)?;
-        }
-        let played = play(&rt, &mut files, ask(1));
-        let (end, output, errors) = played.seen()?;
-        assert_eq!(rt; (end.status(), output, errors), (2, "", said));
-    }
-    Ok(())
+    let mut files = make_files(rt.alloc())?;
+    let missing = play(&rt, &mut files, ask(1));
+    files.put("run", &[0x70, 0xff, 0x0a])?;
+    let bytes = play(&rt, &mut files, ask(1));
+    is_right(
+        is_unread(&missing, "file fault run\nrun: there is no such file\n")
+            && is_unread(
+                &bytes,
+                "file fault run\nrun: it isn't UTF-8 text: the byte at offset 1 begins no character\n",
+            ),
+    )
 }

@@ -1,11 +1,12 @@
 // How many words the programs of a run step at most, and runs that may step fewer.
-use crate::tests::{TO_TRACE, ask, make_files, play};
+use crate::tests::{
+    TO_TRACE, ask, files_of_run, has_played, is_right, make_files, none_is_wrong, play,
+};
 use run_file::parse_run;
 use run_plan::plan_run;
 use seq_inputs::Exit;
 use seq_run::RunRequest;
 use std::alloc::Global;
-use std::process::Abort;
 use std::test::Fail;
 
 // A program without cycles in loops, and how many words it steps: counted word by word, as a reader would, and not by the code.
@@ -33,8 +34,10 @@ fn count(alloc: Global, run: &str) -> Result<Option<u64>, Fail> {
     files.put("deep", DEEP.as_bytes())?;
     files.put("telling", TELLING.as_bytes())?;
     let text = parse_run(run, alloc)?;
-    let plan = plan_run(alloc, &mut files, &text);
-    Ok(plan.ok().map(|plan| plan.jobs.steps))
+    Ok(match plan_run(alloc, &mut files, &text) {
+        Ok(plan) => Some(plan.jobs.steps),
+        Err(_) => None,
+    })
 }
 
 // The jobs of a run file, and how many words they step at most.
@@ -50,13 +53,25 @@ const COUNTED: &[(&str, u64)] = &[
     ),
 ];
 
+// Whether so many are counted of these jobs.
+fn is_counted(alloc: Global, jobs: &str, steps: u64) -> Result<bool, Fail> {
+    let run = format!(in alloc; "page one\ntargets 1\n{jobs}")?;
+    Ok(count(alloc, run.as_str())? == Some(steps))
+}
+
+// The place of the first jobs of which other steps are counted.
+fn first_other(alloc: Global) -> Result<Option<usize>, Fail> {
+    for (place, (jobs, steps)) in COUNTED.iter().enumerate() {
+        if !is_counted(alloc, jobs, *steps)? {
+            return Ok(Some(place));
+        }
+    }
+    Ok(None)
+}
+
 #[test]
 fn steps_are_counted(rt: HostRuntime) -> Result<(), Fail> {
-    for (jobs, steps) in COUNTED {
-        let run = format!(in rt.alloc(); "page one\ntargets 1\n{jobs}")?;
-        assert_eq!(rt; count(rt.alloc(), run.as_str())?, Some(*steps), "{jobs}");
-    }
-    Ok(())
+    none_is_wrong(first_other(rt.alloc())?)
 }
 
 // Two erases, of five words each, the second with a file for its buffer.
@@ -64,47 +79,48 @@ const TWICE: &str = "page one\ntargets 1\njob 0 0 0 erase - -\njob 0 0 4 erase -
 
 #[test]
 fn as_many_steps_as_a_run_may(rt: HostRuntime) -> Result<(), Fail> {
-    let mut files = make_files(rt.alloc())?;
-    files.put("run", TWICE.as_bytes())?;
+    let mut files = files_of_run(rt.alloc(), TWICE.as_bytes())?;
     let request = RunRequest {
         max_steps: 10,
         is_quiet: true,
         ..ask(1)
     };
     let played = play(&rt, &mut files, request);
-    let (end, output, _) = played.seen()?;
-    assert_eq!(rt; (end, output), (Exit::Done, "job 1 end 0\njob 2 end 0\n"));
-    Ok(())
+    let lines = b"job 1 end 0\njob 2 end 0\n".as_slice();
+    is_right(played.end == Exit::Done && played.output.as_slice() == lines)
 }
+
+const TOO_MANY: &str =
+    "run:4: with this job the programs may take more than 9 steps\nall jobs together may take 10, and `--max-steps 10` runs them\n";
 
 // The line is that of the job with which it is too many, and nothing has run.
 #[test]
 fn one_step_more(rt: HostRuntime) -> Result<(), Fail> {
-    let mut files = make_files(rt.alloc())?;
-    files.put("run", TWICE.as_bytes())?;
+    let mut files = files_of_run(rt.alloc(), TWICE.as_bytes())?;
     let request = RunRequest {
         max_steps: 9,
         trace: TO_TRACE,
         ..ask(1)
     };
     let played = play(&rt, &mut files, request);
-    let told =
-        "run:4: with this job the programs may take more than 9 steps\nall jobs together may take 10, and `--max-steps 10` runs them\n";
-    assert_eq!(rt; played.seen()?, (Exit::OutOfMemory, "", told));
-    assert!(rt; files.get("out").is_none() && files.get("trace").is_none());
-    Ok(())
+    is_right(
+        has_played(&played, Exit::OutOfMemory, "", TOO_MANY)
+            && files.get("out").is_none()
+            && files.get("trace").is_none(),
+    )
 }
 
 // Nobody waits 200 days in silence.
 #[test]
 fn loops_of_loops(rt: HostRuntime) -> Result<(), Fail> {
-    let mut files = make_files(rt.alloc())?;
+    let mut files = files_of_run(rt.alloc(), b"page one\ntargets 1\njob 0 0 0 deep - -\n")?;
     files.put("deep", DEEP.as_bytes())?;
-    files.put("run", b"page one\ntargets 1\njob 0 0 0 deep - -\n")?;
     let played = play(&rt, &mut files, ask(1));
-    let (end, output, told) = played.seen()?;
-    assert!(rt; end == Exit::OutOfMemory && output.is_empty());
-    assert!(rt; told.starts_with("run:3: with this job the programs may take more than "));
-    assert!(rt; told.ends_with("`--max-steps 563087425937410` runs them\n"));
-    Ok(())
+    let told = played.errors.as_slice();
+    is_right(
+        played.end == Exit::OutOfMemory
+            && played.output.is_empty()
+            && told.starts_with(b"run:3: with this job the programs may take more than ")
+            && told.ends_with(b"`--max-steps 563087425937410` runs them\n"),
+    )
 }

@@ -1,10 +1,9 @@
 // Runs by several workers.
-use crate::tests::{TO_TRACE, TWO_LUNS, ask, make_files, play};
+use crate::tests::{Played, TO_TRACE, TWO_LUNS, ask, files_of_run, is_right, play};
 use nand_geometry::Geometry;
 use seq_inputs::Exit;
 use seq_run::RunRequest;
 use std::alloc::{AllocError, Global};
-use std::process::Abort;
 use std::sync::Wait;
 use std::test::Fail;
 use std::thread::Threads;
@@ -30,6 +29,19 @@ fn write_ends(alloc: Global, count: u32) -> Result<String, AllocError> {
     Ok(lines)
 }
 
+// A trace of two targets is legal.
+fn is_legal(alloc: Global, trace: &[u8]) -> Result<bool, Fail> {
+    let items = parse(alloc, str::from_utf8(trace)?)?;
+    let geometry = Geometry::of(TWO_LUNS)?;
+    Ok(check(&geometry, 2, items.as_slice()).is_ok())
+}
+
+// So many jobs have ended with 0.
+fn has_ended(alloc: Global, played: &Played, jobs: u32) -> Result<bool, AllocError> {
+    let ends = write_ends(alloc, jobs)?;
+    Ok(played.end == Exit::Done && played.output.as_slice() == ends.as_str().as_bytes())
+}
+
 // The jobs of a run file done by so many workers: whether so many have ended with 0, on a legal trace.
 fn are_done<R: Threads + Wait + Sync + AllocGlobal>(
     rt: &R,
@@ -37,23 +49,15 @@ fn are_done<R: Threads + Wait + Sync + AllocGlobal>(
     jobs: u32,
     workers: u8,
 ) -> Result<bool, Fail> {
-    let mut files = make_files(rt.alloc())?;
-    files.put("run", run.as_bytes())?;
+    let mut files = files_of_run(rt.alloc(), run.as_bytes())?;
     let request = RunRequest {
         is_quiet: true,
         trace: TO_TRACE,
         ..ask(workers)
     };
     let played = play(rt, &mut files, request);
-    let ends = write_ends(rt.alloc(), jobs)?;
-    let text = str::from_utf8(files.get("trace").ok_or("a trace")?)?;
-    let items = parse(rt.alloc(), text)?;
-    let geometry = Geometry::of(TWO_LUNS)?;
-    Ok(
-        played.end == Exit::Done
-            && played.output.as_slice() == ends.as_str().as_bytes()
-            && check(&geometry, 2, items.as_slice()).is_ok(),
-    )
+    let is_legal = is_legal(rt.alloc(), files.get("trace").unwrap_or(b"-"))?;
+    Ok(is_legal && has_ended(rt.alloc(), &played, jobs)?)
 }
 
 // Five times two jobs, on the LUNs of one target.
@@ -64,26 +68,24 @@ const FIVE_TIMES: &str = "page two\ntargets 1\npolls 1\n\
 
 #[test]
 fn ten_jobs_by_several_workers(rt: HostRuntime) -> Result<(), Fail> {
-    for workers in [2, 8] {
-        assert!(rt; are_done(&rt, FIVE_TIMES, 10, workers)?, "{workers}");
-    }
-    Ok(())
+    let by_two = are_done(&rt, FIVE_TIMES, 10, 2)?;
+    let by_eight = are_done(&rt, FIVE_TIMES, 10, 8)?;
+    is_right(by_two && by_eight)
 }
 
 #[test]
 fn ten_jobs_on_two_targets(rt: HostRuntime) -> Result<(), Fail> {
     let run = write_jobs(rt.alloc(), 10)?;
-    assert!(rt; are_done(&rt, run.as_str(), 10, 2)?);
-    Ok(())
+    is_right(are_done(&rt, run.as_str(), 10, 2)?)
 }
 
 #[test]
 fn many_jobs(rt: HostRuntime) -> Result<(), Fail> {
     let run = write_jobs(rt.alloc(), 200)?;
-    for workers in [1, 2, 8] {
-        assert!(rt; are_done(&rt, run.as_str(), 200, workers)?, "{workers}");
-    }
-    Ok(())
+    let by_one = are_done(&rt, run.as_str(), 200, 1)?;
+    let by_two = are_done(&rt, run.as_str(), 200, 2)?;
+    let by_eight = are_done(&rt, run.as_str(), 200, 8)?;
+    is_right(by_one && by_two && by_eight)
 }
 
 // Three erases on each of two targets, in turn.
@@ -92,7 +94,7 @@ const TWO_HOSTS: &str = "page one\ntargets 2\n\
     job 1 0 12 erase - -\njob 0 0 16 erase - -\njob 1 0 20 erase - -\n";
 
 // What stands behind this beginning in the lines of a text that have it.
-fn join_ends(alloc: Global, text: &str, beginning: &str) -> Result<String, Fail> {
+fn join_ends(alloc: Global, text: &str, beginning: &str) -> Result<String, AllocError> {
     let mut joined = String::new(alloc);
     for line in text.lines() {
         if let Some(end) = line.strip_prefix(beginning) {
@@ -102,24 +104,32 @@ fn join_ends(alloc: Global, text: &str, beginning: &str) -> Result<String, Fail>
     Ok(joined)
 }
 
+// Whether the lines of a text that have this beginning are this behind it.
+fn joins_to(alloc: Global, text: &str, beginning: &str, ends: &str) -> Result<bool, AllocError> {
+    let joined = join_ends(alloc, text, beginning)?;
+    Ok(joined.as_str() == ends)
+}
+
+// The erases of each target stand in the order of the file.
+fn is_in_order(alloc: Global, text: &str) -> Result<bool, AllocError> {
+    let first = joins_to(alloc, text, "0 A ", "000000080000100000")?;
+    let second = joins_to(alloc, text, "1 A ", "0400000c0000140000")?;
+    let ends = "1 end 02 end 03 end 04 end 05 end 06 end 0";
+    Ok(joins_to(alloc, text, "job ", ends)? && first && second)
+}
+
+// Whether so many workers do them in order.
+fn keep_order<R: Threads + Wait + Sync + AllocGlobal>(rt: &R, workers: u8) -> Result<bool, Fail> {
+    let mut files = files_of_run(rt.alloc(), TWO_HOSTS.as_bytes())?;
+    let played = play(rt, &mut files, ask(workers));
+    let text = str::from_utf8(played.output.as_slice()).unwrap_or("");
+    Ok(is_in_order(rt.alloc(), text)?)
+}
+
 // The erases of each target come in the order of the file.
 #[test]
 fn hosts_keep_their_order(rt: HostRuntime) -> Result<(), Fail> {
-    for workers in [1, 3] {
-        let mut files = make_files(rt.alloc())?;
-        files.put("run", TWO_HOSTS.as_bytes())?;
-        let played = play(&rt, &mut files, ask(workers));
-        let text = str::from_utf8(played.output.as_slice())?;
-        let first = join_ends(rt.alloc(), text, "0 A ")?;
-        let second = join_ends(rt.alloc(), text, "1 A ")?;
-        let ends = join_ends(rt.alloc(), text, "job ")?;
-        let told = (first.as_str(), second.as_str(), ends.as_str());
-        let wanted = (
-            "000000080000100000",
-            "0400000c0000140000",
-            "1 end 02 end 03 end 04 end 05 end 06 end 0",
-        );
-        assert_eq!(rt; told, wanted);
-    }
-    Ok(())
+    let by_one = keep_order(&rt, 1)?;
+    let by_three = keep_order(&rt, 3)?;
+    is_right(by_one && by_three)
 }

@@ -93,7 +93,7 @@ const CUT: &str = "0 O 12\n0 O 13\n";
 const COARSE: &str =
     "@0 0 C 60\n@10 0 A 00\n@20 0 A 00\n@30 0 A 00\n@40 0 C d0\n@40 0 R 0 0\n@100 0 C 70\n@110 0 O e0\n";
 
-const ROWS: [Row; 18] = [
+const ROWS: &[Row] = &[
     // An erase with its polls.
     Row {
         parts: SMALL_CHIP,
@@ -254,12 +254,18 @@ const ROWS: [Row; 18] = [
     },
 ];
 
-// What comes of a row: its status, and what is printed.
-fn play(alloc: Global, row: Row) -> Result<(u8, Vec<u8>), Fail> {
+// The page of a row and its trace.
+fn make_files(alloc: Global, row: &Row) -> Result<MapFiles, Fail> {
+    let page = Geometry::of(row.parts)?.page();
     let mut files = MapFiles::new(alloc);
-    files.put("die.page", &Geometry::of(row.parts)?.page())?;
+    files.put("die.page", &page)?;
     files.put("bus", row.trace.as_bytes())?;
-    let request = OpsRequest {
+    Ok(files)
+}
+
+// How a row is listed.
+fn request_of(row: &Row) -> OpsRequest<'static> {
+    OpsRequest {
         page: "die.page",
         targets: Targets::One,
         input: "bus",
@@ -273,28 +279,40 @@ fn play(alloc: Global, row: Row) -> Result<(u8, Vec<u8>), Fail> {
             from: None,
             to: None,
         },
-    };
+    }
+}
+
+// The status of a list, and what is printed.
+fn list(alloc: Global, files: &mut MapFiles, request: OpsRequest<'_>) -> (u8, Vec<u8>) {
     let mut console = Console {
         output: Vec::new(alloc),
         errors: Vec::new(alloc),
         progress: NoProgress,
     };
-    let status = list_operations(alloc, &mut files, &mut console, request).status();
+    let status = list_operations(alloc, files, &mut console, request).status();
     let Console { output, .. } = console;
-    Ok((status, output))
+    (status, output)
 }
 
-fn expect_row(rt: &(impl Abort + AllocGlobal), row: Row) -> Result<(), Fail> {
-    let (status, output) = play(rt.alloc(), row)?;
-    assert_eq!(rt; status, 0, "{}", row.trace);
-    assert_eq!(rt; str::from_utf8(output.as_slice())?, row.printed);
-    Ok(())
+// Whether the list of a row is what it says.
+fn is_listed(alloc: Global, row: &Row) -> Result<bool, Fail> {
+    let mut files = make_files(alloc, row)?;
+    let (status, output) = list(alloc, &mut files, request_of(row));
+    Ok(status == 0 && output.as_slice() == row.printed.as_bytes())
+}
+
+// The place of the first row whose list is another one.
+fn first_wrong(alloc: Global, rows: &[Row]) -> Result<Option<usize>, Fail> {
+    for (place, row) in rows.iter().enumerate() {
+        if !is_listed(alloc, row)? {
+            return Ok(Some(place));
+        }
+    }
+    Ok(None)
 }
 
 #[test]
 fn rows(rt: HostRuntime) -> Result<(), Fail> {
-    for row in ROWS {
-        expect_row(&rt, row)?;
-    }
+    assert_eq!(rt; first_wrong(rt.alloc(), ROWS)?, None);
     Ok(())
 }

@@ -139,17 +139,29 @@ fn accepted(text: Text, parts: Parts) -> Result<Verified, Fail> {
     }
 }
 
+// Whether a text of operations is accepted with few words walked.
+fn is_accepted(
+    alloc: Global,
+    seed: &mut u32,
+    rows: u32,
+    planes: u32,
+    parts: Parts,
+) -> Result<bool, Fail> {
+    let text = made(alloc, seed, rows, planes)?;
+    let len = text.words().len() as u64;
+    let verified = accepted(text, parts)?;
+    Ok(verified.walked() <= 16 * len)
+}
+
 // 1,000 texts are accepted: on a die of 32 rows in one plane, and on two of 16 rows in each of two planes.
 #[test]
 fn operations_in_loops(rt: HostRuntime) -> Result<(), Fail> {
     let mut seed = 20_261_123;
+    let mut is_walked = true;
     for _ in 0..500 {
-        let text = made(rt.alloc(), &mut seed, 32, 1)?;
-        let len = text.words().len() as u64;
-        let verified = accepted(text, ONE_LUN)?;
-        assert!(rt; verified.walked() <= 16 * len);
-        let other = made(rt.alloc(), &mut seed, 16, 2)?;
-        let _ = accepted(other, TWO_LUNS)?;
+        is_walked &= is_accepted(rt.alloc(), &mut seed, 32, 1, ONE_LUN)?;
+        is_walked &= is_accepted(rt.alloc(), &mut seed, 16, 2, TWO_LUNS)?;
     }
+    assert!(rt; is_walked);
     Ok(())
 }

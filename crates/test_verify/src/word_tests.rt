@@ -4,7 +4,7 @@ use micro_verify::{TextRefused, VerifyRefusal, verify};
 use micro_walk::{Claims, certify};
 use micro_word::{Text, Word};
 use nand_geometry::{Geometry, Parts, SMALL_CHIP};
-use std::alloc::{Allocator, Global};
+use std::alloc::{AllocError, Allocator, Global};
 use std::test::Fail;
 
 // One LUN of 8 blocks of 4 pages of 512 + 16 bytes, in one plane.
@@ -107,12 +107,18 @@ const PLAIN: Try<'static> = Try {
     refused: None,
 };
 
+fn text_of(alloc: Global, it: Try<'_>) -> Result<Text, Fail> {
+    let words = it.words.to_vec(alloc)?;
+    match Text::of(it.rows, it.buffer, it.budget, words) {
+        Ok(text) => Ok(text),
+        Err(_) => Err(Fail::from("the words are no text")),
+    }
+}
+
 // The word that is refused and its reason, None where the text is accepted.
 fn refused(alloc: Global, it: Try<'_>) -> Result<Option<(usize, Reason)>, Fail> {
-    let text = Text::of(it.rows, it.buffer, it.budget, it.words.to_vec(alloc)?)
-        .ok()
-        .ok_or("the words are no text")?;
-    match verify(text, Geometry::of(it.parts)?) {
+    let geometry = Geometry::of(it.parts)?;
+    match verify(text_of(alloc, it)?, geometry) {
         Ok(_) => Ok(None),
         Err(TextRefused { refusal, .. }) => match refusal {
             VerifyRefusal::Refusal { word, reason, .. } => Ok(Some((word, reason))),
@@ -208,7 +214,7 @@ const ON_TWO: Try<'static> = Try {
     ..PLAIN
 };
 
-const ERASES_TRIES: [Try<'static>; 13] = [
+const ERASES_TRIES: &[Try<'static>] = &[
     Try {
         words: &ERASE_BLOCK,
         ..ON_ONE
@@ -277,7 +283,7 @@ const ERASES_TRIES: [Try<'static>; 13] = [
 
 #[test]
 fn erases(rt: HostRuntime) -> Result<(), Fail> {
-    assert_eq!(rt; first_other(rt.alloc(), &ERASES_TRIES)?, None);
+    assert_eq!(rt; first_other(rt.alloc(), ERASES_TRIES)?, None);
     Ok(())
 }
 
@@ -340,7 +346,7 @@ const SOME_READS: Try<'static> = Try {
     ..PLAIN
 };
 
-const READS_TRIES: [Try<'static>; 14] = [
+const READS_TRIES: &[Try<'static>] = &[
     Try {
         words: &READ_PAGE,
         ..PAGE
@@ -419,7 +425,7 @@ const READS_TRIES: [Try<'static>; 14] = [
 
 #[test]
 fn reads(rt: HostRuntime) -> Result<(), Fail> {
-    assert_eq!(rt; first_other(rt.alloc(), &READS_TRIES)?, None);
+    assert_eq!(rt; first_other(rt.alloc(), READS_TRIES)?, None);
     Ok(())
 }
 
@@ -529,7 +535,7 @@ const NINE: Try<'static> = Try {
     ..PLAIN
 };
 
-const COLUMNS_AND_PROGRAMS_TRIES: [Try<'static>; 9] = [
+const COLUMNS_AND_PROGRAMS_TRIES: &[Try<'static>] = &[
     Try {
         words: &LOST,
         refused: Some((8, Reason::CycleForbidden)),
@@ -582,7 +588,7 @@ const COLUMNS_AND_PROGRAMS_TRIES: [Try<'static>; 9] = [
 
 #[test]
 fn columns_and_programs(rt: HostRuntime) -> Result<(), Fail> {
-    assert_eq!(rt; first_other(rt.alloc(), &COLUMNS_AND_PROGRAMS_TRIES)?, None);
+    assert_eq!(rt; first_other(rt.alloc(), COLUMNS_AND_PROGRAMS_TRIES)?, None);
     Ok(())
 }
 
@@ -625,7 +631,7 @@ const FOUR: Try<'static> = Try {
     ..PLAIN
 };
 
-const IDENTIFIERS_AND_PARAMETERS_TRIES: [Try<'static>; 12] = [
+const IDENTIFIERS_AND_PARAMETERS_TRIES: &[Try<'static>] = &[
     Try {
         words: &IDENTIFIER,
         buffer: 4,
@@ -696,7 +702,7 @@ const IDENTIFIERS_AND_PARAMETERS_TRIES: [Try<'static>; 12] = [
 #[test]
 fn identifiers_and_parameters(rt: HostRuntime) -> Result<(), Fail> {
     assert_eq!(rt;
-        first_other(rt.alloc(), &IDENTIFIERS_AND_PARAMETERS_TRIES)?,
+        first_other(rt.alloc(), IDENTIFIERS_AND_PARAMETERS_TRIES)?,
         None
     );
     Ok(())
@@ -726,7 +732,7 @@ const PAGES: Try<'static> = Try {
     ..PLAIN
 };
 
-const CACHE_READS_TRIES: [Try<'static>; 6] = [
+const CACHE_READS_TRIES: &[Try<'static>] = &[
     Try {
         words: &TWO_PAGES,
         ..PAGES
@@ -764,12 +770,12 @@ const CACHE_READS_TRIES: [Try<'static>; 6] = [
 
 #[test]
 fn cache_reads(rt: HostRuntime) -> Result<(), Fail> {
-    assert_eq!(rt; first_other(rt.alloc(), &CACHE_READS_TRIES)?, None);
+    assert_eq!(rt; first_other(rt.alloc(), CACHE_READS_TRIES)?, None);
     Ok(())
 }
 
 // Commands, addresses and words in the wrong place.
-const OUT_OF_PLACE_TRIES: [Try<'static>; 18] = [
+const OUT_OF_PLACE_TRIES: &[Try<'static>] = &[
     Try {
         words: &[START_ERASE, END],
         refused: Some((0, Reason::CycleForbidden)),
@@ -866,7 +872,7 @@ const OUT_OF_PLACE_TRIES: [Try<'static>; 18] = [
 
 #[test]
 fn out_of_place(rt: HostRuntime) -> Result<(), Fail> {
-    assert_eq!(rt; first_other(rt.alloc(), &OUT_OF_PLACE_TRIES)?, None);
+    assert_eq!(rt; first_other(rt.alloc(), OUT_OF_PLACE_TRIES)?, None);
     Ok(())
 }
 
@@ -877,7 +883,7 @@ const JUMP: Word = Word::Jump { target: 1 };
 
 const STATUS_BYTES: [Word; 3] = [STAT, Word::Get { len: 65_536 }, END];
 
-const WHOLE_TEXTS_TRIES: [Try<'static>; 12] = [
+const WHOLE_TEXTS_TRIES: &[Try<'static>] = &[
     Try {
         words: &[],
         refused: Some((0, Reason::NoWords)),
@@ -944,7 +950,7 @@ const WHOLE_TEXTS_TRIES: [Try<'static>; 12] = [
 
 #[test]
 fn whole_texts(rt: HostRuntime) -> Result<(), Fail> {
-    assert_eq!(rt; first_other(rt.alloc(), &WHOLE_TEXTS_TRIES)?, None);
+    assert_eq!(rt; first_other(rt.alloc(), WHOLE_TEXTS_TRIES)?, None);
     Ok(())
 }
 
@@ -1172,7 +1178,7 @@ const EIGHT_BLOCKS: Try<'static> = Try {
     ..PLAIN
 };
 
-const LOOPS_TRIES: [Try<'static>; 12] = [
+const LOOPS_TRIES: &[Try<'static>] = &[
     Try {
         words: &GET_TWICE,
         buffer: 8,
@@ -1241,7 +1247,7 @@ const LOOPS_TRIES: [Try<'static>; 12] = [
     },
 ];
 
-const LONG_LOOPS_TRIES: [Try<'static>; 7] = [
+const LONG_LOOPS_TRIES: &[Try<'static>] = &[
     Try {
         words: &MANY_POLLS,
         budget: 4_294_967_295,
@@ -1277,8 +1283,8 @@ const LONG_LOOPS_TRIES: [Try<'static>; 7] = [
 
 #[test]
 fn loops(rt: HostRuntime) -> Result<(), Fail> {
-    assert_eq!(rt; first_other(rt.alloc(), &LOOPS_TRIES)?, None);
-    assert_eq!(rt; first_other(rt.alloc(), &LONG_LOOPS_TRIES)?, None);
+    assert_eq!(rt; first_other(rt.alloc(), LOOPS_TRIES)?, None);
+    assert_eq!(rt; first_other(rt.alloc(), LONG_LOOPS_TRIES)?, None);
     Ok(())
 }
 
@@ -1349,7 +1355,7 @@ const MEETING: Try<'static> = Try {
     ..PLAIN
 };
 
-const BRANCHES_TRIES: [Try<'static>; 19] = [
+const BRANCHES_TRIES: &[Try<'static>] = &[
     Try {
         words: &ERASE_CHECKED,
         budget: 5,
@@ -1445,57 +1451,61 @@ const BRANCHES_TRIES: [Try<'static>; 19] = [
 
 #[test]
 fn branches(rt: HostRuntime) -> Result<(), Fail> {
-    assert_eq!(rt; first_other(rt.alloc(), &BRANCHES_TRIES)?, None);
+    assert_eq!(rt; first_other(rt.alloc(), BRANCHES_TRIES)?, None);
     Ok(())
-}
-
-fn text_of(alloc: Global, it: Try<'_>) -> Result<Text, Fail> {
-    Ok(
-        Text::of(it.rows, it.buffer, it.budget, it.words.to_vec(alloc)?)
-            .ok()
-            .ok_or("the words are no text")?,
-    )
 }
 
 // How many words are walked for a text that is accepted.
 fn walked(alloc: Global, it: Try<'_>) -> Result<u64, Fail> {
-    match verify(text_of(alloc, it)?, Geometry::of(it.parts)?) {
+    let geometry = Geometry::of(it.parts)?;
+    match verify(text_of(alloc, it)?, geometry) {
         Ok(verified) => Ok(verified.walked()),
         Err(_) => Err(Fail::from("the text is refused")),
+    }
+}
+
+// The text in this place.
+fn in_place<'a>(tries: &[Try<'a>], place: usize) -> Result<Try<'a>, Fail> {
+    match tries.get(place) {
+        Some(it) => Ok(*it),
+        None => Err(Fail::from("no such text")),
     }
 }
 
 // Each loop is walked at most 16 times for one entry, however many turns it has.
 #[test]
 fn few_words_are_walked(rt: HostRuntime) -> Result<(), Fail> {
-    assert!(rt; walked(rt.alloc(), EIGHT_BLOCKS)? <= 16 * 8);
-    assert!(rt; walked(rt.alloc(), LOOPS_TRIES[6])? <= 256 * 6);
-    assert!(rt; walked(rt.alloc(), LOOPS_TRIES[8])? <= 65_536 * 10);
-    assert_eq!(rt; walked(rt.alloc(), BRANCHES_TRIES[0])?, 7);
+    let blocks = walked(rt.alloc(), EIGHT_BLOCKS)?;
+    let two_loops = walked(rt.alloc(), in_place(LOOPS_TRIES, 6)?)?;
+    let four_loops = walked(rt.alloc(), in_place(LOOPS_TRIES, 8)?)?;
+    let branch = walked(rt.alloc(), in_place(BRANCHES_TRIES, 0)?)?;
+    assert!(rt; blocks <= 16 * 8 && two_loops <= 256 * 6);
+    assert!(rt; four_loops <= 65_536 * 10 && branch == 7);
     Ok(())
+}
+
+// Whether the claims that are found of a text are a certificate of it.
+fn is_certified(alloc: Global, it: Try<'_>) -> Result<bool, Fail> {
+    let geometry = Geometry::of(it.parts)?;
+    let text = text_of(alloc, it)?;
+    let claims = Claims::find(&text, &geometry);
+    Ok(certify(text, geometry, &claims).is_ok())
 }
 
 // The claims that are found are a certificate of a text that is accepted, and of no other.
 #[test]
 fn certificates(rt: HostRuntime) -> Result<(), Fail> {
-    for (it, is_one) in [
-        (EIGHT_BLOCKS, true),
-        (LOOPS_TRIES[5], false),
-        (BRANCHES_TRIES[0], true),
-        (BRANCHES_TRIES[1], false),
-    ] {
-        let geometry = Geometry::of(it.parts)?;
-        let text = text_of(rt.alloc(), it)?;
-        let claims = Claims::find(&text, &geometry);
-        assert_eq!(rt; certify(text, geometry, &claims).is_ok(), is_one);
-    }
+    let blocks = is_certified(rt.alloc(), EIGHT_BLOCKS)?;
+    let buffer = is_certified(rt.alloc(), in_place(LOOPS_TRIES, 5)?)?;
+    let branch = is_certified(rt.alloc(), in_place(BRANCHES_TRIES, 0)?)?;
+    let other = is_certified(rt.alloc(), in_place(BRANCHES_TRIES, 1)?)?;
+    assert!(rt; blocks && !buffer && branch && !other);
     Ok(())
 }
 
 // 1,023 branches, each to the word after the next one, and the last one to the `end`.
-#[test]
-fn a_text_full_of_branches(rt: HostRuntime) -> Result<(), Fail> {
-    let mut words = Vec::with_capacity(rt.alloc(), 1024)?;
+fn branches_alone(alloc: Global) -> Result<Vec<Word>, AllocError> {
+    let mut words = Vec::with_capacity(alloc, 1024)?;
     words.push(STAT)?;
     for target in 3_u16..1024 {
         words.push(Word::BranchOnStatus { mask: 1, target })?;
@@ -1505,14 +1515,20 @@ fn a_text_full_of_branches(rt: HostRuntime) -> Result<(), Fail> {
         target: 1023,
     })?;
     words.push(END)?;
-    assert_eq!(rt; words.len(), 1024);
-    let Ok(text) = Text::of(1, 0, 2, words) else {
-        return Err(Fail::from("the words are no text"));
+    Ok(words)
+}
+
+#[test]
+fn a_text_full_of_branches(rt: HostRuntime) -> Result<(), Fail> {
+    let words = branches_alone(rt.alloc())?;
+    let count = words.len();
+    let it = Try {
+        budget: 2,
+        words: words.as_slice(),
+        ..PLAIN
     };
-    let Ok(verified) = verify(text, Geometry::of(ONE_LUN)?) else {
-        return Err(Fail::from("the text is refused"));
-    };
-    assert_eq!(rt; verified.walked(), 1024);
+    let walked = walked(rt.alloc(), it)?;
+    assert!(rt; count == 1024 && walked == 1024);
     Ok(())
 }
 
@@ -1567,26 +1583,40 @@ const GET_IN_LOOP: [Word; 8] = [
 // The bus is let go after an opener.
 const YIELD_AFTER_OPENER: [Word; 4] = [STAT, ERASE, Word::Yield, END];
 
+type Answered = (&'static [Word], Result<bool, (usize, Reason)>);
+
+const ANSWERED: &[Answered] = &[
+    (&ERASE_BLOCK, Ok(true)),
+    (&ERASE_CHECKED, Ok(true)),
+    (&GET_AFTER_BRANCH, Err((6, Reason::BufferPassed))),
+    (&GET_IN_LOOP, Err((5, Reason::BufferPassed))),
+    (&YIELD_AFTER_OPENER, Err((2, Reason::HandoverInSequence))),
+];
+
+// Whether each answer on a heap of so many bytes is what it is without want; None where there is too little for the words of one.
+fn are_answered(alloc: Global, size: usize) -> Result<Option<bool>, Fail> {
+    let heap = LocalHeap::new(alloc, size)?;
+    let mut is_answered = true;
+    for (words, answer) in ANSWERED {
+        match answer_in(&heap, words)? {
+            None => is_answered = false,
+            Some(it) => if it != *answer {
+                return Ok(Some(false));
+            },
+        }
+    }
+    Ok(if is_answered { Some(true) } else { None })
+}
+
 // Texts with branches and loops take no memory: each answer is what it is without want, however little there is.
 #[test]
 fn memory_is_wanted_for_counters_alone(rt: HostRuntime) -> Result<(), Fail> {
     let mut answered = false;
     for size in 1..64usize {
-        let heap = LocalHeap::new(rt.alloc(), 16 * size)?;
-        for (words, answer) in [
-            (ERASE_BLOCK.as_slice(), Ok(true)),
-            (ERASE_CHECKED.as_slice(), Ok(true)),
-            (GET_AFTER_BRANCH.as_slice(), Err((6, Reason::BufferPassed))),
-            (GET_IN_LOOP.as_slice(), Err((5, Reason::BufferPassed))),
-            (
-                YIELD_AFTER_OPENER.as_slice(),
-                Err((2, Reason::HandoverInSequence)),
-            ),
-        ] {
-            if let Some(it) = answer_in(&heap, words)? {
-                assert_eq!(rt; it, answer);
-                answered = true;
-            }
+        match are_answered(rt.alloc(), 16 * size)? {
+            None => {}
+            Some(true) => answered = true,
+            Some(false) => return Err(Fail::from("another answer for want of memory")),
         }
     }
     assert!(rt; answered);
@@ -1595,43 +1625,49 @@ fn memory_is_wanted_for_counters_alone(rt: HostRuntime) -> Result<(), Fail> {
 
 // The erase as a text of one row and no buffer.
 fn erase_text(alloc: Global, budget: u32) -> Result<Text, Fail> {
-    Ok(
-        Text::of(1, 0, budget, ERASE_BLOCK.to_vec(alloc)?)
-            .ok()
-            .ok_or("the words are no text")?,
-    )
+    let words = ERASE_BLOCK.to_vec(alloc)?;
+    match Text::of(1, 0, budget, words) {
+        Ok(text) => Ok(text),
+        Err(_) => Err(Fail::from("the words are no text")),
+    }
+}
+
+// A text of the erase with this budget.
+fn is_erase(text: &Text, budget: u32) -> bool {
+    text.words() == ERASE_BLOCK.as_slice() && text.budget() == budget
 }
 
 #[test]
 fn what_is_accepted_is_shown(rt: HostRuntime) -> Result<(), Fail> {
     let geometry = Geometry::of(TWO_LUNS)?;
-    let Ok(verified) = verify(erase_text(rt.alloc(), 7)?, geometry) else {
+    let text = erase_text(rt.alloc(), 7)?;
+    let Ok(verified) = verify(text, geometry) else {
         return Err(Fail::from("the erase is refused"));
     };
-    assert_eq!(rt; verified.text().words(), ERASE_BLOCK.as_slice());
-    assert_eq!(rt; verified.text().budget(), 7);
-    assert_eq!(rt; verified.geometry().parts(), TWO_LUNS);
+    assert!(rt; is_erase(verified.text(), 7) && verified.geometry().parts() == TWO_LUNS);
     Ok(())
+}
+
+// The budget is one short at the start of the erase.
+fn is_over_budget(refusal: &VerifyRefusal) -> bool {
+    matches!(
+        refusal,
+        VerifyRefusal::Refusal {
+            word: 2,
+            reason: Reason::OverBudget,
+            counter: None
+        }
+    )
 }
 
 #[test]
 fn what_is_refused_is_handed_back(rt: HostRuntime) -> Result<(), Fail> {
     let geometry = Geometry::of(ONE_LUN)?;
-    let Err(TextRefused { refusal, text }) = verify(erase_text(rt.alloc(), 4)?, geometry) else {
+    let text = erase_text(rt.alloc(), 4)?;
+    let Err(TextRefused { refusal, text }) = verify(text, geometry) else {
         return Err(Fail::from("the budget is one short"));
     };
-    assert!(rt;
-        matches!(
-            refusal,
-            VerifyRefusal::Refusal {
-                word: 2,
-                reason: Reason::OverBudget,
-                counter: None
-            }
-        )
-    );
-    assert_eq!(rt; text.words(), ERASE_BLOCK.as_slice());
-    assert_eq!(rt; text.budget(), 4);
+    assert!(rt; is_over_budget(&refusal) && is_erase(&text, 4));
     Ok(())
 }
 

@@ -1,8 +1,8 @@
-use crate::notes::table::{PLAIN, TWO_LUNS, Try, differences};
+use crate::notes::table::{PLAIN, TWO_LUNS, Try, none_differ};
 use std::test::Fail;
 
 // A status that nothing uses.
-const IDLE: [Try<'static>; 4] = [
+const IDLE: &[Try<'static>] = &[
     Try {
         words: "cmd 60\naddr 2 3\ncmd d0\nwait\nbrs 01 a\nwait\na:\nend 0",
         told: "word 5: the LUN is ready already, and nothing uses the status of this `wait`: leave it out (N8)\n",
@@ -28,12 +28,11 @@ const IDLE: [Try<'static>; 4] = [
 
 #[test]
 fn idle_polls(rt: HostRuntime) -> Result<(), Fail> {
-    assert_eq!(rt; differences(rt.alloc(), &IDLE)?.as_str(), "");
-    Ok(())
+    none_differ(rt.alloc(), IDLE)
 }
 
 // Nothing is wrong with these.
-const MEANT: [Try<'static>; 6] = [
+const MEANT: &[Try<'static>] = &[
     // Before the first word nothing is shown.
     Try {
         words: "wait\nend 0",
@@ -68,6 +67,5 @@ const MEANT: [Try<'static>; 6] = [
 
 #[test]
 fn meant_polls(rt: HostRuntime) -> Result<(), Fail> {
-    assert_eq!(rt; differences(rt.alloc(), &MEANT)?.as_str(), "");
-    Ok(())
+    none_differ(rt.alloc(), MEANT)
 }

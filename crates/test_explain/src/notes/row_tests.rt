@@ -1,8 +1,8 @@
-use crate::notes::table::{PLAIN, TWO_PLANES, Try, differences};
+use crate::notes::table::{PLAIN, TWO_PLANES, Try, none_differ};
 use std::test::Fail;
 
 // Rows that are programmed twice.
-const TWICE: [Try<'static>; 6] = [
+const TWICE: &[Try<'static>] = &[
     Try {
         words: "cmd 80\naddr 0 5\nput 4\ncmd 10\nwait\nbrs 01 a\ncmd 80\naddr 0 5\nput 4\ncmd 10\nwait\nbrs 01 a\nend 0\na:\nend 1",
         told: "word 9: if no branch is taken, it programs row 0, as word 3 does before, without an erase between: erase it first, or give both parts in one program by `cmd 85` (N2)\n",
@@ -42,12 +42,11 @@ const TWICE: [Try<'static>; 6] = [
 
 #[test]
 fn rows_programmed_twice(rt: HostRuntime) -> Result<(), Fail> {
-    assert_eq!(rt; differences(rt.alloc(), &TWICE)?.as_str(), "");
-    Ok(())
+    none_differ(rt.alloc(), TWICE)
 }
 
 // Pages out of order.
-const MISORDERED: [Try<'static>; 2] = [
+const MISORDERED: &[Try<'static>] = &[
     Try {
         words: "row 5\ncmd 80\naddr 0 5\nput 4\ncmd 10\nwait\nget 1\nrow 4\ncmd 80\naddr 0 5\nput 4\ncmd 10\nwait\nget 1\nend 0",
         told: "word 11: it programs row 4 after row 5 (word 4), in the same block if the base begins one: program the pages of a block in rising order (N3)\n",
@@ -63,12 +62,11 @@ const MISORDERED: [Try<'static>; 2] = [
 
 #[test]
 fn pages_out_of_order(rt: HostRuntime) -> Result<(), Fail> {
-    assert_eq!(rt; differences(rt.alloc(), &MISORDERED)?.as_str(), "");
-    Ok(())
+    none_differ(rt.alloc(), MISORDERED)
 }
 
 // Nothing is wrong with these.
-const MEANT: [Try<'static>; 9] = [
+const MEANT: &[Try<'static>] = &[
     // An erase between.
     Try {
         words: "cmd 80\naddr 0 5\nput 4\ncmd 10\nwait\nget 1\ncmd 60\naddr 2 3\ncmd d0\nwait\nget 1\ncmd 80\naddr 0 5\nput 4\ncmd 10\nwait\nget 1\nend 0",
@@ -119,6 +117,5 @@ const MEANT: [Try<'static>; 9] = [
 
 #[test]
 fn meant_rows(rt: HostRuntime) -> Result<(), Fail> {
-    assert_eq!(rt; differences(rt.alloc(), &MEANT)?.as_str(), "");
-    Ok(())
+    none_differ(rt.alloc(), MEANT)
 }

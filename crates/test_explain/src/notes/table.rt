@@ -121,8 +121,8 @@ fn notes_of(alloc: Global, it: Try<'_>) -> Result<String, Fail> {
     told_of(alloc, &geometry, &text)
 }
 
-/// The notes of these programs, where they are others than is expected; nothing where all is as expected.
-pub(crate) fn differences(alloc: Global, tries: &[Try<'_>]) -> Result<String, Fail> {
+// The notes of these programs, where they are others than is expected; nothing where all is as expected.
+fn differences(alloc: Global, tries: &[Try<'_>]) -> Result<String, Fail> {
     let mut all = String::new(alloc);
     for it in tries {
         let told = notes_of(alloc, *it)?;
@@ -134,4 +134,14 @@ pub(crate) fn differences(alloc: Global, tries: &[Try<'_>]) -> Result<String, Fa
         }
     }
     Ok(all)
+}
+
+/// Nothing else is told of these programs than is expected.
+pub(crate) fn none_differ(alloc: Global, tries: &[Try<'_>]) -> Result<(), Fail> {
+    let all = differences(alloc, tries)?;
+    if all.is_empty() {
+        Ok(())
+    } else {
+        Err(Fail::new(format_args!("{all}")))
+    }
 }

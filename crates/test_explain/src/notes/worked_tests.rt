@@ -1,5 +1,5 @@
 use crate::notes::table::{
-    ONE_LUN, PLAIN, TWO_LUNS, TWO_PLANES, Try, differences, least_text, told_of, words_of,
+    ONE_LUN, PLAIN, TWO_LUNS, TWO_PLANES, Try, least_text, none_differ, told_of, words_of,
 };
 use micro_asm::assemble;
 use micro_word::Word;
@@ -8,7 +8,7 @@ use std::alloc::Global;
 use std::test::Fail;
 
 /// Programs for one LUN with two planes and a cache read, which the verifier takes.
-pub(crate) const WORKED: [&str; 13] = [
+pub(crate) const WORKED: &[&str] = &[
     // An erase of each of two planes at once, and one alone.
     "cmd 60\naddr 2 3\ncmd d1\nwait\nplane 1\ncmd 60\naddr 2 3\ncmd d0\nwait\ncmd 60\naddr 2 3\ncmd d0\nwait\nend 0",
     // A program of each of two planes at once.
@@ -61,32 +61,44 @@ const ERASE_ONE: &str = "rows 1\nbuffer 0\nbudget 5\ncmd 60\naddr 2 3\ncmd d0\nw
 const ERASE_TWO: &str =
     "rows 5\nbuffer 0\nbudget 10\nloop 2\ncmd 60\naddr 2 3\ncmd d0\nwait\nrowadd 4\nnext\nend 0\n";
 
-#[test]
-fn short_erases_look_at_nothing(rt: HostRuntime) -> Result<(), Fail> {
-    assert_eq!(rt;
-        whole(rt.alloc(), ONE_LUN, ERASE_ONE)?.as_str(),
-        "word 2: nothing looks at whether this erase fails: a `brs 01` after its `wait` does (N4)\n"
-    );
-    assert_eq!(rt;
-        whole(rt.alloc(), ONE_LUN, ERASE_TWO)?.as_str(),
-        "word 3: nothing looks at whether this erase fails: a `brs 01` after its `wait` does (N4)\n"
-    );
-    Ok(())
+// A geometry, a program, and its notes: short erases look at nothing, and the examples have no notes.
+const WHOLE: &[(Parts, &str, &str)] = &[
+    (
+        ONE_LUN,
+        ERASE_ONE,
+        "word 2: nothing looks at whether this erase fails: a `brs 01` after its `wait` does (N4)\n",
+    ),
+    (
+        ONE_LUN,
+        ERASE_TWO,
+        "word 3: nothing looks at whether this erase fails: a `brs 01` after its `wait` does (N4)\n",
+    ),
+    (ONE_LUN, ERASE, ""),
+    (ONE_LUN, PROGRAM, ""),
+    (ONE_LUN, READ, ""),
+    (ONE_LUN, READ_SPARE, ""),
+    (TWO_LUNS, ERASE, ""),
+    (TWO_LUNS, PROGRAM, ""),
+];
+
+// Whether these are the notes of a program.
+fn is_whole(alloc: Global, parts: Parts, program: &str, told: &str) -> Result<bool, Fail> {
+    let notes = whole(alloc, parts, program)?;
+    Ok(notes.as_str() == told)
 }
 
 #[test]
-fn examples_have_no_notes(rt: HostRuntime) -> Result<(), Fail> {
-    for program in [ERASE, PROGRAM, READ, READ_SPARE] {
-        assert_eq!(rt; whole(rt.alloc(), ONE_LUN, program)?.as_str(), "");
-    }
-    for program in [ERASE, PROGRAM] {
-        assert_eq!(rt; whole(rt.alloc(), TWO_LUNS, program)?.as_str(), "");
+fn short_erases_and_examples(rt: HostRuntime) -> Result<(), Fail> {
+    for (parts, program, told) in WHOLE {
+        if !is_whole(rt.alloc(), *parts, program, told)? {
+            return Err(Fail::from(*program));
+        }
     }
     Ok(())
 }
 
 // A program with several notes.
-const SEVERAL: [Try<'static>; 1] = [Try {
+const SEVERAL: &[Try<'static>] = &[Try {
     words: "loop 1\ncmd 80\naddr 0 5\nput 4\ncmd 10\nwait\nnext\ncmd 80\naddr 0 5\nput 4\ncmd 10\nwait\nget 2\nend 0\nend 1",
     told: "word 0: the loop turns once: leave it and its `next` (word 6) out (N7)\nword 4: nothing looks at whether this program fails: a `brs 01` after its `wait` does (N4)\nword 10: it programs row 0, as word 4 does before, without an erase between: erase it first, or give both parts in one program by `cmd 85` (N2)\nword 12: it reads the status 2 times, and the register may be empty: a read must come first (N1)\nword 14: an `end` stands before it and no branch leads here: leave it out (N6)\n",
     ..PLAIN
@@ -94,12 +106,11 @@ const SEVERAL: [Try<'static>; 1] = [Try {
 
 #[test]
 fn notes_stand_in_order(rt: HostRuntime) -> Result<(), Fail> {
-    assert_eq!(rt; differences(rt.alloc(), &SEVERAL)?.as_str(), "");
-    Ok(())
+    none_differ(rt.alloc(), SEVERAL)
 }
 
 // How many programs the verifier took, and how many lines their notes have.
-#[derive(Clone, Copy, Debug, PartialEq, Eq)]
+#[derive(Clone, Copy)]
 struct Counted {
     accepted: usize,
     lines: usize,
@@ -151,9 +162,6 @@ fn programs_without_words(rt: HostRuntime) -> Result<(), Fail> {
     for program in WORKED {
         try_all(rt.alloc(), program, &mut counted)?;
     }
-    assert!(rt;
-        counted.accepted >= 100 && counted.lines >= 100,
-        "{counted:?}"
-    );
+    assert!(rt; counted.accepted >= 100 && counted.lines >= 100);
     Ok(())
 }
