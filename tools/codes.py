@@ -21,6 +21,7 @@ ENUMS = (
     ("Forbidden", "crates/onfi_cycle/src/forbidden.rt", "an item of a trace", "the item, from 0"),
     ("TimingFault", "crates/trace_timing/src/timing_fault.rt", "the times of a trace", "the item, from 0"),
     ("TimingFileFault", "crates/trace_timing/src/file.rt", "a timing file", "the line, from 1"),
+    ("DataFault", "crates/data_commands/src/data_fault.rt", "the data of a trace", "the item, from 0"),
     ("VendorFault", "crates/vendor_file/src/fault.rt", "a vendor file, of `check --vendor`", "the line, from 1"),
     ("ImageFault", "crates/die_model/src/refusal.rt", "the image of a die", "0"),
     ("RunFault", "crates/run_file/src/refusal.rt", "a line of a run file", "the line, from 1"),

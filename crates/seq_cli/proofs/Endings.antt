@@ -3,12 +3,22 @@ use Rattle.std.proofs.Common.{◌≡◌, ap, refl}
 use Rattle.seq_inputs.specs.declared.exit.Exit.{Exit}
 use Rattle.seq_commands.specs.declared.lint_ending.LintEnding.{LintEnding}
 use Rattle.seq_commands.specs.declared.lint_ending.LintEnding.TheVariants as lint
+use Rattle.trace_commands.specs.declared.ending.Ending.{Ending}
 use Rattle.trace_commands.specs.declared.ending.Ending.TheVariants as ending
+use Rattle.data_commands.specs.declared.data_ending.DataEnding.TheVariants.{Recording}
 use Rattle.trace_commands.specs.declared.recording_fault.RecordingFault.{RecordingFault}
 use Rattle.seq_cli.specs.Commands.{ending_of}
 
-pub exit_is : (one other : Exit) → ending.Exit one ≡ ending.Exit other → one ≡ other
+-- a command on a recording ends as its function says
+pub same_is : (one other : Ending) → Recording one ≡ Recording other → one ≡ other
+same_is one other is = cc
+
+-- and so does any other
+pub exit_is : (one other : Exit) → Recording (ending.Exit one) ≡ Recording (ending.Exit other) → one ≡ other
 exit_is one other is = cc
+
+exits_same : (one other : Exit) → ending.Exit one ≡ ending.Exit other → one ≡ other
+exits_same one other is = cc
 
 -- ---- a lint
 
@@ -16,7 +26,7 @@ no_exit : (exit : Exit) → ending.Flagged ≡ ending.Exit exit → ⊥
 no_exit exit is = cc
 
 pub lint_is : (l : LintEnding) (exit : Exit) → ending_of l ≡ ending.Exit exit → l ≡ lint.Exit exit
-lint_is (lint.Exit one) exit is = ap lint.Exit (exit_is one exit is)
+lint_is (lint.Exit one) exit is = ap lint.Exit (exits_same one exit is)
 lint_is lint.Denied exit is = absurd (no_exit exit is)
 
 no_flag : (exit : Exit) → ending.Exit exit ≡ ending.Flagged → ⊥

@@ -19,6 +19,10 @@ use Rattle.trace_commands.specs.Recordings.{fault_line}
 use Rattle.trace_commands.specs.Checks.{TraceIsRefused, IsPassed, CheckRefuses, CheckLeaves}
 use Rattle.timing_commands.specs.Times.{IsKept, TimesRefuse}
 use Rattle.operation_commands.specs.Ops.{CanBeListed, IsNoTrace}
+use Rattle.data_commands.specs.declared.data_fault.DataFault.{DataFault}
+use Rattle.data_commands.specs.Checked.{InputIsRefused, AllAgrees, DataRefuses, DataDiffer}
+use Rattle.data_commands.specs.Images.{IsDieWritten, done_text, ImageRefuses, ImageTells}
+use Rattle.trace_faults.specs.declared.unshown.NotShown.{NotShown}
 use Rattle.trace_commands.specs.Draws.{IsDrawn}
 use Rattle.trace_commands.specs.TakenPages.{IsPageTaken}
 use Rattle.trace_commands.specs.Captures.{IsCaptured, IsShownFor, CaptureIsRefused}
@@ -28,7 +32,7 @@ use Rattle.trace_commands.specs.VendorChecks.{IsVendorPassed, VendorCheckRefuses
 use Rattle.seq_run.specs.Runs.{IsRunDone, RunIsRefused, RunMayLeave}
 use Rattle.run_once.specs.Once.{IsProgramRun, ProgramMayBeRefused}
 use Rattle.seq_cli.specs.declared.command.Command.{Command}
-use Rattle.seq_cli.specs.declared.command.Command.TheVariants.{Assemble, AssembleFor, Verify, Lint, Explain, Once, Run, Capture, PrintCapture, CaptureVendor, PrintCaptureVendor, Check, CheckTimes, CheckVendor, ListOperations, Draw, DrawVendor, Disassemble, MakePage, TakePage, ShowPage, Upgrade}
+use Rattle.seq_cli.specs.declared.command.Command.TheVariants.{Assemble, AssembleFor, Verify, Lint, Explain, Once, Run, Capture, PrintCapture, CaptureVendor, PrintCaptureVendor, Check, CheckTimes, CheckVendor, CheckData, WriteImage, ListOperations, Draw, DrawVendor, Disassemble, MakePage, TakePage, ShowPage, Upgrade}
 
 -- a command ends as a lint does
 abbrev pub ending_of : LintEnding → Ending
@@ -51,6 +55,8 @@ IsDone (PrintCaptureVendor request) input files later printed = IsKeptShownFor f
 IsDone (Check request) input files later printed = IsPassed files later request true printed
 IsDone (CheckVendor request) input files later printed = IsVendorPassed files later request true printed
 IsDone (CheckTimes request) input files later printed = IsKept files request true printed × (later ≡ files)
+IsDone (CheckData request) input files later printed = AllAgrees files request true printed × (later ≡ files)
+IsDone (WriteImage request) input files later printed = (assumed : List NotShown) × IsDieWritten files later request assumed × (printed ≡ done_text assumed)
 IsDone (ListOperations request) input files later printed = CanBeListed files request × (later ≡ files)
 IsDone (Draw request) input files later printed = IsDrawn files later request × (printed ≡ codes "ok\n")
 IsDone (DrawVendor request) input files later printed = IsVendorDrawn files later request × (printed ≡ codes "ok\n")
@@ -66,6 +72,7 @@ MayFlag (Lint request) files later printed = IsAccepted files request.page.now r
 MayFlag (Check request) files later printed = IsPassed files later request false printed
 MayFlag (CheckVendor request) files later printed = IsVendorPassed files later request false printed
 MayFlag (CheckTimes request) files later printed = IsKept files request false printed × (later ≡ files)
+MayFlag (CheckData request) files later printed = AllAgrees files request false printed × (later ≡ files)
 MayFlag _ files later printed = ⊥
 
 -- what a command may refuse, and what it leaves and prints then: one line
@@ -91,6 +98,9 @@ MayRefuse (Check request) input files later refusal printed = Tells (PageIsRefus
 MayRefuse (CheckVendor request) input files later refusal printed = Tells (PageIsRefused files request.check.page.now) refusal × (later ≡ files) × (printed ≡ line_of refusal)
 MayRefuse (CheckTimes request) input files later refusal printed =
     Tells (PageIsRefused files request.check.page.now) refusal × (later ≡ files) × (printed ≡ line_of refusal)
+MayRefuse (CheckData request) input files later refusal printed =
+    Tells (InputIsRefused files request.check request.images.now) refusal × (later ≡ files) × (printed ≡ line_of refusal)
+MayRefuse (WriteImage request) input files later refusal printed = Tells (ImageRefuses files request) refusal × (later ≡ files) × (printed ≡ line_of refusal)
 MayRefuse (ListOperations request) input files later refusal printed =
     Tells (PageIsRefused files request.page.now) refusal × (later ≡ files) × (printed ≡ line_of refusal)
 MayRefuse (Draw request) input files later refusal printed = Tells (PageIsRefused files request.page.now) refusal × (later ≡ files) × (printed ≡ line_of refusal)
@@ -111,12 +121,19 @@ MayTell (PrintCaptureVendor request) files later fault printed = VendorCaptureIs
 MayTell (Check request) files later fault printed = CheckRefuses files later request fault printed
 MayTell (CheckVendor request) files later fault printed = VendorCheckRefuses files later request fault printed
 MayTell (CheckTimes request) files later fault printed = TimesRefuse files request fault printed × (later ≡ files)
+MayTell (CheckData request) files later fault printed = DataRefuses files request fault printed × (later ≡ files)
+MayTell (WriteImage request) files later fault printed = ImageTells files request fault printed × (later ≡ files)
 MayTell (ListOperations request) files later fault printed = IsNoTrace files request.input.now fault × (later ≡ files) × (printed ≡ fault_line fault)
 MayTell (Draw request) files later fault printed =
     TraceIsRefused files request.lines request.page.now request.input.now fault × (later ≡ files) × (printed ≡ fault_line fault)
 MayTell (DrawVendor request) files later fault printed = VendorDrawIsRefused files request fault × (later ≡ files) × (printed ≡ fault_line fault)
 MayTell (TakePage request) files later fault printed = (later ≡ files) × (printed ≡ fault_line fault)
 MayTell _ files later fault printed = ⊥
+
+-- which command may find that the data of a trace differ, and what it leaves and prints then
+abbrev pub MayDiffer : Command → (files later : Option Store) → DataFault → (item : ℕ) → (printed : List ℕ) → Type 0
+MayDiffer (CheckData request) files later fault item printed = DataDiffer files request fault item printed × (later ≡ files)
+MayDiffer _ files later fault item printed = ⊥
 
 -- what a command may leave, however it ends: the files as they were, or what it writes when it is done
 abbrev pub MayLeave : Command → (files later : Option Store) → Type 0
@@ -134,6 +151,8 @@ MayLeave (PrintCaptureVendor request) files later = later ≡ files
 MayLeave (Check request) files later = CheckLeaves files later request
 MayLeave (CheckVendor request) files later = VendorCheckLeaves files later request
 MayLeave (CheckTimes request) files later = later ≡ files
+MayLeave (CheckData request) files later = later ≡ files
+MayLeave (WriteImage request) files later = (later ≡ files) ⊎ ((assumed : List NotShown) × IsDieWritten files later request assumed)
 MayLeave (ListOperations request) files later = later ≡ files
 MayLeave (Draw request) files later = (later ≡ files) ⊎ IsDrawn files later request
 MayLeave (DrawVendor request) files later = (later ≡ files) ⊎ IsVendorDrawn files later request

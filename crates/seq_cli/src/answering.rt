@@ -8,6 +8,7 @@ use crate::named_command::NamedCommand;
 use crate::named_lines::NamedLines;
 use clap::Error;
 use clap::error::ErrorKind;
+use data_commands::{DataEnding, check_data};
 use seq_commands::lint_file;
 use seq_files::{FileError, Files};
 use seq_inputs::{Console, Exit, Stop, end_without_memory, fail};
@@ -62,6 +63,7 @@ fn say_mistake<W: Write, E: Write, P>(
         | Mistake::NoPage
         | Mistake::PageNumber { .. }
         | Mistake::Timing(_)
+        | Mistake::Data(_)
         | Mistake::Ops(_)
         | Mistake::Paths(_) => {
             let _ = write!(&mut console.errors, "{}", Escaped(&mistake));
@@ -82,15 +84,27 @@ fn end_without_words<W: Write, E: Write, P>(
     Exit::Usage
 }
 
+// The program ends as any command may.
+fn exited(exit: Exit) -> DataEnding {
+    DataEnding::Recording(Ending::Exit(exit))
+}
+
 // How two commands end, one after the other: as the first of them that isn't done.
-fn end_of_both(first: Ending, second: Ending) -> Ending {
+fn end_of_both(first: DataEnding, second: DataEnding) -> DataEnding {
     match first {
-        Ending::Exit(Exit::Done) => second,
-        Ending::Exit(
-            Exit::Refused(_) | Exit::FileFault | Exit::ReaderGone | Exit::Usage | Exit::OutOfMemory,
+        DataEnding::Recording(Ending::Exit(Exit::Done)) => second,
+        DataEnding::Recording(
+            Ending::Exit(
+                Exit::Refused(_)
+                | Exit::FileFault
+                | Exit::ReaderGone
+                | Exit::Usage
+                | Exit::OutOfMemory,
+            )
+            | Ending::Faulty(_)
+            | Ending::Flagged,
         )
-        | Ending::Faulty(_)
-        | Ending::Flagged => first,
+        | DataEnding::Data { .. } => first,
     }
 }
 
@@ -100,14 +114,23 @@ fn do_to_file<F: Files, W: Write, E: Write, P: CheckProgress>(
     files: &mut F,
     console: &mut Console<W, E, P>,
     command: NamedCommand<'_>,
-) -> Ending {
+) -> DataEnding {
     let ending = match command {
-        NamedCommand::Check(request) => check_trace(alloc, files, console, request),
-        NamedCommand::CheckVendor(request) => check_vendor_trace(alloc, files, console, request),
-        NamedCommand::CheckTimes(request) => check_times(alloc, files, console, request),
-        NamedCommand::Lint(request) => ending_of(lint_file(alloc, files, console, request)),
+        NamedCommand::Check(request) => {
+            DataEnding::Recording(check_trace(alloc, files, console, request))
+        }
+        NamedCommand::CheckVendor(request) => {
+            DataEnding::Recording(check_vendor_trace(alloc, files, console, request))
+        }
+        NamedCommand::CheckTimes(request) => {
+            DataEnding::Recording(check_times(alloc, files, console, request))
+        }
+        NamedCommand::CheckData(request) => check_data(alloc, files, console, request),
+        NamedCommand::Lint(request) => {
+            DataEnding::Recording(ending_of(lint_file(alloc, files, console, request)))
+        }
     };
-    if matches!(ending, Ending::Exit(Exit::FileFault)) {
+    if matches!(ending, DataEnding::Recording(Ending::Exit(Exit::FileFault))) {
         let _ = writeln!(&mut console.output, "unreadable");
     }
     ending
@@ -119,7 +142,7 @@ fn do_to_named<F: Files, W: Write, E: Write, P: CheckProgress>(
     files: &mut F,
     console: &mut Console<W, E, P>,
     command: NamedCommand<'_>,
-) -> Ending {
+) -> DataEnding {
     let Console {
         output,
         errors,
@@ -150,11 +173,11 @@ fn do_one<
     input: &mut R,
     console: &mut Console<W, E, P>,
     command: Command<'_>,
-) -> Ending {
+) -> DataEnding {
     match PathMistake::among_files(alloc, files, command) {
         Ok(None) => command_on(rt, clock, alloc, files, input, console, command),
-        Ok(Some(mistake)) => Ending::Exit(say_mistake(alloc, console, Mistake::Paths(mistake))),
-        Err(_) => Ending::Exit(end_without_memory(console)),
+        Ok(Some(mistake)) => exited(say_mistake(alloc, console, Mistake::Paths(mistake))),
+        Err(_) => exited(end_without_memory(console)),
     }
 }
 
@@ -175,8 +198,8 @@ fn do_all<
     input: &mut R,
     console: &mut Console<W, E, P>,
     commands: &[Command<'_>],
-) -> Ending {
-    let mut ending = Ending::Exit(Exit::Done);
+) -> DataEnding {
+    let mut ending = exited(Exit::Done);
     for command in commands {
         let next = match NamedCommand::among(commands, *command) {
             Some(named) => do_to_named(alloc, files, console, named),
@@ -204,14 +227,18 @@ pub fn answer_watched<
     files: &mut F,
     input: &mut R,
     console: &mut Console<W, E, P>,
-) -> Ending {
+) -> DataEnding {
     let words = match words {
         Ok(words) => words,
-        Err(error) => return Ending::Exit(end_without_words(console, &error)),
+        Err(error) => return exited(end_without_words(console, &error)),
     };
-    match command_line::parse_all(alloc, words.as_slice()) {
+    let images = match command_line::read_images(alloc, words.as_slice()) {
+        Ok(images) => images,
+        Err(mistake) => return exited(say_mistake(alloc, console, mistake)),
+    };
+    match command_line::parse_all(alloc, words.as_slice(), images.as_slice()) {
         Ok(commands) => do_all(rt, clock, alloc, files, input, console, commands.as_slice()),
-        Err(mistake) => Ending::Exit(say_mistake(alloc, console, mistake)),
+        Err(mistake) => exited(say_mistake(alloc, console, mistake)),
     }
 }
 
@@ -230,6 +257,6 @@ pub fn answer<
     files: &mut F,
     input: &mut R,
     console: &mut Console<W, E, P>,
-) -> Ending {
+) -> DataEnding {
     answer_watched(rt, &NoClock, alloc, words, files, input, console)
 }

@@ -6,6 +6,7 @@ use clap::Arg;
 #[derive(Clone, Copy)]
 pub(crate) enum Choices {
     Any,
+    ZeroToThree,
     OneToFour,
     OneToEight,
     OneTwoFour,
@@ -16,6 +17,7 @@ impl Choices {
     pub(crate) fn give<'a>(self, arg: Arg<'a>) -> Arg<'a> {
         match self {
             Choices::Any => arg,
+            Choices::ZeroToThree => arg.value_parser(["0", "1", "2", "3"].as_slice()),
             Choices::OneToFour => arg.value_parser(["1", "2", "3", "4"].as_slice()),
             Choices::OneToEight => {
                 arg.value_parser(["1", "2", "3", "4", "5", "6", "7", "8"].as_slice())

@@ -3,8 +3,10 @@ ghost use Rattle.std.specs.Prelude.{◌≡◌, List, ℕ};
 ghost use Rattle.std.specs.Io.KnownBytes.{Appends};
 ghost use Rattle.seq_inputs.specs.declared.refusal.Refusal.{Refusal};
 ghost use Rattle.trace_commands.specs.declared.recording_fault.RecordingFault.{RecordingFault};
-ghost use Rattle.seq_cli.specs.Commands.{ending_of, IsDone, MayFlag, MayRefuse, MayTell, MayLeave};
+ghost use Rattle.data_commands.specs.declared.data_fault.DataFault.{DataFault};
+ghost use Rattle.seq_cli.specs.Commands.{ending_of, IsDone, MayFlag, MayRefuse, MayTell, MayDiffer, MayLeave};
 
+use data_commands::{DataEnding, DataRequest, ImageRequest, check_data, write_image};
 use explain_commands::explain_file;
 use nand_geometry::Parts;
 use operation_commands::{OpsRequest, list_operations};
@@ -83,6 +85,10 @@ pub enum Command<'a> {
     CheckVendor(VendorCheckRequest<'a>),
     /// To check whether the trace of a text is legal, and whether its times keep those of a chip.
     CheckTimes(TimesRequest<'a>),
+    /// The same, and whether its outputs give what its dies hold.
+    CheckData(DataRequest<'a, 'a>),
+    /// To write what a die holds after a trace.
+    WriteImage(ImageRequest<'a>),
     /// To list the operations of a trace.
     ListOperations(OpsRequest<'a>),
     /// To draw a trace, as a waveform, as a picture or as a page.
@@ -202,6 +208,14 @@ impl<'a> Command<'a> {
                 [Some(check.page), timing_file_of(source), Some(check.input)],
                 one(None),
             ),
+            // No image that is given is `-`, and nothing is written that could be one of them.
+            Command::CheckData(DataRequest { check, .. }) => {
+                (both(check.page, check.input), one(None))
+            }
+            Command::WriteImage(request) => (
+                [Some(request.page), Some(request.input), request.on],
+                one(Some(request.output)),
+            ),
             Command::PrintCapture(request) => (both(request.page, request.input), one(None)),
             Command::ListOperations(request) => (both(request.page, request.input), one(None)),
             Command::Check(request) => (both(request.page, request.input), one(request.copy)),
@@ -239,7 +253,7 @@ pub(crate) fn ending_of(lint: LintEnding) -> Ending
     }
 }
 
-/// Does a command, as its own function says: [`run_program`] of the input, [`run_watched`], or one of `page_commands`, `seq_commands`, `explain_commands`, `trace_commands`, `timing_commands` or `operation_commands`. What is wrong with a file is said in
+/// Does a command, as its own function says: [`run_program`] of the input, [`run_watched`], or one of `page_commands`, `seq_commands`, `explain_commands`, `trace_commands`, `timing_commands`, `operation_commands` or `data_commands`. What is wrong with a file is said in
 /// words on the console's errors, and so is a fault of a file or a stream, or that there is no memory; its progress is told how far a check or a run has
 /// come. A run starts threads by the handle and takes the time by the clock.
 pub fn command_on<
@@ -258,30 +272,35 @@ pub fn command_on<
     input: &mut R,
     console: &mut Console<W, E, P>,
     command: Command<'_>,
-) -> Ending
-    ensures done { result ≡ Ending.Exit Exit.Done → (printed : List ℕ)
+) -> DataEnding
+    ensures done { result ≡ DataEnding.Recording (Ending.Exit Exit.Done) → (printed : List ℕ)
         × IsDone command.entry (R.remaining input.old) (F.store files.old) (F.store files.new) printed
         × Appends (W.contents console.old.output) (W.contents console.new.output) printed }
-    ensures flagged { result ≡ Ending.Flagged → (printed : List ℕ)
+    ensures flagged { result ≡ DataEnding.Recording Ending.Flagged → (printed : List ℕ)
         × MayFlag command.entry (F.store files.old) (F.store files.new) printed
         × Appends (W.contents console.old.output) (W.contents console.new.output) printed }
-    ensures refused { (refusal : Refusal) → result ≡ Ending.Exit (Exit.Refused refusal) → (printed : List ℕ)
+    ensures refused { (refusal : Refusal) → result ≡ DataEnding.Recording (Ending.Exit (Exit.Refused refusal)) → (printed : List ℕ)
         × MayRefuse command.entry (R.remaining input.old) (F.store files.old) (F.store files.new) refusal printed
         × Appends (W.contents console.old.output) (W.contents console.new.output) printed }
-    ensures faulty { (fault : RecordingFault) → result ≡ Ending.Faulty fault → (printed : List ℕ)
+    ensures faulty { (fault : RecordingFault) → result ≡ DataEnding.Recording (Ending.Faulty fault) → (printed : List ℕ)
         × MayTell command.entry (F.store files.old) (F.store files.new) fault printed
+        × Appends (W.contents console.old.output) (W.contents console.new.output) printed }
+    ensures differs { (fault : DataFault) (item : ℕ) → result ≡ DataEnding.Data fault item → (printed : List ℕ)
+        × MayDiffer command.entry (F.store files.old) (F.store files.new) fault item printed
         × Appends (W.contents console.old.output) (W.contents console.new.output) printed }
     ensures files { MayLeave command.entry (F.store files.old) (F.store files.new) }
 {
     match command {
         Command::Assemble { input, target } => {
-            Ending::Exit(assemble_file(alloc, files, console, input, target))
+            DataEnding::Recording(Ending::Exit(assemble_file(alloc, files, console, input, target)))
         }
         Command::AssembleFor {
             page,
             input,
             target,
-        } => Ending::Exit(assemble_file_for(alloc, files, console, page, input, target)),
+        } => DataEnding::Recording(Ending::Exit(assemble_file_for(
+            alloc, files, console, page, input, target,
+        ))),
         Command::Verify {
             page,
             input,
@@ -289,39 +308,69 @@ pub fn command_on<
             search,
             is_quiet,
             style,
-        } => Ending::Exit(verify_file(
+        } => DataEnding::Recording(Ending::Exit(verify_file(
             alloc, files, console, page, input, counter, search, is_quiet, style,
-        )),
-        Command::Lint(request) => ending_of(lint_file(alloc, files, console, request)),
+        ))),
+        Command::Lint(request) => {
+            DataEnding::Recording(ending_of(lint_file(alloc, files, console, request)))
+        }
         Command::Explain { page, input, style } => {
-            Ending::Exit(explain_file(alloc, files, console, page, input, style))
+            DataEnding::Recording(Ending::Exit(explain_file(
+                alloc, files, console, page, input, style,
+            )))
         }
-        Command::Once { base } => Ending::Exit(run_program(&alloc, input, console, base)),
-        Command::Run(request) => {
-            Ending::Exit(run_watched(rt, clock, alloc, files, console, request))
+        Command::Once { base } => DataEnding::Recording(Ending::Exit(run_program(
+            &alloc, input, console, base,
+        ))),
+        Command::Run(request) => DataEnding::Recording(Ending::Exit(run_watched(
+            rt, clock, alloc, files, console, request,
+        ))),
+        Command::Capture(request) => {
+            DataEnding::Recording(capture_trace(alloc, files, console, request))
         }
-        Command::Capture(request) => capture_trace(alloc, files, console, request),
-        Command::PrintCapture(request) => print_capture(alloc, files, console, request),
-        Command::CaptureVendor(request) => capture_vendor_trace(alloc, files, console, request),
+        Command::PrintCapture(request) => {
+            DataEnding::Recording(print_capture(alloc, files, console, request))
+        }
+        Command::CaptureVendor(request) => {
+            DataEnding::Recording(capture_vendor_trace(alloc, files, console, request))
+        }
         Command::PrintCaptureVendor(request) => {
-            print_vendor_capture(alloc, files, console, request)
+            DataEnding::Recording(print_vendor_capture(alloc, files, console, request))
         }
-        Command::Check(request) => check_trace(alloc, files, console, request),
-        Command::CheckVendor(request) => check_vendor_trace(alloc, files, console, request),
-        Command::CheckTimes(request) => check_times(alloc, files, console, request),
-        Command::ListOperations(request) => list_operations(alloc, files, console, request),
-        Command::Draw(request) => draw_trace(alloc, files, console, request),
-        Command::DrawVendor(request) => draw_vendor_trace(alloc, files, console, request),
+        Command::Check(request) => {
+            DataEnding::Recording(check_trace(alloc, files, console, request))
+        }
+        Command::CheckVendor(request) => {
+            DataEnding::Recording(check_vendor_trace(alloc, files, console, request))
+        }
+        Command::CheckTimes(request) => {
+            DataEnding::Recording(check_times(alloc, files, console, request))
+        }
+        Command::CheckData(request) => check_data(alloc, files, console, request),
+        Command::WriteImage(request) => {
+            DataEnding::Recording(write_image(alloc, files, console, request))
+        }
+        Command::ListOperations(request) => {
+            DataEnding::Recording(list_operations(alloc, files, console, request))
+        }
+        Command::Draw(request) => DataEnding::Recording(draw_trace(alloc, files, console, request)),
+        Command::DrawVendor(request) => {
+            DataEnding::Recording(draw_vendor_trace(alloc, files, console, request))
+        }
         Command::Disassemble { input } => {
-            Ending::Exit(disassemble_file(alloc, files, console, input))
+            DataEnding::Recording(Ending::Exit(disassemble_file(alloc, files, console, input)))
         }
         Command::MakePage { parts, target } => {
-            Ending::Exit(make_page(alloc, files, console, parts, target))
+            DataEnding::Recording(Ending::Exit(make_page(alloc, files, console, parts, target)))
         }
-        Command::TakePage(request) => take_page(alloc, files, console, request),
-        Command::ShowPage { page } => Ending::Exit(show_page(alloc, files, console, page)),
+        Command::TakePage(request) => {
+            DataEnding::Recording(take_page(alloc, files, console, request))
+        }
+        Command::ShowPage { page } => DataEnding::Recording(Ending::Exit(show_page(
+            alloc, files, console, page,
+        ))),
         Command::Upgrade { input, target } => {
-            Ending::Exit(upgrade_file(alloc, files, console, input, target))
+            DataEnding::Recording(Ending::Exit(upgrade_file(alloc, files, console, input, target)))
         }
     }
 }

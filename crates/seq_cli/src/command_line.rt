@@ -1,6 +1,7 @@
 //! The command line.
 
 use crate::command::Command;
+use crate::data_reading::{number_of, read_data, read_image};
 use crate::declarations;
 use crate::declared::{Declaration, with_all};
 use crate::mistake::{Mistake, PathMistake};
@@ -10,7 +11,9 @@ use crate::times_reading::read_times;
 use bus_capture::CaptureForm;
 use bus_signals::{Family, named, plain_of};
 use clap::{ArgMatches, Error};
+use data_commands::{GivenImage, ImageRequest};
 use nand_geometry::Parts;
+use onfi_cycle::Lun;
 use seq_commands::{LintOutput, LintRequest, NoteRules};
 use seq_inputs::Style;
 use seq_run::{MOST_STEPS, RunRequest};
@@ -35,6 +38,7 @@ enum Verb {
     Run,
     Capture,
     Check,
+    Image,
     Ops,
     Wave,
     Draw,
@@ -44,7 +48,7 @@ enum Verb {
 }
 
 // All of them.
-const VERBS: [Verb; 14] = [
+const VERBS: [Verb; 15] = [
     Verb::Assemble,
     Verb::Verify,
     Verb::Lint,
@@ -53,6 +57,7 @@ const VERBS: [Verb; 14] = [
     Verb::Run,
     Verb::Capture,
     Verb::Check,
+    Verb::Image,
     Verb::Ops,
     Verb::Wave,
     Verb::Draw,
@@ -73,6 +78,7 @@ impl Verb {
             Verb::Run => "run",
             Verb::Capture => "capture",
             Verb::Check => "check",
+            Verb::Image => "image",
             Verb::Ops => "ops",
             Verb::Wave => "wave",
             Verb::Draw => "draw",
@@ -102,6 +108,7 @@ impl Verb {
             Verb::Run => declarations::RUN,
             Verb::Capture => declarations::CAPTURE,
             Verb::Check => declarations::CHECK,
+            Verb::Image => declarations::WRITE_IMAGE,
             Verb::Ops => declarations::OPS,
             Verb::Wave => declarations::DRAW_WAVE,
             Verb::Draw => declarations::DRAW_PICTURE,
@@ -125,7 +132,11 @@ impl Verb {
     }
 
     // The command that it and its arguments ask for.
-    fn read<'a>(self, matches: &ArgMatches<'a>) -> Result<Command<'a>, Mistake<'a>> {
+    fn read<'a>(
+        self,
+        matches: &ArgMatches<'a>,
+        images: &'a [GivenImage<'a>],
+    ) -> Result<Command<'a>, Mistake<'a>> {
         let input = find_word(matches, "IN");
         let page = find_word(matches, "PAGE");
         let target = find_word(matches, "OUT");
@@ -155,7 +166,8 @@ impl Verb {
             },
             Verb::Run => Command::Run(read_run(matches)?),
             Verb::Capture => capture_with(read_capture(matches)?, matches.get_str("vendor")),
-            Verb::Check => read_check_command(matches)?,
+            Verb::Check => read_check_command(matches, images)?,
+            Verb::Image => Command::WriteImage(read_image_request(matches)),
             Verb::Ops => read_ops(
                 matches,
                 page,
@@ -511,9 +523,32 @@ fn read_check<'a>(matches: &ArgMatches<'a>) -> CheckRequest<'a> {
     }
 }
 
-// A check, of times too where that is asked for.
-fn read_check_command<'a>(matches: &ArgMatches<'a>) -> Result<Command<'a>, Mistake<'a>> {
+// What an image is asked for; the parser takes no other number of a chip enable and of a LUN than 0 to 3.
+fn read_image_request<'a>(matches: &ArgMatches<'a>) -> ImageRequest<'a> {
+    ImageRequest {
+        page: find_word(matches, "PAGE"),
+        targets: read_targets(find_word(matches, "TARGETS")),
+        input: find_word(matches, "TRACE"),
+        form: read_form(matches),
+        readies: read_readies(matches),
+        lun: Lun {
+            ce: number_of(find_word(matches, "CE")).unwrap_or(0),
+            lun: number_of(find_word(matches, "LUN")).unwrap_or(0),
+        },
+        output: find_word(matches, "OUT"),
+        on: matches.get_str("on"),
+    }
+}
+
+// A check, of data or of times too where that is asked for.
+fn read_check_command<'a>(
+    matches: &ArgMatches<'a>,
+    images: &'a [GivenImage<'a>],
+) -> Result<Command<'a>, Mistake<'a>> {
     let check = read_check(matches);
+    if let Some(request) = read_data(matches, check, images)? {
+        return Ok(Command::CheckData(request));
+    }
     Ok(match read_times(matches, check)? {
         None => check_with(check, matches.get_str("vendor")),
         Some(request) => Command::CheckTimes(request),
@@ -595,8 +630,12 @@ fn read_base<'a>(word: &'a str) -> Result<u32, Mistake<'a>> {
 }
 
 // The command of a verb and its arguments, if its paths go together.
-fn read_command<'a>(verb: Verb, given: &ArgMatches<'a>) -> Result<Command<'a>, Mistake<'a>> {
-    let command = verb.read(given)?;
+fn read_command<'a>(
+    verb: Verb,
+    given: &ArgMatches<'a>,
+    images: &'a [GivenImage<'a>],
+) -> Result<Command<'a>, Mistake<'a>> {
+    let command = verb.read(given, images)?;
     match PathMistake::find(command) {
         Some(mistake) => Err(Mistake::Paths(mistake)),
         None => Ok(command),
@@ -614,6 +653,7 @@ fn word_of_files(verb: Verb) -> Option<&'static str> {
         | Verb::Once
         | Verb::Run
         | Verb::Capture
+        | Verb::Image
         | Verb::Ops
         | Verb::Wave
         | Verb::Draw
@@ -638,10 +678,41 @@ fn more_files<'a>(
     Ok(more)
 }
 
+// The images that a check is given.
+fn images_in<'a>(
+    alloc: Global,
+    given: &ArgMatches<'a>,
+) -> Result<Vec<GivenImage<'a>>, Mistake<'a>> {
+    let mut images = Vec::new(alloc);
+    if let Some(words) = given.get_strs("on") {
+        for word in words {
+            let image = read_image(images.as_slice(), *word)?;
+            images.push(image).map_err(Error::from)?;
+        }
+    }
+    Ok(images)
+}
+
+/// The images that these words give of what LUNs held, which [`parse_all`] takes; the first word is the name of the program.
+pub fn read_images<'a>(
+    alloc: Global,
+    words: &'a [String],
+) -> Result<Vec<GivenImage<'a>>, Mistake<'a>> {
+    if !words.iter().any(|word| word.starts_with("--on")) {
+        return Ok(Vec::new(alloc));
+    }
+    let matches = declare(alloc)?.try_get_matches_from(words)?;
+    match matches.subcommand() {
+        Some(("check", given)) => images_in(alloc, given),
+        Some(_) | None => Ok(Vec::new(alloc)),
+    }
+}
+
 // The command that these words ask for, and the files behind the first that it is to work on.
 fn read_words<'a>(
     alloc: Global,
     words: &'a [String],
+    images: &'a [GivenImage<'a>],
 ) -> Result<(Command<'a>, Vec<&'a str>), Mistake<'a>> {
     let declared = declare(alloc)?;
     let matches = declared.try_get_matches_from(words)?;
@@ -652,18 +723,30 @@ fn read_words<'a>(
     let Some(verb) = Verb::find(word) else {
         return Err(Mistake::NoCommand);
     };
-    Ok((read_command(verb, given)?, more_files(alloc, verb, given)?))
+    Ok((
+        read_command(verb, given, images)?,
+        more_files(alloc, verb, given)?,
+    ))
 }
 
-/// The command that these words ask for; the first is the name of the program. Of a command on several files it is that of the first.
-pub fn parse<'a>(alloc: Global, words: &'a [String]) -> Result<Command<'a>, Mistake<'a>> {
-    let (command, _) = read_words(alloc, words)?;
+/// The command that these words ask for, where they give these images ([`read_images`]); the first is the name of the program. Of a command on several files it is
+/// that of the first.
+pub fn parse<'a>(
+    alloc: Global,
+    words: &'a [String],
+    images: &'a [GivenImage<'a>],
+) -> Result<Command<'a>, Mistake<'a>> {
+    let (command, _) = read_words(alloc, words, images)?;
     Ok(command)
 }
 
-/// The commands that these words ask for, in order: one, or one for each of several files; the first word is the name of the program.
-pub fn parse_all<'a>(alloc: Global, words: &'a [String]) -> Result<Vec<Command<'a>>, Mistake<'a>> {
-    let (first, more) = read_words(alloc, words)?;
+/// The commands that these words ask for, in order, where they give these images: one, or one for each of several files; the first word is the name of the program.
+pub fn parse_all<'a>(
+    alloc: Global,
+    words: &'a [String],
+    images: &'a [GivenImage<'a>],
+) -> Result<Vec<Command<'a>>, Mistake<'a>> {
+    let (first, more) = read_words(alloc, words, images)?;
     if let Some(mistake) = PathMistake::among(first, more.as_slice()) {
         return Err(Mistake::Paths(mistake));
     }

@@ -65,6 +65,12 @@ const RECORDED: Declared = Declared {
     ..FLAG
 };
 
+const READIES_FROM_STATUS: Declared = Declared {
+    name: "readies-from-status",
+    help: "For a trace that was recorded on a bus: a status output that shows RDY or ARDY has the ready before it that it shows",
+    ..FLAG
+};
+
 const VENDOR: Declared = Declared {
     name: "vendor",
     form: Form::Value("FILE"),
@@ -303,11 +309,7 @@ pub(crate) const CHECK: Declaration = Declaration {
             ..FLAG
         },
         RECORDED,
-        Declared {
-            name: "readies-from-status",
-            help: "For a trace that was recorded on a bus: a status output that shows RDY or ARDY has the ready before it that it shows",
-            ..FLAG
-        },
+        READIES_FROM_STATUS,
         Declared {
             name: "assume-ready",
             help: "With --readies-from-status: ends with status 0, and not 5, where a LUN is taken for ready that nothing showed",
@@ -337,7 +339,7 @@ pub(crate) const CHECK: Declaration = Declaration {
         },
         JSON_ERRORS,
         Declared {
-            conflicts: &["from-middle", "timing"],
+            conflicts: &["from-middle", "timing", "data"],
             ..VENDOR
         },
         Declared {
@@ -358,6 +360,58 @@ pub(crate) const CHECK: Declaration = Declaration {
             help: "With --timing: by how many units a distance may be short",
             ..REQUIRED
         },
+        Declared {
+            name: "data",
+            help: "Judges the data too: each output of a known page is to give what the die holds, as docs/use/DATA.md has it",
+            conflicts: &["write", "from-middle", "timing"],
+            ..FLAG
+        },
+        Declared {
+            name: "on",
+            form: Form::Values("CE,LUN=IMAGE"),
+            help: "With --data: the image of what a LUN held at the beginning, as in 0,1=old.image; once for each LUN",
+            ..REQUIRED
+        },
+        Declared {
+            name: "erased",
+            help: "With --data: the LUNs that have no image were erased at the beginning",
+            ..FLAG
+        },
+    ],
+};
+
+pub(crate) const WRITE_IMAGE: Declaration = Declaration {
+    about: "Writes the image of what a die holds after a trace, and prints `ok`",
+    example: "Example: onfiseq image die.page 1 bus.trace 0 0 after.image --on before.image",
+    arguments: &[
+        PAGE_OF_EACH,
+        TARGETS,
+        TRACE,
+        Declared {
+            name: "CE",
+            help: "The chip enable of the die",
+            choices: Choices::ZeroToThree,
+            ..REQUIRED
+        },
+        Declared {
+            name: "LUN",
+            help: "Which LUN of it the die is",
+            choices: Choices::ZeroToThree,
+            ..REQUIRED
+        },
+        Declared {
+            name: "OUT",
+            help: "The image to write, as docs/use/IMAGES.md has it",
+            ..REQUIRED
+        },
+        Declared {
+            name: "on",
+            form: Form::Value("OLD"),
+            help: "The image of what the die held at the beginning; without one it was erased",
+            ..REQUIRED
+        },
+        RECORDED,
+        READIES_FROM_STATUS,
     ],
 };
 

@@ -15,6 +15,8 @@ pub(crate) enum Form {
     Flag,
     /// An option with a value of this name.
     Value(&'static str),
+    /// The same, which may be given several times.
+    Values(&'static str),
 }
 
 impl Form {
@@ -26,6 +28,7 @@ impl Form {
             Form::MayWord => arg,
             Form::Flag => arg.long(name).action(ArgAction::SetTrue),
             Form::Value(value) => arg.long(name).value_name(value),
+            Form::Values(value) => arg.long(name).value_name(value).action(ArgAction::Append),
         }
     }
 }

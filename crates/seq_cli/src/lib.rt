@@ -9,6 +9,7 @@ mod answering;
 mod choices;
 mod command;
 mod command_line;
+mod data_reading;
 mod declarations;
 mod declared;
 mod form;
@@ -22,7 +23,8 @@ mod times_reading;
 
 pub use answering::{answer, answer_watched};
 pub use command::{Command, command_on};
-pub use command_line::{parse, parse_all};
+pub use command_line::{parse, parse_all, read_images};
+pub use data_reading::DataMistake;
 pub use mistake::{Mistake, PathMistake};
 pub use ops_reading::OpsMistake;
 pub use progress::TerminalProgress;

@@ -1,6 +1,7 @@
 //! A command line that asks for nothing that can be done.
 
 use crate::command::{Command, Paths};
+use crate::data_reading::DataMistake;
 use crate::named_command::NamedCommand;
 use crate::ops_reading::OpsMistake;
 use crate::times_reading::TimingMistake;
@@ -191,6 +192,8 @@ pub enum Mistake<'a> {
     PageNumber { option: &'static str, word: &'a str },
     /// The options about times don't go together, or one isn't what it takes.
     Timing(TimingMistake<'a>),
+    /// The options about data don't go together, or one isn't what it takes.
+    Data(DataMistake<'a>),
     /// An option of a list of operations isn't what it takes.
     Ops(OpsMistake<'a>),
     /// The paths don't go together.
@@ -200,6 +203,12 @@ pub enum Mistake<'a> {
 impl<'a> From<OpsMistake<'a>> for Mistake<'a> {
     fn from(mistake: OpsMistake<'a>) -> Self {
         Mistake::Ops(mistake)
+    }
+}
+
+impl<'a> From<DataMistake<'a>> for Mistake<'a> {
+    fn from(mistake: DataMistake<'a>) -> Self {
+        Mistake::Data(mistake)
     }
 }
 
@@ -265,6 +274,7 @@ impl fmt::Display for Mistake<'_> {
             ),
             Mistake::Ops(mistake) => writeln!(f, "error: {mistake}"),
             Mistake::Timing(mistake) => writeln!(f, "error: {mistake}"),
+            Mistake::Data(mistake) => writeln!(f, "error: {mistake}"),
             Mistake::Paths(mistake) => writeln!(f, "error: {mistake}"),
         }
     }

@@ -1,6 +1,7 @@
 //! A command on one of several files.
 
 use crate::command::Command;
+use data_commands::DataRequest;
 use seq_commands::LintRequest;
 use timing_commands::TimesRequest;
 use trace_commands::{CheckRequest, VendorCheckRequest};
@@ -11,6 +12,7 @@ pub(crate) enum NamedCommand<'a> {
     Check(CheckRequest<'a>),
     CheckVendor(VendorCheckRequest<'a>),
     CheckTimes(TimesRequest<'a>),
+    CheckData(DataRequest<'a, 'a>),
     Lint(LintRequest<'a>),
 }
 
@@ -21,6 +23,7 @@ impl<'a> NamedCommand<'a> {
             Command::Check(request) => Some(NamedCommand::Check(request)),
             Command::CheckVendor(request) => Some(NamedCommand::CheckVendor(request)),
             Command::CheckTimes(request) => Some(NamedCommand::CheckTimes(request)),
+            Command::CheckData(request) => Some(NamedCommand::CheckData(request)),
             Command::Lint(request) => Some(NamedCommand::Lint(request)),
             Command::Assemble { .. }
             | Command::AssembleFor { .. }
@@ -32,6 +35,7 @@ impl<'a> NamedCommand<'a> {
             | Command::PrintCapture(_)
             | Command::CaptureVendor(_)
             | Command::PrintCaptureVendor(_)
+            | Command::WriteImage(_)
             | Command::ListOperations(_)
             | Command::Draw(_)
             | Command::DrawVendor(_)
@@ -61,6 +65,7 @@ impl<'a> NamedCommand<'a> {
             NamedCommand::Check(request) => request.input,
             NamedCommand::CheckVendor(request) => request.check.input,
             NamedCommand::CheckTimes(request) => request.check.input,
+            NamedCommand::CheckData(request) => request.check.input,
             NamedCommand::Lint(request) => request.input,
         }
     }
@@ -76,6 +81,13 @@ impl<'a> NamedCommand<'a> {
                 })
             }
             NamedCommand::CheckTimes(request) => Command::CheckTimes(TimesRequest {
+                check: CheckRequest {
+                    input,
+                    ..request.check
+                },
+                ..request
+            }),
+            NamedCommand::CheckData(request) => Command::CheckData(DataRequest {
                 check: CheckRequest {
                     input,
                     ..request.check

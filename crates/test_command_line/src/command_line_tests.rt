@@ -1,6 +1,6 @@
 // What the words of the command line ask for: each option of a run, and each command that the help lists. And an input of `once` without an
 // end.
-use crate::once_tests::new_console;
+use crate::once_tests::{new_console, no_line_is_wrong};
 use bus_capture::CaptureForm;
 use clap::error::ErrorKind as UsageKind;
 use run_once::once_on;
@@ -37,7 +37,7 @@ const RUN: RunRequest<'static> = RunRequest {
 };
 
 // Words, and what they ask for.
-const REQUESTS: [(&str, RunRequest<'static>); 10] = [
+const REQUESTS: &[(&str, RunRequest<'static>)] = &[
     ("run f", RUN),
     (
         "run f --quiet",
@@ -124,17 +124,46 @@ const REQUESTS: [(&str, RunRequest<'static>); 10] = [
     ),
 ];
 
-// These words ask for this run.
-fn asks_for(alloc: Global, line: &str, request: RunRequest<'_>) -> Result<bool, AllocError> {
+// These words ask for this command.
+fn asks_for(alloc: Global, line: &str, command: Command<'_>) -> Result<bool, AllocError> {
     let words = words_of(alloc, line)?;
-    let asked = parse(alloc, words.as_slice());
-    Ok(asked.is_ok_and(|asked| asked == Command::Run(request)))
+    Ok(match parse(alloc, words.as_slice(), &[]) {
+        Ok(asked) => asked == command,
+        Err(_) => false,
+    })
+}
+
+// The first of the lines that asks for another run.
+fn first_other_run(alloc: Global) -> Result<Option<&'static str>, AllocError> {
+    for (line, request) in REQUESTS {
+        if !asks_for(alloc, line, Command::Run(*request))? {
+            return Ok(Some(line));
+        }
+    }
+    Ok(None)
+}
+
+// Whether a run with so many workers is asked for.
+fn takes_workers(alloc: Global, workers: u8) -> Result<bool, AllocError> {
+    let line = format!(in alloc; "run f --workers {workers}")?;
+    let request = RunRequest { workers, ..RUN };
+    asks_for(alloc, line.as_str(), Command::Run(request))
+}
+
+// The first number of workers that isn't taken.
+fn first_refused_workers(alloc: Global) -> Result<Option<u8>, AllocError> {
+    for workers in 1..=8u8 {
+        if !takes_workers(alloc, workers)? {
+            return Ok(Some(workers));
+        }
+    }
+    Ok(None)
 }
 
 // The number of workers is refused as a value.
 fn is_no_value(alloc: Global, line: &str) -> Result<bool, AllocError> {
     let words = words_of(alloc, line)?;
-    match parse(alloc, words.as_slice()) {
+    match parse(alloc, words.as_slice(), &[]) {
         Err(Mistake::Words(error)) => Ok(error.kind() == UsageKind::InvalidValue),
         Ok(_) | Err(_) => Ok(false),
     }
@@ -142,32 +171,45 @@ fn is_no_value(alloc: Global, line: &str) -> Result<bool, AllocError> {
 
 #[test]
 fn options_of_a_run(rt: HostRuntime) -> Result<(), Fail> {
-    for (line, request) in REQUESTS {
-        assert!(rt; asks_for(rt.alloc(), line, request)?, "{line}");
-    }
-    for workers in 1..=8u8 {
-        let line = format!(in rt.alloc(); "run f --workers {workers}")?;
-        let request = RunRequest { workers, ..RUN };
-        assert!(rt; asks_for(rt.alloc(), line.as_str(), request)?, "{workers}");
-    }
-    for line in ["run f --workers 0", "run f --workers 9"] {
-        assert!(rt; is_no_value(rt.alloc(), line)?, "{line}");
-    }
+    no_line_is_wrong(first_other_run(rt.alloc())?)?;
+    assert_eq!(rt; first_refused_workers(rt.alloc())?, None);
+    let none = is_no_value(rt.alloc(), "run f --workers 0")?;
+    let too_many = is_no_value(rt.alloc(), "run f --workers 9")?;
+    assert!(rt; none && too_many);
     Ok(())
+}
+
+// Whether the word that is no number of steps is named by the mistake in these words.
+fn names_steps(alloc: Global, words: &[String], word: &str) -> bool {
+    match parse(alloc, words, &[]) {
+        Err(Mistake::Steps { word: told, .. }) => told == word,
+        Ok(_) | Err(_) => false,
+    }
+}
+
+// Whether a number of steps is refused by its name.
+fn refuses_steps(alloc: Global, word: &str) -> Result<bool, AllocError> {
+    let line = format!(in alloc; "run f --max-steps={word}")?;
+    let words = words_of(alloc, line.as_str())?;
+    Ok(names_steps(alloc, words.as_slice(), word))
+}
+
+const NO_STEPS: &[&str] = &["", "-1", "0x10", "1e9", "18446744073709551616"];
+
+// The first of those that is taken, or isn't named.
+fn first_taken_steps(alloc: Global) -> Result<Option<&'static str>, AllocError> {
+    for word in NO_STEPS {
+        if !refuses_steps(alloc, word)? {
+            return Ok(Some(word));
+        }
+    }
+    Ok(None)
 }
 
 // What is no number of steps is named.
 #[test]
 fn steps_that_are_none(rt: HostRuntime) -> Result<(), Fail> {
-    for word in ["", "-1", "0x10", "1e9", "18446744073709551616"] {
-        let line = format!(in rt.alloc(); "run f --max-steps={word}")?;
-        let words = words_of(rt.alloc(), line.as_str())?;
-        match parse(rt.alloc(), words.as_slice()) {
-            Err(Mistake::Steps { word: told, .. }) => assert_eq!(rt; told, word),
-            Ok(_) | Err(_) => return Err("the word is taken".into()),
-        }
-    }
-    Ok(())
+    no_line_is_wrong(first_taken_steps(rt.alloc())?)
 }
 
 // ---- what signals are
@@ -183,78 +225,111 @@ const CAPTURE: CaptureRequest<'static> = CaptureRequest {
     glitch: 0,
 };
 
-#[test]
-fn what_signals_are(rt: HostRuntime) -> Result<(), Fail> {
-    for (line, mappings) in [
-        ("capture p 2 x t", None),
-        ("capture p 2 x t --map WE=P17", Some("WE=P17")),
-        (
-            "capture p 2 --map ce#=CS,R/B#=P3,dq=D x t",
-            Some("ce#=CS,R/B#=P3,dq=D"),
-        ),
-    ] {
-        let words = words_of(rt.alloc(), line)?;
-        let asked = parse(rt.alloc(), words.as_slice());
-        let request = CaptureRequest {
-            mappings,
+// Words, and the capture that they ask for.
+const CAPTURES: &[(&str, CaptureRequest<'static>)] = &[
+    ("capture p 2 x t", CAPTURE),
+    (
+        "capture p 2 x t --map WE=P17",
+        CaptureRequest {
+            mappings: Some("WE=P17"),
             ..CAPTURE
-        };
-        assert!(rt;
-            asked.is_ok_and(|asked| asked == Command::Capture(request)),
-            "{line}"
-        );
+        },
+    ),
+    (
+        "capture p 2 --map ce#=CS,R/B#=P3,dq=D x t",
+        CaptureRequest {
+            mappings: Some("ce#=CS,R/B#=P3,dq=D"),
+            ..CAPTURE
+        },
+    ),
+    // How long a glitch is.
+    (
+        "capture p 2 x t --glitch 10",
+        CaptureRequest {
+            glitch: 10,
+            ..CAPTURE
+        },
+    ),
+];
+
+// The first of the lines that asks for another capture.
+fn first_other_capture(alloc: Global) -> Result<Option<&'static str>, AllocError> {
+    for (line, request) in CAPTURES {
+        if !asks_for(alloc, line, Command::Capture(*request))? {
+            return Ok(Some(line));
+        }
     }
-    Ok(())
+    Ok(None)
 }
 
-// How long a glitch is.
 #[test]
-fn glitches(rt: HostRuntime) -> Result<(), Fail> {
-    let words = words_of(rt.alloc(), "capture p 2 x t --glitch 10")?;
-    let asked = parse(rt.alloc(), words.as_slice());
-    let request = CaptureRequest {
-        glitch: 10,
-        ..CAPTURE
-    };
-    assert!(rt; asked.is_ok_and(|asked| asked == Command::Capture(request)));
-    Ok(())
+fn what_signals_and_glitches_are(rt: HostRuntime) -> Result<(), Fail> {
+    no_line_is_wrong(first_other_capture(rt.alloc())?)
+}
+
+// Whether the word that is no length of a glitch is named by the mistake in these words.
+fn names_glitch(alloc: Global, words: &[String], word: &str) -> bool {
+    match parse(alloc, words, &[]) {
+        Err(Mistake::Glitch(told)) => told == word,
+        Ok(_) | Err(_) => false,
+    }
+}
+
+// Whether a length of a glitch is refused by its name.
+fn refuses_glitch(alloc: Global, word: &str) -> Result<bool, AllocError> {
+    let line = format!(in alloc; "capture p 2 x t --glitch={word}")?;
+    let words = words_of(alloc, line.as_str())?;
+    Ok(names_glitch(alloc, words.as_slice(), word))
+}
+
+const NO_GLITCHES: &[&str] = &["", "-1", "10ns", "18446744073709551616"];
+
+// The first of those that is taken, or isn't named.
+fn first_taken_glitch(alloc: Global) -> Result<Option<&'static str>, AllocError> {
+    for word in NO_GLITCHES {
+        if !refuses_glitch(alloc, word)? {
+            return Ok(Some(word));
+        }
+    }
+    Ok(None)
 }
 
 // What is no number of it is named.
 #[test]
 fn glitches_that_are_none(rt: HostRuntime) -> Result<(), Fail> {
-    for word in ["", "-1", "10ns", "18446744073709551616"] {
-        let line = format!(in rt.alloc(); "capture p 2 x t --glitch={word}")?;
-        let words = words_of(rt.alloc(), line.as_str())?;
-        match parse(rt.alloc(), words.as_slice()) {
-            Err(Mistake::Glitch(told)) => assert_eq!(rt; told, word),
-            Ok(_) | Err(_) => return Err("the word is taken".into()),
-        }
-    }
-    Ok(())
+    no_line_is_wrong(first_taken_glitch(rt.alloc())?)
 }
 
-// The part of `--map` in these words that is none.
-fn find_part(alloc: Global, line: &str) -> Result<String, Fail> {
-    let words = words_of(alloc, line)?;
-    match parse(alloc, words.as_slice()) {
-        Err(Mistake::Mapping(part)) => Ok(String::from_str(alloc, part)?),
-        Ok(_) | Err(_) => Err(Fail::from("the words are taken")),
+// Whether the part of `--map` that is none is named by the mistake in these words.
+fn names_part(alloc: Global, words: &[String], part: &str) -> bool {
+    match parse(alloc, words, &[]) {
+        Err(Mistake::Mapping(told)) => told == part,
+        Ok(_) | Err(_) => false,
     }
+}
+
+// Words, and the part of their `--map` that is none.
+const NO_SIGNALS: &[(&str, &str)] = &[
+    ("capture p 2 x t --map WE", "WE"),
+    ("capture p 2 x t --map WE=", "WE="),
+    ("capture p 2 x t --map WE=P17,CLK=P1", "CLK=P1"),
+    ("capture p 2 x t --map WE=P17,,RE=P18", ""),
+];
+
+// The first of the lines whose part is taken, or isn't named.
+fn first_taken_signal(alloc: Global) -> Result<Option<&'static str>, AllocError> {
+    for (line, part) in NO_SIGNALS {
+        let words = words_of(alloc, line)?;
+        if !names_part(alloc, words.as_slice(), part) {
+            return Ok(Some(line));
+        }
+    }
+    Ok(None)
 }
 
 #[test]
 fn what_no_signal_is(rt: HostRuntime) -> Result<(), Fail> {
-    for (line, part) in [
-        ("capture p 2 x t --map WE", "WE"),
-        ("capture p 2 x t --map WE=", "WE="),
-        ("capture p 2 x t --map WE=P17,CLK=P1", "CLK=P1"),
-        ("capture p 2 x t --map WE=P17,,RE=P18", ""),
-    ] {
-        let found = find_part(rt.alloc(), line)?;
-        assert_eq!(rt; found.as_str(), part, "{line}");
-    }
-    Ok(())
+    no_line_is_wrong(first_taken_signal(rt.alloc())?)
 }
 
 // ---- each command that is declared
@@ -262,7 +337,7 @@ fn what_no_signal_is(rt: HostRuntime) -> Result<(), Fail> {
 // The text that these words show: that of the help.
 fn show(alloc: Global, line: &str) -> Result<String, Fail> {
     let words = words_of(alloc, line)?;
-    match parse(alloc, words.as_slice()) {
+    match parse(alloc, words.as_slice(), &[]) {
         Ok(_) => Err(Fail::from("the words ask for help")),
         Err(error) => Ok(error.to_string(alloc)?),
     }
@@ -273,21 +348,36 @@ fn first_word(line: &str) -> &str {
     line.split_whitespace().next().unwrap_or("")
 }
 
-// The name of a command and a word for each argument that it has to be given, by its line of usage.
-fn make_call(alloc: Global, name: &str) -> Result<String, Fail> {
-    let help = show(alloc, format!(in alloc; "help {name}")?.as_str())?;
-    let mut call = String::from_str(alloc, name)?;
+// Adds a word for each argument that a line of usage wants; the target and the LUN are numbers.
+fn push_arguments(call: &mut String, usage: &str) -> Result<(), Fail> {
     let mut count: u32 = 0;
-    for line in help.as_str().lines() {
-        if line.starts_with("Usage:") {
-            for word in line.split(' ') {
-                if word.starts_with('<') {
-                    count = count.saturating_add(1);
-                    write!(&mut call, " {count}")?;
-                }
-            }
+    for word in usage.split(' ') {
+        if word == "<CE>" || word == "<LUN>" {
+            call.push_str(" 0")?;
+        } else if word.starts_with('<') {
+            count = count.saturating_add(1);
+            write!(call, " {count}")?;
         }
     }
+    Ok(())
+}
+
+// The line of usage in a help.
+fn find_usage(help: &str) -> &str {
+    for line in help.lines() {
+        if line.starts_with("Usage:") {
+            return line;
+        }
+    }
+    ""
+}
+
+// The name of a command and a word for each argument that it has to be given.
+fn make_call(alloc: Global, name: &str) -> Result<String, Fail> {
+    let words = format!(in alloc; "help {name}")?;
+    let help = show(alloc, words.as_str())?;
+    let mut call = String::from_str(alloc, name)?;
+    push_arguments(&mut call, find_usage(help.as_str()))?;
     // What `page` wants is an option.
     if name == "page" {
         call.push_str(" --show 1")?;
@@ -314,6 +404,8 @@ fn name_of(asked: Command<'_>) -> &'static str {
         Command::Check(_) => "check",
         Command::CheckVendor(_) => "check --vendor",
         Command::CheckTimes(_) => "check --timing",
+        Command::CheckData(_) => "check --data",
+        Command::WriteImage(_) => "image",
         Command::ListOperations(_) => "ops",
         Command::Draw(DrawRequest { form, .. }) => match form {
             DrawForm::Waveform => "wave",
@@ -327,27 +419,36 @@ fn name_of(asked: Command<'_>) -> &'static str {
 fn is_told_apart(alloc: Global, name: &str) -> Result<bool, Fail> {
     let call = make_call(alloc, name)?;
     let words = words_of(alloc, call.as_str())?;
-    let asked = parse(alloc, words.as_slice());
-    Ok(asked.is_ok_and(|asked| name_of(asked) == name))
+    Ok(match parse(alloc, words.as_slice(), &[]) {
+        Ok(asked) => name_of(asked) == name,
+        Err(_) => false,
+    })
 }
 
-#[test]
-fn each_command_of_the_help_is_asked_for(rt: HostRuntime) -> Result<(), Fail> {
-    let help = show(rt.alloc(), "--help")?;
+// How many commands a help lists, whose words each have to ask for that command.
+fn count_commands(alloc: Global, help: &str) -> Result<u32, Fail> {
     let mut is_listed = false;
-    let mut count = 0u32;
-    for line in help.as_str().lines() {
+    let mut count: u32 = 0;
+    for line in help.lines() {
         if line == "Commands:" {
             is_listed = true;
         } else if line.is_empty() {
             is_listed = false;
         } else if is_listed && first_word(line) != "help" {
-            let name = first_word(line);
-            assert!(rt; is_told_apart(rt.alloc(), name)?, "{name}");
+            if !is_told_apart(alloc, first_word(line))? {
+                return Err(Fail::new(format_args!("another command than that of {line}")));
+            }
             count = count.saturating_add(1);
         }
     }
-    assert_eq!(rt; count, 14);
+    Ok(count)
+}
+
+#[test]
+fn each_command_of_the_help_is_asked_for(rt: HostRuntime) -> Result<(), Fail> {
+    let help = show(rt.alloc(), "--help")?;
+    let count = count_commands(rt.alloc(), help.as_str())?;
+    assert!(rt; count == 15);
     Ok(())
 }
 
@@ -358,18 +459,30 @@ fn is_check_of(command: Command<'_>, trace: &str) -> bool {
     matches!(command, Command::Check(request) if request.input == trace)
 }
 
+// The commands check these three traces.
+fn are_checks_of(commands: &[Command<'_>], traces: [&str; 3]) -> bool {
+    match commands {
+        [first, second, third] => {
+            is_check_of(*first, traces[0])
+                && is_check_of(*second, traces[1])
+                && is_check_of(*third, traces[2])
+        }
+        _ => false,
+    }
+}
+
+// These words ask for checks of these three traces.
+fn asks_for_checks(alloc: Global, words: &[String], traces: [&str; 3]) -> bool {
+    match parse_all(alloc, words, &[]) {
+        Ok(commands) => are_checks_of(commands.as_slice(), traces),
+        Err(_) => false,
+    }
+}
+
 #[test]
 fn a_check_of_several_traces(rt: HostRuntime) -> Result<(), Fail> {
     let words = words_of(rt.alloc(), "check p 1 a b c --all")?;
-    let Ok(commands) = parse_all(rt.alloc(), words.as_slice()) else {
-        return Err(Fail::from("no commands"));
-    };
-    let [first, second, third] = commands.as_slice() else {
-        return Err(Fail::from("not three commands"));
-    };
-    assert!(rt; is_check_of(*first, "a"));
-    assert!(rt; is_check_of(*second, "b"));
-    assert!(rt; is_check_of(*third, "c"));
+    assert!(rt; asks_for_checks(rt.alloc(), words.as_slice(), ["a", "b", "c"]));
     Ok(())
 }
 
@@ -383,143 +496,186 @@ fn readies_asked(command: Command<'_>) -> Option<(bool, bool)> {
     }
 }
 
-// What this line asks of its one check.
-fn readies_of(alloc: Global, line: &str) -> Result<Option<(bool, bool)>, Fail> {
-    let words = words_of(alloc, line)?;
-    let Ok(commands) = parse_all(alloc, words.as_slice()) else {
-        return Err(Fail::from("no commands"));
-    };
-    let [command] = commands.as_slice() else {
-        return Err(Fail::from("not one command"));
-    };
-    Ok(readies_asked(*command))
+// What these words ask of their one check.
+fn readies_of(alloc: Global, words: &[String]) -> Option<(bool, bool)> {
+    match parse_all(alloc, words, &[]) {
+        Ok(commands) => match commands.as_slice() {
+            [command] => readies_asked(*command),
+            _ => None,
+        },
+        Err(_) => None,
+    }
+}
+
+// Words, and what they ask of their one check.
+const READIES: &[(&str, (bool, bool))] = &[
+    ("check p 1 a", (false, false)),
+    ("check p 1 a --readies-from-status", (true, false)),
+    (
+        "check p 1 a --readies-from-status --assume-ready",
+        (true, true),
+    ),
+];
+
+// The first of the lines that asks for something else.
+fn first_other_readies(alloc: Global) -> Result<Option<&'static str>, AllocError> {
+    for (line, readies) in READIES {
+        let words = words_of(alloc, line)?;
+        if readies_of(alloc, words.as_slice()) != Some(*readies) {
+            return Ok(Some(line));
+        }
+    }
+    Ok(None)
 }
 
 #[test]
 fn a_check_that_assumes_readies(rt: HostRuntime) -> Result<(), Fail> {
-    let lines = [
-        ("check p 1 a", (false, false)),
-        ("check p 1 a --readies-from-status", (true, false)),
-        (
-            "check p 1 a --readies-from-status --assume-ready",
-            (true, true),
-        ),
-    ];
-    for (line, readies) in lines {
-        assert_eq!(rt; readies_of(rt.alloc(), line)?, Some(readies));
-    }
-    Ok(())
+    no_line_is_wrong(first_other_readies(rt.alloc())?)
 }
 
 // What is wrong with the paths of these words, among which are several traces.
 fn mistake_among<'a>(alloc: Global, words: &'a [String]) -> Result<Option<PathMistake<'a>>, Fail> {
-    match parse_all(alloc, words) {
+    match parse_all(alloc, words, &[]) {
         Err(Mistake::Paths(mistake)) => Ok(Some(mistake)),
         Ok(_) => Ok(None),
         Err(_) => Err(Fail::from("another mistake")),
     }
 }
 
+const AMONG: &[(&str, Option<PathMistake<'static>>)] = &[
+    ("check p 1 a b --write t", Some(PathMistake::SeveralWritten)),
+    ("check p 1 a - -", Some(PathMistake::InputTwice)),
+    ("check - 1 a -", Some(PathMistake::InputTwice)),
+    ("check - 1 a b", Some(PathMistake::InputTwice)),
+    ("check p 1 a b --vendor -", Some(PathMistake::InputTwice)),
+    ("check p 1 a -", None),
+    ("check p 1 - b", None),
+];
+
+// Whether a line of several traces has this mistake.
+fn has_mistake_among(
+    alloc: Global,
+    line: &str,
+    mistake: Option<PathMistake<'_>>,
+) -> Result<bool, Fail> {
+    let words = words_of(alloc, line)?;
+    Ok(mistake_among(alloc, words.as_slice())? == mistake)
+}
+
+// The first of the lines of several traces with another mistake.
+fn first_other_among(alloc: Global) -> Result<Option<&'static str>, Fail> {
+    for (line, mistake) in AMONG {
+        if !has_mistake_among(alloc, line, *mistake)? {
+            return Ok(Some(line));
+        }
+    }
+    Ok(None)
+}
+
 #[test]
 fn traces_that_do_not_go_together(rt: HostRuntime) -> Result<(), Fail> {
-    for (line, mistake) in [
-        ("check p 1 a b --write t", Some(PathMistake::SeveralWritten)),
-        ("check p 1 a - -", Some(PathMistake::InputTwice)),
-        ("check - 1 a -", Some(PathMistake::InputTwice)),
-        ("check - 1 a b", Some(PathMistake::InputTwice)),
-        ("check p 1 a b --vendor -", Some(PathMistake::InputTwice)),
-        ("check p 1 a -", None),
-        ("check p 1 - b", None),
-    ] {
-        let words = words_of(rt.alloc(), line)?;
-        assert_eq!(rt;
-            mistake_among(rt.alloc(), words.as_slice())?,
-            mistake,
-            "{line}"
-        );
-    }
-    Ok(())
+    no_line_is_wrong(first_other_among(rt.alloc())?)
 }
 
 // ---- paths that don't go together
 
 // What is wrong with the paths of these words.
 fn find_mistake<'a>(alloc: Global, words: &'a [String]) -> Result<Option<PathMistake<'a>>, Fail> {
-    match parse(alloc, words) {
+    match parse(alloc, words, &[]) {
         Err(Mistake::Paths(mistake)) => Ok(Some(mistake)),
         Ok(_) => Ok(None),
         Err(_) => Err(Fail::from("another mistake")),
     }
 }
 
+const PATHS: &[(&str, Option<PathMistake<'static>>)] = &[
+    ("asm x x", Some(PathMistake::WrittenOver("x"))),
+    ("asm x -", Some(PathMistake::OutputToStream)),
+    ("upgrade x -", Some(PathMistake::OutputToStream)),
+    (
+        "verify p x --counter x",
+        Some(PathMistake::WrittenOver("x")),
+    ),
+    (
+        "verify p x --counter p",
+        Some(PathMistake::WrittenOver("p")),
+    ),
+    ("verify - - --counter p", Some(PathMistake::InputTwice)),
+    ("check - 1 -", Some(PathMistake::InputTwice)),
+    ("capture p 1 x x", Some(PathMistake::WrittenOver("x"))),
+    ("capture p 1 x p", Some(PathMistake::WrittenOver("p"))),
+    ("capture - 1 - t", Some(PathMistake::InputTwice)),
+    ("capture p 1 x -", None),
+    ("check p 1 t --vendor linux", None),
+    ("check p 1 - --vendor -", Some(PathMistake::InputTwice)),
+    (
+        "check p 1 t --vendor v --write v",
+        Some(PathMistake::WrittenOver("v")),
+    ),
+    ("capture p 1 x - --vendor v", None),
+    ("capture p 1 - t --vendor -", Some(PathMistake::InputTwice)),
+    (
+        "capture p 1 x v --vendor v",
+        Some(PathMistake::WrittenOver("v")),
+    ),
+    (
+        "wave p 1 t v --vendor v",
+        Some(PathMistake::WrittenOver("v")),
+    ),
+    ("draw p 1 t o --vendor linux", None),
+    ("image p 1 t 0 0 t", Some(PathMistake::WrittenOver("t"))),
+    (
+        "image p 1 t 0 0 o --on o",
+        Some(PathMistake::WrittenOver("o")),
+    ),
+    ("image p 1 t 0 0 -", Some(PathMistake::OutputToStream)),
+    ("image p 1 - 0 0 o --on -", Some(PathMistake::InputTwice)),
+    ("run x --trace x", Some(PathMistake::WrittenOver("x"))),
+    ("run x --trace -", Some(PathMistake::OutputToStream)),
+    ("run x --wave x", Some(PathMistake::WrittenOver("x"))),
+    ("run x --draw x", Some(PathMistake::WrittenOver("x"))),
+    ("run x --wave w --draw -", Some(PathMistake::OutputToStream)),
+    (
+        "run x --wave t --trace t",
+        Some(PathMistake::WrittenTwice("t")),
+    ),
+    (
+        "run x --draw t --wave t",
+        Some(PathMistake::WrittenTwice("t")),
+    ),
+    ("verify p x --draw p", Some(PathMistake::WrittenOver("p"))),
+    (
+        "verify p x --draw t --counter t",
+        Some(PathMistake::WrittenTwice("t")),
+    ),
+    ("run x --trace t --wave w --draw d", None),
+    ("upgrade x x", None),
+    ("asm - x", None),
+    ("verify p -", None),
+    ("check p 1 -", None),
+    ("dis -", None),
+    ("run -", None),
+];
+
+// Whether a line has this mistake.
+fn has_mistake(alloc: Global, line: &str, mistake: Option<PathMistake<'_>>) -> Result<bool, Fail> {
+    let words = words_of(alloc, line)?;
+    Ok(find_mistake(alloc, words.as_slice())? == mistake)
+}
+
+// The first of the lines with another mistake.
+fn first_other_mistake(alloc: Global) -> Result<Option<&'static str>, Fail> {
+    for (line, mistake) in PATHS {
+        if !has_mistake(alloc, line, *mistake)? {
+            return Ok(Some(line));
+        }
+    }
+    Ok(None)
+}
+
 #[test]
 fn paths_that_are_refused(rt: HostRuntime) -> Result<(), Fail> {
-    for (line, mistake) in [
-        ("asm x x", Some(PathMistake::WrittenOver("x"))),
-        ("asm x -", Some(PathMistake::OutputToStream)),
-        ("upgrade x -", Some(PathMistake::OutputToStream)),
-        (
-            "verify p x --counter x",
-            Some(PathMistake::WrittenOver("x")),
-        ),
-        (
-            "verify p x --counter p",
-            Some(PathMistake::WrittenOver("p")),
-        ),
-        ("verify - - --counter p", Some(PathMistake::InputTwice)),
-        ("check - 1 -", Some(PathMistake::InputTwice)),
-        ("capture p 1 x x", Some(PathMistake::WrittenOver("x"))),
-        ("capture p 1 x p", Some(PathMistake::WrittenOver("p"))),
-        ("capture - 1 - t", Some(PathMistake::InputTwice)),
-        ("capture p 1 x -", None),
-        ("check p 1 t --vendor linux", None),
-        ("check p 1 - --vendor -", Some(PathMistake::InputTwice)),
-        (
-            "check p 1 t --vendor v --write v",
-            Some(PathMistake::WrittenOver("v")),
-        ),
-        ("capture p 1 x - --vendor v", None),
-        ("capture p 1 - t --vendor -", Some(PathMistake::InputTwice)),
-        (
-            "capture p 1 x v --vendor v",
-            Some(PathMistake::WrittenOver("v")),
-        ),
-        (
-            "wave p 1 t v --vendor v",
-            Some(PathMistake::WrittenOver("v")),
-        ),
-        ("draw p 1 t o --vendor linux", None),
-        ("run x --trace x", Some(PathMistake::WrittenOver("x"))),
-        ("run x --trace -", Some(PathMistake::OutputToStream)),
-        ("run x --wave x", Some(PathMistake::WrittenOver("x"))),
-        ("run x --draw x", Some(PathMistake::WrittenOver("x"))),
-        ("run x --wave w --draw -", Some(PathMistake::OutputToStream)),
-        (
-            "run x --wave t --trace t",
-            Some(PathMistake::WrittenTwice("t")),
-        ),
-        (
-            "run x --draw t --wave t",
-            Some(PathMistake::WrittenTwice("t")),
-        ),
-        ("verify p x --draw p", Some(PathMistake::WrittenOver("p"))),
-        (
-            "verify p x --draw t --counter t",
-            Some(PathMistake::WrittenTwice("t")),
-        ),
-        ("run x --trace t --wave w --draw d", None),
-        ("upgrade x x", None),
-        ("asm - x", None),
-        ("verify p -", None),
-        ("check p 1 -", None),
-        ("dis -", None),
-        ("run -", None),
-    ] {
-        let words = words_of(rt.alloc(), line)?;
-        let found = find_mistake(rt.alloc(), words.as_slice())?;
-        assert_eq!(rt; found, mistake, "{line}");
-    }
-    Ok(())
+    no_line_is_wrong(first_other_mistake(rt.alloc())?)
 }
 
 // ---- an input without an end
@@ -542,19 +698,22 @@ impl Read for Endless {
     }
 }
 
+const NO_END: &[u8] = b"file fault -\n-: it has no end, or is a stream of more than 512 MiB\n";
+
 // It is read so often and no more, and nothing is written.
+fn has_no_end(alloc: Global, gives: bool) -> bool {
+    let mut endless = Endless { gives, calls: 0 };
+    let mut console = new_console(alloc);
+    let exit = once_on(&alloc, &mut endless, &mut console, 4);
+    exit == Exit::FileFault
+        && endless.calls == 1_048_576
+        && console.output.is_empty()
+        && console.errors.as_slice() == NO_END
+}
+
 #[test]
 fn an_input_without_an_end(rt: HostRuntime) {
-    for gives in [true, false] {
-        let mut endless = Endless { gives, calls: 0 };
-        let mut console = new_console(rt.alloc());
-        let exit = once_on(&rt.alloc(), &mut endless, &mut console, 4);
-        assert_eq!(rt; exit, Exit::FileFault);
-        assert_eq!(rt; endless.calls, 1_048_576);
-        assert!(rt; console.output.is_empty());
-        assert_eq!(rt;
-            console.errors.as_slice(),
-            b"file fault -\n-: it has no end, or is a stream of more than 512 MiB\n".as_slice()
-        );
-    }
+    let gives = has_no_end(rt.alloc(), true);
+    let is_interrupted = has_no_end(rt.alloc(), false);
+    assert!(rt; gives && is_interrupted);
 }

@@ -51,19 +51,28 @@ const ROW_OUTSIDE: Refusal = Refusal {
     line: None,
 };
 
-#[test]
-fn exits(rt: HostRuntime) {
-    let exits = [
-        (Exit::Done, 0),
-        (Exit::Refused(ENDS_BUSY), 1),
-        (Exit::FileFault, 2),
-        (Exit::ReaderGone, 2),
-        (Exit::Usage, 3),
-        (Exit::OutOfMemory, 4),
-    ];
-    for (exit, status) in exits {
-        assert_eq!(rt; exit.status(), status);
+const EXITS: &[(Exit, u8)] = &[
+    (Exit::Done, 0),
+    (Exit::Refused(ENDS_BUSY), 1),
+    (Exit::FileFault, 2),
+    (Exit::ReaderGone, 2),
+    (Exit::Usage, 3),
+    (Exit::OutOfMemory, 4),
+];
+
+// The place of the first exit with another status.
+fn first_other_status() -> Option<usize> {
+    for (place, (exit, status)) in EXITS.iter().enumerate() {
+        if exit.status() != *status {
+            return Some(place);
+        }
     }
+    None
+}
+
+#[test]
+fn exits() -> Result<(), Fail> {
+    none_is_wrong(first_other_status())
 }
 
 // A console that keeps what is printed.
@@ -83,135 +92,201 @@ fn outcome(alloc: Global, file: &[u8], base: u32) -> (Exit, Vec<u8>) {
     (exit, console.output)
 }
 
-fn expect(rt: &(impl Abort + AllocGlobal), file: &[u8], base: u32, exit: Exit, lines: &str) {
-    let (got, output) = outcome(rt.alloc(), file, base);
-    assert_eq!(rt; got, exit, "{lines}");
-    assert_eq!(rt; output.as_slice(), lines.as_bytes());
+// A file, its base, and what it comes to with the lines that it prints.
+struct Run {
+    file: &'static [u8],
+    base: u32,
+    exit: Exit,
+    lines: &'static str,
 }
 
-#[test]
-fn erases(rt: HostRuntime) {
-    expect(&rt, &ERASE, 4, Exit::Done, RUN);
-    expect(&rt, &ERASE, 31, Exit::Done, RUN_AT_31);
-    expect(
-        &rt,
-        &ERASE,
-        32,
-        Exit::Refused(ROW_OUTSIDE),
-        "refused S3 at 0\n",
-    );
-    expect(
-        &rt,
-        &ERASE,
-        u32::MAX,
-        Exit::Refused(ROW_OUTSIDE),
-        "refused S3 at 0\n",
-    );
-    expect(
-        &rt,
-        &NO_WAIT,
-        4,
-        Exit::Refused(ENDS_BUSY),
-        "refused V14 at 3\n",
-    );
+const RUNS: &[Run] = &[
+    Run {
+        file: &ERASE,
+        base: 4,
+        exit: Exit::Done,
+        lines: RUN,
+    },
+    Run {
+        file: &ERASE,
+        base: 31,
+        exit: Exit::Done,
+        lines: RUN_AT_31,
+    },
+    Run {
+        file: &ERASE,
+        base: 32,
+        exit: Exit::Refused(ROW_OUTSIDE),
+        lines: "refused S3 at 0\n",
+    },
+    Run {
+        file: &ERASE,
+        base: u32::MAX,
+        exit: Exit::Refused(ROW_OUTSIDE),
+        lines: "refused S3 at 0\n",
+    },
+    Run {
+        file: &NO_WAIT,
+        base: 4,
+        exit: Exit::Refused(ENDS_BUSY),
+        lines: "refused V14 at 3\n",
+    },
+];
+
+// Whether a run comes to what it should.
+fn comes_to(alloc: Global, run: &Run) -> bool {
+    let (exit, output) = outcome(alloc, run.file, run.base);
+    exit == run.exit && output.as_slice() == run.lines.as_bytes()
 }
 
-#[test]
-fn streams_that_fail(rt: HostRuntime) {
-    for bad in 0..37 {
-        let mut console = new_console(rt.alloc());
-        let mut slow = SlowReader::new(&ERASE, bad, io::ErrorKind::Other);
-        assert_eq!(rt;
-            once_on(&rt.alloc(), &mut slow, &mut console, 4),
-            Exit::FileFault,
-            "read {bad}"
-        );
-        assert!(rt; console.output.is_empty());
-        assert_eq!(rt;
-            console.errors.as_slice(),
-            b"file fault -\n-: it can't be read or written\n".as_slice()
-        );
+// The place of the first run that doesn't.
+fn first_other_run(alloc: Global) -> Option<usize> {
+    for (place, run) in RUNS.iter().enumerate() {
+        if !comes_to(alloc, run) {
+            return Some(place);
+        }
     }
+    None
+}
+
+#[test]
+fn erases(rt: HostRuntime) -> Result<(), Fail> {
+    none_is_wrong(first_other_run(rt.alloc()))
+}
+
+const UNREADABLE: &[u8] = b"file fault -\n-: it can't be read or written\n";
+
+// Whether it is told, and nothing printed, that this read of the file fails.
+fn tells_failed_read(alloc: Global, bad: usize) -> bool {
+    let mut console = new_console(alloc);
+    let mut slow = SlowReader::new(&ERASE, bad, io::ErrorKind::Other);
+    let exit = once_on(&alloc, &mut slow, &mut console, 4);
+    exit == Exit::FileFault && console.output.is_empty() && console.errors.as_slice() == UNREADABLE
+}
+
+// The first read of which it isn't.
+fn first_untold_read(alloc: Global) -> Option<usize> {
+    for bad in 0..37usize {
+        if !tells_failed_read(alloc, bad) {
+            return Some(bad);
+        }
+    }
+    None
+}
+
+#[test]
+fn streams_that_fail(rt: HostRuntime) -> Result<(), Fail> {
+    none_is_wrong(first_untold_read(rt.alloc()))
 }
 
 // What a failed write to standard output comes to. A pipe whose reader is gone is told apart.
-const WRITES: [(io::ErrorKind, Exit); 2] = [
+const WRITES: &[(io::ErrorKind, Exit)] = &[
     (io::ErrorKind::Other, Exit::FileFault),
     (io::ErrorKind::BrokenPipe, Exit::ReaderGone),
 ];
 
-// Runs a file on an output of which this write fails so, and gives what was written before.
-fn fail_write(
-    rt: &(impl Abort + AllocGlobal),
-    file: &[u8],
-    bad: usize,
-    kind: io::ErrorKind,
-    exit: Exit,
-) -> Vec<u8> {
+// What a file comes to on an output of which this write fails so, and what was written before.
+fn fail_write(alloc: Global, file: &[u8], bad: usize, kind: io::ErrorKind) -> (Exit, Vec<u8>) {
     let mut input = file;
     let mut console = Console {
-        output: SlowWriter::new(rt.alloc(), bad, kind),
+        output: SlowWriter::new(alloc, bad, kind),
         errors: sink(),
         progress: NoProgress,
     };
-    assert_eq!(rt;
-        once_on(&rt.alloc(), &mut input, &mut console, 4),
-        exit,
-        "write {bad}"
-    );
-    console.output.bytes
+    let exit = once_on(&alloc, &mut input, &mut console, 4);
+    (exit, console.output.bytes)
+}
+
+// The first write of the refusal that fails otherwise: `refused V14 at 3` and a line feed are six writes and the flush.
+fn first_other_refusal(alloc: Global, kind: io::ErrorKind, exit: Exit) -> Option<usize> {
+    for bad in 0..7usize {
+        let (told, _written) = fail_write(alloc, &NO_WAIT, bad, kind);
+        if told != exit {
+            return Some(bad);
+        }
+    }
+    None
+}
+
+// The first write of a run that fails otherwise, or with other bytes before it: the 77 bytes of a run are 26 writes and the flush.
+fn first_other_write(alloc: Global, kind: io::ErrorKind, exit: Exit) -> Option<usize> {
+    for bad in 0..27usize {
+        let (told, written) = fail_write(alloc, &ERASE, bad, kind);
+        if told != exit || !RUN.as_bytes().starts_with(written.as_slice()) {
+            return Some(bad);
+        }
+    }
+    None
+}
+
+// The place of the first of the failures of which a write comes to something else.
+fn first_other_failure(alloc: Global) -> Option<usize> {
+    for (place, (kind, exit)) in WRITES.iter().enumerate() {
+        let refusal = first_other_refusal(alloc, *kind, *exit);
+        if refusal.is_some() || first_other_write(alloc, *kind, *exit).is_some() {
+            return Some(place);
+        }
+    }
+    None
 }
 
 #[test]
-fn outputs_that_fail(rt: HostRuntime) {
-    for (kind, exit) in WRITES {
-        // `refused V14 at 3` and a line feed: six writes and the flush.
-        for bad in 0..7 {
-            fail_write(&rt, &NO_WAIT, bad, kind, exit);
-        }
-        // The 77 bytes of a run: 26 writes and the flush.
-        for bad in 0..27 {
-            let written = fail_write(&rt, &ERASE, bad, kind, exit);
-            assert!(rt; RUN.as_bytes().starts_with(written.as_slice()));
-        }
+fn outputs_that_fail(rt: HostRuntime) -> Result<(), Fail> {
+    none_is_wrong(first_other_failure(rt.alloc()))
+}
+
+// What a file comes to over a heap, with all that it prints.
+fn outcome_over(heap: &LocalHeap, alloc: Global, file: &[u8]) -> (Exit, Vec<u8>) {
+    let mut input = file;
+    let mut console = new_console(alloc);
+    let exit = once_on(heap, &mut input, &mut console, 4);
+    (exit, console.output)
+}
+
+// Whether a file is out of memory over a heap of so many bytes, where it writes nothing; otherwise it has to come to what it should.
+fn is_short(alloc: Global, run: &Run, size: usize) -> Result<bool, Fail> {
+    let heap = LocalHeap::new(alloc, size)?;
+    let (exit, output) = outcome_over(&heap, alloc, run.file);
+    if exit == Exit::OutOfMemory && output.is_empty() {
+        Ok(true)
+    } else if exit == run.exit && output.as_slice() == run.lines.as_bytes() {
+        Ok(false)
+    } else {
+        Err(Fail::new(format_args!("something else over {size} bytes")))
     }
 }
 
-// Runs a file over heaps of all sizes: it is out of memory first, writing nothing, and in the end comes to what it should.
-fn over_heaps(
-    rt: &(impl Abort + AllocGlobal),
-    file: &[u8],
-    exit: Exit,
-    lines: &str,
-) -> Result<(), Fail> {
+// Runs a file over heaps of all sizes: it is out of memory first, and in the end comes to what it should. Whether both were seen.
+fn over_heaps(alloc: Global, run: &Run) -> Result<bool, Fail> {
     let mut refused_at: usize = 0;
     for size in 0..200usize {
-        let heap = LocalHeap::new(rt.alloc(), 16 * size)?;
-        let mut input = file;
-        let mut console = new_console(rt.alloc());
-        let got = once_on(&heap, &mut input, &mut console, 4);
-        let output = console.output;
-        if got == Exit::OutOfMemory {
-            assert!(rt; output.is_empty());
+        if is_short(alloc, run, 16 * size)? {
             refused_at = size + 1;
-        } else {
-            assert_eq!(rt; got, exit);
-            assert_eq!(rt; output.as_slice(), lines.as_bytes());
         }
     }
-    assert!(rt; refused_at > 0 && refused_at < 200);
-    Ok(())
+    Ok(refused_at > 0 && refused_at < 200)
 }
+
+const SHORT_REFUSAL: Run = Run {
+    file: &NO_WAIT,
+    base: 4,
+    exit: Exit::Refused(ENDS_BUSY),
+    lines: "refused V14 at 3\n",
+};
+
+const SHORT_RUN: Run = Run {
+    file: &ERASE,
+    base: 4,
+    exit: Exit::Done,
+    lines: RUN,
+};
 
 #[test]
 fn refused_memory(rt: HostRuntime) -> Result<(), Fail> {
-    over_heaps(
-        &rt,
-        &NO_WAIT,
-        Exit::Refused(ENDS_BUSY),
-        "refused V14 at 3\n",
-    )?;
-    over_heaps(&rt, &ERASE, Exit::Done, RUN)
+    let refusal = over_heaps(rt.alloc(), &SHORT_REFUSAL)?;
+    let run = over_heaps(rt.alloc(), &SHORT_RUN)?;
+    assert!(rt; refusal && run);
+    Ok(())
 }
 
 // The kind of what the parser says; a number that is none counts as a value that isn't taken.
@@ -225,6 +300,7 @@ fn kind_of(mistake: &Mistake<'_>) -> UsageKind {
         | Mistake::Glitch(_)
         | Mistake::Mapping(_)
         | Mistake::Timing(_)
+        | Mistake::Data(_)
         | Mistake::Ops(_)
         | Mistake::NoteCode { .. }
         | Mistake::PageNumber { .. } => UsageKind::ValueValidation,
@@ -232,95 +308,168 @@ fn kind_of(mistake: &Mistake<'_>) -> UsageKind {
     }
 }
 
-// What words ask for, or the kind of their error.
-fn expect_asked(
-    rt: &(impl Abort + AllocGlobal),
+// No row is wrong.
+pub(crate) fn none_is_wrong(wrong: Option<usize>) -> Result<(), Fail> {
+    match wrong {
+        None => Ok(()),
+        Some(place) => Err(Fail::new(format_args!("row {place} comes to something else"))),
+    }
+}
+
+// No line is wrong.
+pub(crate) fn no_line_is_wrong(wrong: Option<&str>) -> Result<(), Fail> {
+    match wrong {
+        None => Ok(()),
+        Some(line) => Err(Fail::new(format_args!("{line} comes to something else"))),
+    }
+}
+
+// The words of a command line.
+pub(crate) fn owned(alloc: Global, words: &[&str]) -> Result<Vec<String>, AllocError> {
+    let mut owned = Vec::new(alloc);
+    for word in words {
+        owned.push(String::from_str(alloc, word)?)?;
+    }
+    Ok(owned)
+}
+
+// Words, and what they ask for, or the kind of their error.
+struct Asked {
+    words: &'static [&'static str],
+    asked: Result<Command<'static>, UsageKind>,
+}
+
+// Whether words ask for this, or have an error of this kind.
+fn is_asked(
+    alloc: Global,
     words: &[&str],
     want: Result<Command<'_>, UsageKind>,
-) -> Result<(), AllocError> {
-    let mut owned = Vec::new(rt.alloc());
-    for word in words {
-        owned.push(String::from_str(rt.alloc(), word)?)?;
-    }
-    let got = match parse(rt.alloc(), owned.as_slice()) {
+) -> Result<bool, AllocError> {
+    let words = owned(alloc, words)?;
+    let asked = match parse(alloc, words.as_slice(), &[]) {
         Ok(command) => Ok(command),
         Err(mistake) => Err(kind_of(&mistake)),
     };
-    assert_eq!(rt; got, want);
-    Ok(())
+    Ok(asked == want)
 }
+
+// The place of the first of the words that ask for something else.
+fn first_other(alloc: Global, rows: &[Asked]) -> Result<Option<usize>, AllocError> {
+    for (place, row) in rows.iter().enumerate() {
+        if !is_asked(alloc, row.words, row.asked)? {
+            return Ok(Some(place));
+        }
+    }
+    Ok(None)
+}
+
+const LINES: &[Asked] = &[
+    Asked {
+        words: &["onfiseq", "once"],
+        asked: Ok(Command::Once { base: 0 }),
+    },
+    Asked {
+        words: &["onfiseq", "once", "--base", "4"],
+        asked: Ok(Command::Once { base: 4 }),
+    },
+    Asked {
+        words: &["onfiseq", "once", "--base=4294967295"],
+        asked: Ok(Command::Once {
+            base: 4_294_967_295,
+        }),
+    },
+    Asked {
+        words: &["onfiseq", "once", "--base", "0x1f"],
+        asked: Ok(Command::Once { base: 31 }),
+    },
+    Asked {
+        words: &["onfiseq", "once", "--base", "4294967296"],
+        asked: Err(UsageKind::ValueValidation),
+    },
+    Asked {
+        words: &["onfiseq", "once", "--base", "0x100000000"],
+        asked: Err(UsageKind::ValueValidation),
+    },
+    Asked {
+        words: &["onfiseq", "once", "--base", "0x"],
+        asked: Err(UsageKind::ValueValidation),
+    },
+    Asked {
+        words: &["onfiseq", "once", "--base", "x"],
+        asked: Err(UsageKind::ValueValidation),
+    },
+    Asked {
+        words: &["onfiseq", "once", "--base", "4h"],
+        asked: Err(UsageKind::ValueValidation),
+    },
+    Asked {
+        words: &["onfiseq", "--help"],
+        asked: Err(UsageKind::DisplayHelp),
+    },
+    Asked {
+        words: &["onfiseq", "--version"],
+        asked: Err(UsageKind::DisplayVersion),
+    },
+    Asked {
+        words: &["onfiseq", "twice"],
+        asked: Err(UsageKind::InvalidSubcommand),
+    },
+    Asked {
+        words: &["onfiseq", "once", "file"],
+        asked: Err(UsageKind::UnknownArgument),
+    },
+];
 
 #[test]
 fn command_lines(rt: HostRuntime) -> Result<(), Fail> {
-    let once = |base| Ok(Command::Once { base });
-    expect_asked(&rt, &["onfiseq", "once"], once(0))?;
-    expect_asked(&rt, &["onfiseq", "once", "--base", "4"], once(4))?;
-    expect_asked(
-        &rt,
-        &["onfiseq", "once", "--base=4294967295"],
-        once(4_294_967_295),
-    )?;
-    expect_asked(&rt, &["onfiseq", "once", "--base", "0x1f"], once(31))?;
-    for word in ["4294967296", "0x100000000", "0x", "x", "4h"] {
-        let too_large = Err(UsageKind::ValueValidation);
-        let line = ["onfiseq", "once", "--base", word];
-        expect_asked(&rt, &line, too_large)?;
-    }
-    expect_asked(&rt, &["onfiseq", "--help"], Err(UsageKind::DisplayHelp))?;
-    expect_asked(
-        &rt,
-        &["onfiseq", "--version"],
-        Err(UsageKind::DisplayVersion),
-    )?;
-    expect_asked(
-        &rt,
-        &["onfiseq", "twice"],
-        Err(UsageKind::InvalidSubcommand),
-    )?;
-    expect_asked(
-        &rt,
-        &["onfiseq", "once", "file"],
-        Err(UsageKind::UnknownArgument),
-    )?;
-    Ok(())
+    none_is_wrong(first_other(rt.alloc(), LINES)?)
 }
 
-#[test]
-fn command_lines_of_files(rt: HostRuntime) -> Result<(), Fail> {
-    let pairs = [
-        (
-            ["onfiseq", "asm", "a", "b"],
-            Command::Assemble {
-                input: "a",
-                target: "b",
-            },
-        ),
-        (
-            ["onfiseq", "upgrade", "a", "b"],
-            Command::Upgrade {
-                input: "a",
-                target: "b",
-            },
-        ),
-        (
-            ["onfiseq", "verify", "a", "b"],
-            Command::Verify {
-                page: "a",
-                input: "b",
-                counter: TraceOutputs::NONE,
-                search: 100_000,
-                is_quiet: false,
-                style: Style::Plain,
-            },
-        ),
-    ];
-    for (words, command) in pairs {
-        expect_asked(&rt, &words, Ok(command))?;
-    }
-    expect_asked(
-        &rt,
-        &["onfiseq", "verify", "a", "b", "--counter", "c"],
-        Ok(Command::Verify {
+// A check of a trace, strict and until its first fault.
+const CHECK: CheckRequest<'static> = CheckRequest {
+    page: "a",
+    targets: Targets::One,
+    input: "b",
+    tells_all: false,
+    readies: Readies::Written,
+    assumes_ready: false,
+    beginning: Beginning::Start,
+    judges_bytes: false,
+    has_notes: false,
+    form: TraceForm::Strict,
+    style: Style::Plain,
+    copy: None,
+};
+
+const FILE_LINES: &[Asked] = &[
+    Asked {
+        words: &["onfiseq", "asm", "a", "b"],
+        asked: Ok(Command::Assemble {
+            input: "a",
+            target: "b",
+        }),
+    },
+    Asked {
+        words: &["onfiseq", "upgrade", "a", "b"],
+        asked: Ok(Command::Upgrade {
+            input: "a",
+            target: "b",
+        }),
+    },
+    Asked {
+        words: &["onfiseq", "verify", "a", "b"],
+        asked: Ok(Command::Verify {
+            page: "a",
+            input: "b",
+            counter: TraceOutputs::NONE,
+            search: 100_000,
+            is_quiet: false,
+            style: Style::Plain,
+        }),
+    },
+    Asked {
+        words: &["onfiseq", "verify", "a", "b", "--counter", "c"],
+        asked: Ok(Command::Verify {
             page: "a",
             input: "b",
             counter: TraceOutputs {
@@ -331,13 +480,12 @@ fn command_lines_of_files(rt: HostRuntime) -> Result<(), Fail> {
             is_quiet: false,
             style: Style::Plain,
         }),
-    )?;
-    expect_asked(
-        &rt,
-        &[
+    },
+    Asked {
+        words: &[
             "onfiseq", "verify", "a", "b", "--draw", "d.html", "--wave", "w",
         ],
-        Ok(Command::Verify {
+        asked: Ok(Command::Verify {
             page: "a",
             input: "b",
             counter: TraceOutputs {
@@ -352,43 +500,47 @@ fn command_lines_of_files(rt: HostRuntime) -> Result<(), Fail> {
             is_quiet: false,
             style: Style::Plain,
         }),
-    )?;
-    expect_asked(
-        &rt,
-        &["onfiseq", "dis", "a"],
-        Ok(Command::Disassemble { input: "a" }),
-    )?;
-    for (word, targets) in [
-        ("1", Targets::One),
-        ("2", Targets::Two),
-        ("3", Targets::Three),
-        ("4", Targets::Four),
-    ] {
-        let command = Command::Check(CheckRequest {
-            page: "a",
-            targets,
-            input: "b",
-            tells_all: false,
-            readies: Readies::Written,
-            assumes_ready: false,
-            beginning: Beginning::Start,
-            judges_bytes: false,
-            has_notes: false,
-            form: TraceForm::Strict,
-            style: Style::Plain,
-            copy: None,
-        });
-        expect_asked(&rt, &["onfiseq", "check", "a", word, "b"], Ok(command))?;
-    }
-    expect_asked(
-        &rt,
-        &["onfiseq", "check", "a", "5", "b"],
-        Err(UsageKind::InvalidValue),
-    )?;
-    expect_asked(
-        &rt,
-        &["onfiseq", "asm", "a"],
-        Err(UsageKind::MissingRequiredArgument),
-    )?;
-    Ok(())
+    },
+    Asked {
+        words: &["onfiseq", "dis", "a"],
+        asked: Ok(Command::Disassemble { input: "a" }),
+    },
+    Asked {
+        words: &["onfiseq", "check", "a", "1", "b"],
+        asked: Ok(Command::Check(CHECK)),
+    },
+    Asked {
+        words: &["onfiseq", "check", "a", "2", "b"],
+        asked: Ok(Command::Check(CheckRequest {
+            targets: Targets::Two,
+            ..CHECK
+        })),
+    },
+    Asked {
+        words: &["onfiseq", "check", "a", "3", "b"],
+        asked: Ok(Command::Check(CheckRequest {
+            targets: Targets::Three,
+            ..CHECK
+        })),
+    },
+    Asked {
+        words: &["onfiseq", "check", "a", "4", "b"],
+        asked: Ok(Command::Check(CheckRequest {
+            targets: Targets::Four,
+            ..CHECK
+        })),
+    },
+    Asked {
+        words: &["onfiseq", "check", "a", "5", "b"],
+        asked: Err(UsageKind::InvalidValue),
+    },
+    Asked {
+        words: &["onfiseq", "asm", "a"],
+        asked: Err(UsageKind::MissingRequiredArgument),
+    },
+];
+
+#[test]
+fn command_lines_of_files(rt: HostRuntime) -> Result<(), Fail> {
+    none_is_wrong(first_other(rt.alloc(), FILE_LINES)?)
 }

@@ -1,6 +1,6 @@
 // What is said of how far a command has come, on a made terminal and where there is none.
-use crate::once_tests::ERASE;
-use nand_geometry::{Geometry, Parts, SMALL_CHIP};
+use crate::once_tests::{ERASE, none_is_wrong, owned};
+use nand_geometry::{Geometry, SMALL_CHIP};
 use seq_cli::{TerminalProgress, answer_watched};
 use seq_files::MapFiles;
 use seq_inputs::Console;
@@ -52,23 +52,21 @@ fn say_all(alloc: Global, is_terminal: bool) -> Vec<u8> {
     written
 }
 
+const SHOWN: &[u8] =
+    b"1000000 items checked\n2000000 items checked\nreading\nrunning 2 jobs\nwriting\n";
+
 #[test]
-fn what_a_terminal_shows(rt: HostRuntime) -> Result<(), Fail> {
+fn what_a_terminal_shows(rt: HostRuntime) {
     let shown = say_all(rt.alloc(), true);
-    assert_eq!(rt;
-        str::from_utf8(shown.as_slice())?,
-        "1000000 items checked\n2000000 items checked\nreading\nrunning 2 jobs\nwriting\n"
-    );
     let nothing = say_all(rt.alloc(), false);
-    assert!(rt; nothing.is_empty());
-    Ok(())
+    assert!(rt; shown.as_slice() == SHOWN && nothing.is_empty());
 }
 
 // The page of one LUN of 8 blocks of 4 pages, an erase, and a run file with it.
 fn make_files(alloc: Global) -> Result<MapFiles, Fail> {
-    let parts = SMALL_CHIP;
+    let page = Geometry::of(SMALL_CHIP)?.page();
     let mut files = MapFiles::new(alloc);
-    files.put("page", &Geometry::of(parts)?.page())?;
+    files.put("page", &page)?;
     files.put("erase", &ERASE)?;
     files.put("run", b"page page\ntargets 1\njob 0 0 0 erase - -\n")?;
     Ok(files)
@@ -77,15 +75,11 @@ fn make_files(alloc: Global) -> Result<MapFiles, Fail> {
 // The status of these words with an erase on standard input, and what is said of how far they have come.
 fn follow<R: Threads + Wait + Sync + AllocGlobal>(
     rt: &R,
-    words: &[&str],
+    words: Vec<String>,
+    files: &mut MapFiles,
     is_terminal: bool,
-) -> Result<(u8, Vec<u8>), Fail> {
-    let alloc = rt.alloc();
-    let mut given = Vec::new(alloc);
-    for word in words {
-        given.push(String::from_str(alloc, word)?)?;
-    }
-    let mut written = Vec::new(alloc);
+) -> (u8, Vec<u8>) {
+    let mut written = Vec::new(rt.alloc());
     let mut console = Console {
         output: sink(),
         errors: sink(),
@@ -97,45 +91,58 @@ fn follow<R: Threads + Wait + Sync + AllocGlobal>(
     let exit = answer_watched(
         rt,
         &NoClock,
-        alloc,
-        Ok(given),
-        &mut make_files(alloc)?,
+        rt.alloc(),
+        Ok(words),
+        files,
         &mut ERASE.as_slice(),
         &mut console,
     );
     drop(console);
-    Ok((exit.status(), written))
+    (exit.status(), written)
 }
 
-#[test]
-fn what_a_run_shows(rt: HostRuntime) -> Result<(), Fail> {
-    let run = ["onfiseq", "run", "run"];
-    let (status, shown) = follow(&rt, &run, true)?;
-    assert_eq!(rt; status, 0);
-    assert_eq!(rt;
-        str::from_utf8(shown.as_slice())?,
-        "reading\nrunning 1 job\nwriting\n"
-    );
-    let (status, nothing) = follow(&rt, &run, false)?;
-    assert_eq!(rt; status, 0);
-    assert!(rt; nothing.is_empty());
-    Ok(())
-}
+// Words, whether they are followed on a terminal, and what is said there; each ends with status 0.
+type Followed = (&'static [&'static str], bool, &'static [u8]);
 
-#[test]
-fn what_once_shows(rt: HostRuntime) -> Result<(), Fail> {
-    let (status, shown) = follow(&rt, &["onfiseq", "once"], true)?;
-    assert_eq!(rt; status, 0);
-    assert_eq!(rt;
-        str::from_utf8(shown.as_slice())?,
-        "reading\nrunning 1 job\nwriting\n"
-    );
-    let (status, nothing) = follow(&rt, &["onfiseq", "once"], false)?;
-    assert_eq!(rt; status, 0);
-    assert!(rt; nothing.is_empty());
+const FOLLOWED: &[Followed] = &[
+    (
+        &["onfiseq", "run", "run"],
+        true,
+        b"reading\nrunning 1 job\nwriting\n",
+    ),
+    (&["onfiseq", "run", "run"], false, b""),
+    (
+        &["onfiseq", "once"],
+        true,
+        b"reading\nrunning 1 job\nwriting\n",
+    ),
+    (&["onfiseq", "once"], false, b""),
     // Other commands take no time worth telling.
-    let (status, nothing) = follow(&rt, &["onfiseq", "dis", "erase"], true)?;
-    assert_eq!(rt; status, 0);
-    assert!(rt; nothing.is_empty());
-    Ok(())
+    (&["onfiseq", "dis", "erase"], true, b""),
+];
+
+// Whether this is said of words.
+fn is_said<R: Threads + Wait + Sync + AllocGlobal>(
+    rt: &R,
+    (words, is_terminal, said): Followed,
+) -> Result<bool, Fail> {
+    let words = owned(rt.alloc(), words)?;
+    let mut files = make_files(rt.alloc())?;
+    let (status, written) = follow(rt, words, &mut files, is_terminal);
+    Ok(status == 0 && written.as_slice() == said)
+}
+
+// The place of the first of the words of which something else is said.
+fn first_other<R: Threads + Wait + Sync + AllocGlobal>(rt: &R) -> Result<Option<usize>, Fail> {
+    for (place, row) in FOLLOWED.iter().enumerate() {
+        if !is_said(rt, *row)? {
+            return Ok(Some(place));
+        }
+    }
+    Ok(None)
+}
+
+#[test]
+fn what_a_run_and_once_show(rt: HostRuntime) -> Result<(), Fail> {
+    none_is_wrong(first_other(&rt)?)
 }

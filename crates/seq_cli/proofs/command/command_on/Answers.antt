@@ -2,9 +2,11 @@ use Rattle.std.proofs.Common.{refl, subst, sym, ◌∙◌}
 use Rattle.seq_inputs.specs.Refusals.{line_of}
 use Rattle.seq_cli.specs.declared.command.Command.{Command}
 use Rattle.seq_inputs.specs.declared.exit.Exit.TheVariants as exit
+use Rattle.trace_commands.specs.declared.ending.Ending.TheVariants as ending
 use Rattle.trace_commands.specs.Recordings.{fault_line}
-use Rattle.seq_cli.specs.Commands.{IsDone, MayFlag, MayRefuse, MayTell}
-use Rattle.seq_cli.proofs.Endings.{exit_is, lint_is, denied_is, never_faulty}
+use Rattle.data_commands.specs.Images.{done_text}
+use Rattle.seq_cli.specs.Commands.{IsDone, MayFlag, MayRefuse, MayTell, MayDiffer}
+use Rattle.seq_cli.proofs.Endings.{same_is, exit_is, lint_is, denied_is, never_faulty}
 use Rattle.seq_cli.proofs.command.command_on.Goals as goal
 
 pub returns-in-Assemble-clause-refused : goal.returns-in-Assemble-clause-refused
@@ -33,17 +35,17 @@ returns-in-Verify-clause-refused g c = λ refusal is.
 
 pub returns-in-Lint-clause-done : goal.returns-in-Lint-clause-done
 returns-in-Lint-clause-done g c = λ is.
-    let k = c.lint_file.ensures.done (lint_is c.lint_file.result exit.Done (sym c.ending_of.ensures ∙ is)) in
+    let k = c.lint_file.ensures.done (lint_is c.lint_file.result exit.Done (sym c.ending_of.ensures ∙ same_is c.ending_of.result (ending.Exit exit.Done) is)) in
     (k.0, subst (λ (m : Command). IsDone m (g.R.Read.remaining c.args.input.now) (g.F.Files.store c.args.files.now) (g.F.Files.store c.lint_file.new.files) k.0) (sym c.in-Lint.is) (k.1, c.lint_file.ensures.stays), k.2)
 
 pub returns-in-Lint-clause-flagged : goal.returns-in-Lint-clause-flagged
 returns-in-Lint-clause-flagged g c = λ is.
-    let k = c.lint_file.ensures.denied (denied_is c.lint_file.result (sym c.ending_of.ensures ∙ is)) in
+    let k = c.lint_file.ensures.denied (denied_is c.lint_file.result (sym c.ending_of.ensures ∙ same_is c.ending_of.result ending.Flagged is)) in
     (k.0, subst (λ (m : Command). MayFlag m (g.F.Files.store c.args.files.now) (g.F.Files.store c.lint_file.new.files) k.0) (sym c.in-Lint.is) (k.1, c.lint_file.ensures.stays), k.2)
 
 pub returns-in-Lint-clause-refused : goal.returns-in-Lint-clause-refused
 returns-in-Lint-clause-refused g c = λ refusal is.
-    let k = c.lint_file.ensures.refused refusal (lint_is c.lint_file.result (exit.Refused refusal) (sym c.ending_of.ensures ∙ is)) in (
+    let k = c.lint_file.ensures.refused refusal (lint_is c.lint_file.result (exit.Refused refusal) (sym c.ending_of.ensures ∙ same_is c.ending_of.result (ending.Exit (exit.Refused refusal)) is)) in (
       line_of refusal,
       subst (λ (m : Command). MayRefuse m (g.R.Read.remaining c.args.input.now) (g.F.Files.store c.args.files.now) (g.F.Files.store c.lint_file.new.files) refusal (line_of refusal)) (sym c.in-Lint.is) (k.0, c.lint_file.ensures.stays, refl),
       k.1,
@@ -59,7 +61,7 @@ returns-in-Explain-clause-refused g c = λ refusal is.
 
 pub returns-in-Lint-clause-faulty : goal.returns-in-Lint-clause-faulty
 returns-in-Lint-clause-faulty g c = λ fault is.
-    absurd (never_faulty c.lint_file.result fault (sym c.ending_of.ensures ∙ is))
+    absurd (never_faulty c.lint_file.result fault (sym c.ending_of.ensures ∙ same_is c.ending_of.result (ending.Faulty fault) is))
 
 pub returns-in-Once-clause-done : goal.returns-in-Once-clause-done
 returns-in-Once-clause-done g c = λ is.
@@ -84,7 +86,7 @@ returns-in-Run-clause-refused g c = λ refusal is.
 
 pub returns-in-Capture-clause-refused : goal.returns-in-Capture-clause-refused
 returns-in-Capture-clause-refused g c = λ refusal is.
-    let k = c.capture_trace.ensures.refused refusal is in (
+    let k = c.capture_trace.ensures.refused refusal (same_is c.capture_trace.result (ending.Exit (exit.Refused refusal)) is) in (
       line_of refusal,
       subst (λ (m : Command). MayRefuse m (g.R.Read.remaining c.args.input.now) (g.F.Files.store c.args.files.now) (g.F.Files.store c.capture_trace.new.files) refusal (line_of refusal)) (sym c.in-Capture.is) (k.0, k.1, refl),
       k.2,
@@ -92,7 +94,7 @@ returns-in-Capture-clause-refused g c = λ refusal is.
 
 pub returns-in-Draw-clause-refused : goal.returns-in-Draw-clause-refused
 returns-in-Draw-clause-refused g c = λ refusal is.
-    let k = c.draw_trace.ensures.refused refusal is in (
+    let k = c.draw_trace.ensures.refused refusal (same_is c.draw_trace.result (ending.Exit (exit.Refused refusal)) is) in (
       line_of refusal,
       subst (λ (m : Command). MayRefuse m (g.R.Read.remaining c.args.input.now) (g.F.Files.store c.args.files.now) (g.F.Files.store c.draw_trace.new.files) refusal (line_of refusal)) (sym c.in-Draw.is) (k.0, k.1, refl),
       k.2,
@@ -116,7 +118,7 @@ returns-in-Upgrade-clause-refused g c = λ refusal is.
 
 pub returns-in-Capture-clause-faulty : goal.returns-in-Capture-clause-faulty
 returns-in-Capture-clause-faulty g c = λ fault is.
-    let k = c.capture_trace.ensures.faulty fault is in (
+    let k = c.capture_trace.ensures.faulty fault (same_is c.capture_trace.result (ending.Faulty fault) is) in (
       fault_line fault,
       subst (λ (m : Command). MayTell m (g.F.Files.store c.args.files.now) (g.F.Files.store c.capture_trace.new.files) fault (fault_line fault)) (sym c.in-Capture.is) (k.0, k.1, refl),
       k.2,
@@ -124,7 +126,7 @@ returns-in-Capture-clause-faulty g c = λ fault is.
 
 pub returns-in-Draw-clause-faulty : goal.returns-in-Draw-clause-faulty
 returns-in-Draw-clause-faulty g c = λ fault is.
-    let k = c.draw_trace.ensures.faulty fault is in (
+    let k = c.draw_trace.ensures.faulty fault (same_is c.draw_trace.result (ending.Faulty fault) is) in (
       fault_line fault,
       subst (λ (m : Command). MayTell m (g.F.Files.store c.args.files.now) (g.F.Files.store c.draw_trace.new.files) fault (fault_line fault)) (sym c.in-Draw.is) (k.0, k.1, refl),
       k.2,
@@ -132,7 +134,7 @@ returns-in-Draw-clause-faulty g c = λ fault is.
 
 pub returns-in-Check-clause-refused : goal.returns-in-Check-clause-refused
 returns-in-Check-clause-refused g c = λ refusal is.
-    let k = c.check_trace.ensures.refused refusal is in (
+    let k = c.check_trace.ensures.refused refusal (same_is c.check_trace.result (ending.Exit (exit.Refused refusal)) is) in (
       line_of refusal,
       subst (λ (m : Command). MayRefuse m (g.R.Read.remaining c.args.input.now) (g.F.Files.store c.args.files.now) (g.F.Files.store c.check_trace.new.files) refusal (line_of refusal)) (sym c.in-Check.is) (k.0, k.1, refl),
       k.2,
@@ -161,42 +163,42 @@ returns-in-ShowPage-clause-refused g c = λ refusal is.
 
 pub returns-in-CheckTimes-clause-done : goal.returns-in-CheckTimes-clause-done
 returns-in-CheckTimes-clause-done g c = λ is.
-    let k = c.check_times.ensures.done is in
+    let k = c.check_times.ensures.done (same_is c.check_times.result (ending.Exit exit.Done) is) in
     (k.0, subst (λ (m : Command). IsDone m (g.R.Read.remaining c.args.input.now) (g.F.Files.store c.args.files.now) (g.F.Files.store c.check_times.new.files) k.0) (sym c.in-CheckTimes.is) (k.1, c.check_times.ensures.stays), k.2)
 
 pub returns-in-CheckTimes-clause-refused : goal.returns-in-CheckTimes-clause-refused
 returns-in-CheckTimes-clause-refused g c = λ refusal is.
-    let k = c.check_times.ensures.refused refusal is in
+    let k = c.check_times.ensures.refused refusal (same_is c.check_times.result (ending.Exit (exit.Refused refusal)) is) in
     (line_of refusal, subst (λ (m : Command). MayRefuse m (g.R.Read.remaining c.args.input.now) (g.F.Files.store c.args.files.now) (g.F.Files.store c.check_times.new.files) refusal (line_of refusal)) (sym c.in-CheckTimes.is) (k.0, c.check_times.ensures.stays, refl), k.1)
 
 pub returns-in-ListOperations-clause-done : goal.returns-in-ListOperations-clause-done
 returns-in-ListOperations-clause-done g c = λ is.
-    let k = c.list_operations.ensures.done is in
+    let k = c.list_operations.ensures.done (same_is c.list_operations.result (ending.Exit exit.Done) is) in
     (k.0, subst (λ (m : Command). IsDone m (g.R.Read.remaining c.args.input.now) (g.F.Files.store c.args.files.now) (g.F.Files.store c.list_operations.new.files) k.0) (sym c.in-ListOperations.is) (k.1, c.list_operations.ensures.stays), k.2)
 
 pub returns-in-ListOperations-clause-refused : goal.returns-in-ListOperations-clause-refused
 returns-in-ListOperations-clause-refused g c = λ refusal is.
-    let k = c.list_operations.ensures.refused refusal is in
+    let k = c.list_operations.ensures.refused refusal (same_is c.list_operations.result (ending.Exit (exit.Refused refusal)) is) in
     (line_of refusal, subst (λ (m : Command). MayRefuse m (g.R.Read.remaining c.args.input.now) (g.F.Files.store c.args.files.now) (g.F.Files.store c.list_operations.new.files) refusal (line_of refusal)) (sym c.in-ListOperations.is) (k.0, c.list_operations.ensures.stays, refl), k.1)
 
 pub returns-in-CheckTimes-clause-flagged : goal.returns-in-CheckTimes-clause-flagged
 returns-in-CheckTimes-clause-flagged g c = λ is.
-    let k = c.check_times.ensures.assumed is in
+    let k = c.check_times.ensures.assumed (same_is c.check_times.result ending.Flagged is) in
     (k.0, subst (λ (m : Command). MayFlag m (g.F.Files.store c.args.files.now) (g.F.Files.store c.check_times.new.files) k.0) (sym c.in-CheckTimes.is) (k.1, c.check_times.ensures.stays), k.2)
 
 pub returns-in-CheckTimes-clause-faulty : goal.returns-in-CheckTimes-clause-faulty
 returns-in-CheckTimes-clause-faulty g c = λ fault is.
-    let k = c.check_times.ensures.faulty fault is in
+    let k = c.check_times.ensures.faulty fault (same_is c.check_times.result (ending.Faulty fault) is) in
     (k.0, subst (λ (m : Command). MayTell m (g.F.Files.store c.args.files.now) (g.F.Files.store c.check_times.new.files) fault k.0) (sym c.in-CheckTimes.is) (k.1, c.check_times.ensures.stays), k.2)
 
 pub returns-in-ListOperations-clause-faulty : goal.returns-in-ListOperations-clause-faulty
 returns-in-ListOperations-clause-faulty g c = λ fault is.
-    let k = c.list_operations.ensures.faulty fault is in
+    let k = c.list_operations.ensures.faulty fault (same_is c.list_operations.result (ending.Faulty fault) is) in
     (fault_line fault, subst (λ (m : Command). MayTell m (g.F.Files.store c.args.files.now) (g.F.Files.store c.list_operations.new.files) fault (fault_line fault)) (sym c.in-ListOperations.is) (k.0, c.list_operations.ensures.stays, refl), k.1)
 
 pub returns-in-CheckVendor-clause-refused : goal.returns-in-CheckVendor-clause-refused
 returns-in-CheckVendor-clause-refused g c = λ refusal is.
-    let k = c.check_vendor_trace.ensures.refused refusal is in (
+    let k = c.check_vendor_trace.ensures.refused refusal (same_is c.check_vendor_trace.result (ending.Exit (exit.Refused refusal)) is) in (
       line_of refusal,
       subst (λ (m : Command). MayRefuse m (g.R.Read.remaining c.args.input.now) (g.F.Files.store c.args.files.now) (g.F.Files.store c.check_vendor_trace.new.files) refusal (line_of refusal)) (sym c.in-CheckVendor.is) (k.0, k.1, refl),
       k.2,
@@ -204,12 +206,12 @@ returns-in-CheckVendor-clause-refused g c = λ refusal is.
 
 pub returns-in-PrintCapture-clause-done : goal.returns-in-PrintCapture-clause-done
 returns-in-PrintCapture-clause-done g c = λ is.
-    let k = c.print_capture.ensures.done is in
+    let k = c.print_capture.ensures.done (same_is c.print_capture.result (ending.Exit exit.Done) is) in
     (k.0, subst (λ (m : Command). IsDone m (g.R.Read.remaining c.args.input.now) (g.F.Files.store c.args.files.now) (g.F.Files.store c.print_capture.new.files) k.0) (sym c.in-PrintCapture.is) (k.1, c.print_capture.ensures.files), k.2)
 
 pub returns-in-PrintCapture-clause-refused : goal.returns-in-PrintCapture-clause-refused
 returns-in-PrintCapture-clause-refused g c = λ refusal is.
-    let k = c.print_capture.ensures.refused refusal is in (
+    let k = c.print_capture.ensures.refused refusal (same_is c.print_capture.result (ending.Exit (exit.Refused refusal)) is) in (
       line_of refusal,
       subst (λ (m : Command). MayRefuse m (g.R.Read.remaining c.args.input.now) (g.F.Files.store c.args.files.now) (g.F.Files.store c.print_capture.new.files) refusal (line_of refusal)) (sym c.in-PrintCapture.is) (k.0, c.print_capture.ensures.files, refl),
       k.1,
@@ -217,7 +219,7 @@ returns-in-PrintCapture-clause-refused g c = λ refusal is.
 
 pub returns-in-PrintCapture-clause-faulty : goal.returns-in-PrintCapture-clause-faulty
 returns-in-PrintCapture-clause-faulty g c = λ fault is.
-    let k = c.print_capture.ensures.faulty fault is in (
+    let k = c.print_capture.ensures.faulty fault (same_is c.print_capture.result (ending.Faulty fault) is) in (
       fault_line fault,
       subst (λ (m : Command). MayTell m (g.F.Files.store c.args.files.now) (g.F.Files.store c.print_capture.new.files) fault (fault_line fault)) (sym c.in-PrintCapture.is) (k.0, c.print_capture.ensures.files, refl),
       k.1,
@@ -225,7 +227,7 @@ returns-in-PrintCapture-clause-faulty g c = λ fault is.
 
 pub returns-in-TakePage-clause-refused : goal.returns-in-TakePage-clause-refused
 returns-in-TakePage-clause-refused g c = λ refusal is.
-    let k = c.take_page.ensures.refused refusal is in (
+    let k = c.take_page.ensures.refused refusal (same_is c.take_page.result (ending.Exit (exit.Refused refusal)) is) in (
       line_of refusal,
       subst (λ (m : Command). MayRefuse m (g.R.Read.remaining c.args.input.now) (g.F.Files.store c.args.files.now) (g.F.Files.store c.take_page.new.files) refusal (line_of refusal)) (sym c.in-TakePage.is) (k.0, refl),
       k.1,
@@ -233,7 +235,7 @@ returns-in-TakePage-clause-refused g c = λ refusal is.
 
 pub returns-in-TakePage-clause-faulty : goal.returns-in-TakePage-clause-faulty
 returns-in-TakePage-clause-faulty g c = λ fault is.
-    let k = c.take_page.ensures.faulty fault is in (
+    let k = c.take_page.ensures.faulty fault (same_is c.take_page.result (ending.Faulty fault) is) in (
       fault_line fault,
       subst (λ (m : Command). MayTell m (g.F.Files.store c.args.files.now) (g.F.Files.store c.take_page.new.files) fault (fault_line fault)) (sym c.in-TakePage.is) (k.0, refl),
       k.1,
@@ -241,7 +243,7 @@ returns-in-TakePage-clause-faulty g c = λ fault is.
 
 pub returns-in-CaptureVendor-clause-refused : goal.returns-in-CaptureVendor-clause-refused
 returns-in-CaptureVendor-clause-refused g c = λ refusal is.
-    let k = c.capture_vendor_trace.ensures.refused refusal is in (
+    let k = c.capture_vendor_trace.ensures.refused refusal (same_is c.capture_vendor_trace.result (ending.Exit (exit.Refused refusal)) is) in (
       line_of refusal,
       subst (λ (m : Command). MayRefuse m (g.R.Read.remaining c.args.input.now) (g.F.Files.store c.args.files.now) (g.F.Files.store c.capture_vendor_trace.new.files) refusal (line_of refusal)) (sym c.in-CaptureVendor.is) (k.0, k.1, refl),
       k.2,
@@ -249,7 +251,7 @@ returns-in-CaptureVendor-clause-refused g c = λ refusal is.
 
 pub returns-in-CaptureVendor-clause-faulty : goal.returns-in-CaptureVendor-clause-faulty
 returns-in-CaptureVendor-clause-faulty g c = λ fault is.
-    let k = c.capture_vendor_trace.ensures.faulty fault is in (
+    let k = c.capture_vendor_trace.ensures.faulty fault (same_is c.capture_vendor_trace.result (ending.Faulty fault) is) in (
       fault_line fault,
       subst (λ (m : Command). MayTell m (g.F.Files.store c.args.files.now) (g.F.Files.store c.capture_vendor_trace.new.files) fault (fault_line fault)) (sym c.in-CaptureVendor.is) (k.0, k.1, refl),
       k.2,
@@ -257,12 +259,12 @@ returns-in-CaptureVendor-clause-faulty g c = λ fault is.
 
 pub returns-in-PrintCaptureVendor-clause-done : goal.returns-in-PrintCaptureVendor-clause-done
 returns-in-PrintCaptureVendor-clause-done g c = λ is.
-    let k = c.print_vendor_capture.ensures.done is in
+    let k = c.print_vendor_capture.ensures.done (same_is c.print_vendor_capture.result (ending.Exit exit.Done) is) in
     (k.0, subst (λ (m : Command). IsDone m (g.R.Read.remaining c.args.input.now) (g.F.Files.store c.args.files.now) (g.F.Files.store c.print_vendor_capture.new.files) k.0) (sym c.in-PrintCaptureVendor.is) (k.1, c.print_vendor_capture.ensures.files), k.2)
 
 pub returns-in-PrintCaptureVendor-clause-refused : goal.returns-in-PrintCaptureVendor-clause-refused
 returns-in-PrintCaptureVendor-clause-refused g c = λ refusal is.
-    let k = c.print_vendor_capture.ensures.refused refusal is in (
+    let k = c.print_vendor_capture.ensures.refused refusal (same_is c.print_vendor_capture.result (ending.Exit (exit.Refused refusal)) is) in (
       line_of refusal,
       subst (λ (m : Command). MayRefuse m (g.R.Read.remaining c.args.input.now) (g.F.Files.store c.args.files.now) (g.F.Files.store c.print_vendor_capture.new.files) refusal (line_of refusal)) (sym c.in-PrintCaptureVendor.is) (k.0, c.print_vendor_capture.ensures.files, refl),
       k.1,
@@ -270,7 +272,7 @@ returns-in-PrintCaptureVendor-clause-refused g c = λ refusal is.
 
 pub returns-in-PrintCaptureVendor-clause-faulty : goal.returns-in-PrintCaptureVendor-clause-faulty
 returns-in-PrintCaptureVendor-clause-faulty g c = λ fault is.
-    let k = c.print_vendor_capture.ensures.faulty fault is in (
+    let k = c.print_vendor_capture.ensures.faulty fault (same_is c.print_vendor_capture.result (ending.Faulty fault) is) in (
       fault_line fault,
       subst (λ (m : Command). MayTell m (g.F.Files.store c.args.files.now) (g.F.Files.store c.print_vendor_capture.new.files) fault (fault_line fault)) (sym c.in-PrintCaptureVendor.is) (k.0, c.print_vendor_capture.ensures.files, refl),
       k.1,
@@ -278,7 +280,7 @@ returns-in-PrintCaptureVendor-clause-faulty g c = λ fault is.
 
 pub returns-in-DrawVendor-clause-refused : goal.returns-in-DrawVendor-clause-refused
 returns-in-DrawVendor-clause-refused g c = λ refusal is.
-    let k = c.draw_vendor_trace.ensures.refused refusal is in (
+    let k = c.draw_vendor_trace.ensures.refused refusal (same_is c.draw_vendor_trace.result (ending.Exit (exit.Refused refusal)) is) in (
       line_of refusal,
       subst (λ (m : Command). MayRefuse m (g.R.Read.remaining c.args.input.now) (g.F.Files.store c.args.files.now) (g.F.Files.store c.draw_vendor_trace.new.files) refusal (line_of refusal)) (sym c.in-DrawVendor.is) (k.0, k.1, refl),
       k.2,
@@ -286,8 +288,48 @@ returns-in-DrawVendor-clause-refused g c = λ refusal is.
 
 pub returns-in-DrawVendor-clause-faulty : goal.returns-in-DrawVendor-clause-faulty
 returns-in-DrawVendor-clause-faulty g c = λ fault is.
-    let k = c.draw_vendor_trace.ensures.faulty fault is in (
+    let k = c.draw_vendor_trace.ensures.faulty fault (same_is c.draw_vendor_trace.result (ending.Faulty fault) is) in (
       fault_line fault,
       subst (λ (m : Command). MayTell m (g.F.Files.store c.args.files.now) (g.F.Files.store c.draw_vendor_trace.new.files) fault (fault_line fault)) (sym c.in-DrawVendor.is) (k.0, k.1, refl),
       k.2,
     )
+
+pub returns-in-CheckData-clause-done : goal.returns-in-CheckData-clause-done
+returns-in-CheckData-clause-done g c = λ is.
+    let k = c.check_data.ensures.done is in
+    (k.0, subst (λ (m : Command). IsDone m (g.R.Read.remaining c.args.input.now) (g.F.Files.store c.args.files.now) (g.F.Files.store c.check_data.new.files) k.0) (sym c.in-CheckData.is) (k.1, c.check_data.ensures.stays), k.2)
+
+pub returns-in-CheckData-clause-flagged : goal.returns-in-CheckData-clause-flagged
+returns-in-CheckData-clause-flagged g c = λ is.
+    let k = c.check_data.ensures.assumed is in
+    (k.0, subst (λ (m : Command). MayFlag m (g.F.Files.store c.args.files.now) (g.F.Files.store c.check_data.new.files) k.0) (sym c.in-CheckData.is) (k.1, c.check_data.ensures.stays), k.2)
+
+pub returns-in-CheckData-clause-refused : goal.returns-in-CheckData-clause-refused
+returns-in-CheckData-clause-refused g c = λ refusal is.
+    let k = c.check_data.ensures.refused refusal is in
+    (line_of refusal, subst (λ (m : Command). MayRefuse m (g.R.Read.remaining c.args.input.now) (g.F.Files.store c.args.files.now) (g.F.Files.store c.check_data.new.files) refusal (line_of refusal)) (sym c.in-CheckData.is) (k.0, c.check_data.ensures.stays, refl), k.1)
+
+pub returns-in-CheckData-clause-faulty : goal.returns-in-CheckData-clause-faulty
+returns-in-CheckData-clause-faulty g c = λ fault is.
+    let k = c.check_data.ensures.faulty fault is in
+    (k.0, subst (λ (m : Command). MayTell m (g.F.Files.store c.args.files.now) (g.F.Files.store c.check_data.new.files) fault k.0) (sym c.in-CheckData.is) (k.1, c.check_data.ensures.stays), k.2)
+
+pub returns-in-CheckData-clause-differs : goal.returns-in-CheckData-clause-differs
+returns-in-CheckData-clause-differs g c = λ fault item is.
+    let k = c.check_data.ensures.differs fault item is in
+    (k.0, subst (λ (m : Command). MayDiffer m (g.F.Files.store c.args.files.now) (g.F.Files.store c.check_data.new.files) fault item k.0) (sym c.in-CheckData.is) (k.1, c.check_data.ensures.stays), k.2)
+
+pub returns-in-WriteImage-clause-done : goal.returns-in-WriteImage-clause-done
+returns-in-WriteImage-clause-done g c = λ is.
+    let k = c.write_image.ensures.done (same_is c.write_image.result (ending.Exit exit.Done) is) in
+    (done_text k.0, subst (λ (m : Command). IsDone m (g.R.Read.remaining c.args.input.now) (g.F.Files.store c.args.files.now) (g.F.Files.store c.write_image.new.files) (done_text k.0)) (sym c.in-WriteImage.is) (k.0, k.1, refl), k.2)
+
+pub returns-in-WriteImage-clause-refused : goal.returns-in-WriteImage-clause-refused
+returns-in-WriteImage-clause-refused g c = λ refusal is.
+    let k = c.write_image.ensures.refused refusal (same_is c.write_image.result (ending.Exit (exit.Refused refusal)) is) in
+    (line_of refusal, subst (λ (m : Command). MayRefuse m (g.R.Read.remaining c.args.input.now) (g.F.Files.store c.args.files.now) (g.F.Files.store c.write_image.new.files) refusal (line_of refusal)) (sym c.in-WriteImage.is) (k.0, k.1, refl), k.2)
+
+pub returns-in-WriteImage-clause-faulty : goal.returns-in-WriteImage-clause-faulty
+returns-in-WriteImage-clause-faulty g c = λ fault is.
+    let k = c.write_image.ensures.faulty fault (same_is c.write_image.result (ending.Faulty fault) is) in
+    (k.0, subst (λ (m : Command). MayTell m (g.F.Files.store c.args.files.now) (g.F.Files.store c.write_image.new.files) fault k.0) (sym c.in-WriteImage.is) (k.1, k.2), k.3)

@@ -1,0 +1,6 @@
+mod Going
+mod Places
+mod Refusing
+mod Verdicts
+mod Endings
+mod Written

@@ -1,0 +1,27 @@
+use Rattle.std.proofs.Common.{inl, inr, refl}
+use Rattle.trace_commands.specs.Checks.{FileIsRefused, fault_lines}
+use Rattle.trace_commands.specs.Recordings.{fault_line}
+use Rattle.trace_commands.proofs.Stopped.{refused, wrong}
+use Rattle.data_commands.specs.Images.{ImageRefuses}
+use Rattle.data_commands.proofs.Written.{has_fault, left_alone}
+use Rattle.data_commands.proofs.image_writing.write_image.Goals as goal
+
+pub returns-clause-refused : goal.returns-clause-refused
+returns-clause-refused g c = λ refusal is.
+    let k = c.end_stopped.ensures.refused refusal is in
+    (refused (ImageRefuses (g.F.Files.store c.args.files.now) c.args.request) (FileIsRefused (g.F.Files.store c.args.files.now) c.args.request.form c.args.request.input.now) c.in-Err.stop refusal c.in-Err.ensures.err k.0, c.in-Err.ensures.stays, k.1)
+
+pub returns-clause-faulty : goal.returns-clause-faulty
+returns-clause-faulty g c = λ fault is.
+    let k = c.end_stopped.ensures.faulty fault is in
+    (fault_line fault, inl (wrong (ImageRefuses (g.F.Files.store c.args.files.now) c.args.request) (FileIsRefused (g.F.Files.store c.args.files.now) c.args.request.form c.args.request.input.now) c.in-Err.stop fault c.in-Err.ensures.err k.0, refl), c.in-Err.ensures.stays, k.1)
+
+pub returns-in-Ok-clause-faulty : goal.returns-in-Ok-clause-faulty
+returns-in-Ok-clause-faulty g c = λ fault is.
+    let k = c.tell_fault.ensures.faulty fault is in
+    let t = c.in-Ok.trace in (
+      fault_lines t.checked.told.items,
+      inr (has_fault (g.F.Files.store c.args.files.now) (g.F.Files.store c.write_on.new.files) c.args.request t.geometry c.as_slice.result.now t.checked.told.items t.checked.assumed.items t.judged.differences.items t.judged.dies.items _ fault c.as_slice.ensures.value c.in-len1-up.len_at_least k.0 c.in-Ok.ensures.ok),
+      left_alone (g.F.Files.store c.args.files.now) (g.F.Files.store c.write_on.new.files) c.args.request t.geometry c.as_slice.result.now t.checked.told.items t.checked.assumed.items t.judged.differences.items t.judged.dies.items c.as_slice.ensures.value c.in-len1-up.len_at_least c.in-Ok.ensures.ok,
+      k.1,
+    )

@@ -1,0 +1,4 @@
+pub mod Codes
+pub mod Opened
+pub mod Checked
+pub mod Images

@@ -1,0 +1,55 @@
+//! Programs and erases of a LUN.
+ghost use Rattle.std.specs.Prelude.{◌≡◌};
+ghost use Rattle.trace_data.specs.Data.{left_of, ended_as};
+
+use crate::origin::Origin;
+use onfi_cycle::{PageAddress, Queued};
+
+/// A program or an erase of a LUN that has begun.
+#[derive(Clone, Copy, Debug, PartialEq, Eq)]
+pub struct BegunWork {
+    pub work: Queued,
+    /// The item of the command that began it, counted from 0.
+    pub item: usize,
+}
+
+impl BegunWork {
+    /// It is over, with failure or without.
+    pub(crate) fn ended(self, failed: bool) -> EndedWork
+        ensures { result ≡ ended_as failed self }
+    {
+        EndedWork {
+            work: self.work,
+            item: self.item,
+            failed,
+        }
+    }
+}
+
+/// A program or an erase of a LUN that is over.
+#[derive(Clone, Copy, Debug, PartialEq, Eq)]
+pub struct EndedWork {
+    pub work: Queued,
+    /// The item of the command that began it, counted from 0.
+    pub item: usize,
+    /// Its ready brought a failure, or a reset broke it off.
+    pub failed: bool,
+}
+
+impl EndedWork {
+    /// Where a page has its bytes from after it.
+    pub(crate) fn leaves(self, page: PageAddress, before: Origin) -> Origin
+        ensures { result ≡ left_of self page before }
+    {
+        let item = self.item;
+        let (is_touched, left) = match self.work {
+            Queued::Erase(at) => (page.block == at.block, Origin::Erased { item }),
+            Queued::Program(at) => (page == at, before.programmed_at(item)),
+        };
+        match (is_touched, self.failed) {
+            (false, _) => before,
+            (true, true) => Origin::Unknown,
+            (true, false) => left,
+        }
+    }
+}
