@@ -13,6 +13,3 @@ mod rule;
 
 pub use queue::{CloseRefused, HostPass, JobQueue, Submitted, Taker, Tally};
 pub use rule::QueuedJob;
-
-#[cfg(test)]
-mod tests;

@@ -11,6 +11,3 @@ mod rule;
 
 pub use lease::{Claimed, Idle, Lease, LeaseSeat, LeaseTable, Loaded, SEATS};
 pub use rule::Call;
-
-#[cfg(test)]
-mod tests;

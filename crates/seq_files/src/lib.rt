@@ -26,8 +26,3 @@ pub use new_file::NewFile;
 pub use output::write_text;
 pub use slow_streams::{FullWriter, SlowReader, SlowWriter};
 pub use used_file::{Clash, Use, UsedFile, find_clash};
-
-#[cfg(test)]
-mod converting_tests;
-#[cfg(test)]
-mod tests;

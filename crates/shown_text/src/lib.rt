@@ -21,6 +21,3 @@ pub use line_trouble::LineTrouble;
 pub use lines::{line_at, lines_before};
 pub use meant::Meant;
 pub use shown::Shown;
-
-#[cfg(test)]
-mod tests;

@@ -1,6 +1,6 @@
 ghost use Rattle.std.specs.Prelude.{◌≤◌, length};
 
-use crate::{
+use seq_files::{
     Clash, FileError, FileFault, Files, MapFiles, NewFile, NotWritten, SlowReader, SlowWriter, Use,
     UsedFile, find_clash, read_all, read_sized, write_text,
 };

@@ -1,6 +1,6 @@
 ghost use Rattle.std.specs.Prelude.{◌≡◌, ⊤};
 
-use crate::{
+use seq_files::{
     Convert, FileError, FileFault, Files, MapFiles, NotConverted, SlowReader, SlowWriter,
     convert_all,
 };

@@ -1,7 +1,7 @@
 ghost use Rattle.std.specs.Prelude.{◌≡◌, IfOk};
 
-use crate::{Claimed, LeaseSeat, LeaseTable};
 use linked_list_allocator::LocalHeap;
+use lun_lease::{Claimed, LeaseSeat, LeaseTable};
 use std::alloc::{AllocError, Global};
 use std::process::Abort;
 use std::test::*;

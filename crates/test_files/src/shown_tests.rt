@@ -1,4 +1,4 @@
-use crate::{Blanks, Escaped, Fields, LineTrouble, Meant, Shown, line_at};
+use shown_text::{Blanks, Escaped, Fields, LineTrouble, Meant, Shown, line_at};
 use std::alloc::Global;
 use std::process::Abort;
 use std::test::Fail;

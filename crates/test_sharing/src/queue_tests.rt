@@ -2,7 +2,7 @@ ghost use Rattle.std.specs.Prelude.{◌≡◌, ◌<◌, ◌≤◌, IfOk};
 ghost use Rattle.std.specs.List.{All};
 ghost use Rattle.job_queue.specs.Passes.{owns, owns_taker};
 
-use crate::{CloseRefused, HostPass, JobQueue, QueuedJob, Submitted, Taker};
+use job_queue::{CloseRefused, HostPass, JobQueue, QueuedJob, Submitted, Taker};
 use linked_list_allocator::LocalHeap;
 use std::alloc::Global;
 use std::process::Abort;
