@@ -40,15 +40,12 @@ pub struct TimingFileRefusal {
     pub line: usize,
 }
 
-// The timings that a file may name: the ten that a trace shows first, then those that a trace doesn't.
+// The timings that a file may name: the ten that a trace shows first, then those that only a capture shows, and those that nothing here judges.
 const NAMES: [&str; 29] = [
     "tADL", "tWHR", "tCCS", "tRHW", "tRR", "tWB", "tWC", "tRC", "tWP", "tRP", "tWH", "tREH", "tDS",
     "tDH", "tCLS", "tCLH", "tALS", "tALH", "tCS", "tCH", "tCEH", "tAR", "tCLR", "tIR", "tR",
     "tPROG", "tBERS", "tRST", "tFEAT",
 ];
-
-// How many of them a trace shows.
-const SHOWN: usize = 10;
 
 // No time of a file is so many femtoseconds, some 4,600 seconds.
 const TOO_LONG: u64 = 1 << 62;
@@ -112,14 +109,13 @@ fn time_of(number: &str, unit: &str) -> Option<u64>
     if time < TOO_LONG { Some(time) } else { None }
 }
 
-// What the lines so far say.
-#[derive(Clone, Copy)]
-struct Given {
+/// What a timing file says: the mode that it stands on, and the times that it names.
+#[derive(Clone, Copy, Debug, PartialEq, Eq)]
+pub struct TimingFile {
     mode: Option<TimingMode>,
     // A line came that isn't `mode`.
     has_begun: bool,
-    seen: [bool; NAMES.len()],
-    times: [Option<u64>; SHOWN],
+    times: [Option<u64>; NAMES.len()],
 }
 
 // The place of a name in the list.
@@ -127,14 +123,13 @@ fn find_name(name: &str) -> Option<usize> {
     NAMES.iter().position(|known| *known == name)
 }
 
-impl Given {
+impl TimingFile {
     // Nothing is said yet.
-    fn new() -> Given {
-        Given {
+    fn new() -> TimingFile {
+        TimingFile {
             mode: None,
             has_begun: false,
-            seen: [false; NAMES.len()],
-            times: [None; SHOWN],
+            times: [None; NAMES.len()],
         }
     }
 
@@ -152,13 +147,10 @@ impl Given {
         let place = find_name(name).ok_or(TimingFileFault::UnknownName)?;
         let time = time_of(number, unit).ok_or(TimingFileFault::BadNumber)?;
         self.has_begun = true;
-        if let Some(seen) = self.seen.get_mut(place) {
-            if *seen {
+        if let Some(kept) = self.times.get_mut(place) {
+            if kept.is_some() {
                 return Err(TimingFileFault::OutOfOrder);
             }
-            *seen = true;
-        }
-        if let Some(kept) = self.times.get_mut(place) {
             *kept = Some(time);
         }
         Ok(())
@@ -181,7 +173,7 @@ impl Given {
         }
     }
 
-    // One of the ten that a trace shows: as it is said, or that of the mode.
+    // A time of the file, or that of the mode where the file doesn't say it.
     fn time_at(&self, place: usize, of_mode: u64) -> u64
         requires { of_mode < 2 ^ 62 }
         ensures { result < 2 ^ 62 }
@@ -192,11 +184,27 @@ impl Given {
         }
     }
 
-    // What is said of each, on top of a mode.
-    fn on_top_of(&self, base: Timings) -> Timings
-        requires { AreBounded base }
+    /// The mode that it stands on: the one that it names, or mode 0.
+    pub fn mode(&self) -> TimingMode {
+        self.mode.unwrap_or(TimingMode::Zero)
+    }
+
+    /// The time of this name in femtoseconds, or that of the mode where the file doesn't say it.
+    pub fn time_named(&self, name: &str, of_mode: u64) -> u64
+        requires { of_mode < 2 ^ 62 }
+        ensures { result < 2 ^ 62 }
+    {
+        match find_name(name) {
+            Some(place) => self.time_at(place, of_mode),
+            None => of_mode,
+        }
+    }
+
+    /// The least times that a trace shows, each on top of the mode, for a chip of this parameter page.
+    pub fn timings(&self, page: PageTimes) -> Timings
         ensures { AreBounded result }
     {
+        let base = timings_of(self.mode(), page);
         Timings {
             t_adl: self.time_at(0, base.t_adl),
             t_whr: self.time_at(1, base.t_whr),
@@ -212,20 +220,25 @@ impl Given {
     }
 }
 
-/// The least times that a timing file says, each on top of the mode that it names, or of mode 0, for a chip of this parameter page. A line has a timing and a decimal number of ns, or of the unit
-/// behind it; what comes behind `#` is a comment. Errors: the first line with a fault.
-pub fn read_timings(text: &str, page: PageTimes) -> Result<Timings, TimingFileRefusal>
-    ensures { IfOk result (λ timings. AreBounded timings) }
-{
-    let mut given = Given::new();
+/// What a timing file says. A line has a timing and a decimal number of ns, or of the unit behind it; what comes behind `#` is a comment. Errors: the first
+/// line with a fault.
+pub fn read_timing_file(text: &str) -> Result<TimingFile, TimingFileRefusal> {
+    let mut file = TimingFile::new();
     for (number, line) in text.lines().enumerate() {
-        if let Err(fault) = given.read_line(line) {
+        if let Err(fault) = file.read_line(line) {
             return Err(TimingFileRefusal {
                 fault,
                 line: number + 1,
             });
         }
     }
-    let mode = given.mode.unwrap_or(TimingMode::Zero);
-    Ok(given.on_top_of(timings_of(mode, page)))
+    Ok(file)
+}
+
+/// The least times that a timing file says, each on top of the mode that it names, or of mode 0, for a chip of this parameter page, as [`read_timing_file`] reads it.
+pub fn read_timings(text: &str, page: PageTimes) -> Result<Timings, TimingFileRefusal>
+    ensures { IfOk result (λ timings. AreBounded timings) }
+{
+    let file = read_timing_file(text)?;
+    Ok(file.timings(page))
 }

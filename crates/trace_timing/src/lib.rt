@@ -15,7 +15,7 @@ mod violation;
 mod watch;
 
 pub use clock::{Clock, Pair};
-pub use file::{TimingFileFault, TimingFileRefusal, read_timings};
+pub use file::{TimingFile, TimingFileFault, TimingFileRefusal, read_timing_file, read_timings};
 pub use margins::{Margins, Nearest};
 pub use modes::{TimingMode, timings_of};
 pub use page_times::PageTimes;
