@@ -27,10 +27,14 @@ use Rattle.timing_commands.specs.declared.times_request.TimingSource.TheVariants
 
 -- ---- the least times
 
+-- a timing file is there
+abbrev pub IsTimingFile : Option Store → (path : List ℕ) → Type 0
+IsTimingFile files path = (text : List ℕ) × Holds files path text
+
 -- those of a mode, for a chip whose page has these times; or those that are read of a timing file that is there
 abbrev pub AreTimings : Option Store → TimingSource → PageTimes → Timings → Type 0
 AreTimings files (Mode mode) page t = t ≡ timings_of mode page
-AreTimings files (File path) page t = (text : List ℕ) × Holds files path.now text
+AreTimings files (File path) page t = IsTimingFile files path.now
 
 -- by what the times of a trace are judged
 abbrev pub ruler_of : TimesRequest → Parts → Timings → Ruler
@@ -93,7 +97,7 @@ pub record IsKept (files : Option Store) (request : TimesRequest) (passes : Bool
 
 -- the timing file is refused; of which line isn't said
 abbrev pub RefusesTiming : Option Store → TimingSource → RecordingFault → Type 0
-RefusesTiming files (File path) (TimingFile fault line) = (text : List ℕ) × Holds files path.now text
+RefusesTiming files (File path) (TimingFile fault line) = IsTimingFile files path.now
 RefusesTiming files _ _ = ⊥
 
 -- the text of the trace has a fault, or the timing file has

@@ -7,11 +7,11 @@ const NANOSECOND: u64 = 1_000_000;
 
 /// A time of so many femtoseconds, in nanoseconds: decimal, without zeros at the end.
 #[derive(Clone, Copy)]
-pub(crate) struct Nanoseconds(pub(crate) u64);
+pub struct Nanoseconds(pub u64);
 
 /// The same as a number of JSON, with one place behind the point at the least.
 #[derive(Clone, Copy)]
-pub(crate) struct JsonNanoseconds(pub(crate) u64);
+pub struct JsonNanoseconds(pub u64);
 
 // The places behind the point, of a millionth each at the last.
 const PLACES: [u64; 6] = [100_000, 10_000, 1_000, 100, 10, 1];

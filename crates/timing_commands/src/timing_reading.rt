@@ -1,15 +1,18 @@
 //! The least times by which a trace is judged.
-ghost use Rattle.std.specs.Prelude.{◌≡◌, IfOk, IfErr};
+ghost use Rattle.std.specs.Prelude.{◌≡◌, IfOk, IfErr, OnOk};
 ghost use Rattle.trace_timing.specs.Wanted.{AreBounded};
 ghost use Rattle.trace_commands.specs.Endings.{SaysOf};
-ghost use Rattle.timing_commands.specs.Times.{AreTimings, RefusesTiming};
+ghost use Rattle.timing_commands.specs.Times.{AreTimings, IsTimingFile, RefusesTiming};
+ghost use Rattle.timing_commands.specs.declared.times_request.TimingSource.TheVariants.{File};
 
 use crate::times_request::TimingSource;
 use seq_files::Files;
 use seq_inputs::{Words, read_file, text_of};
 use std::alloc::Allocator;
 use trace_commands::{RecordingFault, RecordingStop};
-use trace_timing::{PageTimes, TimingFileRefusal, Timings, read_timings, timings_of};
+use trace_timing::{
+    PageTimes, TimingFile, TimingFileRefusal, Timings, read_timing_file, timings_of,
+};
 
 // The fault of a timing file.
 fn fault_of(refusal: TimingFileRefusal) -> RecordingFault
@@ -33,6 +36,27 @@ fn words_of<'p, A: Allocator>(
     )
 }
 
+/// What the timing file at this path says.
+pub fn timing_file_at<'p, A: Allocator + Clone, F: Files>(
+    alloc: A,
+    files: &mut F,
+    path: &'p str,
+) -> Result<TimingFile, RecordingStop<'p, A>>
+    ensures ok { OnOk result (IsTimingFile (F.store files.old) path.entry.now) }
+    ensures err { IfErr result (SaysOf (λ _. ⊥) (RefusesTiming (F.store files.old) (File path.entry))) }
+    ensures stays { F.store files.new ≡ F.store files.old }
+{
+    let bytes = read_file(alloc.clone()?, files, path)?;
+    let text = text_of(path, bytes.as_slice())?;
+    match read_timing_file(text) {
+        Ok(file) => Ok(file),
+        Err(refusal) => Err(RecordingStop::Faulty {
+            fault: fault_of(refusal),
+            words: words_of(alloc, path, refusal),
+        }),
+    }
+}
+
 /// The least times that are asked for, for a chip whose page has these.
 pub(crate) fn timings_at<'p, A: Allocator + Clone, F: Files>(
     alloc: A,
@@ -48,15 +72,8 @@ pub(crate) fn timings_at<'p, A: Allocator + Clone, F: Files>(
     match source {
         TimingSource::Mode(mode) => Ok(timings_of(mode, page)),
         TimingSource::File(path) => {
-            let bytes = read_file(alloc.clone()?, files, path)?;
-            let text = text_of(path, bytes.as_slice())?;
-            match read_timings(text, page) {
-                Ok(timings) => Ok(timings),
-                Err(refusal) => Err(RecordingStop::Faulty {
-                    fault: fault_of(refusal),
-                    words: words_of(alloc, path, refusal),
-                }),
-            }
+            let file = timing_file_at(alloc, files, path)?;
+            Ok(file.timings(page))
         }
     }
 }

@@ -31,7 +31,7 @@ fn words_of<'p, A: Allocator + Clone>(
 }
 
 /// What the capture of these bytes shows, which stand at this path.
-pub(crate) fn see_capture<'p, A: Allocator + Clone>(
+pub fn see_capture<'p, A: Allocator + Clone>(
     alloc: A,
     path: &'p str,
     setup: &Setup<'_>,

@@ -46,6 +46,7 @@ mod vendor_sequences;
 
 pub use beside::{Beside, say_unjudged, say_verdict};
 pub use capture_printing::print_capture;
+pub use capture_reading::see_capture;
 pub use capture_request::CaptureRequest;
 pub use capturing::capture_trace;
 pub use check_request::CheckRequest;
@@ -55,6 +56,7 @@ pub use drawing::draw_trace;
 pub use ending::Ending;
 pub use explaining::{words_at_item, words_of_trace};
 pub use line_cursor::{ItemLine, ItemLines};
+pub use mappings::mappings_of;
 pub use page_request::{PageRequest, PageSource};
 pub use page_taking::take_page;
 pub use recording_fault::RecordingFault;

@@ -44,7 +44,7 @@ fn push_mappings<'a, A: Allocator>(
 }
 
 /// What a line says of signals, if there is one.
-pub(crate) fn mappings_of<'a, A: Allocator>(
+pub fn mappings_of<'a, A: Allocator>(
     alloc: A,
     line: Option<&'a str>,
 ) -> Result<Vec<Mapping<'a>, A>, AllocError>
