@@ -20,4 +20,4 @@ pub use laws::keeps_front;
 pub use levels::Levels;
 pub use reading::{Capture, CaptureForm, CaptureReader, Setup, read_capture};
 pub use sampler::{Observation, Observed};
-pub use sampling::{Seen, Strobe};
+pub use sampling::{Seen, Strobe, seen_of};
