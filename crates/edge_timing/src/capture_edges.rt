@@ -1,4 +1,6 @@
 //! The edges of a capture.
+ghost use Rattle.std.specs.Prelude.{◌≡◌, ◌≤◌};
+ghost use Rattle.trace_timing.specs.Wanted.{AreBounded};
 
 use crate::edge_watch::{EdgeWatch, WatchStop};
 use crate::given::Given;
@@ -6,9 +8,9 @@ use crate::judge::EdgeJudge;
 use crate::moment::Moment;
 use bus_capture::{CaptureFault, CaptureForm, CaptureRefusal, Levels, Setup};
 use bus_signals::{Role, RoleRefusal, Source, carriers_of, sources_of};
-use csv_text::read_table;
+use csv_text::{Table, read_table};
 use std::alloc::Allocator;
-use vcd_text::{Event, HeaderRefusal, Variable, Widths, Words, read_header};
+use vcd_text::{Dump, Event, Header, HeaderRefusal, Variable, Widths, read_header};
 
 /// What a capture was made of.
 #[derive(Clone, Copy, Debug, PartialEq, Eq)]
@@ -162,13 +164,13 @@ fn judge_dump<A: Allocator + Clone, B: Allocator>(
     setup: &Setup<'_>,
     text: &[u8],
 ) -> Result<Recorded, CaptureRefusal> {
-    let dump = match read_header(copy_of(&alloc)?, text) {
+    let Dump { header, mut body } = match read_header(copy_of(&alloc)?, text) {
         Ok(dump) => dump,
         Err(refusal) => return Err(refusal_of(refusal)),
     };
-    let mut body = dump.body;
-    let sources = find_sources(copy_of(&alloc)?, setup, dump.header.variables.as_slice())?;
-    let Ok(widths) = Widths::of(alloc, dump.header.widths) else {
+    let Header { variables, widths } = header;
+    let sources = find_sources(copy_of(&alloc)?, setup, variables.as_slice())?;
+    let Ok(widths) = Widths::of(alloc, widths) else {
         return Err(CaptureRefusal::OutOfMemory);
     };
     let mut watching = Watching::begun(setup.targets, sources);
@@ -199,8 +201,11 @@ fn judge_table<A: Allocator + Clone, B: Allocator>(
         Ok(table) => table,
         Err(refusal) => return Err(refusal_of(refusal)),
     };
-    let sources = find_sources(alloc, setup, table.variables.as_slice())?;
-    let mut body = table.body;
+    let Table {
+        variables,
+        mut body,
+    } = table;
+    let sources = find_sources(alloc, setup, variables.as_slice())?;
     let mut watching = Watching::begun(setup.targets, sources);
     'events: loop {
         match body.next_event() {

@@ -1,4 +1,6 @@
 //! A time between two edges.
+ghost use Rattle.std.specs.Prelude.{◌≡◌};
+ghost use Rattle.edge_timing.specs.Lines.{between};
 
 use crate::edge::Edge;
 use crate::edge_timing::EdgeTiming;

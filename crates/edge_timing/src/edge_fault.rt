@@ -1,4 +1,6 @@
 //! What may be wrong with the edges of a capture.
+ghost use Rattle.std.specs.Prelude.{◌≡◌};
+ghost use Rattle.edge_timing.specs.Codes.{edge_fault_code};
 
 use crate::edge_timing::EdgeTiming;
 use std::fmt;
@@ -29,7 +31,11 @@ impl fmt::Display for EdgeFault {
         match self {
             EdgeFault::NoEdges => f.write_str("no two edges of the capture can be compared"),
             EdgeFault::TooSoon(timing) => {
-                write!(f, "an edge comes too soon after another ({})", timing.name())
+                write!(
+                    f,
+                    "an edge comes too soon after another ({})",
+                    timing.name()
+                )
             }
         }
     }

@@ -1,4 +1,6 @@
 //! How long the times between edges are.
+ghost use Rattle.std.specs.Prelude.{◌≡◌, ◌<◌, ◌^◌};
+ghost use Rattle.edge_timing.specs.Times.{AreEdgeBounded, least};
 
 use crate::edge_timing::EdgeTiming;
 use trace_timing::{PageTimes, TimingFile, TimingMode, Timings, timings_of};

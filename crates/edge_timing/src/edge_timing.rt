@@ -1,4 +1,6 @@
 //! The least times that edges show.
+ghost use Rattle.std.specs.Prelude.{◌≡◌, ◌<◌};
+ghost use Rattle.edge_timing.specs.Codes.{edge_code};
 
 /// A least time that edges show, in the order of the names.
 #[derive(Clone, Copy, Debug, PartialEq, Eq)]

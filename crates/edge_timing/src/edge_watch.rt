@@ -1,46 +1,28 @@
 //! A bus, from one time to the next.
+ghost use Rattle.std.specs.Prelude.{◌≡◌, ◌+◌, ◌≤◌, OnOk, Err};
+ghost use Rattle.trace_timing.specs.Wanted.{AreBounded};
+ghost use Rattle.bus_capture.specs.Capturing.{is_known};
+ghost use Rattle.edge_timing.specs.Judged.{IsJudging};
+ghost use Rattle.edge_timing.specs.Watched.{target_at, with_target, write_distances, read_distances, cycle_distances, hold_distances, lets_go, enable_distances, watch_begun, after_cycle, after_holds, after_enable, after_ready, after_lines, seen_step, strobes_step, targets_step, looked, moment_step, IsStepped};
 
 use crate::distance::{Distance, between};
 use crate::edge::Edge;
 use crate::edge_timing::EdgeTiming;
+use crate::held::Held;
 use crate::judge::EdgeJudge;
-use crate::line::{Line, differs, falls, rises};
+use crate::line::Line;
 use crate::moment::Moment;
 use crate::since::Since;
+use crate::strobed::Strobed;
+use crate::target_edges::TargetEdges;
 use bus_capture::{BusFault, Seen, Strobe, seen_of};
 use bus_signals::Role;
-use onfi_cycle::{Cycle, Kind};
-use onfi_pauses::{LastCycle, pauses_before};
+use onfi_cycle::Kind;
 use std::alloc::{AllocError, Allocator};
-use trace_timing::{Clock, TimingFault, Timings};
 use vcd_text::Level;
 
 /// How many targets a channel has at most.
 const TARGETS: usize = 4;
-
-/// What is known of a target.
-#[derive(Clone, Copy, Debug, PartialEq, Eq)]
-pub struct TargetEdges {
-    /// Its CE#.
-    pub enable: Line,
-    /// Its cycles, each at the rise of its strobe.
-    pub clock: Clock,
-    /// When WE# rose at the last of its cycles that are written.
-    pub we_rose: Option<u64>,
-    /// When RE# rose at its last output.
-    pub re_rose: Option<u64>,
-}
-
-/// A cycle that was written, and which lines it holds still: those that haven't changed since.
-#[derive(Clone, Copy, Debug, PartialEq, Eq)]
-pub struct Held {
-    pub since: Option<u64>,
-    pub target: u8,
-    pub dq: bool,
-    pub cle: bool,
-    pub ale: bool,
-    pub enable: bool,
-}
 
 /// What is known of a bus.
 #[derive(Clone, Copy, Debug, PartialEq, Eq)]
@@ -53,6 +35,7 @@ pub struct EdgeWatch {
     pub dq: Option<u64>,
     pub targets: [TargetEdges; TARGETS],
     pub held: Held,
+    /// Somebody has driven the strobes.
     pub we_driven: bool,
     pub re_driven: bool,
 }
@@ -60,7 +43,7 @@ pub struct EdgeWatch {
 /// Why a moment isn't judged.
 #[derive(Clone, Copy, Debug, PartialEq, Eq)]
 pub enum WatchStop {
-    /// A strobe has no cycle for this.
+    /// A strobe shows no cycle that can be read.
     Bus(BusFault),
     OutOfMemory,
 }
@@ -77,312 +60,20 @@ impl From<AllocError> for WatchStop {
 }
 
 // A level that somebody drives.
-fn is_known(level: Level) -> bool {
+fn is_known(level: Level) -> bool
+    ensures { result ≡ is_known level }
+{
     match level {
         Level::Low | Level::High => true,
         Level::Unknown => false,
     }
 }
 
-// The time between edges that a pause of a trace is.
-fn timing_of(fault: TimingFault) -> Option<EdgeTiming> {
-    match fault {
-        TimingFault::WriteCycle => Some(EdgeTiming::WriteCycle),
-        TimingFault::ReadCycle => Some(EdgeTiming::ReadCycle),
-        TimingFault::AddressToInput => Some(EdgeTiming::AddressToInput),
-        TimingFault::ToOutput => Some(EdgeTiming::ToOutput),
-        TimingFault::ColumnChange => Some(EdgeTiming::ColumnChange),
-        TimingFault::OutputToCommand => Some(EdgeTiming::OutputToCommand),
-        TimingFault::ReadyToOutput => Some(EdgeTiming::ReadyToOutput),
-        TimingFault::ToBusy => Some(EdgeTiming::ToBusy),
-        TimingFault::NoTimes | TimingFault::Backwards => None,
-    }
-}
-
-// Which edge of its strobe ends a pause before a cycle of this kind. To an output a datasheet counts up to the fall, and to a cycle that is written up to the rise, but
-// tRHW.
-fn edge_of(timing: EdgeTiming, kind: Kind) -> Edge {
-    match kind {
-        Kind::Dout => {
-            if timing == EdgeTiming::ReadCycle {
-                Edge::ReRises
-            } else {
-                Edge::ReFalls
-            }
-        }
-        Kind::Cmd | Kind::Adr | Kind::Din => {
-            if timing == EdgeTiming::OutputToCommand {
-                Edge::WeFalls
-            } else {
-                Edge::WeRises
-            }
-        }
-    }
-}
-
-// The last cycle is an address.
-fn is_address(last: LastCycle) -> bool {
-    matches!(last, LastCycle::Address(_))
-}
-
-// The cycle before.
-fn cycle_before(last: LastCycle) -> Since {
-    match last {
-        LastCycle::Nothing | LastCycle::Command(_) => Since::Command,
-        LastCycle::Address(_) => Since::Address,
-        LastCycle::Input => Since::Input,
-        LastCycle::Output => Since::Output,
-    }
-}
-
-// What a pause after this cycle begins with.
-fn since_of(fault: TimingFault, last: LastCycle) -> Since {
-    match fault {
-        TimingFault::AddressToInput => Since::LastAddress,
-        TimingFault::ColumnChange => {
-            if is_address(last) {
-                Since::ColumnAddress
-            } else {
-                Since::ColumnConfirm
-            }
-        }
-        TimingFault::OutputToCommand => Since::LastOutput,
-        TimingFault::ReadyToOutput => Since::Ready,
-        TimingFault::ToBusy => {
-            if is_address(last) {
-                Since::WorkAddress
-            } else {
-                Since::WorkCommand
-            }
-        }
-        TimingFault::WriteCycle
-        | TimingFault::ReadCycle
-        | TimingFault::ToOutput
-        | TimingFault::NoTimes
-        | TimingFault::Backwards => cycle_before(last),
-    }
-}
-
-/// A cycle with the edges of its strobe.
-#[derive(Clone, Copy, Debug, PartialEq, Eq)]
-pub struct Strobed {
-    pub cycle: Cycle,
-    pub fell: Option<u64>,
-    pub rose: u64,
-}
-
-impl Strobed {
-    // When an edge of its strobe was.
-    fn time_of(self, edge: Edge) -> Option<u64> {
-        match edge {
-            Edge::WeFalls | Edge::ReFalls => self.fell,
-            Edge::WeRises
-            | Edge::ReRises
-            | Edge::DqChanges
-            | Edge::CleChanges
-            | Edge::AleChanges
-            | Edge::EnableFalls
-            | Edge::EnableRises => Some(self.rose),
-        }
-    }
-
-    // A pause before it, since this time.
-    fn pause(self, last: LastCycle, fault: TimingFault, since: Option<u64>) -> Option<Distance> {
-        let timing = timing_of(fault)?;
-        let edge = edge_of(timing, self.cycle.kind);
-        between(
-            timing,
-            edge,
-            since_of(fault, last),
-            since,
-            self.time_of(edge),
-        )
-    }
-}
-
-impl TargetEdges {
-    /// Nothing has been seen of it.
-    pub fn new() -> TargetEdges {
-        TargetEdges {
-            enable: Line::new(),
-            clock: Clock::new(),
-            we_rose: None,
-            re_rose: None,
-        }
-    }
-
-    // The pause since its last cycle.
-    fn cycle_pause(&self, timings: Timings, strobed: Strobed) -> Option<Distance>
-        requires { AreBounded timings }
-    {
-        let Clock {
-            last,
-            at,
-            has_command,
-            ..
-        } = self.clock;
-        let want = timings.cycle_want(has_command, last, strobed.cycle.kind)?;
-        strobed.pause(last, want.fault, at)
-    }
-
-    // The pause since its last cycle, where that began work.
-    fn busy_pause(&self, timings: Timings, strobed: Strobed) -> Option<Distance>
-        requires { AreBounded timings }
-    {
-        let Clock {
-            last,
-            at,
-            is_ready,
-            ..
-        } = self.clock;
-        let kind = strobed.cycle.kind;
-        let want = timings.pause_want(kind, pauses_before(last, is_ready, kind).busy)?;
-        strobed.pause(last, want.fault, at)
-    }
-
-    // The pause since its ready, before data on a target of one LUN.
-    fn ready_pause(&self, timings: Timings, one_lun: bool, strobed: Strobed) -> Option<Distance>
-        requires { AreBounded timings }
-    {
-        let Clock {
-            last,
-            is_ready,
-            ready_at,
-            may_give_status,
-            ..
-        } = self.clock;
-        if !one_lun || may_give_status {
-            return None;
-        }
-        let kind = strobed.cycle.kind;
-        let want = timings.pause_want(kind, pauses_before(last, is_ready, kind).ready)?;
-        strobed.pause(last, want.fault, ready_at)
-    }
-
-    // CE# was low before that time, so that what this chip sees of another line began there.
-    fn was_enabled_at(&self, time: Option<u64>) -> bool {
-        match (self.enable.fell, time) {
-            (None, _) => true,
-            (Some(_), None) => false,
-            (Some(fell), Some(time)) => fell < time,
-        }
-    }
-
-    // Once a cycle has come.
-    fn after(self, strobed: Strobed) -> TargetEdges {
-        let Strobed { cycle, rose, .. } = strobed;
-        let clock = self.clock.after(cycle.kind, cycle.byte, Some(rose));
-        match cycle.kind {
-            Kind::Dout => TargetEdges {
-                clock,
-                re_rose: Some(rose),
-                ..self
-            },
-            Kind::Cmd | Kind::Adr | Kind::Din => TargetEdges {
-                clock,
-                we_rose: Some(rose),
-                ..self
-            },
-        }
-    }
-}
-
-impl Held {
-    // Nothing was written.
-    fn nothing() -> Held {
-        Held {
-            since: None,
-            target: 0,
-            dq: false,
-            cle: false,
-            ale: false,
-            enable: false,
-        }
-    }
-
-    // A cycle of this target was.
-    fn by(target: u8, time: u64) -> Held {
-        Held {
-            since: Some(time),
-            target,
-            dq: true,
-            cle: true,
-            ale: true,
-            enable: true,
-        }
-    }
-
-    // How long it was held until a line changed now, if it was.
-    fn until(self, is_held: bool, timing: EdgeTiming, edge: Edge, time: u64) -> Option<Distance> {
-        if is_held {
-            between(timing, edge, Since::WeRise, self.since, Some(time))
-        } else {
-            None
-        }
-    }
-}
-
-// Which lines change at a moment.
-#[derive(Clone, Copy)]
-struct Changes {
-    dq: bool,
-    cle: bool,
-    ale: bool,
-}
-
-impl Moment {
-    fn before(&self, role: Role) -> Level {
-        self.before.level(role)
-    }
-
-    fn after(&self, role: Role) -> Level {
-        self.after.level(role)
-    }
-
-    // The line had a level and gets another one.
-    fn changes(&self, role: Role) -> bool {
-        self.given.has(role) && differs(self.before(role), self.after(role))
-    }
-
-    fn rises(&self, role: Role) -> bool {
-        rises(self.before(role), self.after(role))
-    }
-
-    fn falls(&self, role: Role) -> bool {
-        falls(self.before(role), self.after(role))
-    }
-
-    // A bit of DQ changes.
-    fn changes_data(&self) -> bool {
-        let mut is_changed = false;
-        for bit in 0..8u8 {
-            is_changed = is_changed || self.changes(Role::Dq(bit));
-        }
-        is_changed
-    }
-
-    fn find_changes(&self) -> Changes {
-        Changes {
-            dq: self.changes_data(),
-            cle: self.changes(Role::Cle),
-            ale: self.changes(Role::Ale),
-        }
-    }
-
-    // A line after it.
-    fn line(&self, line: Line, role: Role) -> Line {
-        line.after(
-            self.time,
-            self.given.has(role),
-            self.before(role),
-            self.after(role),
-        )
-    }
-}
-
 impl EdgeWatch {
     /// Nothing has been seen.
-    pub fn new() -> EdgeWatch {
+    pub fn new() -> EdgeWatch
+        ensures { result ≡ watch_begun }
+    {
         EdgeWatch {
             we: Line::new(),
             re: Line::new(),
@@ -397,7 +88,9 @@ impl EdgeWatch {
     }
 
     // What is known of a target.
-    fn target(&self, ce: u8) -> TargetEdges {
+    fn target(&self, ce: u8) -> TargetEdges
+        ensures { result ≡ target_at self.now.targets ce }
+    {
         match self.targets.get(usize::from(ce)) {
             Some(target) => *target,
             None => TargetEdges::new(),
@@ -405,103 +98,97 @@ impl EdgeWatch {
     }
 
     // This is known of a target from here on.
-    fn set_target(&mut self, ce: u8, target: TargetEdges) {
-        if let Some(kept) = self.targets.get_mut(usize::from(ce)) {
-            *kept = target;
+    fn set_target(&mut self, ce: u8, target: TargetEdges)
+        ensures { self.new ≡ with_target self.old ce target }
+    {
+        let place = usize::from(ce);
+        if place < TARGETS {
+            self.targets[place] = target;
         }
     }
 
-    // What a cycle that is written ends beside pauses: the pulse of WE#, its high time before, and setups.
-    fn judge_write<A: Allocator>(
-        &self,
-        judge: &mut EdgeJudge<A>,
-        target: &TargetEdges,
-        strobed: Strobed,
-    ) -> Result<(), AllocError> {
+    // What a cycle that is written ends beside pauses: the high time of WE# before it, its pulse, and setups.
+    fn write_distances(&self, target: &TargetEdges, strobed: Strobed) -> [Option<Distance>; 6]
+        ensures { result ≡ write_distances self.now target.now strobed }
+    {
         let Strobed { fell, rose, .. } = strobed;
         let rise = Edge::WeRises;
         let end = Some(rose);
-        let high = (EdgeTiming::WriteHigh, Edge::WeFalls, Since::Rise);
-        judge.take(between(high.0, high.1, high.2, target.we_rose, fell))?;
-        judge.take(between(EdgeTiming::WritePulse, rise, Since::Fall, fell, end))?;
-        judge.take(between(EdgeTiming::DataSetup, rise, Since::DqChange, self.dq, end))?;
-        let (cle, ale) = (self.cle.changed, self.ale.changed);
-        judge.take(between(EdgeTiming::CleSetup, rise, Since::CleChange, cle, end))?;
-        judge.take(between(EdgeTiming::AleSetup, rise, Since::AleChange, ale, end))?;
-        let enable = target.enable.changed;
-        judge.take(between(
-            EdgeTiming::EnableSetup,
-            rise,
-            Since::EnableChange,
-            enable,
-            end,
-        ))
+        let (dq, cle, ale) = (self.dq, self.cle.changed, self.ale.changed);
+        let (high, enable) = (target.we_rose, target.enable.changed);
+        [
+            between(
+                EdgeTiming::WriteHigh,
+                Edge::WeFalls,
+                Since::Rise,
+                high,
+                fell,
+            ),
+            between(EdgeTiming::WritePulse, rise, Since::Fall, fell, end),
+            between(EdgeTiming::DataSetup, rise, Since::DqChange, dq, end),
+            between(EdgeTiming::CleSetup, rise, Since::CleChange, cle, end),
+            between(EdgeTiming::AleSetup, rise, Since::AleChange, ale, end),
+            between(
+                EdgeTiming::EnableSetup,
+                rise,
+                Since::EnableChange,
+                enable,
+                end,
+            ),
+        ]
     }
 
-    // The fall of a latch before a read, if the chip saw it.
-    fn latch_fall(target: &TargetEdges, latch: Line) -> Option<u64> {
-        if target.was_enabled_at(latch.fell) {
-            latch.fell
-        } else {
-            None
-        }
-    }
-
-    // What an output ends beside pauses: the pulse of RE#, its high time before, and the times since the latches fell.
-    fn judge_read<A: Allocator>(
-        &self,
-        judge: &mut EdgeJudge<A>,
-        target: &TargetEdges,
-        strobed: Strobed,
-    ) -> Result<(), AllocError> {
+    // What an output ends beside pauses: the high time of RE# before it, the times since the latches fell, and its pulse.
+    fn read_distances(&self, target: &TargetEdges, strobed: Strobed) -> [Option<Distance>; 4]
+        ensures { result ≡ read_distances self.now target.now strobed }
+    {
         let Strobed { fell, rose, .. } = strobed;
         let fall = Edge::ReFalls;
-        judge.take(between(
-            EdgeTiming::ReadHigh,
-            fall,
-            Since::Rise,
-            target.re_rose,
-            fell,
-        ))?;
-        let cle = EdgeWatch::latch_fall(target, self.cle);
-        judge.take(between(EdgeTiming::CleToRead, fall, Since::CleFall, cle, fell))?;
-        let ale = EdgeWatch::latch_fall(target, self.ale);
-        judge.take(between(EdgeTiming::AleToRead, fall, Since::AleFall, ale, fell))?;
-        let end = Some(rose);
-        judge.take(between(EdgeTiming::ReadPulse, Edge::ReRises, Since::Fall, fell, end))
+        let (cle, ale) = (target.latch_fall(self.cle), target.latch_fall(self.ale));
+        [
+            between(
+                EdgeTiming::ReadHigh,
+                fall,
+                Since::Rise,
+                target.re_rose,
+                fell,
+            ),
+            between(EdgeTiming::CleToRead, fall, Since::CleFall, cle, fell),
+            between(EdgeTiming::AleToRead, fall, Since::AleFall, ale, fell),
+            between(
+                EdgeTiming::ReadPulse,
+                Edge::ReRises,
+                Since::Fall,
+                fell,
+                Some(rose),
+            ),
+        ]
     }
 
-    // What a cycle ends.
+    // Judges what a cycle ends.
     fn judge_cycle<A: Allocator>(
         &self,
         judge: &mut EdgeJudge<A>,
         strobed: Strobed,
     ) -> Result<(), AllocError>
         requires { AreBounded judge.old.ruler.times.shown }
-        ensures { OnOk result (judge.new.ruler ≡ judge.old.ruler) }
+        ensures { OnOk result (IsJudging judge.old judge.new (cycle_distances judge.old.ruler.times.shown judge.old.ruler.one_lun self.now strobed)) }
     {
         let target = self.target(strobed.cycle.ce);
         match strobed.cycle.kind {
-            Kind::Dout => self.judge_read(judge, &target, strobed)?,
-            Kind::Cmd | Kind::Adr | Kind::Din => self.judge_write(judge, &target, strobed)?,
+            Kind::Dout => judge.take_all(&self.read_distances(&target, strobed))?,
+            Kind::Cmd | Kind::Adr | Kind::Din => {
+                judge.take_all(&self.write_distances(&target, strobed))?;
+            }
         }
-        let timings = judge.ruler.times.shown;
-        let one_lun = judge.ruler.one_lun;
-        judge.take(target.cycle_pause(timings, strobed))?;
-        judge.take(target.busy_pause(timings, strobed))?;
-        judge.take(target.ready_pause(timings, one_lun, strobed))
+        let ruler = judge.ruler;
+        judge.take_all(&strobed.pauses(ruler.times.shown, ruler.one_lun, target.clock))
     }
 
-    // Goes on by a cycle.
-    fn take_cycle<A: Allocator>(
-        &mut self,
-        judge: &mut EdgeJudge<A>,
-        strobed: Strobed,
-    ) -> Result<(), AllocError>
-        requires { AreBounded judge.old.ruler.times.shown }
-        ensures { OnOk result (judge.new.ruler ≡ judge.old.ruler) }
+    // Once a cycle has come.
+    fn go_on_by(&mut self, strobed: Strobed)
+        ensures { self.new ≡ after_cycle self.old strobed }
     {
-        self.judge_cycle(judge, strobed)?;
         let ce = strobed.cycle.ce;
         let target = self.target(ce).after(strobed);
         self.set_target(ce, target);
@@ -509,7 +196,6 @@ impl EdgeWatch {
             Kind::Dout => {}
             Kind::Cmd | Kind::Adr | Kind::Din => self.held = Held::by(ce, strobed.rose),
         }
-        Ok(())
     }
 
     // Goes on by what is seen of a strobe.
@@ -521,94 +207,112 @@ impl EdgeWatch {
         rose: u64,
     ) -> Result<(), AllocError>
         requires { AreBounded judge.old.ruler.times.shown }
-        ensures { OnOk result (judge.new.ruler ≡ judge.old.ruler) }
+        ensures watch { OnOk result (self.new ≡ (seen_step judge.old.ruler.times.shown judge.old.ruler.one_lun seen fell rose self.old).watch) }
+        ensures told { OnOk result (IsJudging judge.old judge.new (seen_step judge.old.ruler.times.shown judge.old.ruler.one_lun seen fell rose self.old).distances) }
     {
         match seen {
             Seen::Nothing | Seen::Unselected => Ok(()),
-            Seen::Sampled(cycle) => self.take_cycle(judge, Strobed { cycle, fell, rose }),
+            Seen::Sampled(cycle) => {
+                let strobed = Strobed { cycle, fell, rose };
+                self.judge_cycle(judge, strobed)?;
+                self.go_on_by(strobed);
+                Ok(())
+            }
         }
+    }
+
+    // What is seen of the strobes.
+    fn look(&self, targets: u8, moment: &Moment) -> Result<(Seen, Seen), BusFault>
+        requires few { targets ≤ 4 }
+        ensures { result ≡ looked targets moment.now self.now }
+    {
+        let (before, after) = (&moment.before, &moment.after);
+        let written = seen_of(targets, Strobe::Write, self.we_driven, before, after)?;
+        let read = seen_of(targets, Strobe::Read, self.re_driven, before, after)?;
+        Ok((written, read))
     }
 
     // Goes on by what the strobes show.
     fn take_strobes<A: Allocator>(
         &mut self,
         judge: &mut EdgeJudge<A>,
-        targets: u8,
-        moment: &Moment,
-    ) -> Result<(), WatchStop>
-        requires few { targets ≤ 4 }
-        requires bounded { AreBounded judge.old.ruler.times.shown }
-        ensures { OnOk result (judge.new.ruler ≡ judge.old.ruler) }
+        written: Seen,
+        read: Seen,
+        time: u64,
+    ) -> Result<(), AllocError>
+        requires { AreBounded judge.old.ruler.times.shown }
+        ensures watch { OnOk result (self.new ≡ (strobes_step judge.old.ruler.times.shown judge.old.ruler.one_lun written read time self.old).watch) }
+        ensures told { OnOk result (IsJudging judge.old judge.new (strobes_step judge.old.ruler.times.shown judge.old.ruler.one_lun written read time self.old).distances) }
     {
-        let (before, after) = (&moment.before, &moment.after);
-        let written = match seen_of(targets, Strobe::Write, self.we_driven, before, after) {
-            Ok(seen) => seen,
-            Err(fault) => return Err(WatchStop::Bus(fault)),
-        };
-        let read = match seen_of(targets, Strobe::Read, self.re_driven, before, after) {
-            Ok(seen) => seen,
-            Err(fault) => return Err(WatchStop::Bus(fault)),
-        };
-        self.take_seen(judge, written, self.we.fell, moment.time)?;
-        self.take_seen(judge, read, self.re.fell, moment.time)?;
-        Ok(())
+        let read_fell = self.re.fell;
+        self.take_seen(judge, written, self.we.fell, time)?;
+        self.take_seen(judge, read, read_fell, time)
     }
 
-    // Judges how long DQ, CLE and ALE were held.
+    // Goes on by DQ, CLE and ALE.
     fn take_holds<A: Allocator>(
         &mut self,
         judge: &mut EdgeJudge<A>,
         moment: &Moment,
     ) -> Result<(), AllocError>
-        ensures { OnOk result (judge.new.ruler ≡ judge.old.ruler) }
+        ensures watch { OnOk result (self.new ≡ after_holds self.old moment.now) }
+        ensures told { OnOk result (IsJudging judge.old judge.new (hold_distances self.old.held moment.now)) }
     {
-        let changes = moment.find_changes();
-        let held = self.held;
-        let time = moment.time;
-        let dq = held.dq && changes.dq;
-        judge.take(held.until(dq, EdgeTiming::DataHold, Edge::DqChanges, time))?;
-        let cle = held.cle && changes.cle;
-        judge.take(held.until(cle, EdgeTiming::CleHold, Edge::CleChanges, time))?;
-        let ale = held.ale && changes.ale;
-        judge.take(held.until(ale, EdgeTiming::AleHold, Edge::AleChanges, time))?;
-        self.held.dq = held.dq && !changes.dq;
-        self.held.cle = held.cle && !changes.cle;
-        self.held.ale = held.ale && !changes.ale;
-        if changes.dq {
-            self.dq = Some(time);
+        judge.take_all(&self.held.distances(moment))?;
+        self.held = self.held.after(moment);
+        if moment.changes_data() {
+            self.dq = Some(moment.time);
         }
         Ok(())
     }
 
-    // Judges the CE# of a target.
-    fn take_enable<A: Allocator>(
-        &mut self,
-        judge: &mut EdgeJudge<A>,
-        moment: &Moment,
-        ce: u8,
-    ) -> Result<(), AllocError>
-        ensures { OnOk result (judge.new.ruler ≡ judge.old.ruler) }
+    // The last cycle that was written is let go by the CE# of its target.
+    fn lets_go(&self, moment: &Moment, ce: u8) -> bool
+        ensures { result ≡ lets_go self.now.held moment.now ce }
     {
-        let role = Role::Enable(ce);
+        self.held.enable && self.held.target == ce && moment.rises(Role::Enable(ce))
+    }
+
+    // What the CE# of a target ends.
+    fn enable_distances(&self, moment: &Moment, ce: u8) -> [Option<Distance>; 2]
+        ensures { result ≡ enable_distances self.now moment.now ce }
+    {
+        let end = Some(moment.time);
+        let high = if moment.falls(Role::Enable(ce)) {
+            let rose = self.target(ce).enable.rose;
+            between(
+                EdgeTiming::EnableHigh,
+                Edge::EnableFalls,
+                Since::Rise,
+                rose,
+                end,
+            )
+        } else {
+            None
+        };
+        let goes = self.lets_go(moment, ce);
+        let rise = Edge::EnableRises;
+        [
+            high,
+            self.held
+                .until(goes, EdgeTiming::EnableHold, rise, moment.time),
+        ]
+    }
+
+    // Once the CE# of a target has changed.
+    fn note_enable(&mut self, moment: &Moment, ce: u8)
+        ensures { self.new ≡ after_enable self.old moment.now ce }
+    {
         let target = self.target(ce);
-        let time = moment.time;
-        if moment.falls(role) {
-            let rose = target.enable.rose;
-            let fall = Edge::EnableFalls;
-            judge.take(between(EdgeTiming::EnableHigh, fall, Since::Rise, rose, Some(time)))?;
-        }
-        if self.held.enable && self.held.target == ce && moment.rises(role) {
-            let rise = Edge::EnableRises;
-            judge.take(self.held.until(true, EdgeTiming::EnableHold, rise, time))?;
-            self.held.enable = false;
-        }
-        let enable = moment.line(target.enable, role);
+        let enable = moment.line(target.enable, Role::Enable(ce));
+        self.held.enable = self.held.enable && !self.lets_go(moment, ce);
         self.set_target(ce, TargetEdges { enable, ..target });
-        Ok(())
     }
 
-    // Notes the ready of a target.
-    fn take_ready(&mut self, moment: &Moment, ce: u8) {
+    // Once its R/B# has risen.
+    fn note_ready(&mut self, moment: &Moment, ce: u8)
+        ensures { self.new ≡ after_ready self.old moment.now ce }
+    {
         if moment.rises(Role::ReadyBusy(ce)) {
             let target = self.target(ce);
             let clock = target.clock.ready(Some(moment.time));
@@ -616,24 +320,31 @@ impl EdgeWatch {
         }
     }
 
-    // Goes on by the lines of the targets.
+    // Goes on by CE# and R/B# of so many targets from this one on.
     fn take_targets<A: Allocator>(
         &mut self,
         judge: &mut EdgeJudge<A>,
-        targets: u8,
         moment: &Moment,
+        count: u8,
+        ce: u8,
     ) -> Result<(), AllocError>
-        ensures { OnOk result (judge.new.ruler ≡ judge.old.ruler) }
+        requires few { ce + count ≤ 4 }
+        ensures watch { OnOk result (self.new ≡ (targets_step moment.now count ce self.old).watch) }
+        ensures told { OnOk result (IsJudging judge.old judge.new (targets_step moment.now count ce self.old).distances) }
     {
-        for ce in 0..targets {
-            self.take_enable(judge, moment, ce)?;
-            self.take_ready(moment, ce);
+        if count == 0 {
+            return Ok(());
         }
-        Ok(())
+        judge.take_all(&self.enable_distances(moment, ce))?;
+        self.note_enable(moment, ce);
+        self.note_ready(moment, ce);
+        self.take_targets(judge, moment, count - 1, ce + 1)
     }
 
     // Notes the edges of the strobes and of the latches.
-    fn take_lines(&mut self, moment: &Moment) {
+    fn note_lines(&mut self, moment: &Moment)
+        ensures { self.new ≡ after_lines self.old moment.now }
+    {
         self.we_driven = self.we_driven || is_known(moment.after(Role::We));
         self.re_driven = self.re_driven || is_known(moment.after(Role::Re));
         self.we = moment.line(self.we, Role::We);
@@ -652,12 +363,17 @@ impl EdgeWatch {
     ) -> Result<(), WatchStop>
         requires few { targets ≤ 4 }
         requires bounded { AreBounded judge.old.ruler.times.shown }
-        ensures { OnOk result (judge.new.ruler ≡ judge.old.ruler) }
+        ensures ok { OnOk result (IsStepped judge.old judge.new targets moment.now self.old self.new) }
+        ensures bus { (fault : BusFault) → result ≡ Err (WatchStop.Bus fault) → moment_step judge.old.ruler.times.shown judge.old.ruler.one_lun targets moment.now self.old ≡ Err fault }
     {
-        self.take_strobes(judge, targets, moment)?;
+        let (written, read) = match self.look(targets, moment) {
+            Ok(seen) => seen,
+            Err(fault) => return Err(WatchStop::Bus(fault)),
+        };
+        self.take_strobes(judge, written, read, moment.time)?;
         self.take_holds(judge, moment)?;
-        self.take_targets(judge, targets, moment)?;
-        self.take_lines(moment);
+        self.take_targets(judge, moment, targets, 0)?;
+        self.note_lines(moment);
         Ok(())
     }
 }

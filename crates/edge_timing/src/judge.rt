@@ -1,4 +1,6 @@
 //! What comes too soon, and how near the others come.
+ghost use Rattle.std.specs.Prelude.{◌≡◌, false, [], ◌∷◌, OnOk};
+ghost use Rattle.edge_timing.specs.Judged.{violation_of, IsJudging};
 
 use crate::distance::Distance;
 use crate::edge::Edge;
@@ -113,11 +115,9 @@ impl<A: Allocator> EdgeJudge<A> {
         }
     }
 
-    /// Judges a distance, if there is one.
-    pub fn take(&mut self, distance: Option<Distance>) -> Result<(), AllocError>
-        ensures told { OnOk result (self.new.told.items ≡ self.old.told.items ++ short_of self.old.ruler distance) }
-        ensures ruler { OnOk result (self.new.ruler ≡ self.old.ruler) }
-        ensures judged { OnOk result (self.new.has_judged ≡ (self.old.has_judged || is_some distance)) }
+    // Judges a distance, if there is one.
+    fn take(&mut self, distance: Option<Distance>) -> Result<(), AllocError>
+        ensures { OnOk result (IsJudging self.old self.new (distance ∷ [])) }
     {
         let Some(distance) = distance else {
             return Ok(());
@@ -127,6 +127,16 @@ impl<A: Allocator> EdgeJudge<A> {
         self.note(found);
         if found.seen.saturating_add(self.ruler.slack) < found.wanted {
             self.told.push(found)?;
+        }
+        Ok(())
+    }
+
+    /// Judges these distances, those of them that there are.
+    pub(crate) fn take_all(&mut self, distances: &[Option<Distance>]) -> Result<(), AllocError>
+        ensures { OnOk result (IsJudging self.old self.new distances.now) }
+    {
+        for distance in distances {
+            self.take(*distance)?;
         }
         Ok(())
     }

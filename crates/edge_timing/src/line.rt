@@ -1,4 +1,6 @@
 //! One line of a bus.
+ghost use Rattle.std.specs.Prelude.{◌≡◌};
+ghost use Rattle.edge_timing.specs.Lines.{level_number, differs, falls, rises, at_if, line_begun, line_after};
 
 use vcd_text::Level;
 

@@ -1,5 +1,4 @@
 //! What a time begins with.
-ghost use Rattle.std.specs.Prelude.{◌≡◌};
 
 /// What a time begins with.
 #[derive(Clone, Copy, Debug, PartialEq, Eq)]

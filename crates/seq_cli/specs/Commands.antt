@@ -18,6 +18,7 @@ use Rattle.trace_commands.specs.declared.recording_fault.RecordingFault.{Recordi
 use Rattle.trace_commands.specs.Recordings.{fault_line}
 use Rattle.trace_commands.specs.Checks.{TraceIsRefused, IsPassed, CheckRefuses, CheckLeaves}
 use Rattle.timing_commands.specs.Times.{IsKept, TimesRefuse}
+use Rattle.edge_commands.specs.Edges.{AreEdgesJudged, EdgesTell}
 use Rattle.operation_commands.specs.Ops.{CanBeListed, IsNoTrace}
 use Rattle.data_commands.specs.declared.data_fault.DataFault.{DataFault}
 use Rattle.data_commands.specs.Checked.{InputIsRefused, AllAgrees, DataRefuses, DataDiffer}
@@ -32,7 +33,7 @@ use Rattle.trace_commands.specs.VendorChecks.{IsVendorPassed, VendorCheckRefuses
 use Rattle.seq_run.specs.Runs.{IsRunDone, RunIsRefused, RunMayLeave}
 use Rattle.run_once.specs.Once.{IsProgramRun, ProgramMayBeRefused}
 use Rattle.seq_cli.specs.declared.command.Command.{Command}
-use Rattle.seq_cli.specs.declared.command.Command.TheVariants.{Assemble, AssembleFor, Verify, Lint, Explain, Once, Run, Capture, PrintCapture, CaptureVendor, PrintCaptureVendor, Check, CheckTimes, CheckVendor, CheckData, WriteImage, ListOperations, Draw, DrawVendor, Disassemble, MakePage, TakePage, ShowPage, Upgrade}
+use Rattle.seq_cli.specs.declared.command.Command.TheVariants.{Assemble, AssembleFor, Verify, Lint, Explain, Once, Run, Capture, PrintCapture, CaptureVendor, PrintCaptureVendor, Check, CheckTimes, CheckVendor, CheckData, Timing, WriteImage, ListOperations, Draw, DrawVendor, Disassemble, MakePage, TakePage, ShowPage, Upgrade}
 
 -- a command ends as a lint does
 abbrev pub ending_of : LintEnding → Ending
@@ -56,6 +57,7 @@ IsDone (Check request) input files later printed = IsPassed files later request 
 IsDone (CheckVendor request) input files later printed = IsVendorPassed files later request true printed
 IsDone (CheckTimes request) input files later printed = IsKept files request true printed × (later ≡ files)
 IsDone (CheckData request) input files later printed = AllAgrees files request true printed × (later ≡ files)
+IsDone (Timing request) input files later printed = AreEdgesJudged files request × (later ≡ files) × (printed ≡ codes "kept\n")
 IsDone (WriteImage request) input files later printed = (assumed : List NotShown) × IsDieWritten files later request assumed × (printed ≡ done_text assumed)
 IsDone (ListOperations request) input files later printed = CanBeListed files request × (later ≡ files)
 IsDone (Draw request) input files later printed = IsDrawn files later request × (printed ≡ codes "ok\n")
@@ -100,6 +102,7 @@ MayRefuse (CheckTimes request) input files later refusal printed =
     Tells (PageIsRefused files request.check.page.now) refusal × (later ≡ files) × (printed ≡ line_of refusal)
 MayRefuse (CheckData request) input files later refusal printed =
     Tells (InputIsRefused files request.check request.images.now) refusal × (later ≡ files) × (printed ≡ line_of refusal)
+MayRefuse (Timing request) input files later refusal printed = Tells (PageIsRefused files request.page.now) refusal × (later ≡ files) × (printed ≡ line_of refusal)
 MayRefuse (WriteImage request) input files later refusal printed = Tells (ImageRefuses files request) refusal × (later ≡ files) × (printed ≡ line_of refusal)
 MayRefuse (ListOperations request) input files later refusal printed =
     Tells (PageIsRefused files request.page.now) refusal × (later ≡ files) × (printed ≡ line_of refusal)
@@ -122,6 +125,7 @@ MayTell (Check request) files later fault printed = CheckRefuses files later req
 MayTell (CheckVendor request) files later fault printed = VendorCheckRefuses files later request fault printed
 MayTell (CheckTimes request) files later fault printed = TimesRefuse files request fault printed × (later ≡ files)
 MayTell (CheckData request) files later fault printed = DataRefuses files request fault printed × (later ≡ files)
+MayTell (Timing request) files later fault printed = EdgesTell files request fault printed × (later ≡ files)
 MayTell (WriteImage request) files later fault printed = ImageTells files request fault printed × (later ≡ files)
 MayTell (ListOperations request) files later fault printed = IsNoTrace files request.input.now fault × (later ≡ files) × (printed ≡ fault_line fault)
 MayTell (Draw request) files later fault printed =
@@ -152,6 +156,7 @@ MayLeave (Check request) files later = CheckLeaves files later request
 MayLeave (CheckVendor request) files later = VendorCheckLeaves files later request
 MayLeave (CheckTimes request) files later = later ≡ files
 MayLeave (CheckData request) files later = later ≡ files
+MayLeave (Timing request) files later = later ≡ files
 MayLeave (WriteImage request) files later = (later ≡ files) ⊎ ((assumed : List NotShown) × IsDieWritten files later request assumed)
 MayLeave (ListOperations request) files later = later ≡ files
 MayLeave (Draw request) files later = (later ≡ files) ⊎ IsDrawn files later request

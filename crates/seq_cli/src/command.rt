@@ -7,6 +7,7 @@ ghost use Rattle.data_commands.specs.declared.data_fault.DataFault.{DataFault};
 ghost use Rattle.seq_cli.specs.Commands.{ending_of, IsDone, MayFlag, MayRefuse, MayTell, MayDiffer, MayLeave};
 
 use data_commands::{DataEnding, DataRequest, ImageRequest, check_data, write_image};
+use edge_commands::{EdgeRequest, time_capture};
 use explain_commands::explain_file;
 use nand_geometry::Parts;
 use operation_commands::{OpsRequest, list_operations};
@@ -87,6 +88,8 @@ pub enum Command<'a> {
     CheckTimes(TimesRequest<'a>),
     /// The same, and whether its outputs give what its dies hold.
     CheckData(DataRequest<'a, 'a>),
+    /// To judge the edges of a capture.
+    Timing(EdgeRequest<'a>),
     /// To write what a die holds after a trace.
     WriteImage(ImageRequest<'a>),
     /// To list the operations of a trace.
@@ -208,6 +211,14 @@ impl<'a> Command<'a> {
                 [Some(check.page), timing_file_of(source), Some(check.input)],
                 one(None),
             ),
+            Command::Timing(request) => (
+                [
+                    Some(request.page),
+                    timing_file_of(request.source),
+                    Some(request.input),
+                ],
+                one(None),
+            ),
             // No image that is given is `-`, and nothing is written that could be one of them.
             Command::CheckData(DataRequest { check, .. }) => {
                 (both(check.page, check.input), one(None))
@@ -253,7 +264,7 @@ pub(crate) fn ending_of(lint: LintEnding) -> Ending
     }
 }
 
-/// Does a command, as its own function says: [`run_program`] of the input, [`run_watched`], or one of `page_commands`, `seq_commands`, `explain_commands`, `trace_commands`, `timing_commands`, `operation_commands` or `data_commands`. What is wrong with a file is said in
+/// Does a command, as its own function says: [`run_program`] of the input, [`run_watched`], or one of `page_commands`, `seq_commands`, `explain_commands`, `trace_commands`, `timing_commands`, `edge_commands`, `operation_commands` or `data_commands`. What is wrong with a file is said in
 /// words on the console's errors, and so is a fault of a file or a stream, or that there is no memory; its progress is told how far a check or a run has
 /// come. A run starts threads by the handle and takes the time by the clock.
 pub fn command_on<
@@ -347,6 +358,9 @@ pub fn command_on<
             DataEnding::Recording(check_times(alloc, files, console, request))
         }
         Command::CheckData(request) => check_data(alloc, files, console, request),
+        Command::Timing(request) => {
+            DataEnding::Recording(time_capture(alloc, files, console, request))
+        }
         Command::WriteImage(request) => {
             DataEnding::Recording(write_image(alloc, files, console, request))
         }

@@ -7,11 +7,12 @@ use crate::declared::{Declaration, with_all};
 use crate::mistake::{Mistake, PathMistake};
 use crate::named_command::NamedCommand;
 use crate::ops_reading::read_ops;
-use crate::times_reading::read_times;
+use crate::times_reading::{EdgeOptions, read_edge_options, read_times};
 use bus_capture::CaptureForm;
 use bus_signals::{Family, named, plain_of};
 use clap::{ArgMatches, Error};
 use data_commands::{GivenImage, ImageRequest};
+use edge_commands::EdgeRequest;
 use nand_geometry::Parts;
 use onfi_cycle::Lun;
 use seq_commands::{LintOutput, LintRequest, NoteRules};
@@ -38,6 +39,7 @@ enum Verb {
     Run,
     Capture,
     Check,
+    Timing,
     Image,
     Ops,
     Wave,
@@ -48,7 +50,7 @@ enum Verb {
 }
 
 // All of them.
-const VERBS: [Verb; 15] = [
+const VERBS: [Verb; 16] = [
     Verb::Assemble,
     Verb::Verify,
     Verb::Lint,
@@ -57,6 +59,7 @@ const VERBS: [Verb; 15] = [
     Verb::Run,
     Verb::Capture,
     Verb::Check,
+    Verb::Timing,
     Verb::Image,
     Verb::Ops,
     Verb::Wave,
@@ -78,6 +81,7 @@ impl Verb {
             Verb::Run => "run",
             Verb::Capture => "capture",
             Verb::Check => "check",
+            Verb::Timing => "timing",
             Verb::Image => "image",
             Verb::Ops => "ops",
             Verb::Wave => "wave",
@@ -108,6 +112,7 @@ impl Verb {
             Verb::Run => declarations::RUN,
             Verb::Capture => declarations::CAPTURE,
             Verb::Check => declarations::CHECK,
+            Verb::Timing => declarations::TIMING,
             Verb::Image => declarations::WRITE_IMAGE,
             Verb::Ops => declarations::OPS,
             Verb::Wave => declarations::DRAW_WAVE,
@@ -167,6 +172,7 @@ impl Verb {
             Verb::Run => Command::Run(read_run(matches)?),
             Verb::Capture => capture_with(read_capture(matches)?, matches.get_str("vendor")),
             Verb::Check => read_check_command(matches, images)?,
+            Verb::Timing => Command::Timing(read_edges(matches)?),
             Verb::Image => Command::WriteImage(read_image_request(matches)),
             Verb::Ops => read_ops(
                 matches,
@@ -335,6 +341,27 @@ fn form_of_capture(matches: &ArgMatches<'_>, input: &str) -> CaptureForm {
     } else {
         CaptureForm::Dump
     }
+}
+
+// What the edges of a capture are judged for.
+fn read_edges<'a>(matches: &ArgMatches<'a>) -> Result<EdgeRequest<'a>, Mistake<'a>> {
+    let input = find_word(matches, "IN");
+    let EdgeOptions {
+        source,
+        unit,
+        slack,
+    } = read_edge_options(matches)?;
+    Ok(EdgeRequest {
+        page: find_word(matches, "PAGE"),
+        targets: read_targets(find_word(matches, "TARGETS")),
+        input,
+        form: form_of_capture(matches, input),
+        mappings: read_mappings(matches)?,
+        source,
+        unit,
+        slack,
+        tells_all: matches.get_flag("all"),
+    })
 }
 
 // The time after which a strobe may change again.

@@ -380,6 +380,45 @@ pub(crate) const CHECK: Declaration = Declaration {
     ],
 };
 
+pub(crate) const TIMING: Declaration = Declaration {
+    about: "Judges the edges of a capture by a timing mode or a timing file, and prints `kept`",
+    example: "Example: onfiseq timing die.page 1 bus.vcd --timing 4 --all",
+    arguments: &[
+        PAGE_OF_EACH,
+        TARGETS,
+        Declared {
+            name: "IN",
+            help: "The capture, a value change dump or a CSV, as docs/use/CAPTURES.md has it",
+            ..REQUIRED
+        },
+        Declared {
+            name: "timing",
+            form: Form::Value("MODE|FILE"),
+            help: "The timing mode, 0 to 5, or a timing file; it has to be given",
+            ..REQUIRED
+        },
+        Declared {
+            name: "all",
+            help: "Prints a line for each edge that comes too soon, and says how near the capture comes to each time",
+            ..FLAG
+        },
+        Declared {
+            name: "unit",
+            form: Form::Value("UNIT"),
+            help: "What 1 of a time is, where the capture doesn't say it: 1, 10 or 100 of s, ms, us, ns, ps or fs, as in 1ns",
+            ..REQUIRED
+        },
+        Declared {
+            name: "slack",
+            form: Form::Value("N"),
+            help: "By how many units a distance may be short",
+            ..REQUIRED
+        },
+        MAP,
+        CSV,
+    ],
+};
+
 pub(crate) const WRITE_IMAGE: Declaration = Declaration {
     about: "Writes the image of what a die holds after a trace, and prints `ok`",
     example: "Example: onfiseq image die.page 1 bus.trace 0 0 after.image --on before.image",

@@ -35,6 +35,7 @@ impl<'a> NamedCommand<'a> {
             | Command::PrintCapture(_)
             | Command::CaptureVendor(_)
             | Command::PrintCaptureVendor(_)
+            | Command::Timing(_)
             | Command::WriteImage(_)
             | Command::ListOperations(_)
             | Command::Draw(_)

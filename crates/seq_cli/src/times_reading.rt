@@ -21,6 +21,8 @@ pub enum TimingMistake<'a> {
     Slack(&'a str),
     /// `--unit` and `--slack` are for `--timing`.
     NoTiming,
+    /// Edges are judged by a mode or by a timing file.
+    NoSource,
     /// A trace whose times are judged isn't written.
     Written,
 }
@@ -45,6 +47,9 @@ impl fmt::Display for TimingMistake<'_> {
                 Shown::line(word)
             ),
             TimingMistake::NoTiming => f.write_str("--unit and --slack go with --timing"),
+            TimingMistake::NoSource => f.write_str(
+                "`timing` wants --timing, a timing mode, 0 to 5, or a timing file",
+            ),
             TimingMistake::Written => f.write_str("--timing and --write don't go together"),
         }
     }
@@ -81,15 +86,12 @@ fn read_unit<'a>(given: Option<&'a str>) -> Result<u64, TimingMistake<'a>> {
     unit_of(word).ok_or(TimingMistake::Unit(word))
 }
 
-// The slack that is given, in femtoseconds.
-fn read_slack<'a>(given: Option<&'a str>, unit: u64) -> Result<u64, TimingMistake<'a>> {
+// The slack that is given, in units.
+fn read_slack<'a>(given: Option<&'a str>) -> Result<u64, TimingMistake<'a>> {
     let Some(word) = given else {
         return Ok(0);
     };
-    match u64::from_str_radix(word, 10) {
-        Ok(count) => Ok(count.saturating_mul(unit)),
-        Err(_) => Err(TimingMistake::Slack(word)),
-    }
+    u64::from_str_radix(word, 10).map_err(|_| TimingMistake::Slack(word))
 }
 
 // A mode is one digit; any other word is the path of a timing file.
@@ -122,6 +124,38 @@ pub(crate) fn read_times<'a>(
         check,
         source: source_of(word),
         unit,
-        slack: read_slack(slack, unit)?,
+        slack: read_slack(slack)?.saturating_mul(unit),
     }))
+}
+
+/// How the edges of a capture are judged.
+#[derive(Clone, Copy)]
+pub(crate) struct EdgeOptions<'a> {
+    pub(crate) source: TimingSource<'a>,
+    /// Where the capture doesn't say it.
+    pub(crate) unit: Option<u64>,
+    /// In units.
+    pub(crate) slack: u64,
+}
+
+// The unit that is given, if one is.
+fn read_unit_if<'a>(given: Option<&'a str>) -> Result<Option<u64>, TimingMistake<'a>> {
+    match given {
+        None => Ok(None),
+        Some(_) => Ok(Some(read_unit(given)?)),
+    }
+}
+
+/// How the edges of a capture are judged.
+pub(crate) fn read_edge_options<'a>(
+    matches: &ArgMatches<'a>,
+) -> Result<EdgeOptions<'a>, TimingMistake<'a>> {
+    let Some(word) = matches.get_str("timing") else {
+        return Err(TimingMistake::NoSource);
+    };
+    Ok(EdgeOptions {
+        source: source_of(word),
+        unit: read_unit_if(matches.get_str("unit"))?,
+        slack: read_slack(matches.get_str("slack"))?,
+    })
 }

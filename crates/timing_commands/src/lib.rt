@@ -13,6 +13,7 @@ mod times_request;
 mod timing_reading;
 
 pub use nanoseconds::{JsonNanoseconds, Nanoseconds};
+pub use telling::undeclared_mode;
 pub use times_checking::check_times;
 pub use times_request::{TimesRequest, TimingSource};
 pub use timing_reading::timing_file_at;

@@ -109,6 +109,19 @@ fn push_words<A: Allocator + Clone>(
     }
 }
 
+/// The number of the mode by which times are judged, where the page declares modes and not that one.
+pub fn undeclared_mode(source: TimingSource<'_>, modes: u16) -> Option<u8> {
+    let TimingSource::Mode(mode) = source else {
+        return None;
+    };
+    let number = mode.number();
+    if modes != 0 && modes >> number & 1 == 0 {
+        Some(number)
+    } else {
+        None
+    }
+}
+
 // Adds that the page doesn't declare the mode, where it declares others.
 fn push_mode<A: Allocator>(
     lines: &mut String<A>,
@@ -116,12 +129,9 @@ fn push_mode<A: Allocator>(
     request: TimesRequest<'_>,
     modes: u16,
 ) -> Result<(), AllocError> {
-    if let TimingSource::Mode(mode) = request.source {
-        let number = mode.number();
-        if modes != 0 && modes >> number & 1 == 0 {
-            let words = format!(in alloc; "the parameter page doesn't declare mode {number}")?;
-            push_message(lines, request.check.style, words.as_str())?;
-        }
+    if let Some(number) = undeclared_mode(request.source, modes) {
+        let words = format!(in alloc; "the parameter page doesn't declare mode {number}")?;
+        push_message(lines, request.check.style, words.as_str())?;
     }
     Ok(())
 }

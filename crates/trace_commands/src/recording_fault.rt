@@ -4,6 +4,7 @@ ghost use Rattle.std.specs.String.{string_bytes};
 ghost use Rattle.trace_commands.specs.Recordings.{code_of, number_in, fault_line};
 
 use bus_capture::CaptureFault;
+use edge_timing::EdgeFault;
 use onfi_cycle::Forbidden;
 use seq_inputs::{Place, Told, Words, push_refusal_line};
 use std::alloc::{AllocError, Allocator};
@@ -24,6 +25,8 @@ pub enum RecordingFault {
     Capture { fault: CaptureFault },
     /// Its times don't keep those of a chip, at this item, counted from 0.
     Time { fault: TimingFault, item: usize },
+    /// An edge of the capture comes too soon after another, at this time; or no two of its edges can be compared.
+    Edge { fault: EdgeFault, time: u64 },
     /// The timing file by which its times are judged has this fault, at this line, counted from 1.
     TimingFile { fault: TimingFileFault, line: usize },
 }
@@ -39,6 +42,7 @@ impl RecordingFault {
             RecordingFault::Vendor { fault, .. } => fault.code(),
             RecordingFault::Capture { fault } => fault.code(),
             RecordingFault::Time { fault, .. } => fault.code(),
+            RecordingFault::Edge { fault, .. } => fault.code(),
             RecordingFault::TimingFile { fault, .. } => fault.code(),
         }
     }
@@ -53,6 +57,7 @@ impl RecordingFault {
             | RecordingFault::TimingFile { line, .. } => line,
             RecordingFault::Item { item, .. } | RecordingFault::Time { item, .. } => item,
             RecordingFault::Capture { fault } => fault.number(),
+            RecordingFault::Edge { time, .. } => time as usize,
         }
     }
 
@@ -63,12 +68,20 @@ impl RecordingFault {
             RecordingFault::Time {
                 fault: TimingFault::NoTimes,
                 ..
+            }
+            | RecordingFault::Edge {
+                fault: EdgeFault::NoEdges,
+                ..
             } => None,
             RecordingFault::Item { item, .. } | RecordingFault::Time { item, .. } => {
                 Some(Place::Item(item))
             }
             RecordingFault::Capture {
                 fault: CaptureFault::Bus { time, .. },
+            }
+            | RecordingFault::Edge {
+                fault: EdgeFault::TooSoon(_),
+                time,
             } => Some(Place::Time(time)),
             RecordingFault::Capture {
                 fault: CaptureFault::File(_) | CaptureFault::Role(_),

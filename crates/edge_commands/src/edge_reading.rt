@@ -1,0 +1,45 @@
+//! By what the edges of a capture are judged.
+ghost use Rattle.std.specs.Prelude.{◌≡◌, IfOk, IfErr};
+ghost use Rattle.trace_commands.specs.Endings.{SaysOf};
+ghost use Rattle.timing_commands.specs.Times.{RefusesTiming};
+ghost use Rattle.edge_timing.specs.Times.{AreEdgeBounded};
+
+use bus_capture::CaptureForm;
+use edge_timing::{EdgeTimes, find_unit};
+use seq_files::Files;
+use std::alloc::Allocator;
+use timing_commands::{TimingSource, timing_file_at};
+use trace_commands::RecordingStop;
+use trace_timing::PageTimes;
+
+// A CSV tells its times in picoseconds.
+const PICOSECOND: u64 = 1_000;
+
+/// The least times that are asked for, for a chip whose page has these.
+pub(crate) fn edge_times_at<'p, A: Allocator + Clone, F: Files>(
+    alloc: A,
+    files: &mut F,
+    page: PageTimes,
+    source: TimingSource<'p>,
+) -> Result<EdgeTimes, RecordingStop<'p, A>>
+    ensures bounded { IfOk result (λ t. AreEdgeBounded t) }
+    ensures err { IfErr result (SaysOf (λ _. ⊥) (RefusesTiming (F.store files.old) source.entry)) }
+    ensures stays { F.store files.new ≡ F.store files.old }
+{
+    match source {
+        TimingSource::Mode(mode) => Ok(EdgeTimes::of_mode(mode, page)),
+        TimingSource::File(path) => {
+            let file = timing_file_at(alloc, files, path)?;
+            Ok(EdgeTimes::of_file(&file, page))
+        }
+    }
+}
+
+/// How many femtoseconds 1 of a time of a capture is: as the caller says, or the dump, or a picosecond in a CSV. None where nobody says it.
+pub(crate) fn unit_of(given: Option<u64>, form: CaptureForm, capture: &[u8]) -> Option<u64> {
+    match (given, form) {
+        (Some(unit), _) => Some(unit),
+        (None, CaptureForm::Dump) => find_unit(capture),
+        (None, CaptureForm::Table) => Some(PICOSECOND),
+    }
+}

@@ -1,0 +1,25 @@
+//! What the edges of a capture are judged for.
+
+use bus_capture::CaptureForm;
+use timing_commands::TimingSource;
+use trace_commands::Targets;
+
+/// What the edges of a capture are judged for. `-` as a path that is read is standard input.
+#[derive(Clone, Copy, Debug, PartialEq, Eq)]
+pub struct EdgeRequest<'a> {
+    /// The parameter page of each die.
+    pub page: &'a str,
+    pub targets: Targets,
+    /// The capture.
+    pub input: &'a str,
+    pub form: CaptureForm,
+    /// What signals are, where their names don't tell: `ROLE=NAME`, with commas between several.
+    pub mappings: Option<&'a str>,
+    pub source: TimingSource<'a>,
+    /// How many femtoseconds 1 of a time is, where the capture doesn't say it.
+    pub unit: Option<u64>,
+    /// By how many units a distance may be short.
+    pub slack: u64,
+    /// Whether each edge that comes too soon is told, and not the first alone.
+    pub tells_all: bool,
+}

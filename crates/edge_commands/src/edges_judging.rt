@@ -1,0 +1,234 @@
+//! The command that judges the edges of a capture.
+ghost use Rattle.std.specs.Prelude.{◌≡◌, ◌≤◌, ⊥, List, ℕ, IfOk, IfErr, codes};
+ghost use Rattle.std.specs.Io.KnownBytes.{Appends};
+ghost use Rattle.seq_inputs.specs.declared.refusal.Refusal.{Refusal};
+ghost use Rattle.seq_inputs.specs.Inputs.{PageIsRefused};
+ghost use Rattle.seq_inputs.specs.Stops.{Tells};
+ghost use Rattle.seq_inputs.specs.Refusals.{line_of};
+ghost use Rattle.trace_commands.specs.declared.recording_fault.RecordingFault.{RecordingFault};
+ghost use Rattle.trace_commands.specs.Endings.{SaysOf};
+ghost use Rattle.trace_timing.specs.Wanted.{AreBounded};
+ghost use Rattle.edge_commands.specs.Edges.{fault_of, late_lines, AreEdgesJudged, AreJudgedIn, EdgesRefuse, EdgesTell, IsNotJudged, IsNotJudgedIn, MayNotBeJudged};
+
+use crate::edge_reading::{edge_times_at, unit_of};
+use crate::edge_request::EdgeRequest;
+use crate::edge_telling::{fault_of, late_text, say_edges};
+use bus_capture::{CaptureRefusal, Setup};
+use edge_timing::{
+    EdgeFault, EdgeJudge, EdgeRuler, EdgeTimes, EdgeViolation, Recorded, judge_edges,
+};
+use nand_geometry::Geometry;
+use seq_files::Files;
+use seq_inputs::{
+    Console, Exit, Stop, Style, Words, end_without_memory, finish, geometry_in, read_file,
+};
+use std::alloc::Allocator;
+use std::io::Write;
+use trace_commands::{
+    Ending, RecordingFault, RecordingStop, end_stopped, mappings_of, see_capture,
+};
+use trace_timing::PageTimes;
+
+// The edges of a capture, judged, and the timing modes that the page declares.
+#[derive(Drop)]
+struct JudgedEdges<A: Allocator> {
+    judge: EdgeJudge<A>,
+    modes: u16,
+}
+
+// Why no edges of a capture are judged, for this reason.
+fn not_judged<'p, A: Allocator>(alloc: A, path: &'p str, why: &str) -> RecordingStop<'p, A>
+    ensures { IsNotJudged result }
+{
+    let fault = EdgeFault::NoEdges;
+    RecordingStop::Faulty {
+        fault: RecordingFault::Edge { fault, time: 0 },
+        words: Words::at(path, None, format!(in alloc; "{why} ({})", fault.code())),
+    }
+}
+
+const NO_UNIT: &str = "the dump doesn't say what 1 of a time is: --unit says it, as in 1ns";
+
+const OF_MODEL: &str =
+    "the dump is one of `onfiseq wave`, whose times are numbers of items: nothing of it is judged";
+
+const NO_EDGES: &str = "no two edges of the capture can be compared";
+
+// Judges the edges of a capture that shows a trace.
+fn judge_capture<'p, A: Allocator + Clone>(
+    alloc: A,
+    path: &'p str,
+    ruler: EdgeRuler,
+    setup: &Setup<'_>,
+    capture: &[u8],
+) -> Result<EdgeJudge<A>, RecordingStop<'p, A>>
+    requires few { setup.now.targets ≤ 4 }
+    requires bounded { AreBounded ruler.times.shown }
+    ensures err { IfErr result MayNotBeJudged }
+{
+    let mut judge = EdgeJudge::new(alloc.clone()?, ruler);
+    match judge_edges(alloc.clone()?, &mut judge, setup, capture) {
+        Ok(Recorded::Bus) if judge.has_judged => Ok(judge),
+        Ok(Recorded::Bus) => Err(not_judged(alloc, path, NO_EDGES)),
+        Ok(Recorded::Model) => Err(not_judged(alloc, path, OF_MODEL)),
+        // A capture that shows a trace has no fault.
+        Err(CaptureRefusal::Fault(_) | CaptureRefusal::OutOfMemory) => {
+            Err(RecordingStop::Stop(Stop::OutOfMemory))
+        }
+    }
+}
+
+// Reads a capture, and judges its edges by these times.
+fn judge_file<'p, A: Allocator + Clone, F: Files>(
+    alloc: A,
+    files: &mut F,
+    request: EdgeRequest<'p>,
+    geometry: Geometry,
+    times: EdgeTimes,
+) -> Result<EdgeJudge<A>, RecordingStop<'p, A>>
+    requires bounded { AreBounded times.shown }
+    ensures ok { IfOk result (λ _. AreJudgedIn (F.store files.old) request.entry geometry) }
+    ensures err { IfErr result (SaysOf (λ _. ⊥) (IsNotJudgedIn (F.store files.old) request.entry geometry)) }
+    ensures stays { F.store files.new ≡ F.store files.old }
+{
+    let capture = read_file(alloc.clone()?, files, request.input)?;
+    let mappings = mappings_of(alloc.clone()?, request.mappings)?;
+    let setup = Setup {
+        form: request.form,
+        geometry,
+        targets: request.targets.count(),
+        mappings: mappings.as_slice(),
+        glitch: 0,
+    };
+    let _ = see_capture(alloc.clone()?, request.input, &setup, capture.as_slice())?;
+    let Some(unit) = unit_of(request.unit, request.form, capture.as_slice()) else {
+        return Err(not_judged(alloc, request.input, NO_UNIT));
+    };
+    let ruler = EdgeRuler {
+        times,
+        unit,
+        slack: request.slack.saturating_mul(unit),
+        one_lun: geometry.parts().luns == 1,
+    };
+    judge_capture(alloc, request.input, ruler, &setup, capture.as_slice())
+}
+
+// Reads a page, a timing file and a capture, and judges its edges.
+fn judge_at<'p, A: Allocator + Clone, F: Files>(
+    alloc: A,
+    files: &mut F,
+    request: EdgeRequest<'p>,
+) -> Result<JudgedEdges<A>, RecordingStop<'p, A>>
+    ensures ok { IfOk result (λ _. AreEdgesJudged (F.store files.old) request.entry) }
+    ensures err { IfErr result (SaysOf (PageIsRefused (F.store files.old) request.entry.page.now) (EdgesRefuse (F.store files.old) request.entry)) }
+    ensures stays { F.store files.new ≡ F.store files.old }
+{
+    let page = read_file(alloc.clone()?, files, request.page)?;
+    let geometry = geometry_in(alloc.clone()?, request.page, page.as_slice())?;
+    let page_times = PageTimes::read(page.as_slice());
+    let times = edge_times_at(alloc.clone()?, files, page_times, request.source)?;
+    let mut judge = judge_file(alloc, files, request, geometry, times)?;
+    if !request.tells_all {
+        judge.told.truncate(1);
+    }
+    Ok(JudgedEdges {
+        judge,
+        modes: page_times.modes,
+    })
+}
+
+// Prints the lines of edges that come too soon, of which this is the first, and says each in words.
+fn tell_late<A: Allocator + Clone, W: Write, E: Write, P>(
+    alloc: A,
+    console: &mut Console<W, E, P>,
+    request: EdgeRequest<'_>,
+    edges: &JudgedEdges<A>,
+    first: EdgeViolation,
+) -> Ending
+    ensures done { result ≡ Ending.Exit Exit.Done → ⊥ }
+    ensures flagged { result ≡ Ending.Flagged → ⊥ }
+    ensures refused { (refusal : Refusal) → result ≡ Ending.Exit (Exit.Refused refusal) → ⊥ }
+    ensures faulty { (fault : RecordingFault) → result ≡ Ending.Faulty fault → (fault ≡ fault_of first)
+        × Appends (W.contents console.old.output) (W.contents console.new.output) (late_lines edges.now.judge.told.items) }
+{
+    let late = edges.judge.told.as_slice();
+    let Ok(copy) = alloc.clone() else {
+        return Ending::Exit(end_without_memory(console));
+    };
+    let Ok(lines) = late_text(copy, late) else {
+        return Ending::Exit(end_without_memory(console));
+    };
+    match finish(console, lines.as_str()) {
+        Exit::Done => {
+            say_edges(
+                alloc,
+                &mut console.errors,
+                request,
+                &edges.judge,
+                edges.modes,
+            );
+            Ending::Faulty(fault_of(first))
+        }
+        exit => Ending::Exit(exit),
+    }
+}
+
+// Prints that the times are kept.
+fn tell_kept<A: Allocator + Clone, W: Write, E: Write, P>(
+    alloc: A,
+    console: &mut Console<W, E, P>,
+    request: EdgeRequest<'_>,
+    edges: &JudgedEdges<A>,
+) -> Ending
+    ensures done { result ≡ Ending.Exit Exit.Done → Appends (W.contents console.old.output) (W.contents console.new.output) (codes "kept\n") }
+    ensures flagged { result ≡ Ending.Flagged → ⊥ }
+    ensures refused { (refusal : Refusal) → result ≡ Ending.Exit (Exit.Refused refusal) → ⊥ }
+    ensures faulty { (fault : RecordingFault) → result ≡ Ending.Faulty fault → ⊥ }
+{
+    let exit = finish(console, "kept\n");
+    if matches!(exit, Exit::Done) {
+        say_edges(
+            alloc,
+            &mut console.errors,
+            request,
+            &edges.judge,
+            edges.modes,
+        );
+    }
+    Ending::Exit(exit)
+}
+
+/// Judges the edges of a capture of the bus of a channel: whether pulses, setups, holds and pauses keep the times of a timing mode or of a timing file. No file changes.
+///
+/// `Done`: `kept` is printed, and nothing comes too soon. `Faulty`: a line `refused NAME at N` is printed for the first edge that comes too soon, or for each of them, NAME being
+/// the code of its [`EdgeTiming`](edge_timing::EdgeTiming) and N its time in the unit of the capture; or T0, where no two edges can be compared; or a G fault of the
+/// capture, or a fault of the timing file. `Refused`: a P fault of the page. The page is read first, then the timing file, then the capture. On the console's errors stands
+/// each in words, and where all are told how near the capture comes to each time.
+pub fn time_capture<A: Allocator + Clone, F: Files, W: Write, E: Write, P>(
+    alloc: A,
+    files: &mut F,
+    console: &mut Console<W, E, P>,
+    request: EdgeRequest<'_>,
+) -> Ending
+    ensures done { result ≡ Ending.Exit Exit.Done → AreEdgesJudged (F.store files.old) request.entry
+        × Appends (W.contents console.old.output) (W.contents console.new.output) (codes "kept\n") }
+    ensures flagged { result ≡ Ending.Flagged → ⊥ }
+    ensures refused { (refusal : Refusal) → result ≡ Ending.Exit (Exit.Refused refusal)
+        → Tells (PageIsRefused (F.store files.old) request.entry.page.now) refusal
+        × Appends (W.contents console.old.output) (W.contents console.new.output) (line_of refusal) }
+    ensures faulty { (fault : RecordingFault) → result ≡ Ending.Faulty fault → (printed : List ℕ)
+        × EdgesTell (F.store files.old) request.entry fault printed
+        × Appends (W.contents console.old.output) (W.contents console.new.output) printed }
+    ensures stays { F.store files.new ≡ F.store files.old }
+{
+    let Ok(copy) = alloc.clone() else {
+        return Ending::Exit(end_without_memory(console));
+    };
+    match judge_at(copy, files, request) {
+        Ok(edges) => match edges.judge.told.as_slice() {
+            [] => tell_kept(alloc, console, request, &edges),
+            [first, ..] => tell_late(alloc, console, request, &edges, *first),
+        },
+        Err(stop) => end_stopped(alloc, console, Style::Plain, stop),
+    }
+}
