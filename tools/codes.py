@@ -20,6 +20,7 @@ ENUMS = (
     ("TraceFault", "crates/trace_text/src/refusal.rt", "the text of a trace", "the line, from 1"),
     ("Forbidden", "crates/onfi_cycle/src/forbidden.rt", "an item of a trace", "the item, from 0"),
     ("TimingFault", "crates/trace_timing/src/timing_fault.rt", "the times of a trace", "the item, from 0"),
+    ("EdgeFault", "crates/edge_timing/src/edge_fault.rt", "the edges of a capture, with T0 to T8 of a trace", "the time, in the unit of the capture"),
     ("TimingFileFault", "crates/trace_timing/src/file.rt", "a timing file", "the line, from 1"),
     ("DataFault", "crates/data_commands/src/data_fault.rt", "the data of a trace", "the item, from 0"),
     ("VendorFault", "crates/vendor_file/src/fault.rt", "a vendor file, of `check --vendor`", "the line, from 1"),
@@ -54,7 +55,7 @@ def read_enum(name, path):
     codes = {variant: code for variants, code in arms for variant in re.findall(r"::(\w+)", variants)}
     # A line of the bus without its signal has one code, told where a capture's faults are.
     of_all = re.search(r'CaptureFault::Role\(_\) => "(\w+)"', open(CAPTURES).read()) if name == "RoleFault" else None
-    return [(of_all.group(1) if of_all else codes[variant], said.replace('\\"', '"').replace("{0}", "ROLE")) for said, variant in words]
+    return [(of_all.group(1) if of_all else codes[variant], said.replace('\\"', '"').replace("{0}", "ROLE")) for said, variant in words if said != "{0}"]
 
 
 def read_notes():

@@ -16,14 +16,16 @@ use Rattle.trace_commands.specs.Recordings.{fault_line}
 use Rattle.trace_commands.specs.Targets.{count_of}
 use Rattle.timing_commands.specs.Times.{RefusesTiming}
 use Rattle.seq_inputs.specs.Stops.{RefusesNothing}
-use Rattle.edge_timing.specs.declared.edge_fault.EdgeFault.TheVariants.{NoEdges, TooSoon}
+use Rattle.trace_timing.specs.declared.timing_fault.TimingFault.TheVariants.{NoTimes}
+use Rattle.edge_timing.specs.declared.edge_fault.EdgeFault.TheVariants.{Pause}
+use Rattle.edge_timing.specs.Codes.{fault_of as fault_of_timing}
 use Rattle.edge_timing.specs.declared.judge.EdgeViolation.{EdgeViolation}
 use Rattle.edge_commands.specs.declared.edge_request.EdgeRequest.{EdgeRequest}
 
 -- ---- edges that come too soon
 
 abbrev pub fault_of : EdgeViolation → RecordingFault
-fault_of late = Edge (TooSoon late.timing) late.time
+fault_of late = Edge (fault_of_timing late.timing) late.time
 
 -- a line for each
 abbrev pub late_lines : List EdgeViolation → List ℕ
@@ -69,7 +71,7 @@ pub record IsNoCapture (files : Option Store) (request : EdgeRequest) (g : Parts
 
 -- or no two edges of it can be compared
 abbrev pub IsNotJudgedIn : Option Store → EdgeRequest → Parts → RecordingFault → Type 0
-IsNotJudgedIn files request g fault = (fault ≡ Edge NoEdges 0) ⊎ IsNoCapture files request g fault
+IsNotJudgedIn files request g fault = (fault ≡ Edge (Pause NoTimes) 0) ⊎ IsNoCapture files request g fault
 
 pub record IsNotJudgedAt (files : Option Store) (request : EdgeRequest) (fault : RecordingFault) : Type 0 where
   pub page : List ℕ
@@ -100,8 +102,8 @@ EdgesTell files request fault printed = (EdgesRefuse files request fault × (pri
 
 abbrev pub IsNotJudged : {A : Type 0} → RecordingStop A → Type 0
 IsNotJudged (ForAll stop) = ⊥
-IsNotJudged (Faulty fault words) = fault ≡ Edge NoEdges 0
+IsNotJudged (Faulty fault words) = fault ≡ Edge (Pause NoTimes) 0
 
 abbrev pub MayNotBeJudged : {A : Type 0} → RecordingStop A → Type 0
 MayNotBeJudged (ForAll stop) = RefusesNothing stop
-MayNotBeJudged (Faulty fault words) = fault ≡ Edge NoEdges 0
+MayNotBeJudged (Faulty fault words) = fault ≡ Edge (Pause NoTimes) 0

@@ -5,7 +5,7 @@ ghost use Rattle.edge_commands.specs.Edges.{fault_of, late_lines};
 
 use crate::edge_request::EdgeRequest;
 use crate::edge_words::{LateEdge, Margin};
-use edge_timing::{EdgeFault, EdgeJudge, EdgeTiming, EdgeViolation};
+use edge_timing::{EdgeJudge, EdgeTiming, EdgeViolation};
 use seq_inputs::{Style, Words, say_words};
 use std::alloc::{AllocError, Allocator};
 use std::io::Write;
@@ -20,7 +20,7 @@ pub(crate) fn fault_of(late: EdgeViolation) -> RecordingFault
     ensures { result ≡ fault_of late }
 {
     RecordingFault::Edge {
-        fault: EdgeFault::TooSoon(late.timing),
+        fault: late.timing.fault(),
         time: late.time,
     }
 }

@@ -26,7 +26,7 @@ impl fmt::Display for LateEdge {
             since.words(),
             timing.name(),
             Nanoseconds(wanted),
-            timing.code()
+            timing.fault().code()
         )
     }
 }

@@ -7,7 +7,8 @@ ghost use Rattle.seq_inputs.specs.Stops.{Tells};
 ghost use Rattle.seq_inputs.specs.Refusals.{line_of};
 ghost use Rattle.trace_commands.specs.declared.recording_fault.RecordingFault.{RecordingFault};
 ghost use Rattle.trace_commands.specs.Endings.{SaysOf};
-ghost use Rattle.trace_timing.specs.Wanted.{AreBounded};
+ghost use Rattle.edge_timing.specs.Times.{AreEdgeBounded};
+ghost use Rattle.edge_timing.specs.Judged.{MayJudge};
 ghost use Rattle.edge_commands.specs.Edges.{fault_of, late_lines, AreEdgesJudged, AreJudgedIn, EdgesRefuse, EdgesTell, IsNotJudged, IsNotJudgedIn, MayNotBeJudged};
 
 use crate::edge_reading::{edge_times_at, unit_of};
@@ -27,7 +28,7 @@ use std::io::Write;
 use trace_commands::{
     Ending, RecordingFault, RecordingStop, end_stopped, mappings_of, see_capture,
 };
-use trace_timing::PageTimes;
+use trace_timing::{PageTimes, TimingFault};
 
 // The edges of a capture, judged, and the timing modes that the page declares.
 #[derive(Drop)]
@@ -40,7 +41,7 @@ struct JudgedEdges<A: Allocator> {
 fn not_judged<'p, A: Allocator>(alloc: A, path: &'p str, why: &str) -> RecordingStop<'p, A>
     ensures { IsNotJudged result }
 {
-    let fault = EdgeFault::NoEdges;
+    let fault = EdgeFault::Pause(TimingFault::NoTimes);
     RecordingStop::Faulty {
         fault: RecordingFault::Edge { fault, time: 0 },
         words: Words::at(path, None, format!(in alloc; "{why} ({})", fault.code())),
@@ -62,8 +63,7 @@ fn judge_capture<'p, A: Allocator + Clone>(
     setup: &Setup<'_>,
     capture: &[u8],
 ) -> Result<EdgeJudge<A>, RecordingStop<'p, A>>
-    requires few { setup.now.targets ≤ 4 }
-    requires bounded { AreBounded ruler.times.shown }
+    requires judging { MayJudge setup.now.targets ruler }
     ensures err { IfErr result MayNotBeJudged }
 {
     let mut judge = EdgeJudge::new(alloc.clone()?, ruler);
@@ -86,7 +86,7 @@ fn judge_file<'p, A: Allocator + Clone, F: Files>(
     geometry: Geometry,
     times: EdgeTimes,
 ) -> Result<EdgeJudge<A>, RecordingStop<'p, A>>
-    requires bounded { AreBounded times.shown }
+    requires bounded { AreEdgeBounded times }
     ensures ok { IfOk result (λ _. AreJudgedIn (F.store files.old) request.entry geometry) }
     ensures err { IfErr result (SaysOf (λ _. ⊥) (IsNotJudgedIn (F.store files.old) request.entry geometry)) }
     ensures stays { F.store files.new ≡ F.store files.old }

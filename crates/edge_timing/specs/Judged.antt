@@ -1,9 +1,10 @@
 -- What comes too soon.
-use Rattle.std.specs.Prelude.{◌≡◌, ◌||◌, is_some, false, ℕ, ◌+◌, ◌-◌, ◌*◌, ◌^◌, min, nat_lt, Bool, if◌then◌else◌, List, [], ◌∷◌, ◌++◌, Option, Some, None}
+use Rattle.std.specs.Prelude.{◌≡◌, ◌≤◌, ◌||◌, is_some, false, ℕ, ◌+◌, ◌-◌, ◌*◌, ◌^◌, min, nat_lt, Bool, if◌then◌else◌, List, [], ◌∷◌, ◌++◌, Option, Some, None}
 use Rattle.edge_timing.specs.declared.distance.Distance.{Distance}
 use Rattle.edge_timing.specs.declared.judge.EdgeRuler.{EdgeRuler}
 use Rattle.edge_timing.specs.declared.judge.EdgeJudge.{EdgeJudge}
 use Rattle.edge_timing.specs.declared.judge.EdgeViolation.{EdgeViolation}
+use Rattle.trace_timing.specs.Wanted.{AreBounded}
 use Rattle.edge_timing.specs.Times.{least}
 
 -- how long an edge comes after another, in femtoseconds; what is more than 64 bits hold is told as the greatest that they hold
@@ -39,3 +40,8 @@ pub record IsJudging {A : Type 0} (before after : EdgeJudge A) (distances : List
   pub ruler : after.ruler ≡ before.ruler
   pub told : after.told.items ≡ before.told.items ++ shorts before.ruler distances
   pub has : after.has_judged ≡ (before.has_judged || is_any distances)
+
+-- edges of so many targets may be judged by this
+pub record MayJudge (targets : ℕ) (r : EdgeRuler) : Type 0 where
+  pub few : targets ≤ 4
+  pub bounded : AreBounded r.times.shown

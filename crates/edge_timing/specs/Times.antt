@@ -5,9 +5,22 @@ use Rattle.edge_timing.specs.declared.edge_timing.EdgeTiming.{EdgeTiming}
 use Rattle.edge_timing.specs.declared.edge_timing.EdgeTiming.TheVariants as timing
 use Rattle.edge_timing.specs.declared.edge_times.EdgeTimes.{EdgeTimes}
 
--- each of those that a trace shows too is below 2 ^ 62 femtoseconds
-abbrev pub AreEdgeBounded : EdgeTimes → Type 0
-AreEdgeBounded t = AreBounded t.shown
+-- each time is below 2 ^ 62 femtoseconds
+pub record AreEdgeBounded (t : EdgeTimes) : Type 0 where
+  pub shown : AreBounded t.shown
+  pub t_wh : t.t_wh < 2 ^ 62
+  pub t_reh : t.t_reh < 2 ^ 62
+  pub t_ds : t.t_ds < 2 ^ 62
+  pub t_dh : t.t_dh < 2 ^ 62
+  pub t_cls : t.t_cls < 2 ^ 62
+  pub t_clh : t.t_clh < 2 ^ 62
+  pub t_als : t.t_als < 2 ^ 62
+  pub t_alh : t.t_alh < 2 ^ 62
+  pub t_cs : t.t_cs < 2 ^ 62
+  pub t_ch : t.t_ch < 2 ^ 62
+  pub t_ceh : t.t_ceh < 2 ^ 62
+  pub t_ar : t.t_ar < 2 ^ 62
+  pub t_clr : t.t_clr < 2 ^ 62
 
 abbrev pub least : EdgeTimes → EdgeTiming → ℕ
 least t timing.AddressToInput = t.shown.t_adl

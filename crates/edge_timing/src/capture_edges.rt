@@ -1,6 +1,10 @@
 //! The edges of a capture.
-ghost use Rattle.std.specs.Prelude.{◌≡◌, ◌≤◌};
-ghost use Rattle.trace_timing.specs.Wanted.{AreBounded};
+ghost use Rattle.std.specs.Prelude.{◌≡◌, ◌+◌, ◌<◌, ◌^◌, length, IfOk, IfSome, OnOk};
+ghost use Rattle.vcd_text.specs.Words.{GoesOn};
+ghost use Rattle.vcd_text.specs.Shown.{IsOver};
+ghost use Rattle.csv_text.specs.Shown.{HasRoom, bytes_left};
+ghost use Rattle.bus_capture.specs.Recorded.{IsNextOf};
+ghost use Rattle.edge_timing.specs.Judged.{MayJudge};
 
 use crate::edge_watch::{EdgeWatch, WatchStop};
 use crate::given::Given;
@@ -8,9 +12,11 @@ use crate::judge::EdgeJudge;
 use crate::moment::Moment;
 use bus_capture::{CaptureFault, CaptureForm, CaptureRefusal, Levels, Setup};
 use bus_signals::{Role, RoleRefusal, Source, carriers_of, sources_of};
-use csv_text::{Table, read_table};
+use csv_text::{Body as TableBody, Table, read_table};
 use std::alloc::Allocator;
-use vcd_text::{Dump, Event, Header, HeaderRefusal, Variable, Widths, read_header};
+use vcd_text::{
+    Body as DumpBody, Dump, Event, Header, HeaderRefusal, Variable, Widths, read_header,
+};
 
 /// What a capture was made of.
 #[derive(Clone, Copy, Debug, PartialEq, Eq)]
@@ -76,7 +82,9 @@ fn made_of(sources: &[Source]) -> Recorded {
 
 impl<A: Allocator> Watching<A> {
     // Nothing has been seen.
-    fn begun(targets: u8, sources: Vec<Source, A>) -> Watching<A> {
+    fn begun(targets: u8, sources: Vec<Source, A>) -> Watching<A>
+        ensures { result.targets ≡ targets }
+    {
         let given = Given::none();
         Watching {
             targets,
@@ -93,7 +101,10 @@ impl<A: Allocator> Watching<A> {
     }
 
     // Judges the moment that is over.
-    fn settle<B: Allocator>(&mut self, judge: &mut EdgeJudge<B>) -> Result<(), CaptureRefusal> {
+    fn settle<B: Allocator>(&mut self, judge: &mut EdgeJudge<B>) -> Result<(), CaptureRefusal>
+        requires judging { MayJudge self.old.targets judge.old.ruler }
+        ensures judging { OnOk result (MayJudge self.new.targets judge.new.ruler) }
+    {
         match self.watch.take(judge, self.targets, &self.moment) {
             Ok(()) => Ok(()),
             Err(WatchStop::Bus(fault)) => Err(CaptureRefusal::Fault(CaptureFault::Bus {
@@ -109,7 +120,10 @@ impl<A: Allocator> Watching<A> {
         &mut self,
         judge: &mut EdgeJudge<B>,
         time: u64,
-    ) -> Result<(), CaptureRefusal> {
+    ) -> Result<(), CaptureRefusal>
+        requires judging { MayJudge self.old.targets judge.old.ruler }
+        ensures judging { OnOk result (MayJudge self.new.targets judge.new.ruler) }
+    {
         if time == self.moment.time {
             return Ok(());
         }
@@ -128,7 +142,10 @@ impl<A: Allocator> Watching<A> {
         &mut self,
         judge: &mut EdgeJudge<B>,
         event: Event<'_>,
-    ) -> Result<(), CaptureRefusal> {
+    ) -> Result<(), CaptureRefusal>
+        requires judging { MayJudge self.old.targets judge.old.ruler }
+        ensures judging { OnOk result (MayJudge self.new.targets judge.new.ruler) }
+    {
         match event {
             Event::Time(time) => self.go_on_to(judge, time),
             Event::Change { code, bits } => {
@@ -157,13 +174,78 @@ fn copy_of<A: Clone>(alloc: &A) -> Result<A, CaptureRefusal> {
     }
 }
 
+// The next of what a dump tells.
+fn next_of<'a, A: Allocator>(
+    body: &mut DumpBody<'a>,
+    widths: &Widths<A>,
+) -> Result<Option<Event<'a>>, CaptureRefusal>
+    requires room { body.old.words.line + length body.old.words.rest.now < 2 ^ 64 }
+    ensures told { IsNextOf widths.now body.old result body.new }
+    ensures goes_on { GoesOn body.old.words body.new.words }
+    ensures shorter { IfOk result (λ o. IfSome o (λ _. length body.new.words.rest.now < length body.old.words.rest.now)) }
+{
+    match body.next_in_piece(widths) {
+        Ok(event) => Ok(event),
+        Err(fault) => Err(CaptureRefusal::Fault(CaptureFault::File(fault))),
+    }
+}
+
+// Goes on by all that a dump tells.
+fn take_dump<A: Allocator, B: Allocator, C: Allocator>(
+    watching: &mut Watching<A>,
+    judge: &mut EdgeJudge<B>,
+    widths: &Widths<C>,
+    body: &mut DumpBody<'_>,
+) -> Result<(), CaptureRefusal>
+    requires judging { MayJudge watching.old.targets judge.old.ruler }
+    requires room { body.old.words.line + length body.old.words.rest.now < 2 ^ 64 }
+    ensures judging { OnOk result (MayJudge watching.new.targets judge.new.ruler) }
+    ensures over { OnOk result (IsOver widths.now body.new) }
+    ensures room { OnOk result (body.new.words.line + length body.new.words.rest.now < 2 ^ 64) }
+{
+    'events: while let Some(event) = next_of(body, widths)? {
+        watching.take_event(judge, event)?;
+    }
+    Ok(())
+}
+
+// The next of what a CSV tells.
+fn next_in<'a>(body: &mut TableBody<'a>) -> Result<Option<Event<'a>>, CaptureRefusal>
+    requires room { HasRoom body.old }
+    ensures room { OnOk result (HasRoom body.new) }
+    ensures shorter { IfOk result (λ o. IfSome o (λ _. bytes_left body.new < bytes_left body.old)) }
+{
+    match body.next_event() {
+        Ok(event) => Ok(event),
+        Err(fault) => Err(CaptureRefusal::Fault(CaptureFault::File(fault))),
+    }
+}
+
+// Goes on by all that a CSV tells.
+fn take_table<A: Allocator, B: Allocator>(
+    watching: &mut Watching<A>,
+    judge: &mut EdgeJudge<B>,
+    body: &mut TableBody<'_>,
+) -> Result<(), CaptureRefusal>
+    requires judging { MayJudge watching.old.targets judge.old.ruler }
+    requires room { HasRoom body.old }
+    ensures judging { OnOk result (MayJudge watching.new.targets judge.new.ruler) }
+{
+    'events: while let Some(event) = next_in(body)? {
+        watching.take_event(judge, event)?;
+    }
+    Ok(())
+}
+
 // Judges the edges of a dump.
 fn judge_dump<A: Allocator + Clone, B: Allocator>(
     alloc: A,
     judge: &mut EdgeJudge<B>,
     setup: &Setup<'_>,
     text: &[u8],
-) -> Result<Recorded, CaptureRefusal> {
+) -> Result<Recorded, CaptureRefusal>
+    requires judging { MayJudge setup.now.targets judge.old.ruler }
+{
     let Dump { header, mut body } = match read_header(copy_of(&alloc)?, text) {
         Ok(dump) => dump,
         Err(refusal) => return Err(refusal_of(refusal)),
@@ -174,13 +256,7 @@ fn judge_dump<A: Allocator + Clone, B: Allocator>(
         return Err(CaptureRefusal::OutOfMemory);
     };
     let mut watching = Watching::begun(setup.targets, sources);
-    'events: loop {
-        match body.next_in_piece(&widths) {
-            Ok(Some(event)) => watching.take_event(judge, event)?,
-            Ok(None) => break 'events,
-            Err(fault) => return Err(CaptureRefusal::Fault(CaptureFault::File(fault))),
-        }
-    }
+    take_dump(&mut watching, judge, &widths, &mut body)?;
     match body.end(&widths) {
         None => {
             watching.settle(judge)?;
@@ -196,7 +272,9 @@ fn judge_table<A: Allocator + Clone, B: Allocator>(
     judge: &mut EdgeJudge<B>,
     setup: &Setup<'_>,
     text: &[u8],
-) -> Result<Recorded, CaptureRefusal> {
+) -> Result<Recorded, CaptureRefusal>
+    requires judging { MayJudge setup.now.targets judge.old.ruler }
+{
     let table = match read_table(copy_of(&alloc)?, text) {
         Ok(table) => table,
         Err(refusal) => return Err(refusal_of(refusal)),
@@ -207,13 +285,7 @@ fn judge_table<A: Allocator + Clone, B: Allocator>(
     } = table;
     let sources = find_sources(alloc, setup, variables.as_slice())?;
     let mut watching = Watching::begun(setup.targets, sources);
-    'events: loop {
-        match body.next_event() {
-            Ok(Some(event)) => watching.take_event(judge, event)?,
-            Ok(None) => break 'events,
-            Err(fault) => return Err(CaptureRefusal::Fault(CaptureFault::File(fault))),
-        }
-    }
+    take_table(&mut watching, judge, &mut body)?;
     watching.settle(judge)?;
     Ok(made_of(watching.sources.as_slice()))
 }
@@ -225,8 +297,7 @@ pub fn judge_edges<A: Allocator + Clone, B: Allocator>(
     setup: &Setup<'_>,
     text: &[u8],
 ) -> Result<Recorded, CaptureRefusal>
-    requires few { setup.now.targets ≤ 4 }
-    requires bounded { AreBounded judge.old.ruler.times.shown }
+    requires judging { MayJudge setup.now.targets judge.old.ruler }
 {
     let recorded = match setup.form {
         CaptureForm::Dump => judge_dump(alloc, judge, setup, text)?,

@@ -2,41 +2,36 @@
 ghost use Rattle.std.specs.Prelude.{◌≡◌};
 ghost use Rattle.edge_timing.specs.Codes.{edge_fault_code};
 
-use crate::edge_timing::EdgeTiming;
-use std::fmt;
+use thiserror::Error;
+use trace_timing::TimingFault;
 
 /// What is wrong with the edges of a capture.
-#[derive(Clone, Copy, Debug, PartialEq, Eq)]
+#[derive(Clone, Copy, Debug, PartialEq, Eq, Error)]
 pub enum EdgeFault {
-    /// T0: no two edges can be compared.
-    NoEdges,
-    /// T1 to T8 and T11 to T14: an edge comes too soon after another.
-    TooSoon(EdgeTiming),
+    /// T0 to T8: what may be wrong with the times of a trace too.
+    #[error("{0}")]
+    Pause(TimingFault),
+    #[error("a strobe is low or high for too short a time (tWP, tWH, tRP, tREH)")]
+    Pulse,
+    #[error("a level isn't there long enough before WE# rises (tDS, tCLS, tALS, tCS)")]
+    Setup,
+    #[error("a level doesn't stay long enough after WE# rises (tDH, tCLH, tALH, tCH), or CE# isn't high for long enough (tCEH)")]
+    Hold,
+    #[error("RE# falls too soon after CLE or ALE fell (tCLR, tAR)")]
+    LatchToRead,
 }
 
 impl EdgeFault {
-    /// Its code.
+    /// Its code, `T0` to `T8` and `T11` to `T14`.
     pub fn code(self) -> &'static str
         ensures { result.now ≡ edge_fault_code self }
     {
         match self {
-            EdgeFault::NoEdges => "T0",
-            EdgeFault::TooSoon(timing) => timing.code(),
-        }
-    }
-}
-
-impl fmt::Display for EdgeFault {
-    fn fmt<W: fmt::Write>(&self, f: &mut fmt::Formatter<W>) -> fmt::Result {
-        match self {
-            EdgeFault::NoEdges => f.write_str("no two edges of the capture can be compared"),
-            EdgeFault::TooSoon(timing) => {
-                write!(
-                    f,
-                    "an edge comes too soon after another ({})",
-                    timing.name()
-                )
-            }
+            EdgeFault::Pause(fault) => fault.code(),
+            EdgeFault::Pulse => "T11",
+            EdgeFault::Setup => "T12",
+            EdgeFault::Hold => "T13",
+            EdgeFault::LatchToRead => "T14",
         }
     }
 }

@@ -1,6 +1,9 @@
 //! The least times that edges show.
 ghost use Rattle.std.specs.Prelude.{◌≡◌, ◌<◌};
-ghost use Rattle.edge_timing.specs.Codes.{edge_code};
+ghost use Rattle.edge_timing.specs.Codes.{fault_of};
+
+use crate::edge_fault::EdgeFault;
+use trace_timing::TimingFault;
 
 /// A least time that edges show, in the order of the names.
 #[derive(Clone, Copy, Debug, PartialEq, Eq)]
@@ -121,33 +124,33 @@ impl EdgeTiming {
         }
     }
 
-    /// The code of what breaks it: T1 to T8 as in a trace, T11 to T14 for what edges alone show.
-    pub fn code(self) -> &'static str
-        ensures { result.now ≡ edge_code self }
+    /// What is wrong where it isn't kept.
+    pub fn fault(self) -> EdgeFault
+        ensures { result ≡ fault_of self }
     {
         match self {
-            EdgeTiming::WriteCycle => "T1",
-            EdgeTiming::ReadCycle => "T2",
-            EdgeTiming::AddressToInput => "T3",
-            EdgeTiming::ToOutput => "T4",
-            EdgeTiming::ColumnChange => "T5",
-            EdgeTiming::OutputToCommand => "T6",
-            EdgeTiming::ReadyToOutput => "T7",
-            EdgeTiming::ToBusy => "T8",
+            EdgeTiming::WriteCycle => EdgeFault::Pause(TimingFault::WriteCycle),
+            EdgeTiming::ReadCycle => EdgeFault::Pause(TimingFault::ReadCycle),
+            EdgeTiming::AddressToInput => EdgeFault::Pause(TimingFault::AddressToInput),
+            EdgeTiming::ToOutput => EdgeFault::Pause(TimingFault::ToOutput),
+            EdgeTiming::ColumnChange => EdgeFault::Pause(TimingFault::ColumnChange),
+            EdgeTiming::OutputToCommand => EdgeFault::Pause(TimingFault::OutputToCommand),
+            EdgeTiming::ReadyToOutput => EdgeFault::Pause(TimingFault::ReadyToOutput),
+            EdgeTiming::ToBusy => EdgeFault::Pause(TimingFault::ToBusy),
             EdgeTiming::WritePulse
             | EdgeTiming::WriteHigh
             | EdgeTiming::ReadPulse
-            | EdgeTiming::ReadHigh => "T11",
+            | EdgeTiming::ReadHigh => EdgeFault::Pulse,
             EdgeTiming::DataSetup
             | EdgeTiming::CleSetup
             | EdgeTiming::AleSetup
-            | EdgeTiming::EnableSetup => "T12",
+            | EdgeTiming::EnableSetup => EdgeFault::Setup,
             EdgeTiming::DataHold
             | EdgeTiming::CleHold
             | EdgeTiming::AleHold
             | EdgeTiming::EnableHold
-            | EdgeTiming::EnableHigh => "T13",
-            EdgeTiming::CleToRead | EdgeTiming::AleToRead => "T14",
+            | EdgeTiming::EnableHigh => EdgeFault::Hold,
+            EdgeTiming::CleToRead | EdgeTiming::AleToRead => EdgeFault::LatchToRead,
         }
     }
 }

@@ -3,13 +3,13 @@ ghost use Rattle.std.specs.Prelude.{◌≡◌, ◌+◌, ◌≤◌, OnOk, Err};
 ghost use Rattle.trace_timing.specs.Wanted.{AreBounded};
 ghost use Rattle.bus_capture.specs.Capturing.{is_known};
 ghost use Rattle.edge_timing.specs.Judged.{IsJudging};
-ghost use Rattle.edge_timing.specs.Watched.{target_at, with_target, write_distances, read_distances, cycle_distances, hold_distances, lets_go, enable_distances, watch_begun, after_cycle, after_holds, after_enable, after_ready, after_lines, seen_step, strobes_step, targets_step, looked, moment_step, IsStepped};
+ghost use Rattle.edge_timing.specs.Watched.{target_at, with_target, write_distances, read_distances, cycle_distances, hold_distances, lets_go, enable_distances, watch_begun, after_cycle, after_holds, after_enable, after_ready, after_lines, strobe_distances, seen_step, strobes_step, target_step, targets_step, looked, moment_step, IsStepped};
 
 use crate::distance::{Distance, between};
 use crate::edge::Edge;
 use crate::edge_timing::EdgeTiming;
 use crate::held::Held;
-use crate::judge::EdgeJudge;
+use crate::judge::{EdgeJudge, EdgeRuler};
 use crate::line::Line;
 use crate::moment::Moment;
 use crate::since::Since;
@@ -165,6 +165,23 @@ impl EdgeWatch {
         ]
     }
 
+    // Judges what a cycle ends beside pauses.
+    fn judge_strobe<A: Allocator>(
+        &self,
+        judge: &mut EdgeJudge<A>,
+        target: &TargetEdges,
+        strobed: Strobed,
+    ) -> Result<(), AllocError>
+        ensures { OnOk result (IsJudging judge.old judge.new (strobe_distances strobed.cycle.kind self.now target.now strobed)) }
+    {
+        match strobed.cycle.kind {
+            Kind::Dout => judge.take_all(&self.read_distances(target, strobed)),
+            Kind::Cmd | Kind::Adr | Kind::Din => {
+                judge.take_all(&self.write_distances(target, strobed))
+            }
+        }
+    }
+
     // Judges what a cycle ends.
     fn judge_cycle<A: Allocator>(
         &self,
@@ -174,15 +191,10 @@ impl EdgeWatch {
         requires { AreBounded judge.old.ruler.times.shown }
         ensures { OnOk result (IsJudging judge.old judge.new (cycle_distances judge.old.ruler.times.shown judge.old.ruler.one_lun self.now strobed)) }
     {
+        let EdgeRuler { times, one_lun, .. } = judge.ruler;
         let target = self.target(strobed.cycle.ce);
-        match strobed.cycle.kind {
-            Kind::Dout => judge.take_all(&self.read_distances(&target, strobed))?,
-            Kind::Cmd | Kind::Adr | Kind::Din => {
-                judge.take_all(&self.write_distances(&target, strobed))?;
-            }
-        }
-        let ruler = judge.ruler;
-        judge.take_all(&strobed.pauses(ruler.times.shown, ruler.one_lun, target.clock))
+        self.judge_strobe(judge, &target, strobed)?;
+        judge.take_all(&strobed.pauses(times.shown, one_lun, target.clock))
     }
 
     // Once a cycle has come.
@@ -320,6 +332,14 @@ impl EdgeWatch {
         }
     }
 
+    // Once the CE# and the R/B# of a target have changed.
+    fn note_target(&mut self, moment: &Moment, ce: u8)
+        ensures { self.new ≡ (target_step moment.now ce self.old).watch }
+    {
+        self.note_enable(moment, ce);
+        self.note_ready(moment, ce);
+    }
+
     // Goes on by CE# and R/B# of so many targets from this one on.
     fn take_targets<A: Allocator>(
         &mut self,
@@ -336,8 +356,7 @@ impl EdgeWatch {
             return Ok(());
         }
         judge.take_all(&self.enable_distances(moment, ce))?;
-        self.note_enable(moment, ce);
-        self.note_ready(moment, ce);
+        self.note_target(moment, ce);
         self.take_targets(judge, moment, count - 1, ce + 1)
     }
 

@@ -680,6 +680,7 @@ fn word_of_files(verb: Verb) -> Option<&'static str> {
         | Verb::Once
         | Verb::Run
         | Verb::Capture
+        | Verb::Timing
         | Verb::Image
         | Verb::Ops
         | Verb::Wave

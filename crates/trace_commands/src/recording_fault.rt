@@ -70,7 +70,7 @@ impl RecordingFault {
                 ..
             }
             | RecordingFault::Edge {
-                fault: EdgeFault::NoEdges,
+                fault: EdgeFault::Pause(TimingFault::NoTimes),
                 ..
             } => None,
             RecordingFault::Item { item, .. } | RecordingFault::Time { item, .. } => {
@@ -79,10 +79,7 @@ impl RecordingFault {
             RecordingFault::Capture {
                 fault: CaptureFault::Bus { time, .. },
             }
-            | RecordingFault::Edge {
-                fault: EdgeFault::TooSoon(_),
-                time,
-            } => Some(Place::Time(time)),
+            | RecordingFault::Edge { time, .. } => Some(Place::Time(time)),
             RecordingFault::Capture {
                 fault: CaptureFault::File(_) | CaptureFault::Role(_),
             }
