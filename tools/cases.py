@@ -1,0 +1,411 @@
+"""Plays the cases of tools/cases: with these files and this command line the program prints this, ends with this status, and leaves these files.
+
+    python3 tools/cases.py [PROGRAM] [NAME..]
+    python3 tools/cases.py --selftest [PROGRAM] [NAME..]
+
+PROGRAM is the built program (crates/onfiseq/out/onfiseq when none is given); NAME is a case file without `.case`, all of them when none is named. Prints
+a line for each case file, and of each case that differs what differed. Ends with status 1 where a case differs, where a file isn't a case file, and where
+there are no cases. With `--selftest` a byte of each expectation of every third case is changed, each number by one, and the player must say that it differs.
+
+A case file is plain text. Above its first case stand what all its cases share; a case begins with `== ` and its name. `#` begins a comment of a line.
+
+    page NAME OPTIONS    a parameter page, as `onfiseq page` makes it with these options
+    file NAME            a file of this content
+    stdin                the standard input of the next run
+    $ onfiseq ..         runs the program with these words, in the case's own folder; a case may run it several times
+
+What stands below a run is what must come of it:
+
+    status N             it ends with this status
+    out, err             standard output or standard error is this content, the whole of it
+    out-has, err-has     it has this content in it; `-begins` and `-ends`: it begins or ends with that; `-matches`: the whole matches this pattern of `re`
+    out-lines N          it has so many lines; err-lines N
+    out-only TEXT        of its lines those that begin with TEXT are this content; err-only TEXT
+    file NAME            the file is this content afterwards, the whole of it; file-has, file-begins, file-ends
+    size NAME N          the file has so many bytes
+    made NAME            the file is there afterwards, whatever is in it
+    gone NAME            the file isn't there
+    keep out NAME        standard output becomes the file NAME, for what comes later; keep err NAME
+
+Every file that isn't named so must be as it was, and none may come besides. A standard output or error that isn't named may be anything.
+Content stands on the lines below, in the order of its parts:
+
+    | TEXT               a line of text, with its end
+    & TEXT               text with escapes (`\\n`, `\\r`, `\\t`, `\\\\`, `\\x1f`), without an end of its own
+    x5 & TEXT            the same so often; `{n}` in it is the number of the turn, from 0
+    hex 1f 8b            these bytes
+    = NAME               what is in this file of the folder at that moment
+    bytes NAME A B       the bytes A to B of that, B left out; `outputs NAME A B`: as outputs of target 0 in a trace
+"""
+import re
+import shlex
+import subprocess
+import sys
+import tempfile
+from pathlib import Path
+
+ROOT = Path(__file__).resolve().parent.parent
+FOLDER = ROOT / "tools/cases"
+SECONDS = 60
+ESCAPES = {"n": "\n", "r": "\r", "t": "\t", "\\": "\\"}
+STREAMS = ("out", "err")
+MANNERS = ("", "has", "begins", "ends", "matches")
+
+
+class NotACase(Exception):
+    """A case file can't be read: where, and why."""
+
+
+class Content:
+    """What a file or a stream holds, part by part."""
+
+    def __init__(self):
+        self.parts = []
+
+    def read_line(self, line):
+        """Adds a line of content; whether it is one."""
+        if line == "|" or line.startswith("| "):
+            self.parts.append(lambda _: line[2:].encode() + b"\n")
+        elif found := re.fullmatch(r"(?:x(\d+) )?& (.*)", line):
+            times, text = int(found[1] or 1), found[2]
+            unescape(text)
+            self.parts.append(lambda _: b"".join(unescape(text.replace("{n}", str(turn)) if found[1] else text) for turn in range(times)))
+        elif line.startswith("hex "):
+            data = bytes.fromhex(line[4:])
+            self.parts.append(lambda _: data)
+        elif line.startswith("= "):
+            self.parts.append(lambda files: files[line[2:]])
+        elif found := re.fullmatch(r"(bytes|outputs) (\S+) (\d+) (\d+)", line):
+            self.parts.append(lambda files: take_bytes(found[1], files[found[2]][int(found[3]):int(found[4])]))
+        else:
+            return False
+        return True
+
+    def of(self, files):
+        """The bytes, in a folder of these files."""
+        return b"".join(part(files) for part in self.parts)
+
+
+def take_bytes(form, data):
+    """These bytes, or what a trace has of a target that puts them out."""
+    return data if form == "bytes" else b"".join(b"0 O %02x\n" % byte for byte in data)
+
+
+def unescape(text):
+    """The bytes of a text with escapes."""
+    def replace(found):
+        if found[1].startswith("x"):
+            return bytes([int(found[1][1:], 16)]).decode("latin-1")
+        if found[1] not in ESCAPES:
+            raise ValueError(f"there is no escape \\{found[1]}")
+        return ESCAPES[found[1]]
+    held = re.split(r"(\\x[0-9a-f]{2})", text)
+    return b"".join(bytes.fromhex(part[2:]) if at % 2 else re.sub(r"\\(.|$)", replace, part).encode() for at, part in enumerate(held))
+
+
+class Expectation:
+    """What must come of a run: of a stream or a file by name, in a manner, this content or number."""
+
+    def __init__(self, word, name, number=None):
+        self.word, self.name, self.number, self.content = word, name, number, Content()
+
+    def count(self, ran):
+        """The number that came of a run."""
+        if self.word == "status":
+            return ran.status
+        if self.word == "size":
+            return len(ran.files[self.name]) if self.name in ran.files else None
+        return len(ran.streams[self.word.partition("-")[0]].splitlines())
+
+    def differs(self, ran, change=None):
+        """What differs, nothing where it is met; `change` alters what is expected, for the self-test."""
+        kind, _, manner = self.word.partition("-")
+        if self.number is not None:
+            wanted = self.number if change is None else self.number + 1
+            found = self.count(ran)
+            return None if found == wanted else f"{self.word} {self.name} {wanted}, and it was {found}"
+        if kind in ("made", "gone"):
+            wants = (kind == "made") == (change is None)
+            return None if (self.name in ran.files) == wants else f"{self.name} is{'' if self.name in ran.files else chr(110) + chr(39) + 't'} there"
+        found = ran.files.get(self.name) if kind == "file" else ran.streams[kind]
+        wanted = self.content.of(ran.files) if change is None else change(self.content.of(ran.files))
+        if found is None:
+            return f"{self.name} isn't there"
+        is_met = {
+            "": found == wanted,
+            "has": wanted in found,
+            "begins": found.startswith(wanted),
+            "ends": found.endswith(wanted),
+            "matches": manner == "matches" and is_match(wanted, found),
+            "only": manner == "only" and wanted == b"".join(line for line in found.splitlines(keepends=True) if line.startswith(self.name.encode())),
+        }[manner]
+        return None if is_met else f"{self.word} {self.name or ''}".strip() + f" wants\n{show(wanted)}and it was\n{show(found)}".rstrip("\n")
+
+
+def is_match(pattern, data):
+    """Whether all of it matches a pattern."""
+    try:
+        return bool(re.fullmatch(pattern, data))
+    except re.error:
+        return False
+
+
+def show(data):
+    """Bytes as lines that one can read and compare."""
+    lines = data.decode("utf-8", "backslashreplace").splitlines(keepends=True)
+    return "".join(f"    {line[:-1]}\n" if line.endswith("\n") else f"    {line} (no end of line)\n" for line in lines[:200]) or "    (nothing)\n"
+
+
+class Run:
+    """A run of the program, and what must come of it."""
+
+    def __init__(self, words, stdin):
+        self.words, self.stdin, self.expected, self.kept = words, stdin, [], []
+
+    def named(self):
+        """The files that what is expected names."""
+        return {one.name for one in self.expected if one.word.partition("-")[0] not in STREAMS}
+
+
+class Ran:
+    """What came of a run: the status, both streams, the files, and those that nobody named and that aren't as they were."""
+
+    def __init__(self, status, streams, files):
+        self.status, self.streams, self.files = status, streams, files
+
+
+class Case:
+    """A case: its name, the files to begin with, and its runs."""
+
+    def __init__(self, name, number):
+        self.name, self.number, self.pages, self.files, self.runs = name, number, {}, {}, []
+
+
+class Reader:
+    """Reads a case file line by line. The first case is what all share."""
+
+    def __init__(self, path):
+        self.path, self.number, self.cases = path, 0, [Case("", 0)]
+        self.content, self.stdin = None, None
+
+    def refuse(self, why):
+        raise NotACase(f"{self.path.name}:{self.number}: {why}")
+
+    def read(self):
+        """The cases of the file, without and with what they share."""
+        try:
+            lines = self.path.read_text(encoding="utf-8").split("\n")
+        except (OSError, UnicodeDecodeError) as fault:
+            self.refuse(fault)
+        for self.number, line in enumerate(lines, 1):
+            if not line.strip() or line.startswith("#"):
+                self.content = None
+                continue
+            try:
+                is_content = self.content is not None and self.content.read_line(line)
+            except ValueError as fault:
+                self.refuse(fault)
+            if not is_content:
+                self.content = None
+                self.read_keyword(line)
+        shared, *cases = self.cases
+        if not cases:
+            self.refuse("it has no case")
+        for case in cases:
+            self.number = case.number
+            if not case.runs or not all(run.expected for run in case.runs):
+                self.refuse(f"`{case.name}` has no run, or one of which nothing is expected")
+        return shared, cases
+
+    def read_keyword(self, line):
+        """A line that is no content."""
+        word, _, rest = line.partition(" ")
+        case, rest = self.cases[-1], rest.strip()
+        run = case.runs[-1] if case.runs else None
+        stream, _, manner = word.partition("-")
+        if word == "==" and rest:
+            if any(rest == other.name for other in self.cases):
+                self.refuse(f"a case before it has the name `{rest}`")
+            self.cases.append(Case(rest, self.number))
+        elif word == "page" and not run and len(rest.split()) > 1:
+            name, *options = rest.split()
+            case.pages[name] = options
+        elif word == "stdin" and not rest:
+            self.content = self.stdin = Content()
+        elif word == "$" and rest.startswith("onfiseq ") and case.name:
+            case.runs.append(Run(shlex.split(rest)[1:], self.stdin))
+            self.stdin = None
+        elif word == "file" and rest and not run:
+            self.content = case.files[rest] = Content()
+        elif run and word == "status" and rest.isdigit():
+            run.expected.append(Expectation(word, "", int(rest)))
+        elif run and stream in STREAMS and manner == "lines" and rest.isdigit():
+            run.expected.append(Expectation(word, "", int(rest)))
+        elif run and word == "size" and re.fullmatch(r"\S+ \d+", rest):
+            run.expected.append(Expectation(word, rest.split()[0], int(rest.split()[1])))
+        elif run and stream in STREAMS and manner == "only" and rest:
+            run.expected.append(Expectation(word, rest))
+            self.content = run.expected[-1].content
+        elif run and (stream in STREAMS and not rest or stream == "file" and rest) and manner in MANNERS:
+            run.expected.append(Expectation(word, rest))
+            self.content = run.expected[-1].content
+        elif run and word in ("made", "gone") and rest:
+            run.expected.append(Expectation(word, rest))
+        elif run and word == "keep" and len(rest.split()) == 2 and rest.split()[0] in STREAMS:
+            run.kept.append(rest.split())
+        else:
+            self.refuse(f"`{line}` isn't a line of a case here")
+
+
+class Player:
+    """Plays the cases of a file by the built program."""
+
+    def __init__(self, program):
+        self.program, self.pages = program, {}
+
+    def make_page(self, options):
+        """The bytes of the parameter page with these options."""
+        key = tuple(options)
+        if key not in self.pages:
+            with tempfile.TemporaryDirectory() as folder:
+                ran = subprocess.run([self.program, "page", "made.page", *options], cwd=folder, stdin=subprocess.DEVNULL, capture_output=True, timeout=SECONDS, check=False)
+                if ran.returncode:
+                    raise NotACase(f"page {' '.join(options)}: {ran.stderr.decode()}")
+                self.pages[key] = (Path(folder) / "made.page").read_bytes()
+        return self.pages[key]
+
+    def play(self, shared, case):
+        """Each run of a case, with what came of it."""
+        files = {}
+        for one in (shared, case):
+            files.update({name: self.make_page(options) for name, options in one.pages.items()})
+            for name, content in one.files.items():
+                files[name] = content.of(files)
+        with tempfile.TemporaryDirectory() as folder:
+            here = Path(folder)
+            for name, data in files.items():
+                (here / name).parent.mkdir(parents=True, exist_ok=True)
+                (here / name).write_bytes(data)
+            for run in case.runs:
+                stdin = run.stdin.of(files) if run.stdin else b""
+                ended = subprocess.run([self.program, *run.words], cwd=here, input=stdin, capture_output=True, timeout=SECONDS, check=False)
+                before, files = files, {str(path.relative_to(here)): path.read_bytes() for path in here.rglob("*") if path.is_file()}
+                ran = Ran(ended.returncode, {"out": ended.stdout, "err": ended.stderr}, files)
+                for stream, name in run.kept:
+                    (here / name).write_bytes(ran.streams[stream])
+                    files[name] = ran.streams[stream]
+                touched = {name for name in {*before, *files} if before.get(name) != files.get(name)}
+                yield run, ran, sorted(touched - run.named() - {name for _, name in run.kept})
+
+    def try_case(self, shared, case):
+        """What differs in a case."""
+        told = []
+        for run, ran, touched in self.play(shared, case):
+            differs = [text for text in (one.differs(ran) for one in run.expected) if text]
+            differs += [f"{name} isn't as it was, or wasn't there" for name in touched]
+            if differs:
+                told += [f"  $ onfiseq {shlex.join(run.words)}", *differs]
+        return told
+
+    def try_self(self, shared, case):
+        """The expectations of a case that are met also when they are changed, and how many were changed."""
+        told, count = [], 0
+        for run, ran, _ in self.play(shared, case):
+            for one in run.expected:
+                for at in (0, 1, 2):
+                    count += 1
+                    if not one.differs(ran, lambda data, at=at: change_byte(data, at)):
+                        told.append(f"  {one.word} {one.name} is met though it is changed")
+        return told, count
+
+
+def change_byte(data, at):
+    """The same with another byte at its beginning, in its middle or at its end; one byte more where it has none."""
+    if not data:
+        return b"\x01"
+    place = (0, len(data) // 2, len(data) - 1)[at]
+    return data[:place] + bytes([2 if data[place] == 1 else 1]) + data[place + 1:]
+
+
+# Texts that aren't case files, each for another reason.
+NO_CASES = (
+    "page die.page --data 512\n",
+    "== a\nfile x\n| y\n",
+    "== a\n$ onfiseq lint\n",
+    "== a\n$ onfiseq lint\nstatus 0\n== a\n$ onfiseq lint\nstatus 0\n",
+    "== a\n$ onfiseq lint\nstatus zero\n",
+    "== a\n$ onfiseq lint\nstate 0\n",
+    "== a\n$ onfiseq lint\nstatus 0\n| text\n",
+    "== a\nstatus 0\n",
+    "== a\nfile x\n& \\q\n",
+    "== a\n$ other\nstatus 0\n",
+    "$ onfiseq lint\nstatus 0\n",
+)
+
+
+def is_refused(text):
+    """Whether a text isn't taken for a case file."""
+    with tempfile.TemporaryDirectory() as folder:
+        path = Path(folder) / "no.case"
+        path.write_text(text, encoding="utf-8")
+        try:
+            Reader(path).read()
+        except NotACase:
+            return True
+    return False
+
+
+def list_files(names):
+    """The case files of these names, or all."""
+    paths = sorted(FOLDER.rglob("*.case"))
+    unknown = [name for name in names if name not in {path.stem for path in paths}]
+    if unknown or not paths:
+        raise NotACase(f"there is no case file {' '.join(unknown)}".rstrip())
+    return [path for path in paths if not names or path.stem in names]
+
+
+def try_file(player, path, is_selftest):
+    """Whether the cases of a file, or the expectations that are changed, end as they should."""
+    shared, cases = Reader(path).read()
+    told, changed = {}, 0
+    for case in cases[::3] if is_selftest else cases:
+        if is_selftest:
+            told[case.name], count = player.try_self(shared, case)
+            changed += count
+        else:
+            told[case.name] = player.try_case(shared, case)
+    differ = {name: texts for name, texts in told.items() if texts}
+    ended = f"{changed} changed expectations" if is_selftest else f"{len(cases)} cases"
+    print(f"{path.stem}: {ended}" + (f", {len(differ)} differ" if differ else ""))
+    for name, texts in differ.items():
+        print(f"{path.name}: {name}", *texts, sep="\n")
+    return len(cases), not differ
+
+
+def main():
+    words = sys.argv[1:]
+    is_selftest = words[:1] == ["--selftest"]
+    words = words[1:] if is_selftest else words
+    program = Path(words[0] if words else ROOT / "crates/onfiseq/out/onfiseq").resolve()
+    if not program.is_file():
+        sys.exit(f"{program} isn't there: run rt ci, or bin/onfiseq")
+    player, tried, unread = Player(str(program)), [], 0
+    try:
+        paths = list_files(words[1:])
+    except NotACase as fault:
+        sys.exit(f"cases: {fault}")
+    for path in paths:
+        try:
+            tried.append(try_file(player, path, is_selftest))
+        except (NotACase, KeyError, subprocess.TimeoutExpired) as fault:
+            print(f"{path.name} can't be played: {fault}")
+            unread += 1
+    taken = [text for text in NO_CASES if not is_refused(text)] if is_selftest else []
+    for text in taken:
+        print(f"this text is taken for a case file:\n{text}")
+    is_whole = bool(tried) and not unread and not taken and all(went_well for _, went_well in tried)
+    print(f"cases: {sum(count for count, _ in tried)} cases in {len(tried)} files" + ("" if is_whole else ", NOT ALL AS THEY SHOULD BE"))
+    sys.exit(0 if is_whole else 1)
+
+
+main()
