@@ -18,7 +18,8 @@ What stands below a run is what must come of it:
 
     status N             it ends with this status
     out, err             standard output or standard error is this content, the whole of it
-    out-has, err-has     it has this content in it; `-begins` and `-ends`: it begins or ends with that; `-matches`: the whole matches this pattern of `re`
+    out-has, err-has     it has this content in it; `-begins` and `-ends`: it begins or ends with that
+                         out-lacks: it hasn't; out-matches: the whole of it matches this pattern of `re`
     out-lines N          it has so many lines; err-lines N
     out-only TEXT        of its lines those that begin with TEXT are this content; err-only TEXT
     file NAME            the file is this content afterwards, the whole of it; file-has, file-begins, file-ends
@@ -49,7 +50,7 @@ FOLDER = ROOT / "tools/cases"
 SECONDS = 60
 ESCAPES = {"n": "\n", "r": "\r", "t": "\t", "\\": "\\"}
 STREAMS = ("out", "err")
-MANNERS = ("", "has", "begins", "ends", "matches")
+MANNERS = ("", "has", "lacks", "begins", "ends", "matches")
 
 
 class NotACase(Exception):
@@ -67,9 +68,11 @@ class Content:
         if line == "|" or line.startswith("| "):
             self.parts.append(lambda _: line[2:].encode() + b"\n")
         elif found := re.fullmatch(r"(?:x(\d+) )?& (.*)", line):
-            times, text = int(found[1] or 1), found[2]
-            unescape(text)
-            self.parts.append(lambda _: b"".join(unescape(text.replace("{n}", str(turn)) if found[1] else text) for turn in range(times)))
+            times, text = int(found[1] or 1), unescape(found[2])
+            if found[1] and b"{n}" in text:
+                self.parts.append(lambda _: b"".join(text.replace(b"{n}", b"%d" % turn) for turn in range(times)))
+            else:
+                self.parts.append(lambda _: times * text)
         elif line.startswith("hex "):
             data = bytes.fromhex(line[4:])
             self.parts.append(lambda _: data)
@@ -134,6 +137,7 @@ class Expectation:
         is_met = {
             "": found == wanted,
             "has": wanted in found,
+            "lacks": (self.content.of(ran.files) in found) == (change is not None),
             "begins": found.startswith(wanted),
             "ends": found.endswith(wanted),
             "matches": manner == "matches" and is_match(wanted, found),
