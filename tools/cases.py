@@ -21,6 +21,7 @@ What stands below a run is what must come of it:
     out-has, err-has     it has this content in it; `-begins` and `-ends`: it begins or ends with that
                          out-lacks: it hasn't; out-matches: the whole of it matches this pattern of `re`
     out-lines N          it has so many lines; err-lines N
+    out-count N TEXT     TEXT comes so often in it; err-count N TEXT
     out-only TEXT        of its lines those that begin with TEXT are this content; err-only TEXT
     file NAME            the file is this content afterwards, the whole of it; file-has, file-begins, file-ends
     size NAME N          the file has so many bytes
@@ -116,6 +117,8 @@ class Expectation:
         """The number that came of a run."""
         if self.word == "status":
             return ran.status
+        if self.word.endswith("-count"):
+            return ran.streams[self.word.partition("-")[0]].count(self.name.encode())
         if self.word == "size":
             return len(ran.files[self.name]) if self.name in ran.files else None
         return len(ran.streams[self.word.partition("-")[0]].splitlines())
@@ -245,6 +248,8 @@ class Reader:
             run.expected.append(Expectation(word, "", int(rest)))
         elif run and stream in STREAMS and manner == "lines" and rest.isdigit():
             run.expected.append(Expectation(word, "", int(rest)))
+        elif run and stream in STREAMS and manner == "count" and re.fullmatch(r"\d+ .+", rest):
+            run.expected.append(Expectation(word, rest.partition(" ")[2], int(rest.partition(" ")[0])))
         elif run and word == "size" and re.fullmatch(r"\S+ \d+", rest):
             run.expected.append(Expectation(word, rest.split()[0], int(rest.split()[1])))
         elif run and stream in STREAMS and manner == "only" and rest:

@@ -8,7 +8,6 @@ use seq_files::{FileError, FileFault, FullWriter, MapFiles};
 use seq_inputs::{Console, Exit};
 use std::alloc::{AllocError, Global};
 use std::io::{self, sink};
-use std::process::Abort;
 use std::test::Fail;
 use trace_commands::Ending;
 use trace_text::NoProgress;
@@ -103,78 +102,6 @@ fn first_untold(alloc: Global) -> Result<Option<usize>, Fail> {
 #[test]
 fn each_call_fails(rt: HostRuntime) -> Result<(), Fail> {
     none_is_wrong(first_untold(rt.alloc())?)
-}
-
-// Whether a command says which file isn't there.
-fn tells_missing(alloc: Global, command: Command<'_>) -> Result<bool, AllocError> {
-    let path = path_of(command, 0);
-    let said = format!(in alloc; "file fault {path}\n{path}: there is no such file\n")?;
-    let mut files = MapFiles::new(alloc);
-    let seen = do_command(alloc, &mut files, command);
-    Ok(
-        seen.exit == Ending::Exit(Exit::FileFault)
-            && seen.output.is_empty()
-            && seen.errors.as_slice() == said.as_str().as_bytes(),
-    )
-}
-
-// The place of the first command that doesn't.
-fn first_untold_missing(alloc: Global) -> Result<Option<usize>, AllocError> {
-    for (place, (command, _, _)) in COMMANDS.iter().enumerate() {
-        if !tells_missing(alloc, *command)? {
-            return Ok(Some(place));
-        }
-    }
-    Ok(None)
-}
-
-#[test]
-fn files_that_are_not_there(rt: HostRuntime) -> Result<(), Fail> {
-    none_is_wrong(first_untold_missing(rt.alloc())?)
-}
-
-// A command, bytes that aren't a text, and what is said of them.
-type NoText = (Command<'static>, &'static [u8], &'static [u8]);
-
-const NOT_UTF8: &[u8] =
-    b"file fault in\nin: it isn't UTF-8 text: the byte at offset 1 begins no character\n";
-
-const WORD_FILE: &[u8] =
-    b"file fault in\nin: it is a word file, where a text is wanted (`onfiseq dis` prints one as a text)\n";
-
-const NO_TEXTS: &[NoText] = &[
-    (ASSEMBLE, &[0x30, 0xff, 0x0a], NOT_UTF8),
-    (ASSEMBLE, &ERASE_FILE, WORD_FILE),
-    (CHECK, &[0x30, 0xff, 0x0a], NOT_UTF8),
-    (CHECK, &ERASE_FILE, WORD_FILE),
-];
-
-// Whether a command says so of them, and writes nothing.
-fn is_no_text(alloc: Global, (command, bytes, said): NoText) -> Result<bool, Fail> {
-    let mut files = files_of(alloc, ONE_LUN, bytes)?;
-    let seen = do_command(alloc, &mut files, command);
-    Ok(
-        seen.exit == Ending::Exit(Exit::FileFault)
-            && seen.output.is_empty()
-            && seen.errors.as_slice() == said
-            && files.get("out").is_none(),
-    )
-}
-
-// The place of the first row of which something else is said.
-fn first_other_text(alloc: Global) -> Result<Option<usize>, Fail> {
-    for (place, row) in NO_TEXTS.iter().enumerate() {
-        if !is_no_text(alloc, *row)? {
-            return Ok(Some(place));
-        }
-    }
-    Ok(None)
-}
-
-// A text that isn't UTF-8 is a fault of its file, and so is a word file in place of a text.
-#[test]
-fn texts_of_other_bytes(rt: HostRuntime) -> Result<(), Fail> {
-    none_is_wrong(first_other_text(rt.alloc())?)
 }
 
 // How an output fails, what a command comes to then, and what is said.

@@ -11,5 +11,3 @@ mod fault_tests;
 mod refusal_tests;
 #[cfg(test)]
 mod tests;
-#[cfg(test)]
-mod worked_tests;

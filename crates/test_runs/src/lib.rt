@@ -4,20 +4,10 @@
 #[cfg(test)]
 mod buffer_tests;
 #[cfg(test)]
-mod damage_tests;
-#[cfg(test)]
 mod fault_tests;
 #[cfg(test)]
-mod image_tests;
-#[cfg(test)]
 mod option_tests;
-#[cfg(test)]
-mod refusal_tests;
 #[cfg(test)]
 mod steps_tests;
 #[cfg(test)]
 mod tests;
-#[cfg(test)]
-mod thread_tests;
-#[cfg(test)]
-mod worked_tests;
