@@ -12,11 +12,11 @@ A case file is plain text. Above its first case stand what all its cases share; 
     page NAME OPTIONS    a parameter page, as `onfiseq page` makes it with these options
     file NAME            a file of this content
     stdin                the standard input of the next run
-    $ onfiseq ..         runs the program with these words, in the case's own folder; a case may run it several times
+    $ onfiseq ..         runs the program with these words, in the case's own folder; a case may run it several times, and a word '\\x1b' in quotes has escapes
 
 What stands below a run is what must come of it:
 
-    status N             it ends with this status
+    status N             it ends with this status; status 1-3: with one of these
     out, err             standard output or standard error is this content, the whole of it
     out-has, err-has     it has this content in it; `-begins` and `-ends`: it begins or ends with that
                          out-lacks: it hasn't; out-matches: the whole of it matches this pattern of `re`
@@ -27,6 +27,7 @@ What stands below a run is what must come of it:
     size NAME N          the file has so many bytes
     made NAME            the file is there afterwards, whatever is in it
     gone NAME            the file isn't there
+    any NAME             the file may be there or not
     keep out NAME        standard output becomes the file NAME, for what comes later; keep err NAME
 
 Every file that isn't named so must be as it was, and none may come besides. A standard output or error that isn't named may be anything.
@@ -90,6 +91,11 @@ class Content:
         return b"".join(part(files) for part in self.parts)
 
 
+def read_words(line):
+    """The words of a command line, as a shell reads them; in quotes a word may have escapes, as `'\\xff'`."""
+    return [unescape(word) if "\\x" in word else word.encode() for word in shlex.split(line)]
+
+
 def take_bytes(form, data):
     """These bytes, or what a trace has of a target that puts them out."""
     return data if form == "bytes" else b"".join(b"0 O %02x\n" % byte for byte in data)
@@ -126,6 +132,9 @@ class Expectation:
     def differs(self, ran, change=None):
         """What differs, nothing where it is met; `change` alters what is expected, for the self-test."""
         kind, _, manner = self.word.partition("-")
+        if self.word == "status" and self.name:
+            least, most = map(int, self.name.split("-"))
+            return None if (least <= ran.status <= most) == (change is None) else f"status {self.name}, and it was {ran.status}"
         if self.number is not None:
             wanted = self.number if change is None else self.number + 1
             found = self.count(ran)
@@ -167,11 +176,15 @@ class Run:
     """A run of the program, and what must come of it."""
 
     def __init__(self, words, stdin):
-        self.words, self.stdin, self.expected, self.kept = words, stdin, [], []
+        self.words, self.stdin, self.expected, self.kept, self.ignored = words, stdin, [], [], []
+
+    def line(self):
+        """Its words as one reads them."""
+        return shlex.join(word.decode("utf-8", "backslashreplace") for word in self.words)
 
     def named(self):
         """The files that what is expected names."""
-        return {one.name for one in self.expected if one.word.partition("-")[0] not in STREAMS}
+        return {one.name for one in self.expected if one.word.partition("-")[0] not in STREAMS} | {*self.ignored, *(name for _, name in self.kept)}
 
 
 class Ran:
@@ -239,8 +252,8 @@ class Reader:
             case.pages[name] = options
         elif word == "stdin" and not rest:
             self.content = self.stdin = Content()
-        elif word == "$" and rest.startswith("onfiseq ") and case.name:
-            case.runs.append(Run(shlex.split(rest)[1:], self.stdin))
+        elif word == "$" and (rest + " ").startswith("onfiseq ") and case.name:
+            case.runs.append(Run(read_words(rest)[1:], self.stdin))
             self.stdin = None
         elif word == "file" and rest and not run:
             self.content = case.files[rest] = Content()
@@ -258,6 +271,10 @@ class Reader:
         elif run and (stream in STREAMS and not rest or stream == "file" and rest) and manner in MANNERS:
             run.expected.append(Expectation(word, rest))
             self.content = run.expected[-1].content
+        elif run and word == "status" and re.fullmatch(r"\d+-\d+", rest):
+            run.expected.append(Expectation(word, rest))
+        elif run and word == "any" and rest:
+            run.ignored.append(rest)
         elif run and word in ("made", "gone") and rest:
             run.expected.append(Expectation(word, rest))
         elif run and word == "keep" and len(rest.split()) == 2 and rest.split()[0] in STREAMS:
@@ -304,7 +321,7 @@ class Player:
                     (here / name).write_bytes(ran.streams[stream])
                     files[name] = ran.streams[stream]
                 touched = {name for name in {*before, *files} if before.get(name) != files.get(name)}
-                yield run, ran, sorted(touched - run.named() - {name for _, name in run.kept})
+                yield run, ran, sorted(touched - run.named())
 
     def try_case(self, shared, case):
         """What differs in a case."""
@@ -313,7 +330,7 @@ class Player:
             differs = [text for text in (one.differs(ran) for one in run.expected) if text]
             differs += [f"{name} isn't as it was, or wasn't there" for name in touched]
             if differs:
-                told += [f"  $ onfiseq {shlex.join(run.words)}", *differs]
+                told += [f"  $ onfiseq {run.line()}", *differs]
         return told
 
     def try_self(self, shared, case):
