@@ -8,6 +8,7 @@ use seq_files::{FileError, FileFault, FullWriter, MapFiles};
 use seq_inputs::{Console, Exit};
 use std::alloc::{AllocError, Global};
 use std::io::{self, sink};
+use std::process::Abort;
 use std::test::Fail;
 use trace_commands::Ending;
 use trace_text::NoProgress;
