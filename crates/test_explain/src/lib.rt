@@ -2,19 +2,9 @@
 #![tactic(auto)]
 
 #[cfg(test)]
-mod address_tests;
-#[cfg(test)]
-mod command_tests;
-#[cfg(test)]
-mod data_tests;
-#[cfg(test)]
 mod known_tests;
 #[cfg(test)]
-mod loop_tests;
-#[cfg(test)]
 mod notes;
-#[cfg(test)]
-mod number_tests;
 #[cfg(test)]
 mod rule_tests;
 #[cfg(test)]

@@ -5,5 +5,3 @@
 mod asm_messages;
 #[cfg(test)]
 mod run_messages;
-#[cfg(test)]
-mod trace_messages;
