@@ -10,7 +10,7 @@ there are no cases. With `--selftest` a byte of each expectation of every third 
 A case file is plain text. Above its first case stand what all its cases share; a case begins with `== ` and its name. `#` begins a comment of a line.
 
     page NAME OPTIONS    a parameter page, as `onfiseq page` makes it with these options
-    file NAME            a file of this content
+    file NAME            a file of this content; a name may have escapes, as \\x07
     stdin                the standard input of the next run
     $ onfiseq ..         runs the program with these words, in the case's own folder; a case may run it several times, and a word '\\x1b' in quotes has escapes
 
@@ -40,16 +40,19 @@ Content stands on the lines below, in the order of its parts:
     = NAME               what is in this file of the folder at that moment
     bytes NAME A B       the bytes A to B of that, B left out; `outputs NAME A B`: as outputs of target 0 in a trace
 """
+import os
 import re
 import shlex
 import subprocess
 import sys
 import tempfile
+from concurrent.futures import ThreadPoolExecutor
 from pathlib import Path
 
 ROOT = Path(__file__).resolve().parent.parent
 FOLDER = ROOT / "tools/cases"
 SECONDS = 60
+MOST_SHOWN = 500
 ESCAPES = {"n": "\n", "r": "\r", "t": "\t", "\\": "\\"}
 STREAMS = ("out", "err")
 MANNERS = ("", "has", "lacks", "begins", "ends", "matches")
@@ -168,8 +171,14 @@ def is_match(pattern, data):
 
 def show(data):
     """Bytes as lines that one can read and compare."""
-    lines = data.decode("utf-8", "backslashreplace").splitlines(keepends=True)
-    return "".join(f"    {line[:-1]}\n" if line.endswith("\n") else f"    {line} (no end of line)\n" for line in lines[:200]) or "    (nothing)\n"
+    lines = data.decode("utf-8", "backslashreplace").split("\n")
+    shown = [f"    {line[:MOST_SHOWN]}" + ("..." if len(line) > MOST_SHOWN else "") for line in lines[:MOST_SHOWN]]
+    shown += ["    .."] if len(lines) > MOST_SHOWN else []
+    if lines[-1] == "":
+        shown = shown[:-1]
+    else:
+        shown[-1] += " (no end of line)"
+    return "".join(f"{line}\n" for line in shown) or "    (nothing)\n"
 
 
 class Run:
@@ -238,7 +247,7 @@ class Reader:
         return shared, cases
 
     def read_keyword(self, line):
-        """A line that is no content."""
+        """A line that is no content: a keyword that may stand here."""
         word, _, rest = line.partition(" ")
         case, rest = self.cases[-1], rest.strip()
         run = case.runs[-1] if case.runs else None
@@ -250,13 +259,13 @@ class Reader:
         elif word == "page" and not run and len(rest.split()) > 1:
             name, *options = rest.split()
             case.pages[name] = options
-        elif word == "stdin" and not rest:
+        elif word == "stdin" and not rest and case.name:
             self.content = self.stdin = Content()
         elif word == "$" and (rest + " ").startswith("onfiseq ") and case.name:
             case.runs.append(Run(read_words(rest)[1:], self.stdin))
             self.stdin = None
         elif word == "file" and rest and not run:
-            self.content = case.files[rest] = Content()
+            self.content = case.files[unescape(rest).decode()] = Content()
         elif run and word == "status" and rest.isdigit():
             run.expected.append(Expectation(word, "", int(rest)))
         elif run and stream in STREAMS and manner == "lines" and rest.isdigit():
@@ -390,8 +399,15 @@ def list_files(names):
     return [path for path in paths if not names or path.stem in names]
 
 
+class Tried:
+    """What came of a case file: how many cases it has, whether all went well, and the lines that say so."""
+
+    def __init__(self, count, went_well, lines):
+        self.count, self.went_well, self.lines = count, went_well, lines
+
+
 def try_file(player, path, is_selftest):
-    """Whether the cases of a file, or the expectations that are changed, end as they should."""
+    """Plays the cases of a file, or every third of them with its expectations changed."""
     shared, cases = Reader(path).read()
     told, changed = {}, 0
     for case in cases[::3] if is_selftest else cases:
@@ -402,10 +418,21 @@ def try_file(player, path, is_selftest):
             told[case.name] = player.try_case(shared, case)
     differ = {name: texts for name, texts in told.items() if texts}
     ended = f"{changed} changed expectations" if is_selftest else f"{len(cases)} cases"
-    print(f"{path.stem}: {ended}" + (f", {len(differ)} differ" if differ else ""))
+    lines = [f"{path.stem}: {ended}" + (f", {len(differ)} differ" if differ else "")]
     for name, texts in differ.items():
-        print(f"{path.name}: {name}", *texts, sep="\n")
-    return len(cases), not differ
+        lines += [f"{path.name}: {name}", *texts]
+    return Tried(changed if is_selftest else len(cases), not differ, lines)
+
+
+def try_safely(player, path, is_selftest):
+    """The same, where a file can't be played too."""
+    try:
+        return try_file(player, path, is_selftest)
+    except KeyError as fault:
+        why = f"it has no file {fault}"
+    except (NotACase, OSError, subprocess.TimeoutExpired) as fault:
+        why = fault
+    return Tried(0, False, [f"{path.name} can't be played: {why}"])
 
 
 def main():
@@ -415,22 +442,21 @@ def main():
     program = Path(words[0] if words else ROOT / "crates/onfiseq/out/onfiseq").resolve()
     if not program.is_file():
         sys.exit(f"{program} isn't there: run rt ci, or bin/onfiseq")
-    player, tried, unread = Player(str(program)), [], 0
     try:
         paths = list_files(words[1:])
     except NotACase as fault:
         sys.exit(f"cases: {fault}")
-    for path in paths:
-        try:
-            tried.append(try_file(player, path, is_selftest))
-        except (NotACase, KeyError, subprocess.TimeoutExpired) as fault:
-            print(f"{path.name} can't be played: {fault}")
-            unread += 1
+    player, all_tried = Player(str(program)), []
+    with ThreadPoolExecutor(len(os.sched_getaffinity(0))) as pool:
+        for tried in pool.map(lambda path: try_safely(player, path, is_selftest), paths):
+            print(*tried.lines, sep="\n", flush=True)
+            all_tried.append(tried)
     taken = [text for text in NO_CASES if not is_refused(text)] if is_selftest else []
     for text in taken:
         print(f"this text is taken for a case file:\n{text}")
-    is_whole = bool(tried) and not unread and not taken and all(went_well for _, went_well in tried)
-    print(f"cases: {sum(count for count, _ in tried)} cases in {len(tried)} files" + ("" if is_whole else ", NOT ALL AS THEY SHOULD BE"))
+    count = sum(tried.count for tried in all_tried)
+    is_whole = count > 0 and not taken and all(tried.went_well for tried in all_tried)
+    print(f"cases: {count} {'changed expectations' if is_selftest else 'cases'} in {len(paths)} files" + ("" if is_whole else ", NOT ALL AS THEY SHOULD BE"))
     sys.exit(0 if is_whole else 1)
 
 
