@@ -1,8 +1,6 @@
-//! What is told of refused microprograms, and what is noted of accepted ones. Only tests stand here.
+//! What is told of refused microprograms, and what is noted of accepted ones, beside what `tools/cases` shows. Only tests stand here.
 #![tactic(auto)]
 
-#[cfg(test)]
-mod known_tests;
 #[cfg(test)]
 mod notes;
 #[cfg(test)]
