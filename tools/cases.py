@@ -55,7 +55,7 @@ SECONDS = 60
 MOST_SHOWN = 500
 ESCAPES = {"n": "\n", "r": "\r", "t": "\t", "\\": "\\"}
 STREAMS = ("out", "err")
-MANNERS = ("", "has", "lacks", "begins", "ends", "matches")
+PARTS = ("has", "lacks", "begins", "ends", "matches")
 
 
 class NotACase(Exception):
@@ -122,6 +122,10 @@ class Expectation:
     def __init__(self, word, name, number=None):
         self.word, self.name, self.number, self.content = word, name, number, Content()
 
+    def is_whole(self):
+        """Whether it can fail: a part has content."""
+        return self.word.partition("-")[2] not in PARTS or bool(self.content.parts)
+
     def count(self, ran):
         """The number that came of a run."""
         if self.word == "status":
@@ -144,7 +148,7 @@ class Expectation:
             return None if found == wanted else f"{self.word} {self.name} {wanted}, and it was {found}"
         if kind in ("made", "gone"):
             wants = (kind == "made") == (change is None)
-            return None if (self.name in ran.files) == wants else f"{self.name} is{'' if self.name in ran.files else chr(110) + chr(39) + 't'} there"
+            return None if (self.name in ran.files) == wants else f"{self.name} is there" if self.name in ran.files else f"{self.name} isn't there"
         found = ran.files.get(self.name) if kind == "file" else ran.streams[kind]
         wanted = self.content.of(ran.files) if change is None else change(self.content.of(ran.files))
         if found is None:
@@ -209,6 +213,10 @@ class Case:
     def __init__(self, name, number):
         self.name, self.number, self.pages, self.files, self.runs = name, number, {}, {}, []
 
+    def is_whole(self):
+        """Whether it has a run, something is expected of each, and each part of a stream or a file that is expected is one."""
+        return bool(self.runs) and all(run.expected and all(one.is_whole() for one in run.expected) for run in self.runs)
+
 
 class Reader:
     """Reads a case file line by line. The first case is what all share."""
@@ -221,75 +229,99 @@ class Reader:
         raise NotACase(f"{self.path.name}:{self.number}: {why}")
 
     def read(self):
-        """The cases of the file, without and with what they share."""
+        """What all cases of the file share, and its cases."""
         try:
             lines = self.path.read_text(encoding="utf-8").split("\n")
         except (OSError, UnicodeDecodeError) as fault:
             self.refuse(fault)
         for self.number, line in enumerate(lines, 1):
-            if not line.strip() or line.startswith("#"):
-                self.content = None
-                continue
             try:
-                is_content = self.content is not None and self.content.read_line(line)
+                self.read_line(line)
             except ValueError as fault:
                 self.refuse(fault)
-            if not is_content:
-                self.content = None
-                self.read_keyword(line)
         shared, *cases = self.cases
         if not cases:
             self.refuse("it has no case")
         for case in cases:
             self.number = case.number
-            if not case.runs or not all(run.expected for run in case.runs):
-                self.refuse(f"`{case.name}` has no run, or one of which nothing is expected")
+            if not case.is_whole():
+                self.refuse(f"`{case.name}` has no run, or one of which nothing is expected, or a part without content")
         return shared, cases
 
+    def read_line(self, line):
+        """A line of content, or a keyword that may stand here; a blank line and a comment end the content before them."""
+        if not line.strip() or line.startswith("#"):
+            self.content = None
+        elif self.content is None or not self.content.read_line(line):
+            self.content = None
+            self.read_keyword(line)
+
     def read_keyword(self, line):
-        """A line that is no content: a keyword that may stand here."""
-        word, _, rest = line.partition(" ")
-        case, rest = self.cases[-1], rest.strip()
-        run = case.runs[-1] if case.runs else None
-        stream, _, manner = word.partition("-")
-        if word == "==" and rest:
-            if any(rest == other.name for other in self.cases):
-                self.refuse(f"a case before it has the name `{rest}`")
-            self.cases.append(Case(rest, self.number))
-        elif word == "page" and not run and len(rest.split()) > 1:
-            name, *options = rest.split()
-            case.pages[name] = options
-        elif word == "stdin" and not rest and case.name:
-            self.content = self.stdin = Content()
-        elif word == "$" and (rest + " ").startswith("onfiseq ") and case.name:
-            case.runs.append(Run(read_words(rest)[1:], self.stdin))
-            self.stdin = None
-        elif word == "file" and rest and not run:
-            self.content = case.files[unescape(rest).decode()] = Content()
-        elif run and word == "status" and rest.isdigit():
-            run.expected.append(Expectation(word, "", int(rest)))
-        elif run and stream in STREAMS and manner == "lines" and rest.isdigit():
-            run.expected.append(Expectation(word, "", int(rest)))
-        elif run and stream in STREAMS and manner == "count" and re.fullmatch(r"\d+ .+", rest):
-            run.expected.append(Expectation(word, rest.partition(" ")[2], int(rest.partition(" ")[0])))
-        elif run and word == "size" and re.fullmatch(r"\S+ \d+", rest):
-            run.expected.append(Expectation(word, rest.split()[0], int(rest.split()[1])))
-        elif run and stream in STREAMS and manner == "only" and rest:
-            run.expected.append(Expectation(word, rest))
-            self.content = run.expected[-1].content
-        elif run and (stream in STREAMS and not rest or stream == "file" and rest) and manner in MANNERS:
-            run.expected.append(Expectation(word, rest))
-            self.content = run.expected[-1].content
-        elif run and word == "status" and re.fullmatch(r"\d+-\d+", rest):
-            run.expected.append(Expectation(word, rest))
-        elif run and word == "any" and rest:
-            run.ignored.append(rest)
-        elif run and word in ("made", "gone") and rest:
-            run.expected.append(Expectation(word, rest))
-        elif run and word == "keep" and len(rest.split()) == 2 and rest.split()[0] in STREAMS:
-            run.kept.append(rest.split())
-        else:
-            self.refuse(f"`{line}` isn't a line of a case here")
+        case = self.cases[-1]
+        places = {"head": not case.runs, "case": bool(case.name), "run": bool(case.runs), "anywhere": True}
+        for place, pattern, act in KEYWORDS:
+            found = re.fullmatch(pattern, line)
+            if found and places[place]:
+                act(self, case, *found.groups())
+                return
+        self.refuse(f"`{line}` isn't a line of a case here")
+
+    def begin_case(self, _, name):
+        if any(name == other.name for other in self.cases):
+            self.refuse(f"a case before it has the name `{name}`")
+        self.cases.append(Case(name, self.number))
+
+    def add_page(self, case, name, options):
+        case.pages[name] = options.split()
+
+    def add_file(self, case, name):
+        self.content = case.files[unescape(name).decode()] = Content()
+
+    def add_stdin(self, _):
+        self.content = self.stdin = Content()
+
+    def add_run(self, case, words):
+        case.runs.append(Run(read_words(words or ""), self.stdin))
+        self.stdin = None
+
+    def expect(self, case, word, name="", number=None):
+        case.runs[-1].expected.append(Expectation(word, name, number and int(number)))
+
+    def expect_number(self, case, word, number):
+        self.expect(case, word, "", number)
+
+    def expect_count(self, case, word, number, name):
+        self.expect(case, word, name, number)
+
+    def expect_content(self, case, word, name=""):
+        self.expect(case, word, name)
+        self.content = case.runs[-1].expected[-1].content
+
+    def keep(self, case, stream, name):
+        case.runs[-1].kept.append((stream, name))
+
+    def ignore(self, case, name):
+        case.runs[-1].ignored.append(name)
+
+
+# Where a line may stand, how it looks, and what is done with it.
+KEYWORDS = (
+    ("anywhere", r"== (.+)", Reader.begin_case),
+    ("head", r"page (\S+) (.+)", Reader.add_page),
+    ("head", r"file (.+)", Reader.add_file),
+    ("case", r"stdin", Reader.add_stdin),
+    ("case", r"\$ onfiseq( .+)?", Reader.add_run),
+    ("run", r"(status|(?:out|err)-lines) (\d+)", Reader.expect_number),
+    ("run", r"(status) (\d+-\d+)", Reader.expect),
+    ("run", r"((?:out|err)-count) (\d+) (.+)", Reader.expect_count),
+    ("run", r"(size) (\S+) (\d+)", Reader.expect),
+    ("run", r"((?:out|err)(?:-(?:has|lacks|begins|ends|matches))?)", Reader.expect_content),
+    ("run", r"((?:out|err)-only) (.+)", Reader.expect_content),
+    ("run", r"(file(?:-(?:has|lacks|begins|ends|matches))?) (.+)", Reader.expect_content),
+    ("run", r"(made|gone) (.+)", Reader.expect),
+    ("run", r"any (.+)", Reader.ignore),
+    ("run", r"keep (out|err) (\S+)", Reader.keep),
+)
 
 
 class Player:
@@ -370,6 +402,10 @@ NO_CASES = (
     "== a\n$ onfiseq lint\nstatus 0\n== a\n$ onfiseq lint\nstatus 0\n",
     "== a\n$ onfiseq lint\nstatus zero\n",
     "== a\n$ onfiseq lint\nstate 0\n",
+    "== a\n$ onfiseq lint\nout-has\n",
+    "== a\n$ onfiseq 'lint\nstatus 0\n",
+    "== a\n$ onfiseq lint\nstatus 0\nfile x\nhex 1g\n",
+    "",
     "== a\n$ onfiseq lint\nstatus 0\n| text\n",
     "== a\nstatus 0\n",
     "== a\nfile x\n& \\q\n",
