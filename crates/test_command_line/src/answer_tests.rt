@@ -46,7 +46,7 @@ fn is_answer(answer: &Answer, status: u8, output: &str, errors: &str) -> bool {
         && answer.errors.as_slice() == errors.as_bytes()
 }
 
-// What no file above is refused for.
+// What no file of `once` is refused for in `tools/cases`.
 const OTHER_FAULTS: &[(Fault, &str)] = &[
     (
         Fault::Text {

@@ -1,4 +1,4 @@
-// The runs that `verify` leaves of its refusals.
+// The runs that `verify` leaves of its refusals, where a file of them can't be written.
 use crate::command::Command;
 use crate::tests::{ASSEMBLE, ONE_LUN, do_command, files_of, is_right};
 use seq_files::{FileError, FileFault, MapFiles};

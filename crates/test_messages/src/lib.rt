@@ -1,4 +1,5 @@
-//! What is said of texts that are refused: assembly, traces and run files, each with the whole message. Only tests stand here.
+//! What is said of assembly texts and run files that are refused, where no command shows it; `tools/cases` has the other messages. Only tests
+//! stand here.
 #![tactic(auto)]
 
 #[cfg(test)]

@@ -1,4 +1,4 @@
-// Jobs with the longest buffer, a byte short of 16 MiB.
+// How many bytes the buffers of a run have.
 use crate::tests::{is_right, make_files};
 use run_file::parse_run;
 use run_plan::plan_run;

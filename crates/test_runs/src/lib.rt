@@ -1,4 +1,5 @@
-//! Runs of channels as run files say, with files in memory: what they print, write and refuse. Only tests stand here.
+//! Runs of channels as run files say, with files in memory: calls that fail, a made clock, and what is counted before a run. What a run prints,
+//! writes and refuses is in `tools/cases`. Only tests stand here.
 #![tactic(auto)]
 
 #[cfg(test)]

@@ -1,4 +1,4 @@
-// What a run is asked for beside its file: no trace on standard output, the trace in a file, and what there was.
+// What a run tells beside its jobs: what there was, how long it took by a made clock, and what it does.
 use crate::tests::{ask, files_of_run, is_right, none_is_wrong, play};
 use seq_files::MapFiles;
 use seq_inputs::Console;

@@ -1,4 +1,4 @@
-// How many words the programs of a run step at most, and runs that may step fewer.
+// How many words the programs of a run step at most.
 use crate::tests::{make_files, none_is_wrong};
 use run_file::parse_run;
 use run_plan::plan_run;
