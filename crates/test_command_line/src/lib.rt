@@ -1,5 +1,5 @@
-//! The command line, with files and streams in memory: what each of its words asks for, what a whole command prints and refuses, and how far
-//! it tells that it has come. Only tests stand here.
+//! The command line, with files and streams in memory: what each of its words asks for, streams that fail, and how far a command tells that it
+//! has come. What a whole command prints and refuses is in `tools/cases`. Only tests stand here.
 #![tactic(auto)]
 
 #[cfg(test)]

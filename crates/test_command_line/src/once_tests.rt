@@ -3,7 +3,6 @@ use linked_list_allocator::LocalHeap;
 use micro_claims::Reason;
 use run_once::once_on;
 use seq_cli::{Command, Mistake, parse};
-use seq_core::JobFault;
 use seq_files::{SlowReader, SlowWriter};
 use seq_inputs::{Console, Exit, Fault, Refusal, Style};
 use std::alloc::{AllocError, Global};
@@ -32,21 +31,11 @@ const NO_WAIT: [u8; 32] = [
 pub(crate) const RUN: &str =
     "0 C 60\n0 A 04\n0 A 00\n0 A 00\n0 C d0\n0 C 70\n0 O 80\n0 R 0 0\n0 C 70\n0 O e0\nend 0\n";
 
-const RUN_AT_31: &str =
-    "0 C 60\n0 A 1f\n0 A 00\n0 A 00\n0 C d0\n0 C 70\n0 O 80\n0 R 0 0\n0 C 70\n0 O e0\nend 0\n";
-
 // No `wait` before the `end`, and a row that isn't there.
 const ENDS_BUSY: Refusal = Refusal {
     fault: Fault::Text {
         reason: Reason::EndsTooSoon,
         word: 3,
-    },
-    line: None,
-};
-
-const ROW_OUTSIDE: Refusal = Refusal {
-    fault: Fault::Job {
-        fault: JobFault::RowsOutside,
     },
     line: None,
 };
@@ -84,74 +73,12 @@ pub(crate) fn new_console(alloc: Global) -> Console<Vec<u8>, Vec<u8>, NoProgress
     }
 }
 
-// What a file comes to, with all that it writes.
-fn outcome(alloc: Global, file: &[u8], base: u32) -> (Exit, Vec<u8>) {
-    let mut input = file;
-    let mut console = new_console(alloc);
-    let exit = once_on(&alloc, &mut input, &mut console, base);
-    (exit, console.output)
-}
-
 // A file, its base, and what it comes to with the lines that it prints.
 struct Run {
     file: &'static [u8],
     base: u32,
     exit: Exit,
     lines: &'static str,
-}
-
-const RUNS: &[Run] = &[
-    Run {
-        file: &ERASE,
-        base: 4,
-        exit: Exit::Done,
-        lines: RUN,
-    },
-    Run {
-        file: &ERASE,
-        base: 31,
-        exit: Exit::Done,
-        lines: RUN_AT_31,
-    },
-    Run {
-        file: &ERASE,
-        base: 32,
-        exit: Exit::Refused(ROW_OUTSIDE),
-        lines: "refused S3 at 0\n",
-    },
-    Run {
-        file: &ERASE,
-        base: u32::MAX,
-        exit: Exit::Refused(ROW_OUTSIDE),
-        lines: "refused S3 at 0\n",
-    },
-    Run {
-        file: &NO_WAIT,
-        base: 4,
-        exit: Exit::Refused(ENDS_BUSY),
-        lines: "refused V14 at 3\n",
-    },
-];
-
-// Whether a run comes to what it should.
-fn comes_to(alloc: Global, run: &Run) -> bool {
-    let (exit, output) = outcome(alloc, run.file, run.base);
-    exit == run.exit && output.as_slice() == run.lines.as_bytes()
-}
-
-// The place of the first run that doesn't.
-fn first_other_run(alloc: Global) -> Option<usize> {
-    for (place, run) in RUNS.iter().enumerate() {
-        if !comes_to(alloc, run) {
-            return Some(place);
-        }
-    }
-    None
-}
-
-#[test]
-fn erases(rt: HostRuntime) -> Result<(), Fail> {
-    none_is_wrong(first_other_run(rt.alloc()))
 }
 
 const UNREADABLE: &[u8] = b"file fault -\n-: it can't be read or written\n";

@@ -5,7 +5,7 @@ use seq_files::MapFiles;
 use seq_inputs::{Console, Style};
 use std::alloc::Allocator;
 use std::io::Write;
-use trace_commands::{CheckRequest, DrawRequest, Ending, check_trace, draw_trace};
+use trace_commands::{CheckRequest, Ending, check_trace};
 use trace_files::TraceOutputs;
 use trace_text::NoProgress;
 
@@ -27,7 +27,6 @@ pub(crate) enum Command<'a> {
         style: Style,
     },
     Check(CheckRequest<'a>),
-    Draw(DrawRequest<'a>),
     Disassemble {
         input: &'a str,
     },
@@ -47,7 +46,6 @@ impl Command<'_> {
     ) -> Ending {
         let exit = match self {
             Command::Check(request) => return check_trace(alloc, files, console, request),
-            Command::Draw(request) => return draw_trace(alloc, files, console, request),
             Command::Assemble { input, target } => {
                 assemble_file(alloc, files, console, input, target)
             }

@@ -1,4 +1,5 @@
-//! Commands on files in memory, each by its own function: what it does, prints and refuses. Only tests stand here.
+//! Commands on files in memory, each by its own function: files and outputs that fail, noise, and small heaps. What a command does, prints and
+//! refuses is in `tools/cases`. Only tests stand here.
 #![tactic(auto)]
 
 #[cfg(test)]
@@ -11,5 +12,3 @@ mod fault_tests;
 mod refusal_tests;
 #[cfg(test)]
 mod tests;
-#[cfg(test)]
-mod worked_tests;

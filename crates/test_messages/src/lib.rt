@@ -1,9 +1,8 @@
-//! What is said of texts that are refused: assembly, traces and run files, each with the whole message. Only tests stand here.
+//! What is said of assembly texts and run files that are refused, where no command shows it; `tools/cases` has the other messages. Only tests
+//! stand here.
 #![tactic(auto)]
 
 #[cfg(test)]
 mod asm_messages;
 #[cfg(test)]
 mod run_messages;
-#[cfg(test)]
-mod trace_messages;

@@ -1,10 +1,7 @@
-// What a run is asked for beside its file: no trace on standard output, the trace in a file, and what there was.
-use crate::tests::{
-    ONE_LUN, TO_TRACE, ask, files_of_run, has_played, is_right, none_is_wrong, play,
-};
-use nand_geometry::Geometry;
+// What a run tells beside its jobs: what there was, how long it took by a made clock, and what it does.
+use crate::tests::{ask, files_of_run, is_right, none_is_wrong, play};
 use seq_files::MapFiles;
-use seq_inputs::{Console, Exit};
+use seq_inputs::Console;
 use seq_run::{Phase, RunProgress, RunRequest, run_watched};
 use std::alloc::Global;
 use std::io::{self, Sink, sink};
@@ -13,152 +10,17 @@ use std::sync::atomic::{AtomicU64, Ordering};
 use std::test::Fail;
 use std::thread::Threads;
 use std::time::{Clock, Duration};
-use trace_files::{DrawForm, Drawing, TraceOutputs};
-use trace_text::{NoProgress, parse};
-use trace_wave::write_dump;
+use trace_text::NoProgress;
 
 // An erase at the first row.
 const RUN: &str = "page one\ntargets 1\njob 0 0 0 erase - -\n";
-
-// Its trace.
-const TRACE: &str =
-    "0 C 60\n0 A 00\n0 A 00\n0 A 00\n0 C d0\n0 C 70\n0 O 80\n0 R 0 0\n0 C 70\n0 O e0\n";
 
 // The files of the erase.
 fn erase_files(alloc: Global) -> Result<MapFiles, Fail> {
     files_of_run(alloc, RUN.as_bytes())
 }
 
-// What the run of the erase prints with its trace.
-const ALL: &str =
-    "0 C 60\n0 A 00\n0 A 00\n0 A 00\n0 C d0\n0 C 70\n0 O 80\n0 R 0 0\n0 C 70\n0 O e0\njob 1 end 0\n";
-
 const END: &str = "job 1 end 0\n";
-
-#[test]
-fn the_trace_in_a_file(rt: HostRuntime) -> Result<(), Fail> {
-    let mut files = erase_files(rt.alloc())?;
-    let request = RunRequest {
-        trace: TO_TRACE,
-        ..ask(1)
-    };
-    let played = play(&rt, &mut files, request);
-    let is_played = has_played(&played, Exit::Done, ALL, "");
-    is_right(is_played && files.get("trace") == Some(TRACE.as_bytes()))
-}
-
-#[test]
-fn no_trace_on_standard_output(rt: HostRuntime) -> Result<(), Fail> {
-    let mut files = erase_files(rt.alloc())?;
-    let request = RunRequest {
-        is_quiet: true,
-        ..ask(1)
-    };
-    let played = play(&rt, &mut files, request);
-    is_right(has_played(&played, Exit::Done, END, "") && files.get("trace").is_none())
-}
-
-// ---- the drawings of the trace
-
-// A file of the trace as a waveform, and one as a picture or as a page.
-fn to_drawings(form: DrawForm) -> TraceOutputs<'static> {
-    TraceOutputs {
-        text: None,
-        wave: Some("wave"),
-        drawing: Some(Drawing {
-            form,
-            path: "drawing",
-        }),
-    }
-}
-
-// The files after the run of the erase, which prints so much.
-fn run_erase<R: Threads + Wait + Sync + AllocGlobal>(
-    rt: &R,
-    is_quiet: bool,
-    trace: TraceOutputs<'_>,
-) -> Result<MapFiles, Fail> {
-    let mut files = erase_files(rt.alloc())?;
-    let request = RunRequest {
-        is_quiet,
-        trace,
-        ..ask(1)
-    };
-    let played = play(rt, &mut files, request);
-    let printed = if is_quiet { END } else { ALL };
-    if has_played(&played, Exit::Done, printed, "") {
-        Ok(files)
-    } else {
-        Err(Fail::from("the run prints something else"))
-    }
-}
-
-// The dump of the trace that is given above.
-fn dump_of_trace(alloc: Global) -> Result<Vec<u8>, Fail> {
-    let items = parse(alloc, TRACE)?;
-    let geometry = Geometry::of(ONE_LUN)?;
-    Ok(write_dump(alloc, &geometry, 1, items.as_slice())?)
-}
-
-// Whether this is left as the waveform alone.
-fn leaves_wave<R: Threads + Wait + Sync + AllocGlobal>(
-    rt: &R,
-    is_quiet: bool,
-    wave: &[u8],
-) -> Result<bool, Fail> {
-    let outputs = TraceOutputs {
-        wave: Some("wave"),
-        ..TraceOutputs::NONE
-    };
-    let files = run_erase(rt, is_quiet, outputs)?;
-    Ok(files.get("wave") == Some(wave) && files.get("trace").is_none())
-}
-
-// The waveform alone, whether the trace is printed or not.
-#[test]
-fn the_waveform_of_the_trace(rt: HostRuntime) -> Result<(), Fail> {
-    let wanted = dump_of_trace(rt.alloc())?;
-    let printed = leaves_wave(&rt, false, wanted.as_slice())?;
-    let quiet = leaves_wave(&rt, true, wanted.as_slice())?;
-    is_right(printed && quiet)
-}
-
-// The file of this path has all of these.
-fn has_parts(files: &MapFiles, path: &str, parts: &[&str]) -> bool {
-    let text = str::from_utf8(files.get(path).unwrap_or(b"")).unwrap_or("");
-    for part in parts {
-        if !text.contains(*part) {
-            return false;
-        }
-    }
-    true
-}
-
-const WAVE_PARTS: &[&str] = &["#36\n1$\n", "#46\n1$\n", "#76\n", "#100\n"];
-
-const PICTURE_PARTS: &[&str] = &["<svg xmlns=", "10 items", "</svg>\n"];
-
-// One target: the strobe of the last address rises at 36 and that of d0 at 46, where the LUN becomes busy; the ready of the eighth item comes at 76.
-#[test]
-fn a_waveform_and_a_picture(rt: HostRuntime) -> Result<(), Fail> {
-    let files = run_erase(&rt, true, to_drawings(DrawForm::Picture))?;
-    is_right(has_parts(&files, "wave", WAVE_PARTS) && has_parts(&files, "drawing", PICTURE_PARTS))
-}
-
-const PAGE_PARTS: &[&str] = &[
-    "<!DOCTYPE html>\n",
-    "<span><b>7</b>0 R 0 0</span>\n",
-    "</html>\n",
-];
-
-// The page has the text of the trace, though no trace is printed.
-#[test]
-fn a_page(rt: HostRuntime) -> Result<(), Fail> {
-    let files = run_erase(&rt, true, to_drawings(DrawForm::Page))?;
-    is_right(has_parts(&files, "drawing", PAGE_PARTS))
-}
-
-// ---- what there was
 
 // A run of the erase that tells what there was.
 fn ask_stats() -> RunRequest<'static> {

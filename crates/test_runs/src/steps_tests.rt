@@ -1,11 +1,7 @@
-// How many words the programs of a run step at most, and runs that may step fewer.
-use crate::tests::{
-    TO_TRACE, ask, files_of_run, has_played, is_right, make_files, none_is_wrong, play,
-};
+// How many words the programs of a run step at most.
+use crate::tests::{make_files, none_is_wrong};
 use run_file::parse_run;
 use run_plan::plan_run;
-use seq_inputs::Exit;
-use seq_run::RunRequest;
 use std::alloc::Global;
 use std::test::Fail;
 
@@ -72,55 +68,4 @@ fn first_other(alloc: Global) -> Result<Option<usize>, Fail> {
 #[test]
 fn steps_are_counted(rt: HostRuntime) -> Result<(), Fail> {
     none_is_wrong(first_other(rt.alloc())?)
-}
-
-// Two erases, of five words each, the second with a file for its buffer.
-const TWICE: &str = "page one\ntargets 1\njob 0 0 0 erase - -\njob 0 0 4 erase - out\n";
-
-#[test]
-fn as_many_steps_as_a_run_may(rt: HostRuntime) -> Result<(), Fail> {
-    let mut files = files_of_run(rt.alloc(), TWICE.as_bytes())?;
-    let request = RunRequest {
-        max_steps: 10,
-        is_quiet: true,
-        ..ask(1)
-    };
-    let played = play(&rt, &mut files, request);
-    let lines = b"job 1 end 0\njob 2 end 0\n".as_slice();
-    is_right(played.end == Exit::Done && played.output.as_slice() == lines)
-}
-
-const TOO_MANY: &str =
-    "run:4: with this job the programs may take more than 9 steps\nall jobs together may take 10, and `--max-steps 10` runs them\n";
-
-// The line is that of the job with which it is too many, and nothing has run.
-#[test]
-fn one_step_more(rt: HostRuntime) -> Result<(), Fail> {
-    let mut files = files_of_run(rt.alloc(), TWICE.as_bytes())?;
-    let request = RunRequest {
-        max_steps: 9,
-        trace: TO_TRACE,
-        ..ask(1)
-    };
-    let played = play(&rt, &mut files, request);
-    is_right(
-        has_played(&played, Exit::OutOfMemory, "", TOO_MANY)
-            && files.get("out").is_none()
-            && files.get("trace").is_none(),
-    )
-}
-
-// Nobody waits 200 days in silence.
-#[test]
-fn loops_of_loops(rt: HostRuntime) -> Result<(), Fail> {
-    let mut files = files_of_run(rt.alloc(), b"page one\ntargets 1\njob 0 0 0 deep - -\n")?;
-    files.put("deep", DEEP.as_bytes())?;
-    let played = play(&rt, &mut files, ask(1));
-    let told = played.errors.as_slice();
-    is_right(
-        played.end == Exit::OutOfMemory
-            && played.output.is_empty()
-            && told.starts_with(b"run:3: with this job the programs may take more than ")
-            && told.ends_with(b"`--max-steps 563087425937410` runs them\n"),
-    )
 }

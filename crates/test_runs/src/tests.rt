@@ -2,7 +2,7 @@ use nand_geometry::{Geometry, Parts, SMALL_CHIP};
 use seq_files::MapFiles;
 use seq_inputs::{Console, Exit};
 use seq_run::{MOST_STEPS, RunRequest, run_on};
-use std::alloc::{AllocError, Global};
+use std::alloc::Global;
 use std::sync::Wait;
 use std::test::Fail;
 use std::thread::Threads;
@@ -96,13 +96,6 @@ pub(crate) fn make_files(alloc: Global) -> Result<MapFiles, Fail> {
     Ok(files)
 }
 
-// The text of the trace in the file `trace`.
-pub(crate) const TO_TRACE: TraceOutputs<'static> = TraceOutputs {
-    text: Some("trace"),
-    wave: None,
-    drawing: None,
-};
-
 // A run of the file `run` with so many workers.
 pub(crate) fn ask(workers: u8) -> RunRequest<'static> {
     RunRequest {
@@ -144,97 +137,9 @@ pub(crate) fn make_image(alloc: Global, row: u8, first: &[u8]) -> Result<Vec<u8>
     Ok(image)
 }
 
-// A file has these bytes first, and this length.
-pub(crate) fn has_file(files: &MapFiles, path: &str, first: &[u8], length: usize) -> bool {
-    match files.get(path) {
-        Some(bytes) => bytes.starts_with(first) && bytes.len() == length,
-        None => false,
-    }
-}
-
 // The files, with this run file.
 pub(crate) fn files_of_run(alloc: Global, run: &[u8]) -> Result<MapFiles, Fail> {
     let mut files = make_files(alloc)?;
     files.put("run", run)?;
     Ok(files)
-}
-
-// A run file with one worker, with what must be printed and the status.
-pub(crate) struct Tried {
-    pub run: &'static str,
-    pub output: &'static str,
-    pub status: u8,
-}
-
-// Whether a run file comes to what it should, on files of its own.
-fn is_tried<R: Threads + Wait + Sync + AllocGlobal>(rt: &R, tried: &Tried) -> Result<bool, Fail> {
-    let mut files = files_of_run(rt.alloc(), tried.run.as_bytes())?;
-    let played = play(rt, &mut files, ask(1));
-    let is_printed = played.output.as_slice() == tried.output.as_bytes();
-    Ok(is_printed && played.end.status() == tried.status)
-}
-
-// The place of the first of them that doesn't.
-fn first_other<R: Threads + Wait + Sync + AllocGlobal>(
-    rt: &R,
-    all: &[Tried],
-) -> Result<Option<usize>, Fail> {
-    for (place, tried) in all.iter().enumerate() {
-        if !is_tried(rt, tried)? {
-            return Ok(Some(place));
-        }
-    }
-    Ok(None)
-}
-
-// Runs each of them.
-pub(crate) fn try_all<R: Threads + Wait + Sync + AllocGlobal>(
-    rt: &R,
-    all: &[Tried],
-) -> Result<(), Fail> {
-    none_is_wrong(first_other(rt, all)?)
-}
-
-const TWO_JOBS: &[Tried] = &[
-    Tried {
-        run: "page two\ntargets 1\npolls 1\njob 0 0 0 erase - -\njob 0 1 0 erase - -\n",
-        output: "0 C 60\n0 A 00\n0 A 00\n0 A 00\n0 C d0\n0 C 78\n0 A 00\n0 A 00\n0 A 00\n0 O 80\n0 R 0 0\n0 C 60\n0 A 20\n0 A 00\n0 A 00\n0 C d0\n0 C 78\n0 A 20\n0 A 00\n0 A 00\n0 O 80\n0 R 1 0\n0 C 78\n0 A 00\n0 A 00\n0 A 00\n0 O e0\n0 C 78\n0 A 20\n0 A 00\n0 A 00\n0 O e0\njob 1 end 0\njob 2 end 0\n",
-        status: 0,
-    },
-    Tried {
-        run: "page two\ntargets 1\npolls 1\njob 0 0 0 erase - -\njob 0 1 0 erase - -\nfail 0 1 1\n",
-        output: "0 C 60\n0 A 00\n0 A 00\n0 A 00\n0 C d0\n0 C 78\n0 A 00\n0 A 00\n0 A 00\n0 O 80\n0 R 0 0\n0 C 60\n0 A 20\n0 A 00\n0 A 00\n0 C d0\n0 C 78\n0 A 20\n0 A 00\n0 A 00\n0 O 80\n0 R 1 1\n0 C 78\n0 A 00\n0 A 00\n0 A 00\n0 O e0\n0 C 78\n0 A 20\n0 A 00\n0 A 00\n0 O e1\njob 1 end 0\njob 2 end 0\n",
-        status: 0,
-    },
-    Tried {
-        run: "page two\ntargets 1\npolls 1\njob 0 0 15 erase - -\njob 0 1 0 erase - -\n",
-        output: "0 C 60\n0 A 1b\n0 A 00\n0 A 00\n0 C d0\n0 C 78\n0 A 00\n0 A 00\n0 A 00\n0 O 80\n0 R 0 0\n0 C 60\n0 A 20\n0 A 00\n0 A 00\n0 C d0\n0 C 78\n0 A 20\n0 A 00\n0 A 00\n0 O 80\n0 R 1 0\n0 C 78\n0 A 00\n0 A 00\n0 A 00\n0 O e0\n0 C 78\n0 A 20\n0 A 00\n0 A 00\n0 O e0\njob 1 end 0\njob 2 end 0\n",
-        status: 0,
-    },
-    // The second of them alone.
-    Tried {
-        run: "page two\ntargets 1\njob 0 1 0 erase - -\n",
-        output: "0 C 60\n0 A 20\n0 A 00\n0 A 00\n0 C d0\n0 C 78\n0 A 20\n0 A 00\n0 A 00\n0 O 80\n0 R 1 0\n0 C 78\n0 A 20\n0 A 00\n0 A 00\n0 O e0\njob 1 end 0\n",
-        status: 0,
-    },
-    Tried {
-        run: "page two\ntargets 1\npolls 1\njob 0 0 16 erase - -\njob 0 1 0 erase - -\n",
-        output: "refused S3 at 4\n",
-        status: 1,
-    },
-    Tried {
-        run: "page two\ntargets 1\npolls 1\njob 0 2 0 erase - -\njob 0 1 0 erase - -\n",
-        output: "refused J4 at 4\n",
-        status: 1,
-    },
-    Tried {
-        run: "page two\ntargets 1\npolls 0\njob 0 0 0 erase - -\njob 0 1 0 erase - -\n",
-        output: "refused J2 at 3\n",
-        status: 1,
-    },
-];
-
-#[test]
-fn two_jobs_of_one_worker(rt: HostRuntime) -> Result<(), Fail> {
-    try_all(&rt, TWO_JOBS)
 }

@@ -1,47 +1,5 @@
 use std::process::Abort;
-use trace_timing::{
-    PageTimes, TimingFileFault, TimingFileRefusal, TimingMode, read_timings, timings_of,
-};
-
-// A timing file that is refused, with its fault and its line.
-const REFUSED: &[(&str, TimingFileFault, usize)] = &[
-    ("mode 4\ntXYZ 5\n", TimingFileFault::UnknownName, 2),
-    ("tADL 70 ns\ntADL 80\n", TimingFileFault::OutOfOrder, 2),
-    ("tADL -3\n", TimingFileFault::BadNumber, 1),
-    ("tADL 70\nmode 3\n", TimingFileFault::OutOfOrder, 2),
-    ("mode 3\nmode 3\n", TimingFileFault::OutOfOrder, 2),
-    ("mode 6\n", TimingFileFault::BadNumber, 1),
-    (
-        "# none\n\ntADL 70 ns more\n",
-        TimingFileFault::UnknownName,
-        3,
-    ),
-    ("tADL 1.2345678\n", TimingFileFault::BadNumber, 1),
-    ("tADL 5000 s\n", TimingFileFault::BadNumber, 1),
-];
-
-// Why a timing file is refused, and at which line.
-fn refusal_of(text: &str) -> Option<(TimingFileFault, usize)> {
-    match read_timings(text, PageTimes::NONE) {
-        Ok(_) => None,
-        Err(TimingFileRefusal { fault, line }) => Some((fault, line)),
-    }
-}
-
-// The first of the files that isn't refused so.
-fn first_otherwise() -> Option<&'static str> {
-    for (text, fault, line) in REFUSED {
-        if refusal_of(text) != Some((*fault, *line)) {
-            return Some(text);
-        }
-    }
-    None
-}
-
-#[test]
-fn refused(rt: HostRuntime) {
-    assert_eq!(rt; first_otherwise(), None);
-}
+use trace_timing::{PageTimes, TimingMode, read_timings, timings_of};
 
 // A file that is taken, the mode that it stands on, and its tADL, tWHR and tWC in femtoseconds.
 const TAKEN: &[(&str, TimingMode, u64, u64, u64)] = &[

@@ -4,8 +4,4 @@
 #[cfg(test)]
 mod file_tests;
 #[cfg(test)]
-mod ops_tests;
-#[cfg(test)]
 mod pause_tests;
-#[cfg(test)]
-mod times_tests;

@@ -1,4 +1,4 @@
-use crate::notes::table::{AMPLE, ONE_LUN, TWO_PLANES, text_of, told_of, words_of};
+use crate::notes::table::{AMPLE, TWO_PLANES, text_of, words_of};
 use crate::notes::worked_tests::WORKED;
 use micro_lint::{Header, least_header};
 use micro_walk::examine;
@@ -6,105 +6,11 @@ use nand_geometry::{Geometry, Parts};
 use std::alloc::Global;
 use std::test::Fail;
 
-// The notes of a program with a header.
-fn noted(alloc: Global, parts: Parts, header: Header, words: &str) -> Result<String, Fail> {
-    let geometry = Geometry::of(parts)?;
-    let text = text_of(header, words_of(alloc, words)?)?;
-    told_of(alloc, &geometry, &text)
-}
-
-const READ: &str = "cmd 00\naddr 0 5\ncmd 30\nwait\ncmd 00\nget 528\nend 0";
-
-// A header, and the notes of the read with it.
-const NOTED: &[(Header, &str)] = &[
-    (
-        Header {
-            rows: 2,
-            buffer: 1_024,
-            budget: 1_000,
-        },
-        "header: the header gives `rows 2`, and `rows 1` is enough (N5)\nheader: the header gives `buffer 1024`, and `buffer 528` is enough (N5)\nheader: the header gives `budget 1000`, and `budget 536` is enough (N5)\n",
-    ),
-    (
-        Header {
-            rows: 1,
-            buffer: 528,
-            budget: 536,
-        },
-        "",
-    ),
-];
-
-// Whether these are the notes of the read with a header.
-fn is_noted(alloc: Global, header: Header, told: &str) -> Result<bool, Fail> {
-    let notes = noted(alloc, ONE_LUN, header, READ)?;
-    Ok(notes.as_str() == told)
-}
-
-#[test]
-fn headers_that_give_too_much(rt: HostRuntime) -> Result<(), Fail> {
-    for (header, told) in NOTED {
-        if !is_noted(rt.alloc(), *header, told)? {
-            return Err(Fail::from("other notes"));
-        }
-    }
-    Ok(())
-}
-
 // The least header of a program.
 fn least_of(alloc: Global, parts: Parts, words: &str) -> Result<Option<Header>, Fail> {
     let geometry = Geometry::of(parts)?;
     let text = text_of(AMPLE, words_of(alloc, words)?)?;
     Ok(least_header(alloc, &text, &geometry)?)
-}
-
-// Programs, and their least headers.
-const LEAST: &[(Parts, &str, Option<Header>)] = &[
-    // Four pages into one buffer: 4 * (1 + 5 + 1 + 1 + 528) cycles.
-    (
-        ONE_LUN,
-        "loop 4\ncmd 00\naddr 0 5\ncmd 30\nwait\ncmd 00\nget 528\nrowadd 1\nnext\nend 0",
-        Some(Header {
-            rows: 4,
-            buffer: 2_112,
-            budget: 2_144,
-        }),
-    ),
-    // A cache read of the page after row 2: 1 + 5 + 1, 1 + 1 + 16 and 1 cycles.
-    (
-        TWO_PLANES,
-        "row 2\ncmd 00\naddr 0 5\ncmd 30\nwait\ncmd 31\nwait\ncmd 00\nget 16\ncmd 3f\nwait\nend 0",
-        Some(Header {
-            rows: 4,
-            buffer: 16,
-            budget: 26,
-        }),
-    ),
-    (
-        ONE_LUN,
-        "row 9\nend 0",
-        Some(Header {
-            rows: 1,
-            buffer: 0,
-            budget: 0,
-        }),
-    ),
-    // The buffer has no bound.
-    (
-        ONE_LUN,
-        "stat\nloop 100\nbrs 01 a\nseek 0\na:\nget 1\nnext\nend 0",
-        None,
-    ),
-];
-
-#[test]
-fn least_headers(rt: HostRuntime) -> Result<(), Fail> {
-    for (parts, words, least) in LEAST {
-        if least_of(rt.alloc(), *parts, words)? != *least {
-            return Err(Fail::from(*words));
-        }
-    }
-    Ok(())
 }
 
 // Whether the verifier takes the words with this header.

@@ -33,21 +33,6 @@ pub(crate) const AMPLE: Header = Header {
     budget: 1_000_000,
 };
 
-/// The words of a program in assembly text, and its notes where its header gives no more than is needed: a line each.
-#[derive(Clone, Copy)]
-pub(crate) struct Try<'a> {
-    pub parts: Parts,
-    pub words: &'a str,
-    pub told: &'a str,
-}
-
-/// A program on one LUN, without notes.
-pub(crate) const PLAIN: Try<'static> = Try {
-    parts: ONE_LUN,
-    words: "",
-    told: "",
-};
-
 /// The words of a program in assembly text.
 pub(crate) fn words_of(alloc: Global, words: &str) -> Result<Vec<Word>, Fail> {
     let written = format!(in alloc; "rows 1\nbuffer 0\nbudget 0\n{words}\n")?;
@@ -109,39 +94,5 @@ fn line_of(alloc: Global, note: Note) -> Result<String, Fail> {
     match note.word() {
         None => Ok(format!(in alloc; "header: {note} ({code})\n")?),
         Some(word) => Ok(format!(in alloc; "word {word}: {note} ({code})\n")?),
-    }
-}
-
-// The notes of a program, where its header gives no more than is needed.
-fn notes_of(alloc: Global, it: Try<'_>) -> Result<String, Fail> {
-    let geometry = Geometry::of(it.parts)?;
-    let Some(text) = least_text(alloc, &geometry, words_of(alloc, it.words)?)? else {
-        return Err(Fail::from(format!(in alloc; "refused: {}", it.words)?));
-    };
-    told_of(alloc, &geometry, &text)
-}
-
-// The notes of these programs, where they are others than is expected; nothing where all is as expected.
-fn differences(alloc: Global, tries: &[Try<'_>]) -> Result<String, Fail> {
-    let mut all = String::new(alloc);
-    for it in tries {
-        let told = notes_of(alloc, *it)?;
-        if told.as_str() != it.told {
-            all.push_str(it.words)?;
-            all.push_str("\n-> ")?;
-            all.push_str(told.as_str())?;
-            all.push_str("\n")?;
-        }
-    }
-    Ok(all)
-}
-
-/// Nothing else is told of these programs than is expected.
-pub(crate) fn none_differ(alloc: Global, tries: &[Try<'_>]) -> Result<(), Fail> {
-    let all = differences(alloc, tries)?;
-    if all.is_empty() {
-        Ok(())
-    } else {
-        Err(Fail::new(format_args!("{all}")))
     }
 }

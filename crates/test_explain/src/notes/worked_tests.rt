@@ -1,9 +1,6 @@
-use crate::notes::table::{
-    ONE_LUN, PLAIN, TWO_LUNS, TWO_PLANES, Try, least_text, none_differ, told_of, words_of,
-};
-use micro_asm::assemble;
+use crate::notes::table::{TWO_PLANES, least_text, told_of, words_of};
 use micro_word::Word;
-use nand_geometry::{Geometry, Parts};
+use nand_geometry::Geometry;
 use std::alloc::Global;
 use std::test::Fail;
 
@@ -36,78 +33,6 @@ pub(crate) const WORKED: &[&str] = &[
     // An identifier and reads in a loop of loops.
     "col 32\nloop 2\ncmd 90\naddr 0 1\nget 2\nloop 3\nwait\nnext\nnext\ncol 0\ncmd 00\naddr 0 5\ncmd 30\nwait\ncmd 00\nget 4\nend 0",
 ];
-
-// A whole program of examples/, with the notes of its own header.
-fn whole(alloc: Global, parts: Parts, program: &str) -> Result<String, Fail> {
-    let geometry = Geometry::of(parts)?;
-    let text = assemble(alloc, program)?;
-    told_of(alloc, &geometry, &text)
-}
-
-const ERASE: &str =
-    "rows 1\nbuffer 0\nbudget 5\ncmd 60\naddr 2 3\ncmd d0\nwait\nbrs 01 failed\nend 0\nfailed:\nend 1\n";
-
-const PROGRAM: &str =
-    "rows 1\nbuffer 4\nbudget 11\ncmd 80\naddr 0 5\nput 4\ncmd 10\nwait\nbrs 01 failed\nend 0\nfailed:\nend 1\n";
-
-const READ: &str =
-    "rows 1\nbuffer 528\nbudget 536\ncmd 00\naddr 0 5\ncmd 30\nwait\ncmd 00\nget 528\nend 0\n";
-
-const READ_SPARE: &str =
-    "rows 1\nbuffer 16\nbudget 24\ncol 512\ncmd 00\naddr 0 5\ncmd 30\nwait\ncmd 00\nget 16\nend 0\n";
-
-const ERASE_ONE: &str = "rows 1\nbuffer 0\nbudget 5\ncmd 60\naddr 2 3\ncmd d0\nwait\nend 0\n";
-
-const ERASE_TWO: &str =
-    "rows 5\nbuffer 0\nbudget 10\nloop 2\ncmd 60\naddr 2 3\ncmd d0\nwait\nrowadd 4\nnext\nend 0\n";
-
-// A geometry, a program, and its notes: short erases look at nothing, and the examples have no notes.
-const WHOLE: &[(Parts, &str, &str)] = &[
-    (
-        ONE_LUN,
-        ERASE_ONE,
-        "word 2: nothing looks at whether this erase fails: a `brs 01` after its `wait` does (N4)\n",
-    ),
-    (
-        ONE_LUN,
-        ERASE_TWO,
-        "word 3: nothing looks at whether this erase fails: a `brs 01` after its `wait` does (N4)\n",
-    ),
-    (ONE_LUN, ERASE, ""),
-    (ONE_LUN, PROGRAM, ""),
-    (ONE_LUN, READ, ""),
-    (ONE_LUN, READ_SPARE, ""),
-    (TWO_LUNS, ERASE, ""),
-    (TWO_LUNS, PROGRAM, ""),
-];
-
-// Whether these are the notes of a program.
-fn is_whole(alloc: Global, parts: Parts, program: &str, told: &str) -> Result<bool, Fail> {
-    let notes = whole(alloc, parts, program)?;
-    Ok(notes.as_str() == told)
-}
-
-#[test]
-fn short_erases_and_examples(rt: HostRuntime) -> Result<(), Fail> {
-    for (parts, program, told) in WHOLE {
-        if !is_whole(rt.alloc(), *parts, program, told)? {
-            return Err(Fail::from(*program));
-        }
-    }
-    Ok(())
-}
-
-// A program with several notes.
-const SEVERAL: &[Try<'static>] = &[Try {
-    words: "loop 1\ncmd 80\naddr 0 5\nput 4\ncmd 10\nwait\nnext\ncmd 80\naddr 0 5\nput 4\ncmd 10\nwait\nget 2\nend 0\nend 1",
-    told: "word 0: the loop turns once: leave it and its `next` (word 6) out (N7)\nword 4: nothing looks at whether this program fails: a `brs 01` after its `wait` does (N4)\nword 10: it programs row 0, as word 4 does before, without an erase between: erase it first, or give both parts in one program by `cmd 85` (N2)\nword 12: it reads the status 2 times, and the register may be empty: a read must come first (N1)\nword 14: an `end` stands before it and no branch leads here: leave it out (N6)\n",
-    ..PLAIN
-}];
-
-#[test]
-fn notes_stand_in_order(rt: HostRuntime) -> Result<(), Fail> {
-    none_differ(rt.alloc(), SEVERAL)
-}
 
 // How many programs the verifier took, and how many lines their notes have.
 #[derive(Clone, Copy)]
