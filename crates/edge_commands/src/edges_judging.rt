@@ -1,5 +1,5 @@
 //! The command that judges the edges of a capture.
-ghost use Rattle.std.specs.Prelude.{◌≡◌, ◌≤◌, ⊥, List, ℕ, IfOk, IfErr, codes};
+ghost use Rattle.std.specs.Prelude.{◌≡◌, ◌≤◌, List, ℕ, IfOk, IfErr, codes};
 ghost use Rattle.std.specs.Io.KnownBytes.{Appends};
 ghost use Rattle.seq_inputs.specs.declared.refusal.Refusal.{Refusal};
 ghost use Rattle.seq_inputs.specs.Inputs.{PageIsRefused};
