@@ -1,4 +1,4 @@
-use Rattle.std.proofs.Common.{refl, subst, sym, ◌∙◌}
+use Rattle.std.proofs.Common.{codes, refl, subst, sym, ◌∙◌}
 use Rattle.seq_inputs.specs.Refusals.{line_of}
 use Rattle.seq_cli.specs.declared.command.Command.{Command}
 use Rattle.seq_inputs.specs.declared.exit.Exit.TheVariants as exit
@@ -333,3 +333,18 @@ pub returns-in-WriteImage-clause-faulty : goal.returns-in-WriteImage-clause-faul
 returns-in-WriteImage-clause-faulty g c = λ fault is.
     let k = c.write_image.ensures.faulty fault (same_is c.write_image.result (ending.Faulty fault) is) in
     (k.0, subst (λ (m : Command). MayTell m (g.F.Files.store c.args.files.now) (g.F.Files.store c.write_image.new.files) fault k.0) (sym c.in-WriteImage.is) (k.1, k.2), k.3)
+
+pub returns-in-Timing-clause-done : goal.returns-in-Timing-clause-done
+returns-in-Timing-clause-done g c = λ is.
+    let k = c.time_capture.ensures.done (same_is c.time_capture.result (ending.Exit exit.Done) is) in
+    (codes "kept\n", subst (λ (m : Command). IsDone m (g.R.Read.remaining c.args.input.now) (g.F.Files.store c.args.files.now) (g.F.Files.store c.time_capture.new.files) (codes "kept\n")) (sym c.in-Timing.is) (k.0, c.time_capture.ensures.stays, refl), k.1)
+
+pub returns-in-Timing-clause-refused : goal.returns-in-Timing-clause-refused
+returns-in-Timing-clause-refused g c = λ refusal is.
+    let k = c.time_capture.ensures.refused refusal (same_is c.time_capture.result (ending.Exit (exit.Refused refusal)) is) in
+    (line_of refusal, subst (λ (m : Command). MayRefuse m (g.R.Read.remaining c.args.input.now) (g.F.Files.store c.args.files.now) (g.F.Files.store c.time_capture.new.files) refusal (line_of refusal)) (sym c.in-Timing.is) (k.0, c.time_capture.ensures.stays, refl), k.1)
+
+pub returns-in-Timing-clause-faulty : goal.returns-in-Timing-clause-faulty
+returns-in-Timing-clause-faulty g c = λ fault is.
+    let k = c.time_capture.ensures.faulty fault (same_is c.time_capture.result (ending.Faulty fault) is) in
+    (k.0, subst (λ (m : Command). MayTell m (g.F.Files.store c.args.files.now) (g.F.Files.store c.time_capture.new.files) fault k.0) (sym c.in-Timing.is) (k.1, c.time_capture.ensures.stays), k.2)
