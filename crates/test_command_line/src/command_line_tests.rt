@@ -279,9 +279,11 @@ fn make_call(alloc: Global, name: &str) -> Result<String, Fail> {
     let help = show(alloc, words.as_str())?;
     let mut call = String::from_str(alloc, name)?;
     push_arguments(&mut call, find_usage(help.as_str()))?;
-    // What `page` wants is an option.
-    if name == "page" {
-        call.push_str(" --show 1")?;
+    // What `page` and `timing` want is an option.
+    match name {
+        "page" => call.push_str(" --show 1")?,
+        "timing" => call.push_str(" --timing 1")?,
+        _ => {}
     }
     Ok(call)
 }
@@ -306,6 +308,7 @@ fn name_of(asked: Command<'_>) -> &'static str {
         Command::CheckVendor(_) => "check --vendor",
         Command::CheckTimes(_) => "check --timing",
         Command::CheckData(_) => "check --data",
+        Command::Timing(_) => "timing",
         Command::WriteImage(_) => "image",
         Command::ListOperations(_) => "ops",
         Command::Draw(DrawRequest { form, .. }) => match form {
@@ -349,7 +352,7 @@ fn count_commands(alloc: Global, help: &str) -> Result<u32, Fail> {
 fn each_command_of_the_help_is_asked_for(rt: HostRuntime) -> Result<(), Fail> {
     let help = show(rt.alloc(), "--help")?;
     let count = count_commands(rt.alloc(), help.as_str())?;
-    assert!(rt; count == 15);
+    assert!(rt; count == 16);
     Ok(())
 }
 
