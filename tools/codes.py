@@ -51,7 +51,7 @@ def read_enum(name, path):
     text = open(path).read()
     body = re.search(r"pub enum %s \{\n(.*?)\n\}" % name, text, re.S).group(1)
     words = re.findall(r'#\[error\(\s*"((?:[^"\\]|\\.)*)",?\s*\)\]\s*(\w+)', body)
-    arms = re.findall(r'((?:\|?\s*%s::\w+\s*)+)=> "(\w+)"' % name, text)
+    arms = re.findall(r'((?:\|?\s*%s::\w+(?:\(_\))?\s*)+)=> "(\w+)"' % name, text)
     codes = {variant: code for variants, code in arms for variant in re.findall(r"::(\w+)", variants)}
     # A line of the bus without its signal has one code, told where a capture's faults are.
     of_all = re.search(r'CaptureFault::Role\(_\) => "(\w+)"', open(CAPTURES).read()) if name == "RoleFault" else None

@@ -33,6 +33,7 @@ timing_of fault.OutputToCommand = Some timing.OutputToCommand
 timing_of fault.ReadyToOutput = Some timing.ReadyToOutput
 timing_of fault.ToBusy = Some timing.ToBusy
 timing_of fault.NoTimes = None
+timing_of (fault.TooLong work) = None
 timing_of fault.Backwards = None
 
 -- of an output a period ends at the rise of RE#, and any other pause at its fall
@@ -74,6 +75,7 @@ since_of fault.WriteCycle l = cycle_before l
 since_of fault.ReadCycle l = cycle_before l
 since_of fault.ToOutput l = cycle_before l
 since_of fault.NoTimes l = cycle_before l
+since_of (fault.TooLong work) l = cycle_before l
 since_of fault.Backwards l = cycle_before l
 
 -- when an edge of a cycle's strobe was

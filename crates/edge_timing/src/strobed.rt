@@ -32,7 +32,7 @@ fn timing_of(fault: TimingFault) -> Option<EdgeTiming>
         TimingFault::OutputToCommand => Some(EdgeTiming::OutputToCommand),
         TimingFault::ReadyToOutput => Some(EdgeTiming::ReadyToOutput),
         TimingFault::ToBusy => Some(EdgeTiming::ToBusy),
-        TimingFault::NoTimes | TimingFault::Backwards => None,
+        TimingFault::NoTimes | TimingFault::TooLong(_) | TimingFault::Backwards => None,
     }
 }
 
@@ -50,6 +50,7 @@ fn edge_of_output(fault: TimingFault) -> Edge
         | TimingFault::OutputToCommand
         | TimingFault::ReadyToOutput
         | TimingFault::ToBusy
+        | TimingFault::TooLong(_)
         | TimingFault::Backwards => Edge::ReFalls,
     }
 }
@@ -68,6 +69,7 @@ fn edge_of_written(fault: TimingFault) -> Edge
         | TimingFault::ColumnChange
         | TimingFault::ReadyToOutput
         | TimingFault::ToBusy
+        | TimingFault::TooLong(_)
         | TimingFault::Backwards => Edge::WeRises,
     }
 }
@@ -127,6 +129,7 @@ fn since_of(fault: TimingFault, last: LastCycle) -> Since
         | TimingFault::ReadCycle
         | TimingFault::ToOutput
         | TimingFault::NoTimes
+        | TimingFault::TooLong(_)
         | TimingFault::Backwards => cycle_before(last),
     }
 }

@@ -78,11 +78,14 @@ fn read_lun<'a>(matches: &ArgMatches<'a>) -> Result<Option<(u8, u8)>, OpsMistake
     }
 }
 
-// Two numbers with `-` between.
+// Two numbers with `-` between, the second no less than the first.
 fn span_of(word: &str) -> Option<(usize, usize)> {
     let (first, last) = word.split_once('-')?;
     let first = u64::from_str_radix(first, 10).ok()?;
     let last = u64::from_str_radix(last, 10).ok()?;
+    if last < first {
+        return None;
+    }
     Some((usize::try_from(first).ok()?, usize::try_from(last).ok()?))
 }
 

@@ -26,20 +26,14 @@ fn read_in_pieces(
     Ok(stamped)
 }
 
-// Its trace, with strobes that change sooner than this as glitches, or what is wrong with it.
-fn shown(
-    alloc: Global,
-    form: CaptureForm,
-    glitch: u64,
-    text: &str,
-    length: usize,
-) -> Result<String, Fail> {
+// Its trace, or what is wrong with it.
+fn shown(alloc: Global, form: CaptureForm, text: &str, length: usize) -> Result<String, Fail> {
     let setup = Setup {
         form,
         geometry: Geometry::of(SMALL_CHIP)?,
         targets: 1,
         mappings: &[],
-        glitch,
+        glitch: 0,
     };
     match read_in_pieces(alloc, &setup, text.as_bytes(), length) {
         Ok(stamped) => {
@@ -56,10 +50,10 @@ fn shown(
 
 fn try_pieces(rt: &impl Abort, alloc: Global, text: &str, want: &str) -> Result<(), Fail> {
     for length in 1..=70 {
-        let found = shown(alloc, CaptureForm::Dump, 0, text, length)?;
+        let found = shown(alloc, CaptureForm::Dump, text, length)?;
         assert_eq!(rt; found.as_str(), want, "pieces of {length}");
     }
-    let found = shown(alloc, CaptureForm::Dump, 0, text, text.len())?;
+    let found = shown(alloc, CaptureForm::Dump, text, text.len())?;
     assert_eq!(rt; found.as_str(), want);
     Ok(())
 }
@@ -84,25 +78,6 @@ fn faults_in_pieces(rt: HostRuntime) -> Result<(), Fail> {
         let text = with_changes(rt.alloc(), STATUS, changes)?;
         try_pieces(&rt, rt.alloc(), text.as_str(), want)?;
     }
-    Ok(())
-}
-
-// The strobes are low for 8 and for 10 ns.
-#[test]
-fn glitches(rt: HostRuntime) -> Result<(), Fail> {
-    for (glitch, want) in [(8, STATUS_TRACE), (9, "G10 at 20"), (u64::MAX, "G10 at 20")] {
-        let found = shown(rt.alloc(), CaptureForm::Dump, glitch, STATUS, 16)?;
-        assert_eq!(rt; found.as_str(), want);
-    }
-    let quick = with_changes(rt.alloc(), STATUS, &[("#12\n0w", "#10\n0w")])?;
-    let found = shown(rt.alloc(), CaptureForm::Dump, 10, quick.as_str(), 16)?;
-    assert_eq!(rt; found.as_str(), STATUS_TRACE);
-    let found = shown(rt.alloc(), CaptureForm::Dump, 11, quick.as_str(), 16)?;
-    assert_eq!(rt; found.as_str(), "G10 at 20");
-    // No chip of ours is enabled, so nobody minds.
-    let other = with_changes(rt.alloc(), STATUS, &[("0c 1l b1110000 d", "1l b1110000 d")])?;
-    let found = shown(rt.alloc(), CaptureForm::Dump, 100, other.as_str(), 16)?;
-    assert_eq!(rt; found.as_str(), "");
     Ok(())
 }
 
@@ -218,10 +193,10 @@ Time [s],CE#,CLE,ALE,WE#,RE#,DQ0,DQ1,DQ2,DQ3,DQ4,DQ5,DQ6,DQ7\r\n\
 
 fn try_table(rt: &impl Abort, alloc: Global, text: &str, want: &str) -> Result<(), Fail> {
     for length in 1..=40 {
-        let found = shown(alloc, CaptureForm::Table, 0, text, length)?;
+        let found = shown(alloc, CaptureForm::Table, text, length)?;
         assert_eq!(rt; found.as_str(), want, "pieces of {length}");
     }
-    let found = shown(alloc, CaptureForm::Table, 0, text, text.len())?;
+    let found = shown(alloc, CaptureForm::Table, text, text.len())?;
     assert_eq!(rt; found.as_str(), want);
     Ok(())
 }

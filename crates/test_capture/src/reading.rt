@@ -1,12 +1,9 @@
 //! Reading a dump in a test, and spoiling it.
 
-use bus_capture::{CaptureFault, CaptureForm, CaptureRefusal, Setup, Stamped, read_capture};
-use bus_signals::Mapping;
-use nand_geometry::{Geometry, Parts, SMALL_CHIP};
+use bus_capture::{CaptureFault, Stamped};
 use onfi_cycle::Item;
 use std::alloc::{AllocError, Global};
 use std::test::Fail;
-use trace_text::{is_printable, print};
 
 // A status command and an output of one chip, as an analyzer records them: in nanoseconds, with DQ as a vector.
 pub(crate) const STATUS: &str = "$timescale 1 ns $end\n\
@@ -72,14 +69,6 @@ pub(crate) fn items_of(alloc: Global, stamped: &[Stamped]) -> Result<Vec<Item>, 
     stamped.iter().map(|s| s.item).collect(alloc)
 }
 
-// The text of items.
-fn text_of(alloc: Global, items: &[Item]) -> Result<String, Fail> {
-    if !is_printable(items) {
-        return Err(Fail::from("an item that can't be printed"));
-    }
-    Ok(print(alloc, items)?)
-}
-
 // What is wrong, and where.
 pub(crate) fn words_of(alloc: Global, fault: CaptureFault) -> Result<String, Fail> {
     Ok(match fault {
@@ -87,42 +76,4 @@ pub(crate) fn words_of(alloc: Global, fault: CaptureFault) -> Result<String, Fai
         CaptureFault::Role(role) => format!(in alloc; "G3: {role}")?,
         CaptureFault::Bus { fault, time } => format!(in alloc; "{} at {time}", fault.code())?,
     })
-}
-
-// The trace that a dump shows of a channel of so many targets, or what is wrong with it.
-pub(crate) fn shown_on(
-    alloc: Global,
-    parts: Parts,
-    targets: u8,
-    mappings: &[Mapping<'_>],
-    dump: &[u8],
-) -> Result<String, Fail> {
-    if targets > 4 {
-        return Err(Fail::from("more than 4 targets"));
-    }
-    let setup = Setup {
-        form: CaptureForm::Dump,
-        geometry: Geometry::of(parts)?,
-        targets,
-        mappings,
-        glitch: 0,
-    };
-    match read_capture(alloc, &setup, dump) {
-        Ok(capture) => {
-            let items = items_of(alloc, capture.stamped.as_slice())?;
-            text_of(alloc, items.as_slice())
-        }
-        Err(CaptureRefusal::Fault(fault)) => words_of(alloc, fault),
-        Err(CaptureRefusal::OutOfMemory) => Err(Fail::from("out of memory")),
-    }
-}
-
-// The same of a channel of small chips.
-pub(crate) fn shown(
-    alloc: Global,
-    targets: u8,
-    mappings: &[Mapping<'_>],
-    dump: &[u8],
-) -> Result<String, Fail> {
-    shown_on(alloc, SMALL_CHIP, targets, mappings, dump)
 }

@@ -17,13 +17,6 @@ const TWO_PLANES: Parts = Parts {
     ..ONE_PLANE
 };
 
-// The fields of its rows have room for one more page and two more blocks.
-const ODD: Parts = Parts {
-    pages: 3,
-    blocks: 6,
-    ..ONE_PLANE
-};
-
 // The bytes of a page.
 const LEN: usize = 528;
 
@@ -178,11 +171,6 @@ const START: [u8; 20] = [
     b'N', b'D', b'I', b'1', 0, 2, 0, 0, 16, 0, 0, 0, 4, 0, 0, 0, 8, 0, 0, 0,
 ];
 
-// What an image of ODD begins with.
-const ODD_START: [u8; 20] = [
-    b'N', b'D', b'I', b'1', 0, 2, 0, 0, 16, 0, 0, 0, 3, 0, 0, 0, 6, 0, 0, 0,
-];
-
 // Writes the entry of a page with this first byte, and FF behind it.
 fn write_page<A: Allocator>(
     image: &mut Vec<u8, A>,
@@ -197,9 +185,9 @@ fn write_page<A: Allocator>(
     Ok(())
 }
 
-// An image that begins so, of pages with these rows below 256 and first bytes.
-fn image_of(alloc: Global, start: &[u8], pages: &[(u8, u8)]) -> Result<Vec<u8>, AllocError> {
-    let mut image = Vec::from_slice(alloc, start)?;
+// An image of pages with these rows below 256 and first bytes.
+fn image_of(alloc: Global, pages: &[(u8, u8)]) -> Result<Vec<u8>, AllocError> {
+    let mut image = Vec::from_slice(alloc, &START)?;
     image.extend_from_slice(&[pages.len().min(255) as u8, 0, 0, 0])?;
     for (row, byte) in pages {
         write_page(&mut image, [*row, 0, 0, 0], *byte)?;
@@ -209,7 +197,7 @@ fn image_of(alloc: Global, start: &[u8], pages: &[(u8, u8)]) -> Result<Vec<u8>, 
 
 // The image of a die that holds the rows 0 and 4.
 fn rows_0_and_4(alloc: Global) -> Result<Vec<u8>, AllocError> {
-    image_of(alloc, &START, &TWO)
+    image_of(alloc, &TWO)
 }
 
 // The die writes these bytes as its image.
@@ -287,8 +275,8 @@ fn is_told<A: Allocator + Copy>(
         Try::Read(at, column, byte) => Ok(read(die, at, column)? == byte),
         Try::Holds(at, column, byte) => Ok(die.page_byte(at, column) == byte),
         Try::BlockHas(block, byte) => block_has(die, block, byte),
-        Try::Writes(pages) => Ok(writes(die, image_of(alloc, &START, pages)?.as_slice())?),
-        Try::Takes(pages) => takes(die, image_of(alloc, &START, pages)?.as_slice()),
+        Try::Writes(pages) => Ok(writes(die, image_of(alloc, pages)?.as_slice())?),
+        Try::Takes(pages) => takes(die, image_of(alloc, pages)?.as_slice()),
         _ => Ok(false),
     }
 }
@@ -485,128 +473,7 @@ fn images_are_the_content(rt: HostRuntime) -> Result<(), Fail> {
     Ok(())
 }
 
-// ---- damaged images
-
-// How an image is damaged: that of ONE_PLANE with the rows 0 and 4, or one of ODD with other rows.
-#[derive(Clone, Copy)]
-enum Damage {
-    // It is cut to so many bytes.
-    Cut(usize),
-    // It has one byte more.
-    Longer,
-    // One byte is another one.
-    Byte(usize, u8),
-    // It is one of ODD with two rows.
-    Rows(u8, u8),
-    // It is that with one byte more.
-    LongerRows(u8, u8),
-    // It is so many bytes 00.
-    Zeros(usize),
-}
-
-fn damaged(alloc: Global, damage: Damage) -> Result<Vec<u8>, AllocError> {
-    match damage {
-        Damage::Cut(len) => {
-            let mut image = rows_0_and_4(alloc)?;
-            image.truncate(len);
-            Ok(image)
-        }
-        Damage::Longer => {
-            let mut image = rows_0_and_4(alloc)?;
-            image.push(0xff)?;
-            Ok(image)
-        }
-        Damage::Byte(place, byte) => {
-            let mut image = rows_0_and_4(alloc)?;
-            if let Some(old) = image.get_mut(place) {
-                *old = byte;
-            }
-            Ok(image)
-        }
-        Damage::Rows(first, second) => image_of(
-            alloc,
-            &ODD_START,
-            &[(first, 0x12), (second, 0x34)],
-        ),
-        Damage::LongerRows(first, second) => {
-            let mut image = image_of(alloc, &ODD_START, &[(first, 0x12), (second, 0x34)])?;
-            image.push(0x00)?;
-            Ok(image)
-        }
-        Damage::Zeros(len) => vec![in alloc; 0x00; len],
-    }
-}
-
-// A die of these parts that holds two rows refuses a damaged image for this fault, and is as it was.
-fn refuses(alloc: Global, parts: Parts, damage: Damage, fault: ImageFault) -> Result<bool, Fail> {
-    let mut die = new_die(alloc, parts)?;
-    let start = if parts == ODD { ODD_START } else { START };
-    let before = image_of(alloc, &start, &TWO)?;
-    let bytes = damaged(alloc, damage)?;
-    let took = takes(&mut die, before.as_slice())?;
-    let told = load(&mut die, bytes.as_slice())?;
-    let stays = die.is_new() && writes(&die, before.as_slice())?;
-    Ok(took && told == Err(ImageRefusal::Fault(fault)) && stays)
-}
-
-// The page field of ODD is two bits wide, the block field three; its last row is 22.
-const DAMAGES: [(Parts, Damage, ImageFault); 27] = [
-    (ONE_PLANE, Damage::Cut(0), ImageFault::Length),
-    (ONE_PLANE, Damage::Cut(3), ImageFault::Length),
-    (ONE_PLANE, Damage::Cut(4), ImageFault::Length),
-    (ONE_PLANE, Damage::Cut(23), ImageFault::Length),
-    (ONE_PLANE, Damage::Cut(24), ImageFault::Length),
-    (ONE_PLANE, Damage::Cut(27), ImageFault::Length),
-    (ONE_PLANE, Damage::Cut(28), ImageFault::Length),
-    (ONE_PLANE, Damage::Cut(555), ImageFault::Length),
-    (ONE_PLANE, Damage::Cut(556), ImageFault::Length),
-    (ONE_PLANE, Damage::Cut(1087), ImageFault::Length),
-    (ONE_PLANE, Damage::Longer, ImageFault::Length),
-    // Rows that don't rise.
-    (ODD, Damage::Rows(22, 0), ImageFault::Order),
-    (ODD, Damage::Rows(22, 21), ImageFault::Order),
-    (ODD, Damage::Rows(22, 22), ImageFault::Order),
-    // Page 3, block 6 and LUN 1, in the second entry and in the first one.
-    (ODD, Damage::Rows(22, 3), ImageFault::Row),
-    (ODD, Damage::Rows(22, 23), ImageFault::Row),
-    (ODD, Damage::Rows(22, 24), ImageFault::Row),
-    (ODD, Damage::Rows(22, 32), ImageFault::Row),
-    (ODD, Damage::Rows(3, 0), ImageFault::Row),
-    (ODD, Damage::Rows(23, 0), ImageFault::Row),
-    (ODD, Damage::Rows(24, 0), ImageFault::Row),
-    (ODD, Damage::Rows(32, 0), ImageFault::Row),
-    // The highest byte of the first row names LUN 2^19.
-    (ONE_PLANE, Damage::Byte(27, 0x01), ImageFault::Row),
-    // Of several faults the first one is told.
-    (ONE_PLANE, Damage::LongerRows(32, 0), ImageFault::Numbers),
-    (ODD, Damage::LongerRows(32, 0), ImageFault::Length),
-    (ODD, Damage::Zeros(23), ImageFault::Length),
-    (ODD, Damage::Zeros(24), ImageFault::Magic),
-];
-
-// The bytes of a header from one place up to another, what each becomes in turn, and the fault of that.
-const HEADERS: [(usize, usize, u8, ImageFault); 3] = [
-    (0, 4, b'2', ImageFault::Magic),
-    (4, 20, 0x81, ImageFault::Numbers),
-    (20, 24, 0x03, ImageFault::Length),
-];
-
-#[test]
-fn damaged_images_are_refused(rt: HostRuntime) -> Result<(), Fail> {
-    for (place, (parts, damage, fault)) in DAMAGES.iter().enumerate() {
-        assert!(rt; refuses(rt.alloc(), *parts, *damage, *fault)?, "at {place}");
-    }
-    for (from, to, byte, fault) in HEADERS {
-        for place in from..to {
-            let damage = Damage::Byte(place, byte);
-            assert!(rt;
-                refuses(rt.alloc(), ONE_PLANE, damage, fault)?,
-                "at {place}"
-            );
-        }
-    }
-    Ok(())
-}
+// ---- refused images
 
 // A fault has this code and this text.
 fn is_shown(alloc: Global, fault: ImageFault, code: &str, text: &str) -> Result<bool, Fail> {

@@ -1,6 +1,6 @@
 use linked_list_allocator::LocalHeap;
 use micro_asm::{AsmFault, AsmRefusal, assemble, disassemble};
-use micro_word::{Text, Word, write};
+use micro_word::{Text, Word};
 use std::alloc::Global;
 use std::process::Abort;
 use std::test::Fail;
@@ -8,13 +8,6 @@ use std::test::Fail;
 // The erase of a block that ends with another code where it failed.
 const ERASE: &str =
     "rows 1\nbuffer 0\nbudget 5\ncmd 60\naddr 2 3\ncmd d0\nwait\nbrs 01 L6\nend 0\nL6:\nend 1\n";
-
-// Its word file.
-const ERASE_FILE: [u8; 44] = [
-    0x4e, 0x4d, 0x50, 0x32, 0x07, 0x00, 0x01, 0x00, 0x00, 0x00, 0x00, 0x00, 0x05, 0x00, 0x00, 0x00,
-    0x01, 0x60, 0x00, 0x00, 0x02, 0x02, 0x03, 0x00, 0x01, 0xd0, 0x00, 0x00, 0x0a, 0x00, 0x00, 0x00,
-    0x0d, 0x01, 0x06, 0x00, 0x00, 0x00, 0x00, 0x00, 0x00, 0x01, 0x00, 0x00,
-];
 
 // Texts that are refused, each with its fault and the line of that fault.
 type Table<'a> = &'a [(&'static str, AsmFault, usize)];
@@ -52,118 +45,6 @@ const ERASES: Table<'static> = &[
         3,
     ),
     ("", AsmFault::HeaderOutOfOrder, 1),
-];
-
-// Faults of single lines.
-const LINES: Table<'static> = &[
-    (
-        "rows 1\nbuffer 0\nbudget 0\nrows 1\nend 0\n",
-        AsmFault::UnknownWord,
-        4,
-    ),
-    (
-        "rows 1\nbuffer 0\nbudget 0\nwait\r\n",
-        AsmFault::UnknownWord,
-        4,
-    ),
-    (
-        "rows 1\nbuffer 0\nbudget 0\nWAIT\n",
-        AsmFault::UnknownWord,
-        4,
-    ),
-    (
-        "rows 1\nbuffer 0\nbudget 0\nx: wait\n",
-        AsmFault::UnknownWord,
-        4,
-    ),
-    (
-        "rows 1\nbuffer 0\nbudget 0\n9x:\nend 0\n",
-        AsmFault::UnknownWord,
-        4,
-    ),
-    (
-        "rows 1\nbuffer 0\nbudget 0\njmp 9x\n",
-        AsmFault::UnknownWord,
-        4,
-    ),
-    (
-        "rows 1\nbuffer 0\nbudget 0\nbrs 0 9x\n",
-        AsmFault::UnknownWord,
-        4,
-    ),
-    ("rows 1\nbuffer 0\nbudget 0\né\n", AsmFault::UnknownWord, 4),
-    (
-        "rows 1\nbuffer 0\nbudget 0\nend 0\r\n",
-        AsmFault::BadOperand,
-        4,
-    ),
-    ("rows 1\nbuffer 0\nbudget 0\nend\n", AsmFault::BadOperand, 4),
-    (
-        "rows 1\nbuffer 0\nbudget 0\nwait 1\n",
-        AsmFault::BadOperand,
-        4,
-    ),
-    (
-        "rows 1\nbuffer 0\nbudget 0\nend +1\n",
-        AsmFault::BadOperand,
-        4,
-    ),
-    (
-        "rows 1\nbuffer 0\nbudget 0\ncmd 6\n",
-        AsmFault::BadOperand,
-        4,
-    ),
-    ("rows 1\nbuffer 0\nbudget 0\njmp\n", AsmFault::BadOperand, 4),
-    (
-        "rows 1\nbuffer 0\nbudget 0\nx: brs 01 x y\n",
-        AsmFault::UnknownWord,
-        4,
-    ),
-    (
-        "rows 1\nbuffer 0\nbudget 0\nend 0\nbrs 01 x y\n",
-        AsmFault::BadOperand,
-        5,
-    ),
-    (
-        "rows 1\nbuffer 0\nbudget 0\nbrs 00 x\n",
-        AsmFault::OperandOutOfRange,
-        4,
-    ),
-    (
-        "rows 1\nbuffer 0\nbudget 0\nend 256\n",
-        AsmFault::OperandOutOfRange,
-        4,
-    ),
-    (
-        "rows 1\nbuffer 16777216\nbudget 0\n",
-        AsmFault::OperandOutOfRange,
-        2,
-    ),
-    (
-        "rows 0\nbuffer 0\nbudget 0\n",
-        AsmFault::OperandOutOfRange,
-        1,
-    ),
-    (
-        "rows 1\nbuffer 0\nbudget 9999999999\n",
-        AsmFault::OperandOutOfRange,
-        3,
-    ),
-    (
-        "rows 1\nbuffer 0\nbudget 00000000001\n",
-        AsmFault::BadOperand,
-        3,
-    ),
-    (
-        "rows 1\nbuffer 0\nbudget 0\nget 0\n",
-        AsmFault::OperandOutOfRange,
-        4,
-    ),
-    (
-        "rows 1\nbuffer 0\nbudget 0\nloop 4097\n",
-        AsmFault::OperandOutOfRange,
-        4,
-    ),
 ];
 
 // Faults that go by the place of a line.
@@ -247,88 +128,6 @@ const LAST_LINES: Table<'static> = &[
     ("rows 1\nbuffer 0\n", AsmFault::HeaderOutOfOrder, 3),
 ];
 
-// Labels of 32 characters, and of 33.
-const LONG_LABEL: &str =
-    "rows 1\nbuffer 0\nbudget 0\nabcdefghijklmnopqrstuvwxyz_01234:\njmp abcdefghijklmnopqrstuvwxyz_01234\n";
-
-const LABELS: Table<'static> = &[
-    (
-        "rows 1\nbuffer 0\nbudget 0\nabcdefghijklmnopqrstuvwxyz_012345:\nend 0\n",
-        AsmFault::UnknownWord,
-        4,
-    ),
-    (
-        "rows 1\nbuffer 0\nbudget 0\njmp abcdefghijklmnopqrstuvwxyz_012345\n",
-        AsmFault::UnknownWord,
-        4,
-    ),
-];
-
-// One text with all that may stand between the fields, and the same as it is written again.
-const LOOSE: &str =
-    "; héé\n\t rows\t0001 ; rows\n\nbuffer  16777215\nbudget 4294967295;budget\nagain: ; a label\n other_1:\ncmd eC\nbrs fF again\nget 16777215\njmp other_1;\nseek 0000100000\nnext";
-
-const PLAIN: &str =
-    "rows 1\nbuffer 16777215\nbudget 4294967295\nL0:\ncmd ec\nbrs ff L0\nget 16777215\njmp L0\nseek 100000\nnext\n";
-
-// The examples, as they lie in `examples`, and how they are written.
-const EXAMPLES: &[(&str, &str)] = &[
-    (
-        "; Erases the block of the job's row. Ends with code 1 where the die tells of failure, else with code 0.\nrows 1\nbuffer 0\nbudget 5\n        cmd 60          ; block erase, first command\n        addr 2 3        ; R1 R2 R3\n        cmd d0          ; block erase, second command\n        wait\n        brs 01 failed   ; status bit 0: FAIL\n        end 0\nfailed:\n        end 1\n",
-        "rows 1\nbuffer 0\nbudget 5\ncmd 60\naddr 2 3\ncmd d0\nwait\nbrs 01 L6\nend 0\nL6:\nend 1\n",
-    ),
-    (
-        "; Reads 528 bytes of the job's page into the buffer: a page of 512 bytes and its spare area of 16.\nrows 1\nbuffer 528\nbudget 536\n        cmd 00          ; read, first command\n        addr 0 5        ; C1 C2 R1 R2 R3, from column 0 on\n        cmd 30          ; read, second command\n        wait\n        cmd 00          ; back from the status to the data\n        get 528\n        end 0\n",
-        "rows 1\nbuffer 528\nbudget 536\ncmd 00\naddr 0 5\ncmd 30\nwait\ncmd 00\nget 528\nend 0\n",
-    ),
-    (
-        "; Programs the first four bytes of the buffer into the job's page, from column 0 on.\n; Ends with code 1 where the die tells of failure, else with code 0.\nrows 1\nbuffer 4\nbudget 11\n        cmd 80          ; page program, first command\n        addr 0 5        ; C1 C2 R1 R2 R3\n        put 4\n        cmd 10          ; page program, second command\n        wait\n        brs 01 failed   ; status bit 0: FAIL\n        end 0\nfailed:\n        end 1\n",
-        "rows 1\nbuffer 4\nbudget 11\ncmd 80\naddr 0 5\nput 4\ncmd 10\nwait\nbrs 01 L7\nend 0\nL7:\nend 1\n",
-    ),
-];
-
-// Each of these texts is refused as its row says.
-fn all_refused(rt: &impl Abort, alloc: Global, table: Table<'_>) {
-    for (text, code, line) in table {
-        let wanted = Some(AsmRefusal::Fault {
-            fault: *code,
-            line: *line,
-        });
-        assert_eq!(rt; assemble(alloc, text).err(), wanted, "{text}");
-    }
-}
-
-// The text as it is written once it has been read.
-fn written_again(alloc: Global, text: &str) -> Result<String, Fail> {
-    let read = assemble(alloc, text)?;
-    Ok(disassemble(alloc, &read)?)
-}
-
-#[test]
-fn an_erase_is_assembled(rt: HostRuntime) -> Result<(), Fail> {
-    let text = assemble(rt.alloc(), ERASE)?;
-    let file = write(rt.alloc(), &text)?;
-    assert_eq!(rt; file.as_slice(), ERASE_FILE.as_slice());
-    assert_eq!(rt; disassemble(rt.alloc(), &text)?.as_str(), ERASE);
-    Ok(())
-}
-
-#[test]
-fn blanks_comments_and_long_labels(rt: HostRuntime) -> Result<(), Fail> {
-    assert_eq!(rt; written_again(rt.alloc(), LOOSE)?.as_str(), PLAIN);
-    let long = written_again(rt.alloc(), LONG_LABEL)?;
-    assert_eq!(rt; long.as_str(), "rows 1\nbuffer 0\nbudget 0\nL0:\njmp L0\n");
-    Ok(())
-}
-
-#[test]
-fn the_lowest_line_with_its_lowest_fault(rt: HostRuntime) {
-    all_refused(&rt, rt.alloc(), ERASES);
-    all_refused(&rt, rt.alloc(), LINES);
-    all_refused(&rt, rt.alloc(), PLACES);
-    all_refused(&rt, rt.alloc(), LABELS);
-}
-
 // A text of so many words.
 fn waits(alloc: Global, count: usize) -> Result<String, Fail> {
     let mut text = String::from_str(alloc, "rows 1\nbuffer 0\nbudget 0\n")?;
@@ -336,19 +135,6 @@ fn waits(alloc: Global, count: usize) -> Result<String, Fail> {
         text.push_str("wait\n")?;
     }
     Ok(text)
-}
-
-#[test]
-fn as_many_words_as_may_stand(rt: HostRuntime) -> Result<(), Fail> {
-    let most = assemble(rt.alloc(), waits(rt.alloc(), 1024)?.as_str())?;
-    assert_eq!(rt; most.words().len(), 1024);
-    let more = assemble(rt.alloc(), waits(rt.alloc(), 1025)?.as_str()).err();
-    let wanted = AsmRefusal::Fault {
-        fault: AsmFault::TooManyWords,
-        line: 1028,
-    };
-    assert_eq!(rt; more, Some(wanted));
-    Ok(())
 }
 
 // The next of a fixed run of numbers.
@@ -522,13 +308,5 @@ fn long_texts_without_memory(rt: HostRuntime) -> Result<(), Fail> {
         line: 1028,
     });
     assert_eq!(rt; refusal_on(rt.alloc(), 4096, waits.as_str())?, many);
-    Ok(())
-}
-
-#[test]
-fn the_examples_are_assembled(rt: HostRuntime) -> Result<(), Fail> {
-    for (text, lines) in EXAMPLES {
-        assert_eq!(rt; written_again(rt.alloc(), text)?.as_str(), *lines);
-    }
     Ok(())
 }

@@ -8,127 +8,16 @@ use trace_text::{CheckProgress, CheckRefusal, check, check_watched, first_broken
 // One LUN of 8 blocks of 4 pages of 512 + 16 bytes, in one plane.
 const ONE_LUN: Parts = SMALL_CHIP;
 
-// Two such LUNs, each in two planes.
-const TWO_LUNS: Parts = Parts {
-    luns: 2,
-    plane_bits: 1,
-    enhanced: true,
-    multi_plane: true,
-    ..ONE_LUN
-};
-
-// An erase of block 0 of LUN 0, and the opener of another.
-const SECOND_OPENER: &str = "0 C 60\n0 A 00\n0 A 00\n0 A 00\n0 C d0\n0 C 60\n";
-
-const SECOND_ROW: &str = "0 C 60\n0 A 00\n0 A 00\n0 A 00\n0 C d0\n0 C 60\n0 A 00\n0 A 00\n0 A 00\n";
-
 // The erase of a block, asked for its status until it is ready.
 const ERASE: &str =
     "0 C 60\n0 A 00\n0 A 00\n0 A 00\n0 C d0\n0 C 70\n0 O 80\n0 R 0 0\n0 C 70\n0 O e0\n";
 
-// The first fault of a trace, None where it is legal.
-fn refusal(
-    alloc: Global,
-    parts: Parts,
-    targets: u8,
-    text: &str,
-) -> Result<Option<CheckRefusal>, Fail> {
-    if targets > 4 {
-        return Err(Fail::from("more than 4 targets"));
-    }
-    let geometry = Geometry::of(parts)?;
-    Ok(check(&geometry, targets, &parse(alloc, text)?).err())
-}
-
-const NONE_DRIVES: &str = "0 O e0\n";
-
-const ASKED: &str = "0 C 70\n0 O e0\n0 O e0\n";
-
-const ASKED_BY_ROW: &str = "0 C 78\n0 A 20\n0 A 00\n0 A 00\n0 O e0\n0 C 70\n";
-
-const ON_THE_OTHER_LUN: &str =
-    "0 C 60\n0 A 00\n0 A 00\n0 A 00\n0 C d0\n0 C 60\n0 A 20\n0 A 00\n0 A 00\n0 C d0\n";
-
-const ON_TARGET_1: &str = "1 C 60\n1 A 00\n1 A 00\n1 A 00\n1 C d0\n0 R 0 0\n";
-
-// Traces on so many targets of a geometry, and the place and the rule of their first fault.
-const TRACES: &[(Parts, u8, &str, Option<(usize, Forbidden)>)] = &[
-    // A busy LUN begins nothing.
-    (ONE_LUN, 1, SECOND_OPENER, Some((5, Forbidden::LunBusy))),
-    (TWO_LUNS, 1, SECOND_OPENER, None),
-    (TWO_LUNS, 1, SECOND_ROW, Some((8, Forbidden::LunBusy))),
-    // Legal traces.
-    (ONE_LUN, 1, "", None),
-    (ONE_LUN, 1, ERASE, None),
-    (TWO_LUNS, 4, ON_THE_OTHER_LUN, None),
-    // The byte of an output isn't judged.
-    (
-        ONE_LUN,
-        1,
-        "0 C 60\n0 A 00\n0 A 00\n0 A 00\n0 C d0\n0 C 70\n0 O 3c\n",
-        None,
-    ),
-    // A chip enable that isn't there, a ready of a LUN that isn't busy or isn't there, and an array ready.
-    (ONE_LUN, 1, ON_TARGET_1, Some((0, Forbidden::NotThere))),
-    (ONE_LUN, 2, ON_TARGET_1, Some((5, Forbidden::NotThere))),
-    (ONE_LUN, 0, ERASE, Some((0, Forbidden::NotThere))),
-    (TWO_LUNS, 1, "0 R 2 0\n", Some((0, Forbidden::NotThere))),
-    (ONE_LUN, 1, "0 Y 0\n", Some((0, Forbidden::NotThere))),
-    // A status command gives the bus to one LUN: 70 to the only one, 78 to the one that its row names.
-    (ONE_LUN, 1, NONE_DRIVES, Some((0, Forbidden::NoSoleDriver))),
-    (ONE_LUN, 1, ASKED, None),
-    (TWO_LUNS, 1, ASKED_BY_ROW, Some((5, Forbidden::SeveralLuns))),
-    (
-        ONE_LUN,
-        1,
-        ASKED_BY_ROW,
-        Some((0, Forbidden::CommandUnknown)),
-    ),
-    // A trace is told by its first fault, also where later items would be permitted.
-    (
-        ONE_LUN,
-        1,
-        "0 C 60\n0 A 00\n0 C d0\n0 A 00\n0 A 00\n0 C d0\n0 C 31\n",
-        Some((2, Forbidden::CommandMisplaced)),
-    ),
-];
-
-// The trace has this first fault.
-fn is_judged(
-    rt: &impl Abort,
-    alloc: Global,
-    (parts, targets, text, wanted): (Parts, u8, &str, Option<(usize, Forbidden)>),
-) -> Result<(), Fail> {
-    let told = refusal(alloc, parts, targets, text)?;
-    let wanted = wanted.map(|(place, rule)| CheckRefusal::At(place, rule));
-    assert_eq!(rt; told, wanted, "{text}");
-    Ok(())
-}
-
+// No target is there to be named. The program takes 1 to 4.
 #[test]
-fn first_faults_of_traces(rt: HostRuntime) -> Result<(), Fail> {
-    for row in TRACES {
-        is_judged(&rt, rt.alloc(), *row)?;
-    }
-    Ok(())
-}
-
-// One erase after another, some thousand items long.
-#[test]
-fn a_long_trace(rt: HostRuntime) -> Result<(), Fail> {
-    let geometry = Geometry::of(ONE_LUN)?;
+fn no_targets(rt: HostRuntime) -> Result<(), Fail> {
     let erase = parse(rt.alloc(), ERASE)?;
-    let mut items = Vec::new(rt.alloc());
-    for _ in 0..500 {
-        items.extend_from_slice(&erase)?;
-    }
-    assert!(rt; check(&geometry, 1, &items).is_ok());
-    items.extend_from_slice(&erase[..7])?;
-    items.extend_from_slice(&erase)?;
-    assert_eq!(rt;
-        check(&geometry, 1, &items).err(),
-        Some(CheckRefusal::At(5007, Forbidden::LunBusy))
-    );
+    let told = check(&Geometry::of(ONE_LUN)?, 0, &erase).err();
+    assert_eq!(rt; told, Some(CheckRefusal::At(0, Forbidden::NotThere)));
     Ok(())
 }
 

@@ -219,89 +219,6 @@ const OUT_OF_LUNS: Option<PageFault> = Some(PageFault::LunsOutOfRange);
 
 const OUT_OF_PLANES: Option<PageFault> = Some(PageFault::PlanesOutOfRange);
 
-// Numbers of a geometry, the others as in one of those above.
-#[derive(Clone, Copy, Debug)]
-enum Numbers {
-    PageBytes(u32),
-    SpareBytes(u32),
-    Pages(u32),
-    Blocks(u32),
-    LunsAndPages(u8, u32),
-    PlaneBitsAndBlocks(u8, u32),
-}
-
-fn parts_with(numbers: Numbers) -> Parts {
-    match numbers {
-        Numbers::PageBytes(page_bytes) => Parts {
-            page_bytes,
-            ..ONE_LUN
-        },
-        Numbers::SpareBytes(spare_bytes) => Parts {
-            spare_bytes,
-            ..ONE_LUN
-        },
-        Numbers::Pages(pages) => Parts { pages, ..ONE_LUN },
-        Numbers::Blocks(blocks) => Parts { blocks, ..ONE_LUN },
-        Numbers::LunsAndPages(luns, pages) => Parts {
-            luns,
-            pages,
-            ..LARGEST
-        },
-        Numbers::PlaneBitsAndBlocks(plane_bits, blocks) => Parts {
-            plane_bits,
-            blocks,
-            ..TWO_LUNS
-        },
-    }
-}
-
-// Numbers, and their fault.
-const JUDGED: &[(Numbers, Option<PageFault>)] = &[
-    (Numbers::PageBytes(511), OUT_OF_SIZE),
-    (Numbers::PageBytes(512), None),
-    (Numbers::PageBytes(16384), None),
-    (Numbers::PageBytes(16385), OUT_OF_SIZE),
-    (Numbers::PageBytes(u32::MAX), OUT_OF_SIZE),
-    (Numbers::SpareBytes(0), None),
-    (Numbers::SpareBytes(4096), None),
-    (Numbers::SpareBytes(4097), OUT_OF_SIZE),
-    (Numbers::SpareBytes(u32::MAX), OUT_OF_SIZE),
-    (Numbers::Pages(0), OUT_OF_SIZE),
-    (Numbers::Pages(1), None),
-    (Numbers::Pages(4096), None),
-    (Numbers::Pages(4097), OUT_OF_SIZE),
-    (Numbers::Pages(u32::MAX), OUT_OF_SIZE),
-    (Numbers::Blocks(0), OUT_OF_SIZE),
-    (Numbers::Blocks(1), None),
-    (Numbers::Blocks(65536), None),
-    (Numbers::Blocks(65537), OUT_OF_SIZE),
-    (Numbers::Blocks(u32::MAX), OUT_OF_SIZE),
-    (Numbers::LunsAndPages(0, 64), OUT_OF_LUNS),
-    (Numbers::LunsAndPages(1, 64), None),
-    (Numbers::LunsAndPages(4, 64), None),
-    (Numbers::LunsAndPages(5, 64), OUT_OF_LUNS),
-    (Numbers::LunsAndPages(u8::MAX, 64), OUT_OF_LUNS),
-    (Numbers::LunsAndPages(4, 65), OUT_OF_LUNS),
-    (Numbers::LunsAndPages(4, 4096), OUT_OF_LUNS),
-    (Numbers::LunsAndPages(1, 256), None),
-    (Numbers::LunsAndPages(1, 257), OUT_OF_LUNS),
-    (Numbers::PlaneBitsAndBlocks(1, 1), OUT_OF_PLANES),
-    (Numbers::PlaneBitsAndBlocks(1, 2), None),
-    (Numbers::PlaneBitsAndBlocks(2, 3), OUT_OF_PLANES),
-    (Numbers::PlaneBitsAndBlocks(2, 4), None),
-    (Numbers::PlaneBitsAndBlocks(3, 8), OUT_OF_PLANES),
-    (Numbers::PlaneBitsAndBlocks(32, 65536), OUT_OF_PLANES),
-    (Numbers::PlaneBitsAndBlocks(u8::MAX, 65536), OUT_OF_PLANES),
-];
-
-#[test]
-fn numbers_out_of_range(rt: HostRuntime) {
-    for (numbers, fault) in JUDGED {
-        let judged = Geometry::of(parts_with(*numbers)).err();
-        assert_eq!(rt; judged, *fault, "{numbers:?}");
-    }
-}
-
 // Two LUNs without 78h, then with too many planes too, then with too many LUNs, then with no size in its range.
 const NO_LUN_COMMANDS: Parts = Parts {
     enhanced: false,
@@ -327,11 +244,32 @@ const ALSO_SIZES: Parts = Parts {
     ..ALSO_LUNS
 };
 
+// Plane bits of which no option of the program tells.
+const EIGHT_PLANES: Parts = Parts {
+    plane_bits: 3,
+    ..TWO_LUNS
+};
+
+const MANY_PLANES: Parts = Parts {
+    plane_bits: 32,
+    blocks: 65536,
+    ..TWO_LUNS
+};
+
+const MOST_PLANES: Parts = Parts {
+    plane_bits: u8::MAX,
+    blocks: 65536,
+    ..TWO_LUNS
+};
+
 const FIRST_FAULTS: &[(Parts, Option<PageFault>)] = &[
     (NO_LUN_COMMANDS, Some(PageFault::LunCommandsMissing)),
     (ALSO_PLANES, OUT_OF_PLANES),
     (ALSO_LUNS, OUT_OF_LUNS),
     (ALSO_SIZES, OUT_OF_SIZE),
+    (EIGHT_PLANES, OUT_OF_PLANES),
+    (MANY_PLANES, OUT_OF_PLANES),
+    (MOST_PLANES, OUT_OF_PLANES),
 ];
 
 #[test]
@@ -339,28 +277,4 @@ fn the_first_fault_is_told(rt: HostRuntime) {
     for (parts, fault) in FIRST_FAULTS {
         assert_eq!(rt; Geometry::of(*parts).err(), *fault);
     }
-}
-
-const MESSAGES: &[(PageFault, &str)] = &[
-    (
-        PageFault::TooShort,
-        "fewer than the 256 bytes of a parameter page",
-    ),
-    (
-        PageFault::SizeOutOfRange,
-        "a size is out of range: data bytes, spare bytes, pages or blocks",
-    ),
-    (
-        PageFault::PlanesOutOfRange,
-        "more than two plane bits, or fewer blocks than planes",
-    ),
-];
-
-#[test]
-fn faults_have_messages(rt: HostRuntime) -> Result<(), Fail> {
-    for (fault, message) in MESSAGES {
-        let shown = format!(in rt.alloc(); "{fault}")?;
-        assert_eq!(rt; shown.as_str(), *message);
-    }
-    Ok(())
 }

@@ -1,4 +1,4 @@
-//! Pages, word files, assembly, traces and run files: worked examples of each format, and what is wrong with others. Only tests stand here.
+//! Pages, word files, assembly, traces and run files: what no command shows of them, and files of generators. Only tests stand here.
 #![tactic(auto)]
 
 #[cfg(test)]

@@ -38,21 +38,6 @@ fn with_byte(mut copy: [u8; 256], place: u8, byte: u8) -> [u8; 256] {
     copy
 }
 
-fn put_copy(copies: &mut [u8; 768], place: usize, copy: [u8; 256])
-    requires { place + 256 ≤ 768 }
-{
-    copies[place..place + 256].copy_from_slice(&copy);
-}
-
-/// Three copies behind one another.
-fn joined(first: [u8; 256], second: [u8; 256], third: [u8; 256]) -> [u8; 768] {
-    let mut copies = [0; 768];
-    put_copy(&mut copies, 0, first);
-    put_copy(&mut copies, 256, second);
-    put_copy(&mut copies, 512, third);
-    copies
-}
-
 /// The page of two LUNs of 8 blocks of 4 pages of 512 + 16 bytes in two planes, with 78h and multi-plane.
 fn two_luns_by_hand() -> [u8; 256] {
     let mut copy = [0; 256];
@@ -121,100 +106,6 @@ fn pages_read_back(rt: HostRuntime) -> Result<(), Fail> {
         assert_eq!(rt; read_parts(&page), Ok(parts));
     }
     Ok(())
-}
-
-fn read_cut(copies: [u8; 768], from: usize, to: usize) -> Result<Parts, PageFault>
-    requires order { from ≤ to }
-    requires end { to ≤ 768 }
-{
-    read_parts(&copies[from..to])
-}
-
-#[test]
-fn damaged_parameter_pages(rt: HostRuntime) -> Result<(), Fail> {
-    let good = Geometry::of(ONE_LUN)?.page();
-    let bad = with_byte(good, 80, 1);
-    assert_eq!(rt; read_parts(&[]), Err(PageFault::TooShort));
-    assert_eq!(rt; read_parts(&bad), Err(PageFault::WrongChecksum));
-    let copies = joined(bad, good, bad);
-    assert_eq!(rt; read_cut(copies, 256, 511), Err(PageFault::TooShort));
-    assert_eq!(rt; read_cut(copies, 0, 512), Ok(ONE_LUN));
-    assert_eq!(rt; read_cut(copies, 0, 511), Err(PageFault::WrongChecksum));
-    assert_eq!(rt; read_cut(copies, 1, 768), Err(PageFault::NoSignature));
-    Ok(())
-}
-
-#[test]
-fn the_first_good_copy_is_used(rt: HostRuntime) -> Result<(), Fail> {
-    let good = Geometry::of(ONE_LUN)?.page();
-    let bad = with_byte(good, 80, 1);
-    let unsigned = with_byte(good, 0, 0);
-    assert_eq!(rt; read_parts(&joined(bad, unsigned, good)), Ok(ONE_LUN));
-    let other = two_luns_by_hand();
-    assert_eq!(rt; read_parts(&joined(bad, other, good)), Ok(TWO_LUNS));
-    // A good copy with a fault is used too: those behind it aren't looked at.
-    let faulty = sealed(with_byte(good, 101, 0));
-    assert_eq!(rt;
-        read_parts(&joined(unsigned, faulty, good)),
-        Err(PageFault::AddressCycles)
-    );
-    Ok(())
-}
-
-// A byte of a page with a good checksum, and the only fault that the page has with it.
-const BROKEN: &[(u8, u8, PageFault)] = &[
-    (0, 0x4e, PageFault::NoSignature),
-    (6, 0x0b, PageFault::WideBus),
-    (101, 0x32, PageFault::AddressCycles),
-    (81, 0x01, PageFault::SizeOutOfRange),
-    (85, 0x11, PageFault::SizeOutOfRange),
-    (93, 0x10, PageFault::SizeOutOfRange),
-    (98, 0x01, PageFault::SizeOutOfRange),
-    (100, 0x00, PageFault::LunsOutOfRange),
-    (100, 0x05, PageFault::LunsOutOfRange),
-    (113, 0x03, PageFault::PlanesOutOfRange),
-    (96, 0x01, PageFault::PlanesOutOfRange),
-    (8, 0x00, PageFault::LunCommandsMissing),
-    (6, 0x08, PageFault::LunCommandsMissing),
-];
-
-#[test]
-fn each_fault_alone(rt: HostRuntime) {
-    let good = two_luns_by_hand();
-    assert_eq!(rt; read_parts(&good), Ok(TWO_LUNS));
-    for (place, byte, fault) in BROKEN {
-        let broken = sealed(with_byte(good, *place, *byte));
-        assert_eq!(rt; read_parts(&broken), Err(*fault), "byte {place} is {byte}");
-    }
-}
-
-// Bytes that may be so in a page of the same numbers.
-const FREE: &[(u8, u8)] = &[
-    (4, 0xff),
-    (5, 0x01),
-    (6, 0xfa),
-    (7, 0xff),
-    (8, 0xf8),
-    (9, 0xff),
-    (10, 0xff),
-    (79, 0xff),
-    (86, 0xff),
-    (91, 0xff),
-    (102, 0xff),
-    (113, 0xf1),
-    (114, 0xff),
-    (253, 0xff),
-];
-
-#[test]
-fn other_bytes_and_bits_are_free(rt: HostRuntime) {
-    let good = two_luns_by_hand();
-    for (place, byte) in FREE {
-        let other = with_byte(good, *place, *byte);
-        let read = (read_parts(&other), read_parts(&sealed(other)));
-        let wanted = (Err(PageFault::WrongChecksum), Ok(TWO_LUNS));
-        assert_eq!(rt; read, wanted, "byte {place} is {byte}");
-    }
 }
 
 #[test]

@@ -1,134 +1,17 @@
 use linked_list_allocator::LocalHeap;
 use onfi_cycle::{Cycle, Item, Kind};
-use std::alloc::{AllocError, Allocator, Global};
-use std::process::Abort;
+use std::alloc::{AllocError, Allocator};
 use std::test::Fail;
 use trace_text::{
-    RecordedItem, TimedItem, TraceFault, TraceRefusal, find_item, is_recording_printable, parse,
+    RecordedItem, TimedItem, TraceFault, TraceRefusal, find_item, is_recording_printable,
     parse_recorded, print_recorded,
 };
-
-// A recorded text, and the text in the strict form that has the same items.
-const AS_GOOD: &[(&str, &str)] = &[
-    ("", ""),
-    ("0 C 60\n0 A 04\n", "0 C 60\n0 A 04\n"),
-    // Lines that end in CR LF.
-    ("0 C 60\r\n1 R 2 1\r\n\r\n", "0 C 60\n1 R 2 1\n"),
-    // Blanks around and between the fields.
-    ("  0 C 60\n", "0 C 60\n"),
-    ("0 C 60 \t\n", "0 C 60\n"),
-    ("\t0\tC   60\r\n", "0 C 60\n"),
-    ("0 R  1\t0\n0  Y 3\n", "0 R 1 0\n0 Y 3\n"),
-    // Lines without an item.
-    ("\n\r\n \t\n\n", ""),
-    ("# erase\n; of a block\r\n\t# 0 C 60\n", ""),
-    // Comments behind an item.
-    ("0 C 60 # erase\n0 A 04;row\n", "0 C 60\n0 A 04\n"),
-    ("0 C 60# erase ; or not\r\n", "0 C 60\n"),
-    ("0 C 60 ;\u{e9}\r\r\n", "0 C 60\n"),
-    // Times.
-    ("@1200 0 C 60\n", "0 C 60\n"),
-    (" @0\t2 R 3 1 # failed\r\n", "2 R 3 1\n"),
-    ("@0007 0 C 60\n@5 0 A 04\n", "0 C 60\n0 A 04\n"),
-    ("@18446744073709551615 0 Y 1\n", "0 Y 1\n"),
-    ("@5 0 O e0 # @6 0 O e0\n", "0 O e0\n"),
-    // Text that no line feed ends, without an item.
-    ("0 C 60\n# end", "0 C 60\n"),
-    ("0 C 60\n \t", "0 C 60\n"),
-    ("\r", ""),
-];
-
-// Texts that are refused, by which fault, in which line.
-const REFUSED: &[(&str, TraceFault, usize)] = &[
-    ("0 C 60", TraceFault::BadShape, 1),
-    ("# erase\n\n0 C 60", TraceFault::BadShape, 3),
-    ("0 C 60\n0 C 60\r", TraceFault::BadShape, 2),
-    ("@1200", TraceFault::BadShape, 1),
-    // Each line counts, also one without an item.
-    ("# erase\r\n\r\n0 X 60\r\n", TraceFault::BadShape, 3),
-    ("# erase\n\n\t@7 0 C D0\n", TraceFault::BadNumber, 3),
-    ("0 C D0\n0 X 60\n", TraceFault::BadNumber, 1),
-    ("0 C d0\n\n0 X 60\n0 C D0\n", TraceFault::BadShape, 3),
-    // Fields as in the strict form.
-    ("0\n", TraceFault::BadShape, 1),
-    ("0 C\n", TraceFault::BadShape, 1),
-    ("0 C # 60\n", TraceFault::BadShape, 1),
-    ("0 C 60 0\n", TraceFault::BadShape, 1),
-    ("0 R 0\n", TraceFault::BadShape, 1),
-    ("0 R 0 0 0\n", TraceFault::BadShape, 1),
-    ("0 Y 1 0\n", TraceFault::BadShape, 1),
-    ("0C 60\n", TraceFault::BadShape, 1),
-    ("9 X D0\n", TraceFault::BadShape, 1),
-    ("// erase\n", TraceFault::BadShape, 1),
-    ("0 C 60 // erase\n", TraceFault::BadShape, 1),
-    ("4 C 60\n", TraceFault::BadNumber, 1),
-    ("0 C 6\n", TraceFault::BadNumber, 1),
-    ("0 R 0 2\n", TraceFault::BadNumber, 1),
-    ("0 Y 01\n", TraceFault::BadNumber, 1),
-    // One carriage return ends a line, and no other stands in it.
-    ("0 C 60\r\r\n", TraceFault::BadNumber, 1),
-    ("0 C\r 60\n", TraceFault::BadShape, 1),
-    ("0 C 60\r # erase\n", TraceFault::BadNumber, 1),
-    ("\r 0 C 60\n", TraceFault::BadShape, 1),
-    ("0 C 60\u{b}\n", TraceFault::BadNumber, 1),
-    ("0\u{a0}C 60\n", TraceFault::BadShape, 1),
-    // Times that are none, and a time without an item.
-    ("@ 0 C 60\n", TraceFault::BadShape, 1),
-    ("@ 1200 0 C 60\n", TraceFault::BadShape, 1),
-    ("@x 0 C 60\n", TraceFault::BadShape, 1),
-    ("@12ns 0 C 60\n", TraceFault::BadShape, 1),
-    ("@-1 0 C 60\n", TraceFault::BadShape, 1),
-    ("@+1 0 C 60\n", TraceFault::BadShape, 1),
-    ("@1.5 0 C 60\n", TraceFault::BadShape, 1),
-    ("@18446744073709551616 0 C 60\n", TraceFault::BadShape, 1),
-    ("@1200\n", TraceFault::BadShape, 1),
-    ("@1200 # 0 C 60\r\n", TraceFault::BadShape, 1),
-    ("@1 @2 0 C 60\n", TraceFault::BadShape, 1),
-    ("1200 0 C 60\n", TraceFault::BadShape, 1),
-    ("0 C 60 @1200\n", TraceFault::BadShape, 1),
-    ("@1 4 C 60\n", TraceFault::BadNumber, 1),
-    // The time is looked at first.
-    ("@x 4 C 60\n", TraceFault::BadShape, 1),
-];
 
 const LOG: &str =
     "# an erase\r\n\n@5 0 C 60\r\n0 A 04 ; row\n\n @18446744073709551615 0 C d0\n0 X 00\n0 C 70\n";
 
 fn cycle(ce: u8, kind: Kind, byte: u8) -> Item {
     Item::Cyc(Cycle { ce, kind, byte })
-}
-
-fn try_good(rt: &impl Abort, alloc: Global, recorded: &str, strict: &str) -> Result<(), Fail> {
-    let items = parse_recorded(alloc, recorded)?;
-    assert_eq!(rt;
-        items.as_slice(),
-        parse(alloc, strict)?.as_slice(),
-        "{recorded:?}"
-    );
-    Ok(())
-}
-
-#[test]
-fn what_is_permitted(rt: HostRuntime) -> Result<(), Fail> {
-    for (recorded, strict) in AS_GOOD {
-        try_good(&rt, rt.alloc(), recorded, strict)?;
-    }
-    Ok(())
-}
-
-#[test]
-fn what_is_refused(rt: HostRuntime) {
-    for (text, fault, line) in REFUSED {
-        let refusal = TraceRefusal::Fault {
-            fault: *fault,
-            line: *line,
-        };
-        assert_eq!(rt;
-            parse_recorded(rt.alloc(), text).err(),
-            Some(refusal),
-            "{text:?}"
-        );
-    }
 }
 
 #[test]

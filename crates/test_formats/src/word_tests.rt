@@ -1,7 +1,6 @@
 use linked_list_allocator::LocalHeap;
 use micro_word::{Text, Word, WordFault, WordRefusal, read, write};
 use std::alloc::{AllocError, Global};
-use std::process::Abort;
 use std::test::Fail;
 
 // The erase of one block, in format 1: cmd 60, addr 2 3, cmd d0, wait, end 0; rows 1, budget 5.
@@ -9,12 +8,6 @@ const ERASE: [u8; 36] = [
     0x4e, 0x4d, 0x50, 0x31, 0x05, 0x00, 0x01, 0x00, 0x00, 0x00, 0x00, 0x00, 0x05, 0x00, 0x00, 0x00,
     0x01, 0x60, 0x00, 0x00, 0x02, 0x02, 0x03, 0x00, 0x01, 0xd0, 0x00, 0x00, 0x0a, 0x00, 0x00, 0x00,
     0x00, 0x00, 0x00, 0x00,
-];
-
-// A get of 65,536 bytes, in format 2: stat, get 65536, end 0; rows 1, buffer 65536, budget 65538.
-const LONG_GET: [u8; 28] = [
-    0x4e, 0x4d, 0x50, 0x32, 0x03, 0x00, 0x01, 0x00, 0x00, 0x00, 0x01, 0x00, 0x02, 0x00, 0x01, 0x00,
-    0x0c, 0x00, 0x00, 0x00, 0x03, 0x01, 0x00, 0x00, 0x00, 0x00, 0x00, 0x00,
 ];
 
 fn fault(fault: WordFault, word: usize) -> Option<WordRefusal> {
@@ -33,13 +26,6 @@ fn second_word(format: u8, [code, a, low, high]: [u8; 4]) -> [u8; 24] {
     ]
 }
 
-// The erase in format 2.
-const UPGRADED: [u8; 36] = [
-    0x4e, 0x4d, 0x50, 0x32, 0x05, 0x00, 0x01, 0x00, 0x00, 0x00, 0x00, 0x00, 0x05, 0x00, 0x00, 0x00,
-    0x01, 0x60, 0x00, 0x00, 0x02, 0x02, 0x03, 0x00, 0x01, 0xd0, 0x00, 0x00, 0x0a, 0x00, 0x00, 0x00,
-    0x00, 0x00, 0x00, 0x00,
-];
-
 const ERASE_WORDS: &[Word] = &[
     Word::Command { byte: 0x60 },
     Word::Address { from: 2, count: 3 },
@@ -48,233 +34,11 @@ const ERASE_WORDS: &[Word] = &[
     Word::End { code: 0 },
 ];
 
-// A file, its rows, buffer and budget, its words, and the file that is written of them.
-struct File {
-    bytes: &'static [u8],
-    header: (u16, u32, u32),
-    words: &'static [Word],
-    written: &'static [u8],
-}
-
-const FILES: &[File] = &[
-    File {
-        bytes: &ERASE,
-        header: (1, 0, 5),
-        words: ERASE_WORDS,
-        written: &UPGRADED,
-    },
-    File {
-        bytes: &UPGRADED,
-        header: (1, 0, 5),
-        words: ERASE_WORDS,
-        written: &UPGRADED,
-    },
-    File {
-        bytes: &LONG_GET,
-        header: (1, 65_536, 65_538),
-        words: &[
-            Word::ReadStatus,
-            Word::Get { len: 65_536 },
-            Word::End { code: 0 },
-        ],
-        written: &LONG_GET,
-    },
-];
-
-// The file is read so.
-fn is_read(rt: &impl Abort, alloc: Global, file: &File) -> Result<(), Fail> {
-    let text = read(alloc, file.bytes)?;
-    let written = write(alloc, &text)?;
-    assert!(rt; (text.rows(), text.buffer(), text.budget()) == file.header);
-    assert!(rt; text.words() == file.words);
-    assert!(rt; written.as_slice() == file.written);
-    Ok(())
-}
-
-// A text of the header and the words is written so.
-fn is_made(rt: &impl Abort, alloc: Global, file: &File) -> Result<(), Fail> {
-    let (rows, buffer, budget) = file.header;
-    let Ok(made) = Text::of(rows, buffer, budget, file.words.to_vec(alloc)?) else {
-        return Err(Fail::from("the words are no text"));
-    };
-    assert!(rt; write(alloc, &made)?.as_slice() == file.written);
-    assert!(rt; made.into_words().as_slice() == file.words);
-    Ok(())
-}
-
-#[test]
-fn files_are_read_and_written(rt: HostRuntime) -> Result<(), Fail> {
-    for file in FILES {
-        is_read(&rt, rt.alloc(), file)?;
-        is_made(&rt, rt.alloc(), file)?;
-    }
-    Ok(())
-}
-
-#[test]
-fn cut_files(rt: HostRuntime) {
-    for len in 0..36 {
-        let told = if len < 16 {
-            WordFault::TooShort
-        } else {
-            WordFault::TooManyWords
-        };
-        assert_eq!(rt;
-            refusal(rt.alloc(), &ERASE[..len]),
-            fault(told, 0),
-            "cut to {len}"
-        );
-    }
-}
-
-// A byte of the erase, its value, the fault and its word.
-const CHANGES: &[(u8, u8, WordFault, usize)] = &[
-    (0, 0x00, WordFault::UnknownFormat, 0),
-    (1, 0x00, WordFault::UnknownFormat, 0),
-    (2, 0x00, WordFault::UnknownFormat, 0),
-    (3, 0x00, WordFault::UnknownFormat, 0),
-    (29, 0x01, WordFault::UnusedFieldSet, 3),
-    (6, 0x00, WordFault::OutOfRange, 0),
-    (10, 0x01, WordFault::OutOfRange, 0),
-    (4, 0x06, WordFault::TooManyWords, 0),
-    (4, 0x04, WordFault::TrailingBytes, 0),
-    (28, 0x11, WordFault::UnknownCode, 3),
-];
-
 // The erase with another byte.
 fn changed(place: u8, value: u8) -> [u8; 36] {
     let mut bytes = ERASE;
     bytes[usize::from(place % 36)] = value;
     bytes
-}
-
-#[test]
-fn changed_files(rt: HostRuntime) {
-    for (place, value, code, word) in CHANGES {
-        assert_eq!(rt;
-            refusal(rt.alloc(), &changed(*place, *value)),
-            fault(*code, *word),
-            "byte {place}"
-        );
-    }
-}
-
-#[test]
-fn longer_files(rt: HostRuntime) -> Result<(), Fail> {
-    let mut longer = ERASE.to_vec(rt.alloc())?;
-    longer.push(0)?;
-    assert_eq!(rt;
-        refusal(rt.alloc(), &longer),
-        fault(WordFault::TrailingBytes, 0)
-    );
-    Ok(())
-}
-
-// The format, the rows, the bytes of the buffer, and whether they are in range.
-const HEADERS: &[(u8, [u8; 2], [u8; 4], bool)] = &[
-    (0x31, [0x00, 0x00], [0x00, 0x00, 0x00, 0x00], false),
-    (0x31, [0x01, 0x10], [0x00, 0x00, 0x00, 0x00], false),
-    (0x31, [0x01, 0x00], [0x00, 0x00, 0x01, 0x00], false),
-    (0x31, [0x00, 0x10], [0xff, 0xff, 0x00, 0x00], true),
-    (0x32, [0x00, 0x00], [0x00, 0x00, 0x00, 0x00], false),
-    (0x32, [0x01, 0x10], [0x00, 0x00, 0x00, 0x00], false),
-    (0x32, [0x01, 0x00], [0x00, 0x00, 0x00, 0x01], false),
-    (0x32, [0x00, 0x10], [0xff, 0xff, 0xff, 0x00], true),
-];
-
-#[test]
-fn headers(rt: HostRuntime) {
-    for (format, [r0, r1], [b0, b1, b2, b3], fits) in HEADERS {
-        let bytes = [
-            0x4e, 0x4d, 0x50, *format, 0, 0, *r0, *r1, *b0, *b1, *b2, *b3, 0xff, 0xff, 0xff, 0xff,
-        ];
-        let want = if *fits {
-            None
-        } else {
-            fault(WordFault::OutOfRange, 0)
-        };
-        assert_eq!(rt; refusal(rt.alloc(), &bytes), want, "{bytes:?}");
-    }
-}
-
-// Reads a file of one word after `end 0`, in both formats.
-fn expect_word(
-    rt: &(impl Abort + AllocGlobal),
-    word: [u8; 4],
-    one: Option<WordFault>,
-    two: Option<WordFault>,
-) {
-    for (format, code) in [(0x31, one), (0x32, two)] {
-        let want = code.map(|fault| WordRefusal::Fault { fault, word: 1 });
-        let found = refusal(rt.alloc(), &second_word(format, word));
-        assert_eq!(rt; found, want, "{word:?} in format {format}");
-    }
-}
-
-// Words that are read in both formats.
-const INSIDE: &[[u8; 4]] = &[
-    [0x00, 0xff, 0x00, 0x00],
-    [0x01, 0x00, 0x00, 0x00],
-    [0x02, 0x00, 0x05, 0x00],
-    [0x02, 0x04, 0x01, 0x00],
-    [0x03, 0x00, 0x01, 0x00],
-    [0x03, 0x00, 0xff, 0xff],
-    [0x04, 0x00, 0x01, 0x00],
-    [0x04, 0x00, 0xff, 0xff],
-    [0x05, 0x00, 0x00, 0x00],
-    [0x05, 0x00, 0xff, 0xff],
-    [0x06, 0x00, 0xff, 0xff],
-    [0x07, 0x00, 0x01, 0x00],
-    [0x08, 0x00, 0xff, 0x0f],
-    [0x09, 0x03, 0x00, 0x00],
-    [0x0d, 0x01, 0x01, 0x00],
-    [0x0e, 0x00, 0x01, 0x00],
-    [0x0e, 0x00, 0x00, 0x10],
-    [0x0f, 0x00, 0x00, 0x00],
-    [0x10, 0x00, 0x01, 0x00],
-];
-
-// A word, and its faults in the two formats.
-const OUTSIDE: &[([u8; 4], Option<WordFault>, Option<WordFault>)] = &[
-    ([0x02, 0x00, 0x00, 0x00], RANGE, RANGE),
-    ([0x02, 0x00, 0x06, 0x00], RANGE, RANGE),
-    ([0x02, 0x05, 0x01, 0x00], RANGE, RANGE),
-    ([0x02, 0x04, 0x02, 0x00], RANGE, RANGE),
-    ([0x02, 0x00, 0x01, 0x01], RANGE, RANGE),
-    ([0x03, 0x00, 0x00, 0x00], RANGE, RANGE),
-    ([0x04, 0x00, 0x00, 0x00], RANGE, RANGE),
-    ([0x07, 0x00, 0x00, 0x00], RANGE, RANGE),
-    ([0x08, 0x00, 0x00, 0x10], RANGE, RANGE),
-    ([0x09, 0x04, 0x00, 0x00], RANGE, RANGE),
-    ([0x0d, 0x00, 0x00, 0x00], RANGE, RANGE),
-    ([0x0d, 0x01, 0x02, 0x00], RANGE, RANGE),
-    ([0x0e, 0x00, 0x00, 0x00], RANGE, RANGE),
-    ([0x0e, 0x00, 0x01, 0x10], RANGE, RANGE),
-    ([0x10, 0x00, 0x02, 0x00], RANGE, RANGE),
-    // An unknown code comes before the rest, and an unused field before a range.
-    ([0x11, 0xff, 0xff, 0xff], CODE, CODE),
-    ([0x08, 0x01, 0xff, 0xff], FIELD, FIELD),
-    ([0x09, 0xff, 0x01, 0x00], FIELD, FIELD),
-    // In format 2 the field a is part of the number.
-    ([0x03, 0x01, 0x00, 0x00], FIELD, None),
-    ([0x04, 0xff, 0xff, 0xff], FIELD, None),
-    ([0x05, 0xff, 0xff, 0xff], FIELD, None),
-];
-
-const RANGE: Option<WordFault> = Some(WordFault::OutOfRange);
-
-const CODE: Option<WordFault> = Some(WordFault::UnknownCode);
-
-const FIELD: Option<WordFault> = Some(WordFault::UnusedFieldSet);
-
-#[test]
-fn operands_at_their_limits(rt: HostRuntime) {
-    for word in INSIDE {
-        expect_word(&rt, *word, None, None);
-    }
-    for (word, one, two) in OUTSIDE {
-        expect_word(&rt, *word, *one, *two);
-    }
 }
 
 // Rows, buffer and words that are no text, why, and at which word.

@@ -1,4 +1,4 @@
-//! Microprograms that the verifier takes and refuses, by hand and from plain operations. Only tests stand here.
+//! What the verifier tells of a text besides its word and its reason: its counter, the words walked, the text itself; made loops, and plain operations. Only tests stand here.
 #![tactic(auto)]
 
 #[cfg(test)]

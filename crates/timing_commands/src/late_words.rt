@@ -1,11 +1,11 @@
-//! What comes too soon, in words.
+//! What comes too soon or takes too long, in words.
 
-use crate::nanoseconds::Nanoseconds;
+use crate::nanoseconds::{Microseconds, Nanoseconds};
 use onfi_cycle::{Item, Kind};
 use std::fmt;
 use trace_timing::{TimedItem, TimingFault, Timings, Violation};
 
-/// What comes too soon, with what is said of it: the item before it on its target, and how long its time is made up.
+/// What comes too soon or takes too long, with what is said of it: the item before it on its target, and how long its time is made up.
 #[derive(Clone, Copy)]
 pub(crate) struct LateItem {
     violation: Violation,
@@ -13,13 +13,13 @@ pub(crate) struct LateItem {
     before: Option<Kind>,
     // The item before it that has a time.
     timed_before: Option<usize>,
-    // The pulse that is in what is wanted.
-    pulse: Option<Pulse>,
+    // What is in what is wanted besides.
+    besides: Option<Besides>,
 }
 
-// A pulse that a time is longer by, in femtoseconds.
+// What a time is longer by, in femtoseconds: a pulse, or the time up to the beginning of work.
 #[derive(Clone, Copy)]
-struct Pulse {
+struct Besides {
     name: &'static str,
     len: u64,
 }
@@ -47,12 +47,13 @@ fn last_timed(items: &[TimedItem]) -> Option<usize> {
     items.iter().rposition(|timed| timed.time.is_some())
 }
 
-// The pulse in what is wanted of an item of this kind.
-fn pulse_of(timings: Timings, fault: TimingFault, kind: Option<Kind>) -> Option<Pulse> {
+// What is in what is wanted of an item of this kind.
+fn besides_of(timings: Timings, fault: TimingFault, kind: Option<Kind>) -> Option<Besides> {
     let (name, len) = match (fault, kind) {
         (TimingFault::ToOutput | TimingFault::ReadyToOutput, _)
         | (TimingFault::ColumnChange, Some(Kind::Dout)) => ("tRP", timings.t_rp),
         (TimingFault::OutputToCommand, _) => ("tWP", timings.t_wp),
+        (TimingFault::TooLong(_), _) => ("tWB", timings.t_wb),
         (
             TimingFault::NoTimes
             | TimingFault::WriteCycle
@@ -64,7 +65,7 @@ fn pulse_of(timings: Timings, fault: TimingFault, kind: Option<Kind>) -> Option<
             _,
         ) => return None,
     };
-    Some(Pulse { name, len })
+    Some(Besides { name, len })
 }
 
 impl LateItem {
@@ -82,7 +83,7 @@ impl LateItem {
             violation,
             before,
             timed_before: last_timed(front),
-            pulse: pulse_of(timings, violation.fault, kind),
+            besides: besides_of(timings, violation.fault, kind),
         }
     }
 
@@ -122,9 +123,9 @@ impl LateItem {
         timing: &str,
         wanted: u64,
     ) -> fmt::Result {
-        match self.pulse {
+        match self.besides {
             None => write!(f, "{timing} wants {}", Nanoseconds(wanted)),
-            Some(Pulse { name, len }) => write!(
+            Some(Besides { name, len }) => write!(
                 f,
                 "{timing} and {name} want {} + {}",
                 Nanoseconds(wanted.saturating_sub(len)),
@@ -134,13 +135,50 @@ impl LateItem {
     }
 }
 
+impl LateItem {
+    // How long a LUN was seen busy, and how long it may be.
+    fn write_busy<W: fmt::Write>(
+        self,
+        f: &mut fmt::Formatter<W>,
+        timing: &str,
+        seen: u64,
+        wanted: u64,
+    ) -> fmt::Result {
+        let len = match self.besides {
+            None => 0,
+            Some(besides) => besides.len,
+        };
+        write!(
+            f,
+            "busy for {} us, {timing} and tWB allow {} + {}",
+            Microseconds(seen),
+            Microseconds(wanted.saturating_sub(len)),
+            Microseconds(len)
+        )
+    }
+
+    // How long a distance is, and how long it is to be.
+    fn write_distance<W: fmt::Write>(
+        self,
+        f: &mut fmt::Formatter<W>,
+        timing: &str,
+        seen: u64,
+        wanted: u64,
+    ) -> fmt::Result {
+        if matches!(self.violation.fault, TimingFault::TooLong(_)) {
+            return self.write_busy(f, timing, seen, wanted);
+        }
+        write!(f, "{} ns after {}, ", Nanoseconds(seen), self.since())?;
+        self.write_wanted(f, timing, wanted)
+    }
+}
+
 impl fmt::Display for LateItem {
     fn fmt<W: fmt::Write>(&self, f: &mut fmt::Formatter<W>) -> fmt::Result {
         let code = self.violation.fault.code();
         match (self.distance(), self.timed_before) {
             (Some((timing, seen, wanted)), _) => {
-                write!(f, "{} ns after {}, ", Nanoseconds(seen), self.since())?;
-                self.write_wanted(f, timing, wanted)?;
+                self.write_distance(f, timing, seen, wanted)?;
             }
             (None, Some(before)) if self.violation.fault == TimingFault::Backwards => {
                 write!(f, "the time is before that of item {before}")?;

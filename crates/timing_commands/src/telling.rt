@@ -1,4 +1,4 @@
-//! Telling what comes too soon.
+//! Telling what comes too soon or takes too long.
 ghost use Rattle.std.specs.Prelude.{◌≡◌, ◌++◌, IfOk, OnOk};
 ghost use Rattle.std.specs.String.{string_bytes};
 ghost use Rattle.timing_commands.specs.Times.{late_line, late_lines, faulty_text};

@@ -1,5 +1,5 @@
 //! The command that checks a trace and its times.
-ghost use Rattle.std.specs.Prelude.{◌≡◌, ℕ, List, [], true, false, map, take, Ok, IfOk, IfErr, OnErr};
+ghost use Rattle.std.specs.Prelude.{◌≡◌, ◌++◌, ℕ, List, [], true, false, map, take, Ok, IfOk, IfErr, OnErr};
 ghost use Rattle.std.specs.Io.KnownBytes.{Appends};
 ghost use Rattle.seq_inputs.specs.declared.refusal.Refusal.{Refusal};
 ghost use Rattle.seq_inputs.specs.Inputs.{PageIsRefused};
@@ -7,16 +7,22 @@ ghost use Rattle.seq_inputs.specs.Refusals.{line_of};
 ghost use Rattle.seq_inputs.specs.Stops.{Tells};
 ghost use Rattle.trace_text.specs.Recorded.{recorded_items};
 ghost use Rattle.trace_timing.specs.Wanted.{AreBounded};
+ghost use Rattle.trace_timing.specs.Longest.{AreFinite};
 ghost use Rattle.trace_timing.specs.Watch.{violations_of};
+ghost use Rattle.busy_times.specs.Order.{IsInOrder};
+ghost use Rattle.busy_times.specs.Overruns.{AreJudgeable};
 ghost use Rattle.trace_commands.specs.declared.recording_fault.RecordingFault.{RecordingFault};
 ghost use Rattle.trace_commands.specs.Endings.{SaysOf, SaysNothing};
 ghost use Rattle.trace_commands.specs.Checks.{may_pass, legal_text, RefusesTrace};
-ghost use Rattle.timing_commands.specs.Times.{uncopied, ruler_of, timed_of, late_of, faulty_text, AreJudged, IsKept, RefusesTimes, IsFirst, TimesRefuse, HasTimes};
+ghost use Rattle.timing_commands.specs.Times.{uncopied, ruler_of, busy_ruler_of, timed_of, item_of, long_of, AreLate, faulty_text, AreJudged, IsKept, RefusesTimes, IsFirst, TimesRefuse, HasTimes};
 
+use crate::limits::Limits;
 use crate::telling::{fault_of, faulty_text, say_times};
 use crate::times_request::TimesRequest;
-use crate::timing_reading::timings_at;
+use crate::timing_reading::limits_at;
+use busy_times::{BusyRuler, find_overruns, put_in_order};
 use nand_geometry::Geometry;
+use onfi_cycle::Item;
 use seq_files::Files;
 use seq_inputs::{
     Console, Exit, Stop, Style, end_without_memory, finish, geometry_in, read_file, text_of,
@@ -28,6 +34,7 @@ use trace_commands::{
     say_told, say_unjudged, say_verdict, tell_legal,
 };
 use trace_faults::BrokenRule;
+use trace_ops::{Operations, find_operations};
 use trace_text::{CheckProgress, RecordedItem, TraceRefusal, parse_timed};
 use trace_timing::{Margins, PageTimes, Ruler, TimedItem, Timings, Violation, find_violations};
 
@@ -67,6 +74,18 @@ fn ruler_of(request: TimesRequest<'_>, geometry: &Geometry, timings: Timings) ->
     }
 }
 
+// By what the length of work is judged.
+fn busy_ruler_of(request: TimesRequest<'_>, limits: Limits) -> BusyRuler
+    ensures { result ≡ busy_ruler_of request.entry limits.timings limits.longest }
+{
+    BusyRuler {
+        longest: limits.longest,
+        to_busy: limits.timings.t_wb,
+        unit: request.unit,
+        slack: request.slack,
+    }
+}
+
 // The items of a trace with their times.
 fn timed_of<A: Allocator>(alloc: A, items: &[RecordedItem]) -> Result<Vec<TimedItem, A>, AllocError>
     ensures { IfOk result (λ timed. timed.items ≡ map timed_of items.now) }
@@ -97,19 +116,75 @@ fn read_times<'p, A: Allocator + Clone>(
     }
 }
 
-// What comes too soon and is told of a trace with these faults.
-fn find_late<A: Allocator>(
+// The items of a trace without their times.
+fn items_of<A: Allocator>(alloc: A, timed: &[TimedItem]) -> Result<Vec<Item, A>, AllocError>
+    ensures { IfOk result (λ items. items.items ≡ map item_of timed.now) }
+{
+    timed.iter().map(|timed| timed.item).collect(alloc)
+}
+
+// The work of a trace that takes too long, judged as its check is asked for.
+#[tactic(auto, using(crate::proofs::Late::long_is))]
+fn find_long<A: Allocator + Clone>(
     alloc: A,
-    all: bool,
-    ruler: Ruler,
+    check: CheckRequest<'_>,
+    geometry: &Geometry,
+    ruler: BusyRuler,
+    timed: &[TimedItem],
+) -> Result<Vec<Violation, A>, AllocError>
+    requires { AreJudgeable ruler }
+    ensures { IfOk result (λ long. long.items ≡ long_of check.entry geometry.now ruler timed.now) }
+{
+    let items = items_of(alloc.clone()?, timed)?;
+    let Operations { operations, marks } = find_operations(
+        alloc.clone()?,
+        geometry,
+        check.targets.count(),
+        items.as_slice(),
+        check.readies,
+        check.beginning,
+    )?;
+    find_overruns(alloc, ruler, operations.as_slice(), marks.as_slice(), timed)
+}
+
+// What comes too soon and what takes too long, in the order of items.
+#[tactic(auto, using(crate::proofs::Late::ordered_is))]
+fn find_all_late<A: Allocator + Clone>(
+    alloc: A,
+    request: TimesRequest<'_>,
+    geometry: &Geometry,
+    limits: Limits,
+    items: &[TimedItem],
+) -> Result<Vec<Violation, A>, AllocError>
+    requires least { AreBounded limits.timings }
+    requires most { AreFinite limits.longest }
+    ensures { IfOk result (λ all. IsInOrder (violations_of (ruler_of request.entry geometry.now limits.timings) items.now
+        ++ long_of request.entry.check geometry.now (busy_ruler_of request.entry limits.timings limits.longest) items.now) all.items) }
+{
+    let ruler = ruler_of(request, geometry, limits.timings);
+    let mut late = find_violations(alloc.clone()?, ruler, items)?;
+    let busy = busy_ruler_of(request, limits);
+    let mut long = find_long(alloc, request.check, geometry, busy, items)?;
+    late.append(&mut long)?;
+    put_in_order(&mut late)?;
+    Ok(late)
+}
+
+// What of it is told of a trace with these faults.
+fn find_late<A: Allocator + Clone>(
+    alloc: A,
+    request: TimesRequest<'_>,
+    geometry: &Geometry,
+    limits: Limits,
     items: &[TimedItem],
     told: &[BrokenRule],
 ) -> Result<Vec<Violation, A>, AllocError>
-    requires { AreBounded ruler.timings }
-    ensures { IfOk result (λ late. late.items ≡ late_of all told.now (violations_of ruler items.now)) }
+    requires least { AreBounded limits.timings }
+    requires most { AreFinite limits.longest }
+    ensures { IfOk result (λ late. AreLate request.entry geometry.now limits.timings limits.longest items.now told.now late.items) }
 {
-    let mut late = find_violations(alloc, ruler, items)?;
-    match (all, told) {
+    let mut late = find_all_late(alloc, request, geometry, limits, items)?;
+    match (request.check.tells_all, told) {
         (true, _) => {}
         (false, []) => late.truncate(1),
         (false, [_, ..]) => late.truncate(0),
@@ -143,15 +218,16 @@ fn judge_times<'p, A: Allocator + Clone, F: Files, P: CheckProgress>(
     let page = read_file(alloc.clone()?, files, check.page)?;
     let geometry = geometry_in(alloc.clone()?, check.page, page.as_slice())?;
     let times = PageTimes::read(page.as_slice());
-    let timings = timings_at(alloc.clone()?, files, times, request.source)?;
-    let ruler = ruler_of(request, &geometry, timings);
+    let limits = limits_at(alloc.clone()?, files, times, request.source)?;
+    let ruler = ruler_of(request, &geometry, limits.timings);
     let checked = judge_file(alloc.clone()?, files, progress, check, &geometry)?;
     let text = text_of(check.input, checked.text.as_slice())?;
     let items = read_times(alloc.clone()?, text)?;
     let late = find_late(
         alloc,
-        check.tells_all,
-        ruler,
+        request,
+        &geometry,
+        limits,
         items.as_slice(),
         checked.told.as_slice(),
     )?;

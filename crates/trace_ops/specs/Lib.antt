@@ -1,2 +1,3 @@
 pub mod Operation
 pub mod Listing
+pub mod Laws

@@ -1,16 +1,13 @@
 -- An operation of a trace, and what an item makes of it.
-use Rattle.std.specs.Prelude.{ℕ, ◌+◌, ◌==◌, ◌&&◌, ◌||◌, not, Bool, true, false, nat_lt, nat_le, List, [], ◌∷◌, length, slice_get, slice_set, slice_index, replicate, Option, Some, None, is_some, if◌then◌else◌}
-use Rattle.onfi_cycle.specs.declared.command.Command.{Command}
+use Rattle.std.specs.Prelude.{ℕ, ◌+◌, ◌==◌, ◌&&◌, ◌||◌, not, Bool, true, false, nat_lt, nat_le, List, slice_get, slice_set, slice_index, replicate, Option, Some, None, is_some, if◌then◌else◌}
 use Rattle.onfi_cycle.specs.declared.item.Kind.{Kind}
 use Rattle.onfi_cycle.specs.declared.item.Kind.TheVariants.{Cmd, Adr, Din, Dout}
-use Rattle.onfi_cycle.specs.declared.page_address.PageAddress.{PageAddress}
-use Rattle.onfi_cycle.specs.Command.{command, is_known, is_opener}
+use Rattle.onfi_cycle.specs.Command.{command, is_known}
 use Rattle.trace_faults.specs.declared.verdict.Verdict.{Verdict}
 use Rattle.trace_faults.specs.declared.verdict.Verdict.TheVariants.{Permitted, PassedOver, Granted, Broken, NotShown as WithoutReady}
 use Rattle.trace_ops.specs.declared.operation.Beginning.{Beginning}
 use Rattle.trace_ops.specs.declared.operation.Beginning.TheVariants as begins
 use Rattle.trace_ops.specs.declared.operation.Ending.{Ending}
-use Rattle.trace_ops.specs.declared.operation.Ending.TheVariants as ends
 use Rattle.trace_ops.specs.declared.operation.Operation.{Operation}
 use Rattle.trace_ops.specs.declared.change.Change.{Change}
 use Rattle.trace_ops.specs.declared.change.Change.TheVariants.{Opened, Cycle, LoneReady, End, Begin, Poll, Show, Hold, SetLun, Fold, Unfold}

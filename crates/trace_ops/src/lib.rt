@@ -10,6 +10,7 @@ mod change;
 mod ends;
 mod judged;
 mod judging;
+pub mod laws;
 mod listing;
 mod looks;
 mod names;

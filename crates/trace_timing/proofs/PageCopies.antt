@@ -1,10 +1,9 @@
 -- The copies of a parameter page, one after another.
-use Rattle.std.proofs.Common.{◌≡◌, ◌≤◌, ℕ, Bool, true, false, List, [], ◌∷◌, ◌++◌, length, take, drop, refl, sym, ap, ◌∙◌, arith}
-use Rattle.std.specs.Prelude.{find, Option, Some, None, unwrap_or}
+use Rattle.std.proofs.Common.{◌≡◌, ℕ, true, false, List, [], ◌∷◌, ◌++◌, length, take, drop, refl, sym, ap, ◌∙◌}
+use Rattle.std.specs.Prelude.{find, Option, Some, unwrap_or}
 use Rattle.std.proofs.lemmas.List.{take-append-drop}
-use Rattle.nand_geometry.specs.Reading.{is_good, whole_copies, used}
+use Rattle.nand_geometry.specs.Reading.{is_good, whole_copies}
 use Rattle.nand_geometry.proofs.ReadingLemmas.{copies_of_append}
-use Rattle.trace_timing.specs.declared.page_times.PageTimes.{PageTimes}
 use Rattle.trace_timing.specs.PageTimes.{times_at, times_in}
 
 first_copy : (rest copy behind : List ℕ) → copy ++ behind ≡ rest → length copy ≡ 256 → whole_copies rest ≡ copy ∷ whole_copies behind

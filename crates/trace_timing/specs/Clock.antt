@@ -5,7 +5,6 @@ use Rattle.onfi_cycle.specs.declared.command.Command.TheVariants.{ReadStatus, Re
 use Rattle.onfi_cycle.specs.declared.item.Kind.{Kind}
 use Rattle.onfi_cycle.specs.declared.item.Kind.TheVariants.{Cmd, Adr, Din, Dout}
 use Rattle.onfi_cycle.specs.Command.{command, is_opener, is_known}
-use Rattle.onfi_pauses.specs.declared.pause.LastCycle.{LastCycle}
 use Rattle.onfi_pauses.specs.declared.pause.LastCycle.TheVariants as last
 use Rattle.onfi_pauses.specs.declared.pause.Pauses.{Pauses}
 use Rattle.onfi_pauses.specs.Pauses.{last_after, pauses_before}

@@ -1,7 +1,7 @@
 -- The codes under which faults of times are told.
 use Rattle.std.specs.Prelude.{ℕ, List, codes}
 use Rattle.trace_timing.specs.declared.timing_fault.TimingFault.{TimingFault}
-use Rattle.trace_timing.specs.declared.timing_fault.TimingFault.TheVariants.{NoTimes, WriteCycle, ReadCycle, AddressToInput, ToOutput, ColumnChange, OutputToCommand, ReadyToOutput, ToBusy, Backwards}
+use Rattle.trace_timing.specs.declared.timing_fault.TimingFault.TheVariants.{NoTimes, WriteCycle, ReadCycle, AddressToInput, ToOutput, ColumnChange, OutputToCommand, ReadyToOutput, ToBusy, TooLong, Backwards}
 use Rattle.trace_timing.specs.declared.file.TimingFileFault.{TimingFileFault}
 use Rattle.trace_timing.specs.declared.file.TimingFileFault.TheVariants.{UnknownName, BadNumber, OutOfOrder}
 
@@ -16,6 +16,7 @@ timing_fault_code ColumnChange = codes "T5"
 timing_fault_code OutputToCommand = codes "T6"
 timing_fault_code ReadyToOutput = codes "T7"
 timing_fault_code ToBusy = codes "T8"
+timing_fault_code (TooLong work) = codes "T9"
 timing_fault_code Backwards = codes "T10"
 
 -- the code under which a fault of a timing file is told

@@ -1,12 +1,11 @@
 -- What comes too soon on a channel, all of it.
-use Rattle.std.specs.Prelude.{ℕ, ◌+◌, ◌*◌, Bool, true, false, ◌||◌, nat_lt, if◌then◌else◌, List, [], ◌∷◌, ◌++◌, map, replicate, slice_index_or, slice_set, Option, Some, None, is_some}
+use Rattle.std.specs.Prelude.{ℕ, ◌+◌, Bool, false, ◌||◌, nat_lt, if◌then◌else◌, List, [], ◌∷◌, ◌++◌, map, replicate, slice_index_or, slice_set, Option, Some, None, is_some}
 use Rattle.onfi_cycle.specs.declared.item.Cycle.{Cycle}
 use Rattle.onfi_cycle.specs.declared.item.Item.{Item}
 use Rattle.onfi_cycle.specs.declared.item.Item.TheVariants.{Cyc, Rdy, Ard}
 use Rattle.trace_timing.specs.declared.clock.Clock.{Clock}
 use Rattle.trace_timing.specs.declared.clock.Pair.{Pair}
 use Rattle.trace_timing.specs.declared.timing_fault.TimingFault.TheVariants as fault
-use Rattle.trace_timing.specs.declared.timings.Timings.{Timings}
 use Rattle.trace_timing.specs.declared.violation.Violation.{Violation}
 use Rattle.trace_timing.specs.declared.watch.Ruler.{Ruler}
 use Rattle.trace_timing.specs.declared.watch.TimedItem.{TimedItem}

@@ -1,8 +1,10 @@
 //! Timing files: the least times of a chip, by its datasheet.
 ghost use Rattle.std.specs.Prelude.{◌≡◌, ◌<◌, ◌^◌, IfOk, IfSome};
 ghost use Rattle.trace_timing.specs.Codes.{timing_file_fault_code};
+ghost use Rattle.trace_timing.specs.Longest.{AreFinite};
 ghost use Rattle.trace_timing.specs.Wanted.{AreBounded};
 
+use crate::busy_time::{LongestTimes, longest_of};
 use crate::modes::{TimingMode, timings_of};
 use crate::page_times::PageTimes;
 use crate::timings::Timings;
@@ -216,6 +218,20 @@ impl TimingFile {
             t_rc: self.time_at(7, base.t_rc),
             t_wp: self.time_at(8, base.t_wp),
             t_rp: self.time_at(9, base.t_rp),
+        }
+    }
+
+    /// The most times of work: those of the file, then those of this parameter page and of the mode.
+    pub fn longest(&self, page: PageTimes) -> LongestTimes
+        ensures { AreFinite result }
+    {
+        let base = longest_of(self.mode(), page);
+        LongestTimes {
+            read: self.time_at(24, base.read),
+            program: self.time_at(25, base.program),
+            erase: self.time_at(26, base.erase),
+            reset: self.time_at(27, base.reset),
+            features: self.time_at(28, base.features),
         }
     }
 }

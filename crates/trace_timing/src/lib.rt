@@ -1,9 +1,10 @@
 //! Whether the times of a recorded trace keep the pauses of a datasheet or of a timing mode (ONFI 4.x, Timing Parameters).
 //!
 //! [`find_violations`] goes over the items of a trace, each with its time, and tells what comes too soon ([`Violation`]), exactly as `specs/Watch` defines it.
-//! [`timings_of`] has the timing modes 0 to 5, and [`Margins`] how near a trace comes to each time. Which pauses there are is `onfi_pauses`.
+//! [`timings_of`] has the timing modes 0 to 5, [`longest_of`] the most times of work, and [`Margins`] how near a trace comes to each time. Which pauses there are is `onfi_pauses`.
 #![tactic(auto)]
 
+mod busy_time;
 mod clock;
 mod file;
 mod margins;
@@ -14,6 +15,7 @@ mod timings;
 mod violation;
 mod watch;
 
+pub use busy_time::{BusyTime, LongestTimes, longest_of};
 pub use clock::{Clock, Pair};
 pub use file::{TimingFile, TimingFileFault, TimingFileRefusal, read_timing_file, read_timings};
 pub use margins::{Margins, Nearest};

@@ -98,8 +98,8 @@ impl TimingMode {
     }
 }
 
-// A number of nanoseconds in femtoseconds.
-fn femtoseconds(nanoseconds: u16) -> u64
+/// A number of nanoseconds in femtoseconds.
+pub(crate) fn femtoseconds(nanoseconds: u16) -> u64
     ensures value { result ≡ femtoseconds nanoseconds }
     ensures bounded { result < 2 ^ 62 }
 {

@@ -2,6 +2,7 @@
 ghost use Rattle.std.specs.Prelude.{◌≡◌};
 ghost use Rattle.trace_timing.specs.Codes.{timing_fault_code};
 
+use crate::busy_time::BusyTime;
 use thiserror::Error;
 
 /// What is wrong with the times of a trace. Each distance is from the rise of one strobe to the rise of the next; where a datasheet counts up to the fall of
@@ -26,12 +27,14 @@ pub enum TimingFault {
     ReadyToOutput,
     #[error("a command or an output comes too soon after the cycle that begins work (tWB)")]
     ToBusy,
+    #[error("a LUN is busy for longer than the parameter page or the mode allows")]
+    TooLong(BusyTime),
     #[error("a time is before that of the item before it")]
     Backwards,
 }
 
 impl TimingFault {
-    /// Its code, `T0` to `T8` and `T10`.
+    /// Its code, `T0` to `T10`.
     pub fn code(self) -> &'static str
         ensures { result.now ≡ timing_fault_code self }
     {
@@ -45,6 +48,7 @@ impl TimingFault {
             TimingFault::OutputToCommand => "T6",
             TimingFault::ReadyToOutput => "T7",
             TimingFault::ToBusy => "T8",
+            TimingFault::TooLong(_) => "T9",
             TimingFault::Backwards => "T10",
         }
     }
@@ -60,6 +64,7 @@ impl TimingFault {
             TimingFault::OutputToCommand => Some("tRHW"),
             TimingFault::ReadyToOutput => Some("tRR"),
             TimingFault::ToBusy => Some("tWB"),
+            TimingFault::TooLong(work) => Some(work.timing()),
             TimingFault::NoTimes | TimingFault::Backwards => None,
         }
     }

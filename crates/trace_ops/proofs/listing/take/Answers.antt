@@ -1,7 +1,7 @@
 use Rattle.std.proofs.Common.{ap, ◌∙◌, List}
 use Rattle.trace_ops.specs.declared.operation.Operation.{Operation}
 use Rattle.trace_ops.specs.Listing.{Listing, owner_of, number_of}
-use Rattle.trace_ops.proofs.Listed.{taken, marked}
+use Rattle.trace_ops.proofs.Listed.{taken}
 use Rattle.trace_ops.proofs.listing.take.Goals as goal
 
 pub returns-clause-ops : goal.returns-clause-ops

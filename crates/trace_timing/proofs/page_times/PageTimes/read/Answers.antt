@@ -1,4 +1,4 @@
-use Rattle.std.proofs.Common.{◌∙◌, sym, ap, ◌++◌}
+use Rattle.std.proofs.Common.{◌∙◌, sym}
 use Rattle.trace_timing.proofs.PageCopies.{past, found, joined}
 use Rattle.trace_timing.proofs.page_times.PageTimes.read.Goals as goal
 

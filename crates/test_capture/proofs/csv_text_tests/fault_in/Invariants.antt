@@ -1,8 +1,0 @@
-use Rattle.csv_text.specs.Shown.{HasRoom, bytes_left}
-use Rattle.test_capture.proofs.csv_text_tests.fault_in.Given as goal
-
-abbrev pub invariant-events : goal.invariant-events
-invariant-events l = HasRoom l.body
-
-abbrev pub decreases-events : goal.decreases-events
-decreases-events l = bytes_left l.body

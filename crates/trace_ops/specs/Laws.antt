@@ -1,0 +1,112 @@
+-- What holds of the operations of every trace, with faults or without, whole or from the middle.
+use Rattle.std.specs.Prelude.{◌≡◌, ℕ, ◌+◌, ◌<◌, ◌≤◌, ◌^◌, Bool, true, false, List, [], ◌∷◌, length, Some, slice_get, if◌then◌else◌}
+use Rattle.std.specs.List.{All}
+use Rattle.nand_geometry.specs.declared.parts.Parts.{Parts}
+use Rattle.onfi_cycle.specs.declared.item.Item.{Item}
+use Rattle.onfi_cycle.specs.declared.item.Item.TheVariants.{Cyc, Rdy, Ard}
+use Rattle.onfi_cycle.specs.declared.item.Kind.{Kind}
+use Rattle.onfi_cycle.specs.declared.item.Kind.TheVariants.{Cmd, Adr, Din, Dout}
+use Rattle.trace_faults.specs.declared.beginning.Beginning.{Beginning}
+use Rattle.trace_faults.specs.declared.readies.Readies.{Readies}
+use Rattle.trace_faults.specs.declared.verdict.Verdict.{Verdict}
+use Rattle.trace_faults.specs.declared.beginning.Beginning.TheVariants.{Start}
+use Rattle.trace_faults.specs.Faults.{faults_of}
+use Rattle.trace_faults.specs.Middle.{first_seen_as, verdicts_from, all_broken}
+use Rattle.trace_ops.specs.declared.operation.Operation.{Operation}
+use Rattle.trace_ops.specs.Operation.{is_clean, is_output}
+use Rattle.trace_ops.specs.Listing.{ops_of, marks_of}
+
+-- ---- each item belongs to one operation
+
+-- of the items that belong to an operation the first and the last are its own
+pub record Spans (marks : List ℕ) (k : ℕ) (o : Operation) : Type 0 where
+  pub first : slice_get marks o.first ≡ Some k
+  pub last : slice_get marks o.last ≡ Some k
+  pub between : (n : ℕ) → slice_get marks n ≡ Some k → (o.first ≤ n) × (n ≤ o.last)
+
+-- each operation has its items
+abbrev pub AllSpan : List ℕ → List Operation → Type 0
+AllSpan marks ops = (k : ℕ) (o : Operation) → slice_get ops k ≡ Some o → Spans marks k o
+
+-- there is a mark for each item, and it is the number of an operation
+pub record Belong (items : List Item) (ops : List Operation) (marks : List ℕ) : Type 0 where
+  pub as_many : length marks ≡ length items
+  pub are_there : All (λ k. k < length ops) marks
+  pub span : AllSpan marks ops
+
+abbrev pub EachItemBelongs : Type 0
+EachItemBelongs =
+    (readies : Readies) (beginning : Beginning) (g : Parts) (targets : ℕ) (items : List Item) →
+    Belong items (ops_of readies beginning g targets items) (marks_of readies beginning g targets items)
+
+-- ---- nothing is lost
+
+abbrev pub is_input_kind : Kind → Bool
+is_input_kind Cmd = false
+is_input_kind Adr = false
+is_input_kind Din = true
+is_input_kind Dout = false
+
+abbrev pub is_input : Item → Bool
+is_input (Cyc c) = is_input_kind c.kind
+is_input (Rdy ce lun fail) = false
+is_input (Ard ce lun) = false
+
+abbrev pub is_output_item : Item → Bool
+is_output_item (Cyc c) = is_output c.kind
+is_output_item (Rdy ce lun fail) = false
+is_output_item (Ard ce lun) = false
+
+abbrev pub inputs_of : Operation → ℕ
+inputs_of o = o.inputs
+
+abbrev pub outputs_of : Operation → ℕ
+outputs_of o = o.outputs
+
+-- a number of each operation, summed up
+abbrev pub total : (Operation → ℕ) → List Operation → ℕ
+total f [] = 0
+total f (o ∷ ops) = f o + total f ops
+
+abbrev pub one_if : Bool → ℕ
+one_if holds = if holds then 1 else 0
+
+-- how many items are so
+abbrev pub count : (Item → Bool) → List Item → ℕ
+count is [] = 0
+count is (i ∷ items) = one_if (is i) + count is items
+
+-- the operations have as many inputs and outputs as the trace
+pub record AreCounted (items : List Item) (ops : List Operation) : Type 0 where
+  pub inputs : total inputs_of ops ≡ count is_input items
+  pub outputs : total outputs_of ops ≡ count is_output_item items
+
+-- of a trace that a machine of 64 bits holds
+abbrev pub NothingIsLost : Type 0
+NothingIsLost =
+    (readies : Readies) (beginning : Beginning) (g : Parts) (targets : ℕ) (items : List Item) →
+    length items < 2 ^ 64 → AreCounted items (ops_of readies beginning g targets items)
+
+-- ---- no fault is hidden
+
+-- what is said of each item of a trace
+abbrev pub verdicts_as : Readies → Beginning → Parts → ℕ → List Item → List Verdict
+verdicts_as readies beginning g targets items = verdicts_from readies (first_seen_as beginning g targets items) items
+
+-- of a trace that is judged from its start these are the faults that `check` tells; from the middle on they are so by definition
+abbrev pub FaultsAreTold : Type 0
+FaultsAreTold =
+    (readies : Readies) (g : Parts) (targets : ℕ) (items : List Item) → all_broken 0 (verdicts_as readies Start g targets items) ≡ faults_of readies g targets items
+
+-- the operation of this number is there, and isn't clean: it is listed, whatever it is a part of
+pub record IsTold (ops : List Operation) (k : ℕ) : Type 0 where
+  pub operation : Operation
+  pub is_there : slice_get ops k ≡ Some operation
+  pub not_clean : operation.is_clean ≡ false
+
+-- an item with a fault, or that was taken for granted, belongs to an operation that is told
+abbrev pub NoFaultIsHidden : Type 0
+NoFaultIsHidden =
+    (readies : Readies) (beginning : Beginning) (g : Parts) (targets : ℕ) (items : List Item) (n : ℕ) (said : Verdict) (k : ℕ) →
+    slice_get (verdicts_as readies beginning g targets items) n ≡ Some said → is_clean said ≡ false →
+    slice_get (marks_of readies beginning g targets items) n ≡ Some k → IsTold (ops_of readies beginning g targets items) k

@@ -1,0 +1,23 @@
+//! What holds of the operations of every trace: the contracts of functions that do nothing.
+
+ghost use Rattle.trace_ops.specs.Laws.{EachItemBelongs, NothingIsLost, FaultsAreTold, NoFaultIsHidden};
+
+/// Each item of a trace belongs to one operation, which is in the list; the first and the last of them are those that the operation names.
+pub fn each_item_belongs()
+    ensures { EachItemBelongs }
+{}
+
+/// The inputs of all operations are the inputs of the trace, and the outputs the outputs.
+pub fn nothing_is_lost()
+    ensures { NothingIsLost }
+{}
+
+/// What is said of the items of a trace from its start has the faults that [`find_faults`](trace_faults::find_faults) finds.
+pub fn faults_are_told()
+    ensures { FaultsAreTold }
+{}
+
+/// What is no clean item, a fault or taken for granted, stands in an operation that has a line of its own.
+pub fn no_fault_is_hidden()
+    ensures { NoFaultIsHidden }
+{}
